@@ -5,19 +5,19 @@ use Rattle.std.proofs.lemmas.Bool.{leb-true, ltb-false, ltb-true}
 use Rattle.std.proofs.lemmas.List.{set-set}
 use Rattle.logon_desk.specs.Account.{last_lines}
 use Rattle.logon_desk.specs.Connection.{after_line, again, gone, opened, refused}
-use Rattle.logon_desk.specs.Decoder.{AfterByte, after_byte, after_character, after_command, after_expected, after_option, after_text, printable, with_character}
+use Rattle.terminal_lines.specs.Decoder.{AfterByte, after_byte, after_character, after_command, after_expected, after_option, after_text, printable, with_character}
 use Rattle.logon_desk.specs.Desk.{Answers, Closes, Comes, Desk, Event, Finishes, Keeps, Opens, Prints, Step, Takes, Turns, Wakes, account_of, after_decoded, after_first, after_pause, answer_by, comes_to, connection_at, ended, is_taking, is_terminal, judged_as, line_by, logon_line, names, new_desk, quietly, same_guess, shown, step, wake_by, with_connection}
 use Rattle.logon_desk.specs.History.{Reading, after, kept_by, kept_of, meaning, read_byte, reading_of}
-use Rattle.logon_desk.specs.Typed.{Typed}
+use Rattle.terminal_lines.specs.Typed.{Typed}
 use Rattle.logon_desk.specs.declared.account.KeptLine.{KeptLine}
 use Rattle.logon_desk.specs.declared.connection.Connection.{Connection}
 use Rattle.logon_desk.specs.declared.connection.Stage.{Stage}
 use Rattle.logon_desk.specs.declared.connection.Stage.TheVariants.{Gone, Naming, Asking, Waiting, Judged, Refused, On}
-use Rattle.logon_desk.specs.declared.decoder.Decoded.{Decoded}
-use Rattle.logon_desk.specs.declared.decoder.Decoded.TheVariants.{Nothing, Line, Declines, AreYouThere}
-use Rattle.logon_desk.specs.declared.decoder.Expects.{Expects}
-use Rattle.logon_desk.specs.declared.decoder.Expects.TheVariants.{Text, Command, Option as AnOption, Parameter, ParameterEnd}
-use Rattle.logon_desk.specs.declared.words.Guess.{Guess}
+use Rattle.terminal_lines.specs.declared.decoder.Decoded.{Decoded}
+use Rattle.terminal_lines.specs.declared.decoder.Decoded.TheVariants.{Nothing, Line, Declines, AreYouThere}
+use Rattle.terminal_lines.specs.declared.decoder.Expects.{Expects}
+use Rattle.terminal_lines.specs.declared.decoder.Expects.TheVariants.{Text, Command, Option as AnOption, Parameter, ParameterEnd}
+use Rattle.terminal_lines.specs.declared.words.Guess.{Guess}
 use Rattle.user_names.specs.Users.{user_of}
 use Rattle.logon_desk.proofs.Hearing.{arrives, not_both, rest_of, taking_open, vacant, within}
 use Rattle.logon_desk.proofs.Reading.{at_one}

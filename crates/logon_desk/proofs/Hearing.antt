@@ -6,7 +6,7 @@ use Rattle.std.specs.Str.{bytes_eq}
 use Rattle.text_words.specs.Words.{words_of}
 use Rattle.user_names.specs.Users.{user_of}
 use Rattle.logon_desk.specs.Connection.{after_line, again, begun, gone, opened, refused}
-use Rattle.logon_desk.specs.Decoder.{after_byte}
+use Rattle.terminal_lines.specs.Decoder.{after_byte}
 use Rattle.logon_desk.specs.Desk.{Answers, Closes, Comes, Desk, Event, Finishes, Keeps, Opens, Prints, Step, Takes, Turns, Wakes, account_of, after_bytes, after_decoded, after_first, after_line_at, after_pause, after_take, answer_by, comes_to, connection_at, ended, is_gone, is_taking, is_terminal, judged_as, line_by, logon_line, names, new_desk, quietly, same_guess, step, wake_by, with_connection}
 use Rattle.logon_desk.specs.Guesses.{debt, queue_of, wait_of}
 use Rattle.logon_desk.specs.History.{after, arrived, meaning, reading_of, with_line}
@@ -14,14 +14,14 @@ use Rattle.logon_desk.specs.declared.connection.Answer.{Answer}
 use Rattle.logon_desk.specs.declared.connection.Connection.{Connection}
 use Rattle.logon_desk.specs.declared.connection.Stage.{Stage}
 use Rattle.logon_desk.specs.declared.connection.Stage.TheVariants.{Gone, Naming, Asking, Waiting, Judged, Refused, On}
-use Rattle.logon_desk.specs.declared.decoder.Decoded.{Decoded}
-use Rattle.logon_desk.specs.declared.decoder.Decoded.TheVariants.{Nothing, Line, Declines, AreYouThere}
+use Rattle.terminal_lines.specs.declared.decoder.Decoded.{Decoded}
+use Rattle.terminal_lines.specs.declared.decoder.Decoded.TheVariants.{Nothing, Line, Declines, AreYouThere}
 use Rattle.logon_desk.specs.declared.output.Notice.TheVariants.{Refused as Told}
 use Rattle.logon_desk.specs.declared.output.Output.{Output}
 use Rattle.logon_desk.specs.declared.output.Output.TheVariants.{Says}
-use Rattle.logon_desk.specs.declared.words.Guess.{Guess}
-use Rattle.logon_desk.specs.declared.words.Said.{Said}
-use Rattle.logon_desk.specs.declared.words.Said.TheVariants.{Both, Name, Word, Other}
+use Rattle.terminal_lines.specs.declared.words.Guess.{Guess}
+use Rattle.terminal_lines.specs.declared.words.Said.{Said}
+use Rattle.terminal_lines.specs.declared.words.Said.TheVariants.{Both, Name, Word, Other}
 use Rattle.logon_desk.proofs.Reading.{IsHeard, IsSaid, at_both, at_one, heard_byte, heard_more, heard_opened, heard_to, vacant_heard}
 
 pub not_both : (b : Bool) → b ≡ true → b ≡ false → ⊥

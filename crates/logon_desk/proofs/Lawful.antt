@@ -10,11 +10,11 @@ use Rattle.std.specs.List.{AllByRecursion}
 use Rattle.user_names.specs.Users.{user_of}
 use Rattle.logon_desk.specs.Account.{last_lines, new_account}
 use Rattle.logon_desk.specs.Connection.{after_line, begun, gone, refused}
-use Rattle.logon_desk.specs.Decoder.{after_byte, printable}
+use Rattle.terminal_lines.specs.Decoder.{after_byte, printable}
 use Rattle.logon_desk.specs.Desk.{Answers, Closes, Comes, Desk, Event, Finishes, Keeps, Opens, Prints, Step, Takes, Turns, Wakes, account_of, after_decoded, after_first, after_pause, answer_by, answered, comes_to, connection_at, ended, greeting, is_gone, is_on_at, is_taking, is_terminal, is_user, judged_as, leaving, line_by, logged_on, logon_command, logon_line, names, new_desk, nobody, notices, quietly, same_guess, shows_at, shown, step, terminal_by, typed_line, wake_by, with_connection, wrong_guess}
 use Rattle.logon_desk.specs.Guesses.{debt, queue_of, wait_of}
 use Rattle.logon_desk.specs.History.{IsOnBy, LogsOn, after, arrived, kept_by, kept_of, meaning, reading_of}
-use Rattle.logon_desk.specs.Script.{script_line}
+use Rattle.terminal_lines.specs.Script.{script_line}
 use Rattle.logon_desk.specs.Laws.{IsAt, IsIn, IsLawful, IsTyped, May}
 use Rattle.logon_desk.specs.declared.account.Account.{Account}
 use Rattle.logon_desk.specs.declared.account.KeptLine.{KeptLine}
@@ -22,15 +22,15 @@ use Rattle.logon_desk.specs.declared.connection.Answer.{Answer}
 use Rattle.logon_desk.specs.declared.connection.Connection.{Connection}
 use Rattle.logon_desk.specs.declared.connection.Stage.{Stage}
 use Rattle.logon_desk.specs.declared.connection.Stage.TheVariants.{Gone, Naming, Asking, Waiting, Judged, Refused, On}
-use Rattle.logon_desk.specs.declared.decoder.Decoded.{Decoded}
-use Rattle.logon_desk.specs.declared.decoder.Decoded.TheVariants.{Nothing, Line, Declines as Refuses, AreYouThere}
+use Rattle.terminal_lines.specs.declared.decoder.Decoded.{Decoded}
+use Rattle.terminal_lines.specs.declared.decoder.Decoded.TheVariants.{Nothing, Line, Declines as Refuses, AreYouThere}
 use Rattle.logon_desk.specs.declared.output.Entry.TheVariants.{IsBack, Leaves}
 use Rattle.logon_desk.specs.declared.output.Notice.{Notice}
 use Rattle.logon_desk.specs.declared.output.Notice.TheVariants.{Reconnected, TakesOver}
 use Rattle.logon_desk.specs.declared.output.Output.{Output}
 use Rattle.logon_desk.specs.declared.output.Output.TheVariants.{Says, Declines, Shows, ShowsAgain, Types, Asks, Ends, Notes}
-use Rattle.logon_desk.specs.declared.words.Guess.{Guess}
-use Rattle.logon_desk.specs.declared.words.Said.{Said}
+use Rattle.terminal_lines.specs.declared.words.Guess.{Guess}
+use Rattle.terminal_lines.specs.declared.words.Said.{Said}
 use Rattle.logon_desk.proofs.Bounds.{few, kept_few, short}
 use Rattle.logon_desk.proofs.Hearing.{arrives, heard, not_both, rest_of, taking_open, within}
 use Rattle.logon_desk.proofs.On.{Busy, Logged, answers_accounts, both_true, comes_accounts, eqb_is, eqb_self, guesses_same, is_user_on, names_stay, on_by, takes_accounts, wakes_accounts}

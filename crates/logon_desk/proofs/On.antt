@@ -8,7 +8,7 @@ use Rattle.std.specs.Str.{bytes_eq}
 use Rattle.user_names.specs.Users.{user_of}
 use Rattle.logon_desk.specs.Account.{last_lines, new_account}
 use Rattle.logon_desk.specs.Connection.{after_line, again, gone, opened, refused}
-use Rattle.logon_desk.specs.Decoder.{after_byte}
+use Rattle.terminal_lines.specs.Decoder.{after_byte}
 use Rattle.logon_desk.specs.Desk.{Answers, Closes, Comes, Desk, Event, Finishes, Keeps, Opens, Prints, Step, Takes, Turns, Wakes, account_of, after_bytes, after_decoded, after_first, after_pause, after_take, answer_by, comes_to, connection_at, ended, is_gone, is_on_at, is_taking, is_terminal, is_user, judged_as, line_by, logon_line, names, new_desk, nobody, quietly, same_guess, step, wake_by, with_account, with_connection}
 use Rattle.logon_desk.specs.History.{Gives, IsOnBy, LogsOn, Stays, after, arrived, kept_by, kept_of, meaning, reading_of}
 use Rattle.logon_desk.specs.declared.account.Account.{Account}
@@ -16,12 +16,12 @@ use Rattle.logon_desk.specs.declared.account.KeptLine.{KeptLine}
 use Rattle.logon_desk.specs.declared.connection.Connection.{Connection}
 use Rattle.logon_desk.specs.declared.connection.Stage.{Stage}
 use Rattle.logon_desk.specs.declared.connection.Stage.TheVariants.{Gone, Naming, Asking, Waiting, Judged, Refused, On}
-use Rattle.logon_desk.specs.declared.decoder.Decoded.{Decoded}
-use Rattle.logon_desk.specs.declared.decoder.Decoded.TheVariants.{Nothing, Line, Declines, AreYouThere}
+use Rattle.terminal_lines.specs.declared.decoder.Decoded.{Decoded}
+use Rattle.terminal_lines.specs.declared.decoder.Decoded.TheVariants.{Nothing, Line, Declines, AreYouThere}
 use Rattle.logon_desk.specs.declared.output.Output.{Output}
-use Rattle.logon_desk.specs.declared.words.Guess.{Guess}
-use Rattle.logon_desk.specs.declared.words.Said.{Said}
-use Rattle.logon_desk.specs.declared.words.Said.TheVariants.{Both, Name, Word, Other}
+use Rattle.terminal_lines.specs.declared.words.Guess.{Guess}
+use Rattle.terminal_lines.specs.declared.words.Said.{Said}
+use Rattle.terminal_lines.specs.declared.words.Said.TheVariants.{Both, Name, Word, Other}
 use Rattle.logon_desk.proofs.Hearing.{arrives, heard, not_both, rest_of, taking_open, vacant, within}
 use Rattle.logon_desk.proofs.Reading.{Heard, at_one}
 

@@ -4,18 +4,18 @@ use Rattle.std.proofs.lemmas.Bool.Decides.{eqb_tells, leb_tells}
 use Rattle.std.proofs.lemmas.List.{get_or_past, set_past, set-set}
 use Rattle.std.proofs.lemmas.List.Sums.{fold-append}
 use Rattle.logon_desk.specs.Connection.{again, begun, gone, opened, refused}
-use Rattle.logon_desk.specs.Decoder.{after_byte}
+use Rattle.terminal_lines.specs.Decoder.{after_byte}
 use Rattle.logon_desk.specs.Desk.{Desk, is_gone, connection_at}
 use Rattle.logon_desk.specs.History.{Gives, Reading, meaning, nothing_read, read_byte, reading_of, with_line}
-use Rattle.logon_desk.specs.Typed.{Typed}
+use Rattle.terminal_lines.specs.Typed.{Typed}
 use Rattle.logon_desk.specs.declared.connection.Connection.{Connection}
 use Rattle.logon_desk.specs.declared.connection.Stage.{Stage}
 use Rattle.logon_desk.specs.declared.connection.Stage.TheVariants.{Gone, Naming, Asking, Waiting, Judged, Refused, On}
-use Rattle.logon_desk.specs.declared.decoder.Decoded.{Decoded}
-use Rattle.logon_desk.specs.declared.decoder.Decoded.TheVariants.{Nothing, Line, Declines, AreYouThere}
-use Rattle.logon_desk.specs.declared.words.Guess.{Guess}
-use Rattle.logon_desk.specs.declared.words.Said.{Said}
-use Rattle.logon_desk.specs.declared.words.Said.TheVariants.{Both, Name, Word, Other}
+use Rattle.terminal_lines.specs.declared.decoder.Decoded.{Decoded}
+use Rattle.terminal_lines.specs.declared.decoder.Decoded.TheVariants.{Nothing, Line, Declines, AreYouThere}
+use Rattle.terminal_lines.specs.declared.words.Guess.{Guess}
+use Rattle.terminal_lines.specs.declared.words.Said.{Said}
+use Rattle.terminal_lines.specs.declared.words.Said.TheVariants.{Both, Name, Word, Other}
 
 -- what the stage of a connection says of the lines that were taken there
 abbrev pub IsSaid : Stage → List (List ℕ) → Type 0

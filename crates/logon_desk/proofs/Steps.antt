@@ -2,15 +2,15 @@
 use Rattle.std.proofs.Common.{◌≡◌, ◌<◌, ℕ, List, ◌∷◌, length, refl, ap, subst, sym, ◌∙◌, get_or, get_or-set_same, map, set}
 use Rattle.std.proofs.lemmas.List.{get_or_default, set-set}
 use Rattle.logon_desk.specs.Connection.{gone}
-use Rattle.logon_desk.specs.Decoder.{AfterByte, after_byte}
+use Rattle.terminal_lines.specs.Decoder.{AfterByte, after_byte}
 use Rattle.logon_desk.specs.Desk.{Desk, after_decoded, after_first, answered, comes_to, connection_at, logon_line, notices, with_connection}
 use Rattle.text_words.specs.Words.{words_of}
 use Rattle.logon_desk.specs.Connection.{after_line}
-use Rattle.logon_desk.specs.Typed.{Typed}
-use Rattle.logon_desk.specs.Words.{capital, said_by}
+use Rattle.terminal_lines.specs.Typed.{Typed}
+use Rattle.terminal_lines.specs.Words.{capital, said_by}
 use Rattle.logon_desk.specs.declared.account.Account.{Account}
-use Rattle.logon_desk.specs.declared.decoder.Decoded.{Decoded}
-use Rattle.logon_desk.specs.declared.words.Said.{Said}
+use Rattle.terminal_lines.specs.declared.decoder.Decoded.{Decoded}
+use Rattle.terminal_lines.specs.declared.words.Said.{Said}
 use Rattle.logon_desk.specs.declared.connection.Answer.{Answer}
 use Rattle.logon_desk.specs.declared.connection.Connection.{Connection}
 use Rattle.logon_desk.specs.declared.connection.Stage.{Stage}

@@ -1,14 +1,14 @@
 -- A connection, and how far whoever is there has come.
 use Rattle.std.specs.Prelude.{ℕ, ◌+◌, ◌-◌, ◌==◌, if◌then◌else◌, min, List, [], ◌∷◌, Option, Some, None}
-use Rattle.logon_desk.specs.Decoder.{nothing_typed}
+use Rattle.terminal_lines.specs.Decoder.{nothing_typed}
 use Rattle.logon_desk.specs.declared.connection.Answer.{Answer}
 use Rattle.logon_desk.specs.declared.connection.Connection.{Connection}
 use Rattle.logon_desk.specs.declared.connection.Patience.{Patience}
 use Rattle.logon_desk.specs.declared.connection.Stage.{Stage}
 use Rattle.logon_desk.specs.declared.connection.Stage.TheVariants.{Gone, Naming, Asking, Waiting, Judged, Refused, On}
 use Rattle.logon_desk.specs.declared.output.Notice.TheVariants.{EnterPassword, NoPassword, PasswordTaken, TypeLogon}
-use Rattle.logon_desk.specs.declared.words.Said.{Said}
-use Rattle.logon_desk.specs.declared.words.Said.TheVariants.{Both, Name, Word, Other}
+use Rattle.terminal_lines.specs.declared.words.Said.{Said}
+use Rattle.terminal_lines.specs.declared.words.Said.TheVariants.{Both, Name, Word, Other}
 
 -- no connection
 abbrev pub gone : Connection

@@ -5,24 +5,24 @@ use Rattle.text_words.specs.Words.{words_of}
 use Rattle.user_names.specs.Users.{user_of}
 use Rattle.logon_desk.specs.Account.{last_lines, new_account}
 use Rattle.logon_desk.specs.Connection.{after_line, again, begun, gone, opened, refused}
-use Rattle.logon_desk.specs.Decoder.{after_byte, printable}
+use Rattle.terminal_lines.specs.Decoder.{after_byte, printable}
 use Rattle.logon_desk.specs.Guesses.{debt, guessed, no_guesses, queue_of, right_after, wait_of}
-use Rattle.logon_desk.specs.Script.{script_line}
-use Rattle.logon_desk.specs.Words.{capital, said_by}
+use Rattle.terminal_lines.specs.Script.{script_line}
+use Rattle.terminal_lines.specs.Words.{capital, said_by}
 use Rattle.logon_desk.specs.declared.account.Account.{Account}
 use Rattle.logon_desk.specs.declared.account.KeptLine.{KeptLine}
 use Rattle.logon_desk.specs.declared.connection.Answer.{Answer}
 use Rattle.logon_desk.specs.declared.connection.Connection.{Connection}
 use Rattle.logon_desk.specs.declared.connection.Stage.{Stage}
 use Rattle.logon_desk.specs.declared.connection.Stage.TheVariants.{Gone, Naming, Asking, Waiting, Judged, Refused, On}
-use Rattle.logon_desk.specs.declared.decoder.Decoded.{Decoded}
-use Rattle.logon_desk.specs.declared.decoder.Decoded.TheVariants.{Nothing, Line, Declines as Refuses, AreYouThere}
+use Rattle.terminal_lines.specs.declared.decoder.Decoded.{Decoded}
+use Rattle.terminal_lines.specs.declared.decoder.Decoded.TheVariants.{Nothing, Line, Declines as Refuses, AreYouThere}
 use Rattle.logon_desk.specs.declared.output.Entry.TheVariants.{LogsOn, IsBack, Leaves, WrongPassword}
 use Rattle.logon_desk.specs.declared.output.Notice.{Notice}
 use Rattle.logon_desk.specs.declared.output.Notice.TheVariants.{Online, IsThere, Reconnected, TakesOver, TooLate, Refused as TellsRefused}
 use Rattle.logon_desk.specs.declared.output.Output.{Output}
 use Rattle.logon_desk.specs.declared.output.Output.TheVariants.{Says, Declines, Shows, ShowsAgain, Types, Asks, Ends, Notes}
-use Rattle.logon_desk.specs.declared.words.Guess.{Guess}
+use Rattle.terminal_lines.specs.declared.words.Guess.{Guess}
 
 -- the connections, the users and the queues of guesses
 pub record Desk : Type 0 where

@@ -4,17 +4,17 @@ use Rattle.std.specs.List.{AllByRecursion}
 use Rattle.text_words.specs.Words.{words_of}
 use Rattle.user_names.specs.Users.{user_of}
 use Rattle.logon_desk.specs.Account.{last_lines}
-use Rattle.logon_desk.specs.Decoder.{after_byte, nothing_typed}
+use Rattle.terminal_lines.specs.Decoder.{after_byte, nothing_typed}
 use Rattle.logon_desk.specs.Desk.{Answers, Closes, Comes, Desk, Event, Finishes, Keeps, Opens, Prints, Takes, Turns, Wakes, connection_at, names, shown, step}
-use Rattle.logon_desk.specs.Typed.{Typed}
-use Rattle.logon_desk.specs.Words.{capital, said_by}
+use Rattle.terminal_lines.specs.Typed.{Typed}
+use Rattle.terminal_lines.specs.Words.{capital, said_by}
 use Rattle.logon_desk.specs.declared.account.KeptLine.{KeptLine}
 use Rattle.logon_desk.specs.declared.connection.Stage.TheVariants.{Judged}
-use Rattle.logon_desk.specs.declared.decoder.Decoded.{Decoded}
-use Rattle.logon_desk.specs.declared.decoder.Decoded.TheVariants.{Nothing, Line, Declines, AreYouThere}
-use Rattle.logon_desk.specs.declared.words.Guess.{Guess}
-use Rattle.logon_desk.specs.declared.words.Said.{Said}
-use Rattle.logon_desk.specs.declared.words.Said.TheVariants.{Both, Name, Word}
+use Rattle.terminal_lines.specs.declared.decoder.Decoded.{Decoded}
+use Rattle.terminal_lines.specs.declared.decoder.Decoded.TheVariants.{Nothing, Line, Declines, AreYouThere}
+use Rattle.terminal_lines.specs.declared.words.Guess.{Guess}
+use Rattle.terminal_lines.specs.declared.words.Said.{Said}
+use Rattle.terminal_lines.specs.declared.words.Said.TheVariants.{Both, Name, Word}
 
 -- the desk after these events, of which the last is first
 abbrev pub after : Desk → List Event → Desk

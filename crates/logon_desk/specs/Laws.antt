@@ -3,18 +3,18 @@ use Rattle.std.specs.Prelude.{◌≡◌, ◌⊎◌, ◌+◌, ◌<◌, ◌≤◌,
 use Rattle.std.specs.List.{AllByRecursion}
 use Rattle.user_names.specs.Users.{user_of}
 use Rattle.logon_desk.specs.Connection.{refused}
-use Rattle.logon_desk.specs.Decoder.{after_byte}
+use Rattle.terminal_lines.specs.Decoder.{after_byte}
 use Rattle.logon_desk.specs.Desk.{Answers, Closes, Comes, Desk, Event, Finishes, Keeps, Opens, Prints, Takes, Turns, Wakes, account_of, connection_at, is_gone, is_on_at, is_taking, logon_command, names, new_desk, shown, step, with_connection}
 use Rattle.logon_desk.specs.History.{IsOnBy, LogsOn, after, arrived, kept_of, reading_of}
-use Rattle.logon_desk.specs.Script.{script_line}
+use Rattle.terminal_lines.specs.Script.{script_line}
 use Rattle.logon_desk.specs.declared.account.KeptLine.{KeptLine}
 use Rattle.logon_desk.specs.declared.connection.Stage.TheVariants.{Judged, Refused, Waiting}
-use Rattle.logon_desk.specs.declared.decoder.Decoded.TheVariants.{Line}
+use Rattle.terminal_lines.specs.declared.decoder.Decoded.TheVariants.{Line}
 use Rattle.logon_desk.specs.declared.output.Entry.TheVariants.{IsBack}
 use Rattle.logon_desk.specs.declared.output.Notice.TheVariants.{Reconnected}
 use Rattle.logon_desk.specs.declared.output.Output.{Output}
 use Rattle.logon_desk.specs.declared.output.Output.TheVariants.{Says, Declines, Shows, ShowsAgain, Types, Asks, Ends, Notes}
-use Rattle.logon_desk.specs.declared.words.Guess.{Guess}
+use Rattle.terminal_lines.specs.declared.words.Guess.{Guess}
 
 abbrev pub IsIn : KeptLine → List KeptLine → Type 0
 IsIn line [] = ⊥

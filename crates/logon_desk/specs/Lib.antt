@@ -1,10 +1,6 @@
-pub mod Typed
-pub mod Decoder
-pub mod Words
 pub mod Guesses
 pub mod Account
 pub mod Connection
-pub mod Script
 pub mod Desk
 pub mod Strangers
 pub mod History

@@ -3,9 +3,9 @@ ghost use Rattle.std.specs.Prelude.{◌≡◌, ◌++◌, ◌∷◌, [], IfOk};
 ghost use Rattle.std.specs.Result.{OnOk};
 ghost use Rattle.logon_desk.specs.Account.{last_lines, new_account};
 
-use crate::bytes::Bytes;
 use std::alloc::{AllocError, Global};
 use std::marker::Model;
+use terminal_lines::Bytes;
 use user_names::Named;
 
 /// How many lines are kept for a user.

@@ -2,12 +2,10 @@
 ghost use Rattle.std.specs.Prelude.{◌≡◌, ◌<◌, ◌≤◌, ◌^◌};
 ghost use Rattle.logon_desk.specs.Connection.{after_line, again, begun, gone, opened, pause_of, refused};
 
-use crate::bytes::Bytes;
-use crate::decoder::LineDecoder;
 use crate::output::Notice;
 use crate::waiting::WaitingBytes;
-use crate::words::{Guess, Said};
 use std::alloc::Global;
+use terminal_lines::{Bytes, Guess, LineDecoder, Said};
 use user_names::UserNo;
 
 /// The milliseconds in which one has to log on; what he waits for the desk is not counted.

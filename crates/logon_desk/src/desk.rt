@@ -8,17 +8,14 @@ ghost use Rattle.logon_desk.specs.Connection.{gone};
 ghost use Rattle.logon_desk.specs.Desk.{Answers, Closes, Comes, Does, Finishes, IsStep, Keeps, Opens, Prints, Takes, Turns, Wakes, account_of, after_decoded, after_first, after_line_at, answered, comes_to, connection_at, ended, farewell, greeting, guess_waits, is_gone, is_taking, leaving, logged_on, logon_line, new_desk, after_pause, same_guess, shown, terminal_of, typed_line, wrong_guess};
 
 use crate::account::{Account, KeptLine};
-use crate::bytes::Bytes;
 use crate::connection::{Answer, Connection, Stage, after_line};
-use crate::decoder::{Decoded, printable};
 use crate::guesses::{Guesses, queue_of};
 use crate::output::{Entry, Notice, Output, Outputs};
-use crate::script::script_line;
 use crate::strangers::{busiest, strangers};
-use crate::words::{Guess, in_capitals, said_of};
 use std::alloc::{AllocError, Global};
 use std::marker::Model;
 use std::mem;
+use terminal_lines::{Bytes, Decoded, Guess, in_capitals, printable, said_of, script_line};
 use user_names::{UserNo, user_of};
 
 /// The most bytes that wait at a connection.

@@ -1,7 +1,7 @@
 //! The logon desk: who is let in to whose machine.
 //!
 //! People come by connections, and type bytes, by telnet or plain. The desk makes lines of them
-//! ([`LineDecoder`]), asks for a name and a password, and asks the host whether these are right;
+//! (`terminal_lines`), asks for a name and a password, and asks the host whether these are right;
 //! from then on each line that is typed there is one of the script for that user, and each line of
 //! the transcript for him is shown there. It has no socket, no clock, no file and no password: each
 //! call of [`LogonDesk`] is told what has happened, and adds to [`Outputs`] what is to be done.
@@ -15,7 +15,8 @@
 //! else is done.
 //!
 //! ```
-//! use logon_desk::{Bytes, Entry, Guess, LogonDesk, Output, Outputs};
+//! use logon_desk::{LogonDesk, Outputs};
+//! use terminal_lines::{Bytes, Guess};
 //! use user_names::UserNo;
 //!
 //! let names = [Bytes::of(alloc, b"ALICE")?];
@@ -37,26 +38,18 @@
 #![tactic(auto)]
 
 mod account;
-mod bytes;
 mod connection;
-mod decoder;
 mod desk;
 mod guesses;
 mod laws;
 mod output;
-mod script;
 mod strangers;
 mod waiting;
-mod words;
 
 pub use account::{Account, KEPT_LINES, KeptLine, KeptLines};
-pub use bytes::Bytes;
 pub use connection::{Answer, Connection, Patience, Stage, TIME_TO_LOG_ON, after_line};
-pub use decoder::{Decoded, Expects, LINE_LENGTH, LineDecoder, printable};
 pub use desk::{LONGEST_SHOWN, LogonDesk, MOST_WAITING};
 pub use guesses::{Guesses, LONGEST_REMEMBERED, LONGEST_WAIT, QUEUES, REMEMBERED, queue_of};
 pub use laws::keeps_its_promises;
 pub use output::{Entry, Notice, Output, Outputs};
-pub use script::script_line;
 pub use waiting::WaitingBytes;
-pub use words::{Guess, Said, in_capitals, said_of};

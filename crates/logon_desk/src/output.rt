@@ -3,10 +3,9 @@ ghost use Rattle.std.specs.Prelude.{◌≡◌, ◌++◌, ◌∷◌, []};
 ghost use Rattle.std.specs.Result.{OnOk};
 
 use crate::account::KeptLine;
-use crate::bytes::Bytes;
-use crate::words::Guess;
 use std::alloc::{AllocError, Global};
 use std::marker::Model;
+use terminal_lines::{Bytes, Guess};
 use user_names::UserNo;
 
 /// The desk's own texts.

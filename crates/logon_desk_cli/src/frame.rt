@@ -1,8 +1,9 @@
 //! The lines that the program reads.
 ghost use Rattle.std.specs.Prelude.{◌<◌, ◌^◌, IfOk};
 
-use logon_desk::{Bytes, Guess, KeptLine};
+use logon_desk::KeptLine;
 use std::alloc::{AllocError, Global};
+use terminal_lines::{Bytes, Guess};
 use text_words::numbers::digit_value;
 use text_words::words::{cut_word, next_word};
 

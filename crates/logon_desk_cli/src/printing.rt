@@ -1,8 +1,9 @@
 //! The lines that the program writes.
 ghost use Rattle.std.specs.Prelude.{◌<◌};
 
-use logon_desk::{Bytes, Entry, Notice, Output};
+use logon_desk::{Entry, Notice, Output};
 use std::alloc::AllocError;
+use terminal_lines::Bytes;
 use user_names::UserNo;
 
 /// The desk's own texts.

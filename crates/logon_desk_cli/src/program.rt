@@ -3,8 +3,9 @@ ghost use Rattle.std.specs.Prelude.{◌<◌, ◌≤◌, ◌^◌, length};
 
 use crate::frame::{Frame, FrameError, frame_of};
 use crate::printing::{print, print_number};
-use logon_desk::{Bytes, LogonDesk, MOST_WAITING, Outputs};
+use logon_desk::{LogonDesk, MOST_WAITING, Outputs};
 use std::alloc::{AllocError, Global};
+use terminal_lines::Bytes;
 use user_names::{MOST_USERS, UserNo};
 
 /// The most that are about to log on at once.
@@ -130,8 +131,10 @@ fn apply(
             Ok(true)
         }
         Frame::Came { place, bytes } if place < desk.connections() => {
-            reading.push(place)?;
-            desk.receive(alloc, place, bytes.as_slice(), out)?;
+            if desk.is_open(place) {
+                reading.push(place)?;
+                desk.receive(alloc, place, bytes.as_slice(), out)?;
+            }
             Ok(true)
         }
         Frame::Gone(place) if place < desk.connections() => {
@@ -231,18 +234,15 @@ fn serve_place(
 
 /// Tells of which places all bytes were taken, so that more may come.
 fn read_on(desk: &LogonDesk, reading: &mut Vec<usize>, text: &mut Bytes) -> Result<(), AllocError> {
-    for at in 0..reading.len() {
-        if at >= reading.len() {
-            break;
-        }
-        let place = reading[at];
-        if place < desk.connections() && desk.waiting(place) == 0 {
-            if desk.is_open(place) {
-                print_number(b"READ", place, text)?;
-            }
-            reading[at] = MOST_PLACES;
+    for place in reading.iter() {
+        if *place < desk.connections() && desk.is_open(*place) && desk.waiting(*place) == 0 {
+            print_number(b"READ", *place, text)?;
         }
     }
-    reading.retain(|place| *place < MOST_PLACES);
+    reading.retain(|place| still_waits(desk, *place));
     Ok(())
+}
+
+fn still_waits(desk: &LogonDesk, place: usize) -> bool {
+    place < desk.connections() && desk.is_open(place) && desk.waiting(place) > 0
 }

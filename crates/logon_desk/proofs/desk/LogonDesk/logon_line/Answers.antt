@@ -2,7 +2,7 @@ use Rattle.std.proofs.Common.{◌∙◌, ℕ, List, ap, map, subst}
 use Rattle.std.specs.Result.{OnOk}
 use Rattle.text_words.specs.Words.{words_of}
 use Rattle.logon_desk.specs.Desk.{Does, Step}
-use Rattle.logon_desk.specs.Words.{capital, said_by}
+use Rattle.terminal_lines.specs.Words.{capital, said_by}
 use Rattle.logon_desk.proofs.Steps.{says_line}
 use Rattle.logon_desk.proofs.desk.LogonDesk.logon_line.Goals as goal
 

@@ -1,6 +1,6 @@
 -- What was typed at a terminal since the last end of a line.
 use Rattle.std.specs.Prelude.{ℕ, Bool, List}
-use Rattle.logon_desk.specs.declared.decoder.Expects.{Expects}
+use Rattle.terminal_lines.specs.declared.decoder.Expects.{Expects}
 
 pub record Typed : Type 0 where
   -- the characters of the line so far

@@ -1,7 +1,7 @@
 //! The lines that the bytes of a terminal make, by telnet (RFC 854) or plain.
 ghost use Rattle.std.specs.Prelude.{◌≡◌, IfOk};
 ghost use Rattle.std.specs.Result.{OnOk};
-ghost use Rattle.logon_desk.specs.Decoder.{after_byte, after_command, after_option, after_text, nothing_typed, printable, with_character};
+ghost use Rattle.terminal_lines.specs.Decoder.{after_byte, after_command, after_option, after_text, nothing_typed, printable, with_character};
 
 use crate::bytes::Bytes;
 use std::alloc::{AllocError, Global};
@@ -87,7 +87,7 @@ pub struct LineDecoder {
 }
 
 impl Model for LineDecoder {
-    ghost use Rattle.logon_desk.specs.Typed.{Typed};
+    ghost use Rattle.terminal_lines.specs.Typed.{Typed};
 
     ghost Value = { Typed };
 

@@ -1,10 +1,10 @@
 -- The bytes of a terminal as lines: telnet's NVT (RFC 854) or plain text.
 use Rattle.std.specs.Prelude.{◌==◌, ◌||◌, ◌&&◌, not, if◌then◌else◌, nat_lt, nat_le, ◌-◌, ℕ, Bool, true, false, List, [], ◌∷◌, ◌++◌, length, take, codes}
-use Rattle.logon_desk.specs.Typed.{Typed}
-use Rattle.logon_desk.specs.declared.decoder.Expects.{Expects}
-use Rattle.logon_desk.specs.declared.decoder.Expects.TheVariants.{Text, Command, Option, Parameter, ParameterEnd}
-use Rattle.logon_desk.specs.declared.decoder.Decoded.{Decoded}
-use Rattle.logon_desk.specs.declared.decoder.Decoded.TheVariants.{Nothing, Line, Declines, AreYouThere}
+use Rattle.terminal_lines.specs.Typed.{Typed}
+use Rattle.terminal_lines.specs.declared.decoder.Expects.{Expects}
+use Rattle.terminal_lines.specs.declared.decoder.Expects.TheVariants.{Text, Command, Option, Parameter, ParameterEnd}
+use Rattle.terminal_lines.specs.declared.decoder.Decoded.{Decoded}
+use Rattle.terminal_lines.specs.declared.decoder.Decoded.TheVariants.{Nothing, Line, Declines, AreYouThere}
 
 -- what a byte makes of what was typed, and what comes of it
 pub record AfterByte : Type 0 where

@@ -1,7 +1,7 @@
 //! The words of somebody who is about to log on.
 ghost use Rattle.std.specs.Prelude.{◌≡◌, IfOk, if◌then◌else◌, map};
 ghost use Rattle.text_words.specs.Words.{words_of};
-ghost use Rattle.logon_desk.specs.Words.{capital, said_by};
+ghost use Rattle.terminal_lines.specs.Words.{capital, said_by};
 
 use crate::bytes::Bytes;
 use std::alloc::{AllocError, Global};

@@ -1,7 +1,7 @@
 //! A typed line as it stands in the script.
 ghost use Rattle.std.specs.Prelude.{◌≡◌, ◌≤◌, IfOk, codes, length};
 ghost use Rattle.text_words.specs.Words.{after_first_word};
-ghost use Rattle.logon_desk.specs.Script.{asks_cp, begins_with, command_of, message_of, script_line};
+ghost use Rattle.terminal_lines.specs.Script.{asks_cp, begins_with, command_of, message_of, script_line};
 
 use crate::bytes::Bytes;
 use crate::words::in_capitals;

@@ -1,8 +1,8 @@
 -- What a line of somebody who is about to log on says.
 use Rattle.std.specs.Prelude.{◌-◌, ◌&&◌, ℕ, nat_le, if◌then◌else◌, List, [], ◌∷◌, codes}
 use Rattle.std.specs.Str.{bytes_eq}
-use Rattle.logon_desk.specs.declared.words.Said.{Said}
-use Rattle.logon_desk.specs.declared.words.Said.TheVariants.{Both, Name, Word, Other}
+use Rattle.terminal_lines.specs.declared.words.Said.{Said}
+use Rattle.terminal_lines.specs.declared.words.Said.TheVariants.{Both, Name, Word, Other}
 
 -- a letter as a capital
 abbrev pub capital : ℕ → ℕ

@@ -2,7 +2,7 @@
 use Rattle.std.specs.Prelude.{◌-◌, ◌&&◌, not, if◌then◌else◌, ℕ, Bool, List, [], ◌++◌, length, map, take, codes}
 use Rattle.std.specs.Str.{bytes_eq}
 use Rattle.text_words.specs.Words.{after_first_word, unindented, word_of}
-use Rattle.logon_desk.specs.Words.{capital}
+use Rattle.terminal_lines.specs.Words.{capital}
 
 -- its first word is this one, whatever its letters are
 abbrev pub begins_with : List ℕ → List ℕ → Bool
