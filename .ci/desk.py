@@ -156,11 +156,13 @@ class Desk:
         self.say(number, "online")
 
     def came(self, number, _, data):
-        self.reading.append(number)
         data, place = read_bytes(data), self.places[number]
-        if len(place.waiting if place else b"") + len(data) > MOST_WAITING:
+        if not place:
+            return
+        self.reading.append(number)
+        if len(place.waiting) + len(data) > MOST_WAITING:
             self.end(number)
-        elif place:
+        else:
             place.waiting += data
 
     def gone(self, number, _):
@@ -368,7 +370,7 @@ def some_lines(seed, count):
     yield from (f"USER 0 {written(it)}" for it in names)
     yield f"ROOM 0 {room:X}"
     for _ in range(count):
-        now += dice.choice((0, 1, 30, 300, 3000, 30000))
+        now += dice.choice((0, 0, 1, 1, 30, 300, 3000, 30000))
         place, user = f"{dice.randrange(room):X}", f"{dice.randrange(3):X}"
         name, password = dice.choice(asked)
         data = b"".join(dice.choice(texts) + dice.choice((b"\r\n", b"\r", b"\n", b"\r\0", b"", b"\r\xff\xf1\n")) for _ in range(dice.randrange(4)))
@@ -380,6 +382,10 @@ def some_lines(seed, count):
             f"SHOW {now:X} {user} {written(data)}", f"KEEP {now:X} {user} {written(b'12:00')} {written(data)}",
             f"TURN {now:X} {user} {dice.randrange(3):X}", f"DONE {now:X} {user}", f"DONE {now:X} {user}",
             f"GONE {now:X} {place}" if dice.randrange(4) == 0 else f"TIME {now:X}"))  # fmt: skip
+        if dice.randrange(3) == 0:
+            yield from (f"CAME {now:X} {place} {written(b'logon ' + name + b' good')}0D", f"TIME {now + 4000:X}",
+                        f"SAYS {now + 4000:X} {place} 1 {written(name)} {written(b'GOOD')}", f"TURN {now + 4000:X} {user} 1",
+                        f"KEEP {now + 4000:X} {user} {written(b'12:01')} {written(data)}", f"DONE {now + 4000:X} {user}")  # fmt: skip
 
 
 def try_program(check, program, seeds=4, count=4000):
