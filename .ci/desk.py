@@ -1,6 +1,6 @@
 """The logon desk once more, in Python: it stands in for the program where nothing is built, and .ci/test-people compares the two.
 
-It takes and gives the lines of docs/FORMATS.md, "The logon desk".
+It takes and gives the lines of crates/logon_desk_cli (frame.rt, printing.rt).
 """
 import random
 import subprocess

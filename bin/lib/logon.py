@@ -29,7 +29,7 @@ class Passwords:
 
 
 class PasswordsFile:
-    """The passwords of a file, which has their salted sums (docs/FORMATS.md); it is read again each time."""
+    """The passwords of a file, which has their salted sums (docs/man/passwords.1); it is read again each time."""
 
     def __init__(self, path, names):
         self.path = path

@@ -176,7 +176,7 @@ class Desk:
             for minute, text in before.lines:
                 user.terminal.keep(text, minute)
 
-    # --- the lines that pass (docs/FORMATS.md) ---
+    # --- the lines that pass (crates/logon_desk_cli/src: frame.rt, printing.rt) ---
 
     def ask(self, word, *words, is_answered=True):
         """Tells the desk what has happened, and does what it says then."""

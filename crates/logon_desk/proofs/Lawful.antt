@@ -15,7 +15,7 @@ use Rattle.logon_desk.specs.Desk.{Answers, Closes, Comes, Desk, Event, Finishes,
 use Rattle.logon_desk.specs.Guesses.{debt, queue_of, wait_of}
 use Rattle.logon_desk.specs.History.{IsOnBy, LogsOn, after, arrived, kept_by, kept_of, meaning, reading_of}
 use Rattle.terminal_lines.specs.Script.{script_line}
-use Rattle.logon_desk.specs.Laws.{IsAt, IsIn, IsLawful, IsTyped, May}
+use Rattle.logon_desk.specs.Laws.{HasAuthority, HasBounds, HasSecrets, IsAt, IsComplete, IsIn, IsIsolated, IsTyped, May, WaitsBriefly}
 use Rattle.logon_desk.specs.declared.account.Account.{Account}
 use Rattle.logon_desk.specs.declared.account.KeptLine.{KeptLine}
 use Rattle.logon_desk.specs.declared.connection.Answer.{Answer}
@@ -425,21 +425,20 @@ keeps users size (event ∷ earlier) user there =
 short_shown : (line : List ℕ) → length (shown line) ≤ 1024
 short_shown line = omega (arith, length-map (take 1024 line) printable, length-take 1024 line)
 
-pub lawful : IsLawful
-lawful = record {
-  on = on_by;
-  does = does;
-  shows = shows;
-  types = types;
-  reads = reads;
-  keeps = keeps;
-  again = again;
-  alike = alike;
-  waits = waits;
-  asks = asks;
-  lets_on = lets_on;
-  few_wait = few;
-  short = short;
-  few_kept = kept_few;
-  short_shown = short_shown;
-}
+pub authority : HasAuthority
+authority = record { on = on_by }
+
+pub isolation : IsIsolated
+isolation = record { does = does }
+
+pub completeness : IsComplete
+completeness = record { shows = shows; types = types; reads = reads; keeps = keeps; again = again }
+
+pub secrets : HasSecrets
+secrets = record { alike = alike }
+
+pub waiting : WaitsBriefly
+waiting = record { waits = waits; asks = asks; lets_on = lets_on }
+
+pub bounds : HasBounds
+bounds = record { few_wait = few; short = short; few_kept = kept_few; short_shown = short_shown }

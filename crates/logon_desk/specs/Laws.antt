@@ -59,12 +59,17 @@ May d event (Asks c guess) = IsAt c event × ((connection_at d c).stage ≡ Wait
 May d event (Ends c) = IsAt c event
 May d event (Notes entry) = Unit {0}
 
-pub record IsLawful : Type 0 where
-  -- authority and isolation: whoever is on has given the user's name and password there
+-- whoever is on has given the user's name and password there
+pub record HasAuthority : Type 0 where
   pub on : (users : List (List ℕ)) (size : ℕ) (events : List Event) (c user : ℕ) → is_on_at (after (new_desk users size) events) c user ≡ true
       → IsOnBy (new_desk users size) c user events
-  -- nothing else is done
+
+-- nothing is done but what May says
+pub record IsIsolated : Type 0 where
   pub does : (d : Desk) (event : Event) → AllByRecursion (May d event) (step d event).outputs
+
+-- each line is typed and shown, and nothing is lost
+pub record IsComplete : Type 0 where
   -- completeness: each line of the transcript is shown where its user is on
   pub shows : (d : Desk) (c user : ℕ) (line : List ℕ) → is_on_at d c user ≡ true → (step d (Prints user line)).outputs ≡ Shows c user (shown line) ∷ []
   -- each line of who is on is typed
@@ -79,16 +84,22 @@ pub record IsLawful : Type 0 where
   pub keeps : (users : List (List ℕ)) (size : ℕ) (events : List Event) (user : ℕ) → user < length users → (account_of (after (new_desk users size) events) user).kept ≡ kept_of user events
   pub again : (d : Desk) (c user : ℕ) (event : Event) → LogsOn d c user event → (account_of d user).is_on ≡ true
       → (step d event).outputs ≡ Notes (IsBack user c) ∷ Says c Reconnected ∷ map (λ line. ShowsAgain c user line) (account_of d user).kept
-  -- a wrong password and a name that is nobody's are answered alike, and after the same wait
+
+-- a wrong password and a name that is nobody's are answered alike, and after the same wait
+pub record HasSecrets : Type 0 where
   pub alike : (d : Desk) (c : ℕ) (guess : Guess) (is_right : Bool) (now : ℕ) → (connection_at d c).stage ≡ Judged guess → (is_right ≡ false) ⊎ (user_of (names d) guess.name ≡ None)
       → (step d (Answers c guess is_right now)).desk ≡ with_connection d c (record (connection_at d c) { stage = Refused; patience = refused (connection_at d c).patience now })
-  -- a guess waits for four seconds at most, whatever others do; then the host is asked, and a right one is let on at once
+
+-- a guess waits for four seconds at most, whatever others do; then the host is asked, and a right one is let on at once
+pub record WaitsBriefly : Type 0 where
   pub waits : (d : Desk) (c now : ℕ) (guess : Guess) → is_taking d c (connection_at d c).stage ≡ true → (connection_at (step d (Takes c now)).desk c).stage ≡ Waiting guess
       → (connection_at (step d (Takes c now)).desk c).patience.due ≤ now + 4000
   pub asks : (d : Desk) (c now : ℕ) (guess : Guess) → (connection_at d c).stage ≡ Waiting guess → (connection_at d c).patience.due ≤ now → (step d (Wakes c now)).outputs ≡ Asks c guess ∷ []
   pub lets_on : (d : Desk) (c user now : ℕ) (guess : Guess) → (connection_at d c).stage ≡ Judged guess → user_of (names d) guess.name ≡ Some user
       → is_on_at (step d (Answers c guess true now)).desk c user ≡ true
-  -- whatever is sent, what is kept for a connection and for a user has bounds
+
+-- whatever is sent, what is kept for a connection and for a user has bounds
+pub record HasBounds : Type 0 where
   pub few_wait : (users : List (List ℕ)) (size : ℕ) (events : List Event) (c : ℕ) → length (connection_at (after (new_desk users size) events) c).waiting ≤ 4096
   pub short : (bytes : List ℕ) → length (reading_of bytes).typed.line ≤ 130
   pub few_kept : (user : ℕ) (events : List Event) → length (kept_of user events) ≤ 24

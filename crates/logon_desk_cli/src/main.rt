@@ -1,5 +1,5 @@
 //! The program `logondesk`: lines with what happens come at standard input, and lines with what is
-//! to be done then go to standard output (docs/FORMATS.md, "The logon desk").
+//! to be done then go to standard output. `frame.rt` has the ones, `printing.rt` the others.
 #![tactic(auto)]
 
 mod frame;
