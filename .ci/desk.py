@@ -400,3 +400,95 @@ def try_program(check, program, seeds=4, count=4000):
         check(f"the desk on {count} lines at random, {seed}", holds, f"answer {first} of {len(wanted)}", *found[first : first + 3], *wanted[first : first + 3])
         is_full = sum(it.startswith("TYPE") for it in wanted) > 100 and sum(it.startswith("BACK") for it in wanted) > 20
         check("which have much of all", is_full)
+
+
+class Talk:
+    """Somebody who tells the stand-in, or a program, lines one after another, and does as a host does."""
+
+    def __init__(self, program=None):
+        self.lines, self.places, self.typed, self.asked = [], {}, [], []
+        self.process = program and subprocess.Popen([program], stdin=subprocess.PIPE, stdout=subprocess.PIPE, text=True)
+        self.answers = answers(iter(lambda: self.lines.pop(0), None))
+
+    def told(self, line):
+        if not self.process:
+            self.lines.append(line)
+            return next(self.answers)
+        self.process.stdin.write(line + "\n")
+        self.process.stdin.flush()
+        return self.until_that()
+
+    def until_that(self):
+        lines = [self.process.stdout.readline().strip()]
+        while not lines[-1].startswith("THAT"):
+            lines.append(self.process.stdout.readline().strip())
+        return lines
+
+    def begin(self, names, room):
+        for line in (f"USER 0 {written(it)}" for it in names):
+            if self.process:
+                self.process.stdin.write(line + "\n")
+            else:
+                self.lines.append(line)
+        self.room = room
+        self.told(f"ROOM 0 {room:X}")
+
+    def say(self, line):
+        """Says a line, and notes what comes of it."""
+        for told in self.told(line):
+            word, number, *words = told.split()
+            if word == "ENDS":
+                self.places.pop(int(number, 16), None)
+            elif word == "TYPE":
+                self.typed.append((int(number, 16), read_bytes(words[0])))
+            elif word == "ASKS":
+                self.asked.append((number, *words))
+
+    def come(self, now, address):
+        place = next(it for it in range(self.room) if it not in self.places)
+        self.places[place] = token = object()
+        # as the sum that a host makes of an address
+        self.say(f"OPEN {now:X} {place:X} {address * 0x9E3779B97F4A7C15 % 2**56:X}")
+        return place, token
+
+    def is_there(self, place, token):
+        return self.places.get(place) is token
+
+    def type(self, now, place, text):
+        self.say(f"CAME {now:X} {place:X} {written(text)}")
+
+    def judge(self, now, password):
+        for number, name, given in self.asked:
+            self.say(f"SAYS {now:X} {number} {int(read_bytes(given) == password):X} {name} {given}")
+        self.asked.clear()
+
+    def close(self):
+        if self.process:
+            self.process.communicate()
+
+
+def try_honest(check, program=None):
+    """Among 67 strangers a second and 20 who guess at his name, somebody who types a step each five seconds is on each time, also where
+    they come from his own address."""
+    for what, origin in (("elsewhere", 2), ("his address", 1)):
+        for tries in range(5):
+            talk = Talk(program)
+            talk.begin([b"ALICE", b"BOB"], MOST_STRANGERS + 3)
+            guessers = [talk.come(0, 100 + it if origin != 1 else 1) for it in range(20)]
+            mine = talk.come(10 * tries, 1)
+            was_on = None
+            for now in range(15, 30000, 15):
+                talk.come(now, origin)
+                for guesser in guessers:
+                    if talk.is_there(*guesser) and now % 500 == 0:
+                        talk.type(now, guesser[0], b"LOGON ALICE GUESS\r")
+                if now in (4995, 9990) and talk.is_there(*mine):
+                    talk.type(now, mine[0], b"LOGON ALICE\r" if now == 4995 else b"WONDER\r")
+                talk.judge(now, b"WONDER")
+                if talk.typed:
+                    was_on = now
+                    break
+            talk.close()
+            # guesses from elsewhere do not delay him
+            most = 9990 + (4100 if origin == 1 else 100)
+            check(f"he is on among strangers of {what}, {tries}", was_on is not None and was_on <= most, f"{was_on}")
