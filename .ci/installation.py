@@ -545,6 +545,41 @@ def try_logging_on(check, site):
     check("the recording is for its owner alone", os.stat(f"{site.folder}/{kept_of(site)}/recording").st_mode & 0o777 == 0o600)
 
 
+def try_passwords_file(check, repository, site):
+    """People log on with the passwords of a file, which change while the installation runs."""
+    path = f"{site.folder}/passwords"
+
+    def set_password(name, *words, given=""):
+        return subprocess.run([f"{repository}/bin/passwords", *words, path, name], input=given, capture_output=True, text=True)
+
+    async def answer(*words):
+        one = await person(f"{site.folder}/socket")
+        told = await one.logon(*words)
+        one.go()
+        return told
+
+    done = set_password("ALICE", given="Looking\nGLASS\n")
+    check("a password is set", done.returncode == 0 and not done.stdout, done.stderr)
+    kept = read(path)
+    check("its file is for its owner alone, and has it not", b"LOOKING" not in kept.upper() and os.stat(path).st_mode & 0o777 == 0o600)
+    for name, given in (("BOB", "TWO WORDS\n"), ("BOB", "\n"), ("BOB", "\xe9\n")):
+        done = set_password(name, given=given)
+        check(f"{given!r} is no password", done.returncode == 1 and read(path) == kept, done.stderr)
+    check("a name is a user's", set_password("bob", given="X\n").returncode == 2)
+    check("nobody is removed who is not there", set_password("BOB", "--remove").returncode == 1)
+    site.online("--passwords", path)
+    check("the directory's passwords are none", run(answer("ALICE", "WONDER")) == "LOGON REFUSED")
+    check("those of the file are", run(answer("ALICE", "looking")) == "LOGON OK")
+    set_password("BOB", given="NEW\n")
+    check("also one that is set meanwhile", run(answer("BOB", "NEW")) == "LOGON OK")
+    set_password("ALICE", "--remove")
+    check("and one that is removed is none", run(answer("ALICE", "LOOKING")) == "LOGON REFUSED")
+    check("it is suspended", site.stop() == 0, *site.told)
+    write(path, b"ALICE 12 34\n")
+    site.start("--passwords", path)
+    check("another file is refused", site.ended() == 1 and "line 1 is no name with a salt and a sum" in site.since_start(), *site.told)
+
+
 def kept_of(site):
     """The folder of the session that was ended."""
     return max(it for it in os.listdir(site.folder) if it.startswith("recording.2"))
@@ -911,6 +946,7 @@ def try_all(check, repository, folder, is_stand_in):
     program = f"{repository}/crates/vm370_cli/out/vm370_cli"
     prints = (["PRINT HELLO"], "") if is_stand_in else (PRINTS, "CLOSE 00E")
     try_logging_on(check, make_site(command, f"{folder}/logging on"))
+    try_passwords_file(check, repository, make_site(command, f"{folder}/passwords"))
     try_recovery(check, make_site(command, f"{folder}/recovery"), program)
     try_silence(check, make_site(command, f"{folder}/silence"))
     try_computing(check, make_site(command, f"{folder}/computing"))

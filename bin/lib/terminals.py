@@ -22,6 +22,8 @@ from people import FILE_FAILED, Failure
 MOST_STRANGERS = 80
 # bytes that the desk takes at once
 MOST_BYTES = 4096
+# lines for the desk that are told at once: what they and their answers take fits a pipe
+MOST_PENDING = 16
 # what waits for a reader: he is closed over so many bytes
 MOST_UNREAD = 1 << 20
 # of what waits the host takes so many bytes; the rest waits here, where it is counted
@@ -106,11 +108,11 @@ class Terminal:
 
     def keep(self, text, minute):
         """Keeps a line for when he comes back."""
-        self.desk.ask("KEEP", self.number, encoded(minute), encoded(text))
+        self.desk.tell_soon("KEEP", self.number, encoded(minute), encoded(text))
 
     def show(self, text):
         """Shows him a line, which is on the disk, if he is there."""
-        self.desk.ask("SHOW", self.number, encoded(text))
+        self.desk.tell_soon("SHOW", self.number, encoded(text))
 
     def turn(self, is_on, is_running):
         self.desk.ask("TURN", self.number, (1 + is_running) * is_on)
@@ -154,6 +156,7 @@ class Desk:
         self.begun = time.monotonic()
         self.key = os.urandom(16)
         self.wrong = WrongPasswords(tell)
+        self.pending = []
         self.places = {}
         self.serving = set()
         self.tasks = set()
@@ -167,7 +170,7 @@ class Desk:
         """Begins the program, and tells it who logs on, and what is known of them since a replay."""
         self.program = subprocess.Popen([self.path], stdin=subprocess.PIPE, stdout=subprocess.PIPE, start_new_session=True)
         for user in self.people:
-            self.ask("USER", encoded(user.name), is_answered=False)
+            self.ask("USER", encoded(user.name))
         self.room = MOST_STRANGERS + 1 + len(self.people)
         self.ask("ROOM", self.room)
         for number, user in enumerate(self.people):
@@ -175,25 +178,49 @@ class Desk:
             user.terminal.turn(user.is_on, user.is_running)
             for minute, text in before.lines:
                 user.terminal.keep(text, minute)
+        self.flush()
 
     # --- the lines that pass (crates/logon_desk_cli/src: frame.rt, printing.rt) ---
 
-    def ask(self, word, *words, is_answered=True):
+    def ask(self, word, *words):
         """Tells the desk what has happened, and does what it says then."""
-        given = " ".join([word, f"{int(1000 * (time.monotonic() - self.begun)):X}", *map(written, words)])
+        self.pending.append(self.line(word, *words))
+        self.flush()
+
+    def tell_soon(self, word, *words):
+        """Tells the desk something with what is told next, at the end of this turn at the latest."""
+        self.pending.append(self.line(word, *words))
+        if len(self.pending) == MOST_PENDING:
+            self.flush()
+        elif len(self.pending) == 1:
+            asyncio.get_running_loop().call_soon(self.flush)
+
+    def line(self, word, *words):
+        return " ".join([word, f"{int(1000 * (time.monotonic() - self.begun)):X}", *map(written, words)]) + "\n"
+
+    def flush(self):
+        """Tells the desk what waits for that, and does what it says to each line."""
+        pending, self.pending = self.pending, []
         try:
-            self.program.stdin.write(f"{given}\n".encode())
+            self.program.stdin.write("".join(pending).encode())
             self.program.stdin.flush()
-            while is_answered:
-                word, *words = self.program.stdout.readline().decode().split()
-                if word == "THAT":
-                    self.strangers = int(words[0], 16)
-                    break
-                self.obey(word, *words)
+            for line in pending:
+                # it is silent until it knows everybody
+                if not line.startswith("USER"):
+                    self.obey_all()
         except (OSError, ValueError):
             self.has_failed.set()
         if self.strangers:
             self.is_asked.set()
+
+    def obey_all(self):
+        """Does what the desk says to a line."""
+        while True:
+            word, *words = self.program.stdout.readline().decode().split()
+            if word == "THAT":
+                self.strangers = int(words[0], 16)
+                return
+            self.obey(word, *words)
 
     def obey(self, word, number, *words):
         number = int(number, 16)
