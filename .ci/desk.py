@@ -388,6 +388,21 @@ def some_lines(seed, count):
                         f"KEEP {now + 4000:X} {user} {written(b'12:01')} {written(data)}", f"DONE {now + 4000:X} {user}")  # fmt: skip
 
 
+def told_by(program):
+    """What a program says to each line, as `answers` has it."""
+
+    def told(lines):
+        done = subprocess.run([program], input="".join(f"{it}\n" for it in lines), capture_output=True, text=True)
+        parts = [[]]
+        for line in done.stdout.splitlines():
+            parts[-1].append(line)
+            if line.startswith("THAT"):
+                parts.append([])
+        return parts[:-1]
+
+    return told
+
+
 def try_program(check, program, seeds=4, count=4000):
     """The program answers lines at random as the one here does."""
     for seed in range(seeds):
