@@ -7,6 +7,7 @@ import subprocess
 import threading
 
 from host import MEGABYTE, memory_of
+from people import ask_build
 
 DONE, NOT_DONE, ENDS = range(3)
 # before all of the recording is done again
@@ -126,6 +127,11 @@ class Operator:
         self.mapping.start()
 
     def map_frames(self, script, reply, end):
+        # a build would take minutes in silence
+        if ask_build("tell", "frame_map").endswith("not built"):
+            reply("the program frame_map is not built: run bin/framemap once by hand")
+            end(NOT_DONE)
+            return
         done = subprocess.run(self.framemap, input=script, capture_output=True)
         for line in (done.stderr if done.returncode else done.stdout).decode(errors="replace").splitlines():
             reply(line)
