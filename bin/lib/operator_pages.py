@@ -1,5 +1,6 @@
 """The operator's page: what happens, who is on, and the commands of bin/operator (docs/OPERATING.md), to whoever has the token."""
 import asyncio
+import contextlib
 import os
 import secrets
 import time
@@ -120,15 +121,16 @@ class OperatorPages:
         self.token = self.read_token()
 
     def read_token(self):
-        """The token of the file next to the recording, which only its owner can read; it is made if it is not there."""
-        try:
-            with open(self.path) as file:
-                if found := file.read().strip():
-                    return found
-        except FileNotFoundError:
-            pass
+        """The token of the file next to the recording, which only its owner can read; it is made if it is not there, or was for others
+        to read."""
+        with contextlib.suppress(FileNotFoundError):
+            if not os.stat(self.path).st_mode & 0o077:
+                with open(self.path) as file:
+                    if found := file.read().strip():
+                        return found
+            os.unlink(self.path)
         token = secrets.token_urlsafe(TOKEN_BYTES)
-        handle = os.open(self.path, os.O_WRONLY | os.O_CREAT | os.O_TRUNC, 0o600)
+        handle = os.open(self.path, os.O_WRONLY | os.O_CREAT | os.O_EXCL, 0o600)
         with open(handle, "w") as file:
             file.write(f"{token}\n")
         return token

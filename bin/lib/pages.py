@@ -96,6 +96,8 @@ class Outbox:
     def __init__(self):
         self.messages = []
         self.changed = asyncio.Event()
+        self.emptied = asyncio.Event()
+        self.is_closed = False
 
     def put(self, message):
         self.messages.append(message)
@@ -106,7 +108,18 @@ class Outbox:
         await self.changed.wait()
         self.changed.clear()
         messages, self.messages = self.messages, []
+        self.emptied.set()
         return messages
+
+    async def room(self):
+        """Waits until what is there is being sent, so that who asks and does not read has two answers kept for him at most."""
+        if self.messages and not self.is_closed:
+            self.emptied.clear()
+            await self.emptied.wait()
+
+    def close(self):
+        self.is_closed = True
+        self.emptied.set()
 
 
 class UserPage:
@@ -200,15 +213,15 @@ class UserPage:
 
     async def take(self, message):
         """Obeys a message."""
-        kind = message.get("is")
+        kind = str(message.get("is"))
         try:
             if kind in CHANGING and not is_token(message.get("token"), self.token):
                 raise Refused("the token is wrong")
             if kind not in OBEYED:
-                raise Refused(f"there is no message {plain(str(kind))[:20]}")
+                raise Refused(f"there is no message {plain(kind)[:20]}")
             await OBEYED[kind](self, message)
         except Refused as reason:
-            self.put({"is": "refused", "what": plain(str(kind))[:20], "why": str(reason)})
+            self.put({"is": "refused", "what": plain(kind)[:20], "why": str(reason)})
 
     async def log_on(self, message):
         words = [text_in(message, it).encode("latin-1", "replace") for it in ("name", "password")]

@@ -116,7 +116,7 @@ class Web:
                 await self.converse_with_user(connection, page, outbox)
             else:
                 await self.converse_with_operator(connection, outbox)
-        except ValueError:
+        except (ValueError, RecursionError):
             await connection.close(WRONG_MESSAGE)
         except ConnectionClosed:
             pass
@@ -137,6 +137,7 @@ class Web:
     async def converse_with_user(self, connection, page, outbox):
         try:
             while True:
+                await outbox.room()
                 await page.take(await received(connection))
         finally:
             if page.connection is connection:
@@ -147,6 +148,7 @@ class Web:
         page = connection.page = OperatorPage(self.operators, connection.address(), outbox)
         try:
             while True:
+                await outbox.room()
                 await page.take(await received(connection))
                 if not page.is_known:
                     await connection.close(WRONG_MESSAGE)
@@ -178,3 +180,5 @@ async def send_all(connection, outbox):
             await connection.send(json.dumps(await outbox.taken()))
     except ConnectionClosed:
         pass
+    finally:
+        outbox.close()
