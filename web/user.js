@@ -6,6 +6,9 @@ const MOST_LINES = 5000;
 const PIECE = 24000;
 const MOST_DECK = 1 << 22;
 const REGISTER = /^GPR (\d+) = ([0-9A-F]{8})$/;
+const CLOSED = /^FILE \d+ CLOSED$/;
+// a printout is written soon after it is closed
+const TIME_TO_WRITE = 1500;
 const PSW = /^PSW ([0-9A-F]{8}) ([0-9A-F]{8})$/;
 const CARDS_AT_ONCE = 200;
 
@@ -108,8 +111,9 @@ find("look").addEventListener("click", () => {
   for (const what of ["PSW", ...Array.from({ length: 16 }, (_, it) => `G${it}`)]) change({ is: "line", text: `#CP DISPLAY ${what}` });
 });
 
-/** Keeps what a line of the console tells of a register. */
+/** Looks at files when one is closed, and keeps what a line of the console tells of a register. */
 function read(text) {
+  if (CLOSED.test(text)) setTimeout(() => user && ask({ is: "files" }), TIME_TO_WRITE);
   const psw = PSW.exec(text);
   const register = REGISTER.exec(text);
   if (psw) showPsw(...psw.slice(1).map((it) => Number.parseInt(it, 16)));
@@ -171,8 +175,8 @@ find("show-disks").addEventListener("click", () => ask({ is: "disks" }));
 function showFiles(message) {
   const rows = message.files.reverse().map((it) => {
     const row = element("li");
-    const kind = it.name.startsWith("PUN") ? "cards" : "lines";
-    const open = element("button", "", `${it.name.replace(".txt", "")}, ${it.lines} ${kind}`);
+    const kind = it.name.startsWith("PUN") ? "card" : "line";
+    const open = element("button", "", `${it.name.replace(".txt", "")}, ${it.lines.toLocaleString()} ${kind}${it.lines === 1 ? "" : "s"}`);
     open.type = "button";
     open.disabled = !message.kept || it.state !== "written";
     open.addEventListener("click", () => openListing(it));

@@ -141,8 +141,8 @@ class OperatorPages:
         recording = engine.recording
         people = [it for it in engine.users.values() if it is not installation.receiver]
         return {
-            "is": "state", "time": round(time.time() * 1000), "users": [self.user(it) for it in people], "strangers": len(installation.desk.strangers),
-            "parts": engine.parts, "busy": engine.pace.is_busy, "command": memory_of(os.getpid()) // MEGABYTE,
+            "is": "state", "time": round(time.time() * 1000), "users": [self.user(it) for it in people],
+            "strangers": len(installation.desk.strangers), "parts": engine.parts, "busy": engine.pace.is_busy, "command": memory_of(os.getpid()) // MEGABYTE,
             "program": engine.memory() // MEGABYTE, "most": installation.limits.memory // MEGABYTE, "lines": recording.lines,
             "size": recording.size(), "begun": recording.begun_at(), "start": round(engine.seconds(), 1), "free": recording.free() // MEGABYTE,
             "printouts": len(engine.printouts.all), "unwritten": len(engine.printouts.unwritten()), "ending": self.operator.ending[:1],

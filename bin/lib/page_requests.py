@@ -8,7 +8,8 @@ from people import ROOT
 
 FOLDER = os.path.join(ROOT, "web")
 HTML, SCRIPT, SHEET = "text/html; charset=utf-8", "text/javascript; charset=utf-8", "text/css; charset=utf-8"
-FILES = {"/": ("user.html", HTML), "/operator": ("operator.html", HTML), "/style.css": ("style.css", SHEET), "/icon.svg": ("icon.svg", "image/svg+xml"),
+FILES = {"/": ("user.html", HTML), "/operator": ("operator.html", HTML), "/style.css": ("style.css", SHEET),
+         "/icon.svg": ("icon.svg", "image/svg+xml"),
          **{f"/{it}": (it, SCRIPT) for it in ("connection.js", "paper.js", "user.js", "operator.js")}}  # fmt: skip
 USER_SOCKET, OPERATOR_SOCKET = "/socket", "/operator/socket"
 POLICY = ("default-src 'none'; script-src 'self'; style-src 'self'; connect-src 'self'; img-src 'self'; base-uri 'none'; "
