@@ -14,7 +14,7 @@ from logon import Passwords
 from minidisks import Minidisks
 from operator_pages import OperatorPage, OperatorPages
 from page_requests import HEADERS, POLICY, answer_to, read_files
-from pages import MOST_DECK, SECONDS_TO_COME_BACK, Outbox, Pages, PageLine
+from pages import MESSAGES_A_SECOND, MESSAGES_AT_ONCE, MOST_DECK, SECONDS_TO_COME_BACK, Outbox, PageLine, Pages, Rate
 from people import Failure, WrongUse
 from spooling import WAITS, WRITTEN
 from terminals import MOST_UNREAD, Desk
@@ -251,8 +251,9 @@ async def try_coming_back(check, folder):
     check("what was seen is not kept", not page.lines and page.size == 0)
     await again.send({"is": "line", "text": "logoff"})
     await again.told()
-    page.detach()
     check("after LOGOFF nobody comes back", Browser(house, words).page is not page)
+    page.detach()
+    check("and not when the page has gone", Browser(house, words).page is not page and page.name not in house.pages.all)
     away = Browser(house)
     await away.log_on()
     away.page.detach()
@@ -266,7 +267,13 @@ async def try_coming_back(check, folder):
 
 async def try_bounds(check, folder):
     """What a page may have others keep for it."""
+    rate = Rate()
+    waits = [rate.wait() for _ in range(MESSAGES_AT_ONCE + 20)]
+    check("who sends too much waits", not any(waits[:MESSAGES_AT_ONCE]) and 0 < waits[-1] <= 20 / MESSAGES_A_SECOND, f"{waits[-1]}")
     outbox = Outbox()
+    for line in ("ONE", "TWO"):
+        outbox.put({"is": "lines", "lines": [line]})
+    check("lines go together", await outbox.taken() == [{"is": "lines", "lines": ["ONE", "TWO"]}])
     await asyncio.wait_for(outbox.room(), 1)
     outbox.put({"is": "piece"})
     waiting = asyncio.create_task(outbox.room())

@@ -11,10 +11,12 @@ const CLOSED = /^FILE \d+ CLOSED$/;
 const TIME_TO_WRITE = 1500;
 const PSW = /^PSW ([0-9A-F]{8}) ([0-9A-F]{8})$/;
 const CARDS_AT_ONCE = 200;
+const TIME_TO_ACKNOWLEDGE = 100;
 
 let page = { name: "", token: "", seen: 0 };
 let user = "";
 let listing = null;
+let acknowledging;
 
 const say = (style, text, time = Date.now()) => addLine(find("paper"), style, text, time, MOST_LINES);
 
@@ -34,7 +36,7 @@ const OBEYED = {
       say("came", text, time);
       read(text);
     }
-    connection.send({ is: "seen", number: page.seen });
+    acknowledge();
   },
   on: (message) => show(message),
   off: () => show({ user: "" }),
@@ -52,6 +54,14 @@ const OBEYED = {
     else say("note", message.why);
   },
 };
+
+/** Tells soon which lines were seen: the installation keeps the others. */
+function acknowledge() {
+  acknowledging ??= setTimeout(() => {
+    acknowledging = undefined;
+    connection.send({ is: "seen", number: page.seen });
+  }, TIME_TO_ACKNOWLEDGE);
+}
 
 function show({ user: name, running }) {
   const isNew = name && name !== user;

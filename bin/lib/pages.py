@@ -23,6 +23,7 @@ MOST_DECK = 1 << 22
 # the part of a listing that is sent at once
 PIECE = 1 << 16
 MOST_FILES = 200
+MESSAGES_AT_ONCE, MESSAGES_A_SECOND = 400, 200
 NO_LINE = "NOT LOGGED ON"
 KEYS = {"attention": b"", "stop": b"#CP", "external": b"#CP EXTERNAL", "begin": b"BEGIN"}
 
@@ -100,7 +101,10 @@ class Outbox:
         self.is_closed = False
 
     def put(self, message):
-        self.messages.append(message)
+        if message["is"] == "lines" and self.messages and self.messages[-1]["is"] == "lines":
+            self.messages[-1]["lines"] += message["lines"]
+        else:
+            self.messages.append(message)
         self.changed.set()
 
     async def taken(self):
@@ -120,6 +124,21 @@ class Outbox:
     def close(self):
         self.is_closed = True
         self.emptied.set()
+
+
+class Rate:
+    """How many messages of a page are obeyed: some at once, as when a deck comes, and then so many a second."""
+
+    def __init__(self):
+        self.left = float(MESSAGES_AT_ONCE)
+        self.when = time.monotonic()
+
+    def wait(self):
+        """Counts a message; how many seconds it waits."""
+        now = time.monotonic()
+        self.left = min(MESSAGES_AT_ONCE, self.left + (now - self.when) * MESSAGES_A_SECOND) - 1
+        self.when = now
+        return max(0.0, -self.left / MESSAGES_A_SECOND)
 
 
 class UserPage:
@@ -343,7 +362,8 @@ class Pages:
         """The page that a browser's first message asks for, and the answer."""
         if message.get("is") == "resume":
             page = self.all.get(str(message.get("page")))
-            if page and is_token(message.get("token"), page.token):
+            # a page that the desk has left has nothing more to show
+            if page and page.line and is_token(message.get("token"), page.token):
                 with contextlib.suppress(Refused):
                     page.seen(number_in(message, "seen"))
                 page.address = address

@@ -11,7 +11,7 @@ from websockets.legacy.server import WebSocketServerProtocol, serve
 from minidisks import Minidisks
 from operator_pages import OperatorPage, OperatorPages
 from page_requests import HEADERS, USER_SOCKET, answer_to, read_files
-from pages import Outbox, Pages
+from pages import Outbox, Pages, Rate
 from people import FILE_FAILED, Failure
 
 # a connection that asks for nothing goes after so many seconds; of too many that nobody has logged on at one goes
@@ -135,9 +135,11 @@ class Web:
         return page
 
     async def converse_with_user(self, connection, page, outbox):
+        rate = Rate()
         try:
             while True:
                 await outbox.room()
+                await asyncio.sleep(rate.wait())
                 await page.take(await received(connection))
         finally:
             if page.connection is connection:
