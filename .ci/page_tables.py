@@ -13,8 +13,9 @@ from installation import run, write_text as write
 from logon import Passwords
 from minidisks import Minidisks
 from operator_pages import OperatorPage, OperatorPages
+from page_line import PageLine
 from page_requests import HEADERS, POLICY, answer_to, read_files
-from pages import MESSAGES_A_SECOND, MESSAGES_AT_ONCE, MOST_DECK, SECONDS_TO_COME_BACK, Outbox, PageLine, Pages, Rate
+from pages import MESSAGES_A_SECOND, MESSAGES_AT_ONCE, MOST_DECK, SECONDS_TO_COME_BACK, Outbox, Pages, Rate
 from people import Failure, WrongUse
 from spooling import WAITS, WRITTEN
 from terminals import MOST_UNREAD, Desk

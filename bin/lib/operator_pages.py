@@ -7,6 +7,7 @@ import time
 
 from host import MEGABYTE, memory_of
 from operating import DONE, plain
+from page_line import count_strangers, place_of
 from pages import Refused, is_token, text_in
 
 SECONDS_BETWEEN_STATES = 1
@@ -142,17 +143,14 @@ class OperatorPages:
         people = [it for it in engine.users.values() if it is not installation.receiver]
         return {
             "is": "state", "time": round(time.time() * 1000), "users": [self.user(it) for it in people],
-            "strangers": len(installation.desk.strangers), "parts": engine.parts, "busy": engine.pace.is_busy, "command": memory_of(os.getpid()) // MEGABYTE,
+            "strangers": count_strangers(installation.desk), "parts": engine.parts, "busy": engine.pace.is_busy, "command": memory_of(os.getpid()) // MEGABYTE,
             "program": engine.memory() // MEGABYTE, "most": installation.limits.memory // MEGABYTE, "lines": recording.lines,
             "size": recording.size(), "begun": recording.begun_at(), "start": round(engine.seconds(), 1), "free": recording.free() // MEGABYTE,
             "printouts": len(engine.printouts.all), "unwritten": len(engine.printouts.unwritten()), "ending": self.operator.ending[:1],
         }  # fmt: skip
 
     def user(self, user):
-        where = None
-        if user.terminal:
-            where = user.terminal.address or "here"
-        return {"name": user.name, "on": user.is_on, "running": user.is_running, "from": where, "written": user.written}
+        return {"name": user.name, "on": user.is_on, "running": user.is_running, "from": place_of(user), "written": user.written}
 
     async def watch(self):
         """Tells all pages how things are, each second."""

@@ -9,86 +9,27 @@ import contextlib
 import hmac
 import os
 import secrets
-import socket
 import time
 
 from operating import plain
-from telnet import CLEAN, HIDE, SHOW
+from page_line import PageLine, serve, users_at
 
 # a page that is not connected is given up after so many seconds
 SECONDS_TO_COME_BACK = 120
 SECONDS_BETWEEN_LOOKS = 0.25
-MOST_TYPED = 1 << 14
 MOST_DECK = 1 << 22
 # the part of a listing that is sent at once
 PIECE = 1 << 16
 MOST_FILES = 200
 MESSAGES_AT_ONCE, MESSAGES_A_SECOND = 400, 200
 NO_LINE = "NOT LOGGED ON"
+# what it takes to keep a line, beside its text
+LINE_COST = 64
 KEYS = {"attention": b"", "stop": b"#CP", "external": b"#CP EXTERNAL", "begin": b"BEGIN"}
 
 
 class Refused(Exception):
     """A message that is not obeyed; the text says why."""
-
-
-class NoSocket:
-    """In the place of a terminal's socket, of which a page has none of its own."""
-
-    family = socket.AF_UNIX
-
-    def setsockopt(self, *_):
-        pass
-
-
-class PageLine:
-    """A page's connection to the desk, in the form of a stream's reader and writer: what is typed comes as bytes, and what is shown
-    goes as lines."""
-
-    def __init__(self, address, shown, unread):
-        self.address = address
-        self.shown = shown
-        self.unread = unread
-        self.transport = self
-        self.typed = bytearray()
-        self.changed = asyncio.Event()
-        self.is_closed = False
-        self.left = b""
-
-    async def type(self, line):
-        """Types a line; waits while much is typed that nobody has read."""
-        while len(self.typed) > MOST_TYPED and not self.is_closed:
-            await asyncio.sleep(0.02)
-        self.typed += line.translate(CLEAN) + b"\r\n"
-        self.changed.set()
-
-    async def read(self, most):
-        while not self.typed and not self.is_closed:
-            self.changed.clear()
-            await self.changed.wait()
-        data = bytes(self.typed[:most])
-        del self.typed[:most]
-        return data
-
-    def write(self, data):
-        *lines, self.left = (self.left + data.replace(HIDE, b"").replace(SHOW, b"")).split(b"\r\n")
-        for line in lines:
-            self.shown(line.decode("latin-1"))
-
-    def get_write_buffer_size(self):
-        return self.unread()
-
-    def get_extra_info(self, name):
-        return {"peername": (self.address, 0), "socket": NoSocket()}.get(name)
-
-    def is_closing(self):
-        return self.is_closed
-
-    def close(self):
-        self.is_closed = True
-        self.changed.set()
-
-    abort = close
 
 
 class Outbox:
@@ -185,7 +126,7 @@ class UserPage:
 
     def show(self, text):
         self.number += 1
-        self.size += len(text) + 1
+        self.size += len(text) + LINE_COST
         entry = (self.number, round(time.time() * 1000), text)
         self.lines.append(entry)
         self.put({"is": "lines", "lines": [entry]})
@@ -195,14 +136,15 @@ class UserPage:
 
     def seen(self, number):
         while self.lines and self.lines[0][0] <= number:
-            self.size -= len(self.lines.popleft()[2]) + 1
+            self.size -= len(self.lines.popleft()[2]) + LINE_COST
 
     def user(self):
         """The user who is logged on at this page's connection to the desk."""
         return self.pages.users_at().get(self.line) if self.line else None
 
     def is_somebody(self):
-        return self.user() is not None
+        """Whether somebody was on here when that was last looked at."""
+        return bool(self.told) and self.told["is"] == "on"
 
     def look(self, user):
         """Tells the browser who is on, and whether his machine runs, if that has changed."""
@@ -215,9 +157,8 @@ class UserPage:
         """Has the desk serve the page until one of them ends that."""
         line = self.line
         try:
-            await self.pages.serve(line, line)
+            await serve(self.pages.desk, line)
         finally:
-            line.close()
             self.line = None
             self.deck = None
             self.look(None)
@@ -244,7 +185,7 @@ class UserPage:
 
     async def log_on(self, message):
         words = [text_in(message, it).encode("latin-1", "replace") for it in ("name", "password")]
-        if not all(words) or any(b" " in it.translate(CLEAN) for it in words):
+        if not all(words) or any(byte <= 32 or byte >= 127 for it in words for byte in it):
             raise Refused("a name and a password are words")
         if self.user():
             raise Refused("you are logged on")
@@ -351,12 +292,9 @@ class Pages:
         self.minidisks = minidisks
         self.all = {}
 
-    def serve(self, reader, writer):
-        return self.desk.serve(reader, writer)
-
     def users_at(self):
         """Each connection to the desk at which a user is logged on, with that user."""
-        return {it.terminal.writer: it for it in self.engine.users.values() if it.terminal and it.is_on}
+        return users_at(self.engine.users.values())
 
     def open(self, message, address):
         """The page that a browser's first message asks for, and the answer."""

@@ -3,6 +3,14 @@ import ssl
 
 from people import FILE_FAILED, Failure, WrongUse
 
+# who does not come to an end of a handshake goes
+SECONDS_FOR_A_HANDSHAKE = 10
+
+
+def how(context):
+    """The words of a server for its encryption."""
+    return {"ssl": context, "ssl_handshake_timeout": SECONDS_FOR_A_HANDSHAKE} if context else {}
+
 
 def tls_of(certificate, key):
     """The context of connections that are encrypted, or None."""

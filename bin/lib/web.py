@@ -4,6 +4,7 @@ import asyncio
 import collections
 import json
 import logging
+import resource
 
 from websockets.exceptions import ConnectionClosed
 from websockets.legacy.server import WebSocketServerProtocol, serve
@@ -13,12 +14,15 @@ from operator_pages import OperatorPage, OperatorPages
 from page_requests import HEADERS, USER_SOCKET, answer_to, read_files
 from pages import Outbox, Pages, Rate
 from people import FILE_FAILED, Failure
+from tls import how
 
 # a connection that asks for nothing goes after so many seconds; of too many that nobody has logged on at one goes
 SECONDS_TO_ASK = 10
 MOST_CONNECTIONS = 512
-MOST_MESSAGE = 1 << 16
-LIMITS = {"max_size": MOST_MESSAGE, "max_queue": 4, "read_limit": 1 << 16, "write_limit": 1 << 16, "ping_interval": 20, "ping_timeout": 20,
+MOST_MESSAGE = 3 << 14
+# files and connections that the command may have open
+MOST_OPEN = 1 << 13
+LIMITS = {"max_size": MOST_MESSAGE, "max_queue": 2, "read_limit": 1 << 16, "write_limit": 1 << 16, "ping_interval": 20, "ping_timeout": 20,
           "close_timeout": 2, "compression": None, "server_header": None}  # fmt: skip
 WRONG_MESSAGE = 1008
 
@@ -87,9 +91,8 @@ class Web:
         address, _, port = where.rpartition(":")
         logger = logging.Logger("web", logging.CRITICAL + 1)
         kind = type("OwnConnection", (Connection,), {"crowd": self.crowd})
-        more = {"create_protocol": kind, "process_request": self.answer, "ssl": self.tls, "logger": logger, "backlog": 512, **LIMITS}
-        if self.tls:
-            more["ssl_handshake_timeout"] = SECONDS_TO_ASK
+        more = {"create_protocol": kind, "process_request": self.answer, "logger": logger, "backlog": 512, **LIMITS, **how(self.tls)}
+        allow_more_files()
         try:
             self.server = await serve(self.serve, address.strip("[]"), int(port), **more)
         except OSError as error:
@@ -162,6 +165,14 @@ class Web:
             task.cancel()
         self.server.close()
         await self.server.wait_closed()
+
+
+def allow_more_files():
+    """Has the host allow so many files that a flood of connections leaves some for others."""
+    soft, hard = resource.getrlimit(resource.RLIMIT_NOFILE)
+    most = MOST_OPEN if hard == resource.RLIM_INFINITY else min(MOST_OPEN, hard)
+    if soft != resource.RLIM_INFINITY and soft < most:
+        resource.setrlimit(resource.RLIMIT_NOFILE, (most, hard))
 
 
 async def received(connection):
