@@ -5,8 +5,10 @@ import contextlib
 import http
 import json
 import os
+import sys
 import time
 
+import web_library
 from decks import Folders
 from engine import User
 from installation import run, write_text as write
@@ -365,10 +367,26 @@ def try_requests(check):
     check("nor does a file name one", not outside and not inline, *outside, *inline)
 
 
+def try_library(check):
+    """Where the library is missing the command goes on under the system's Python, or says what to install."""
+    system = web_library.SYSTEM
+    try:
+        sys.modules["websockets"] = None
+        web_library.SYSTEM = sys.executable
+        web_library.need_library()
+        check("a library that is missing", False)
+    except Failure as failure:
+        check("a library that is missing", "apt-get install python3-websockets" in failure.lines[0], *failure.lines)
+    finally:
+        del sys.modules["websockets"]
+        web_library.SYSTEM = system
+
+
 def try_pages(check, folder):
     os.makedirs(folder)
     write(f"{folder}/PRT0001-ALICE.txt", "ONE\nTWO\n\f3\n")
     try_requests(check)
+    try_library(check)
     check("without a certificate nothing is encrypted", tls_of(None, None) is None)
     for words, wrong in ((("c", None), WrongUse), ((None, "k"), WrongUse), ((f"{folder}/none", f"{folder}/none"), Failure),
                          ((f"{folder}/PRT0001-ALICE.txt", f"{folder}/PRT0001-ALICE.txt"), Failure)):  # fmt: skip
