@@ -26,6 +26,7 @@ RECONNECTED = "RECONNECTED"
 # a line after #CP, and its command if that takes a text
 COMMAND = re.compile(rb"( *#[Cc][Pp](?: |$))?(.*)")
 MESSAGE = re.compile(rb"( *[Mm][Ss][Gg] +[^ ]+ ?)(.*)")
+CLOSED = "LOGON IS CLOSED"
 TAKES_OVER = "ANOTHER TERMINAL TAKES OVER"
 GOES_DOWN = "GATHJUMLI GOES DOWN"
 
@@ -105,6 +106,8 @@ class Desk:
         self.strangers = []
         # what everybody is shown who logs on
         self.log_message = ""
+        # whether nobody may log on who is not on
+        self.is_closed = False
         self.serving = set()
         self.terminals = set()
 
@@ -172,6 +175,9 @@ class Desk:
 
     async def converse(self, terminal, user):
         """What is typed at a terminal is typed at that of the user, until he logs off or another terminal takes over."""
+        if self.is_closed and not (user.is_on or user.logon):
+            terminal.say(CLOSED)
+            return
         self.take_over(terminal, user)
         try:
             if not user.is_on:
