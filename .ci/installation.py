@@ -13,6 +13,8 @@ import sys
 import tempfile
 import time
 
+# what somebody is told who has come
+BANNER = "GATHJUMLI ONLINE: TYPE LOGON NAME"
 TELLS = re.compile("([0-9:]{8}) (.*)")
 # how long anything that has to come may take
 PATIENCE = 60
@@ -135,7 +137,7 @@ class Person:
     async def logon(self, name, password):
         """Logs on; what is answered."""
         self.type(f"LOGON {name} {password}")
-        await self.until("GATHJUMLI ONLINE")
+        await self.until(BANNER)
         return await self.line()
 
     async def rest(self):
@@ -318,6 +320,7 @@ def stand_in(words):
 
 TYPED = {
     "the four ends of lines": (b"A\rB\nC\r\nD\r\0E", ["A", "B", "C", "D"], b""),
+    "a command between return and newline": (b"A\r\xff\xf1\nB\n", ["A", "B"], b""),
     "two ends": (b"A\n\nB\r\r", ["A", "", "B", ""], b""),
     "what is no printable character": (b"A\tB\x00\x1b\xc3\xa9C\n", ["A B    C"], b""),
     "130 characters": (b"X" * 131 + b"\n" + b"Y" * 130 + b"\n", ["X" * 130, "Y" * 130], b""),
@@ -342,45 +345,35 @@ ENTRIES = {
 
 
 def try_tables(check, folder):
-    from telnet import Typing
-
-    for what, (given, wanted, replies) in TYPED.items():
-        for size in (1, 3, len(given)):
-            typing = Typing()
-            pieces = [given[at : at + size] for at in range(0, len(given), size)]
-            found = [line.decode() for it in pieces for line in typing.feed(it)]
-            told = (found, bytes(typing.replies))
-            check(f"{what}, {size} bytes at once", told == (wanted, replies), *told)
-    try_guesses(check)
+    try_passwords(check)
     try_terminal(check)
     try_recordings(check, folder)
     try_pace(check)
 
 
-def try_guesses(check):
-    """Each wrong guess of a name makes the next one wait longer, whatever the name is, and it is forgotten."""
-    from logon import Guesses, LONGEST_WAIT, PLACES, Passwords
+def try_passwords(check):
+    """Passwords are right for their names alone, and are not kept."""
+    from logon import Passwords
 
-    guesses = Guesses()
-    waits = [guesses.begin("A", 100) for _ in range(8)]
-    check("guesses wait longer and longer", waits == [0, 0.25, 0.5, 1, 2, 4, 4, 4], *map(str, waits))
-    check("and are forgotten", guesses.count("A", 140) > 0 == guesses.count("A", 1000))
-    # one name of a thousand shares its place
-    other = next(name for name in "BCDEF" if guesses.place_of(name) != guesses.place_of("A"))
-    for _ in range(3):
-        wait = guesses.begin(other, 100)
-        guesses.was_right(other, 100)
-    check("a right one does not count", wait == 0)
-    for place in range(100000):
-        guesses.begin(f"N{place}", 100)
-    check("names take no memory", len(guesses.places) <= PLACES)
-    check("nobody is locked out", max(guesses.begin(f"M{it}", 100) for it in range(1000)) <= LONGEST_WAIT)
     passwords = Passwords({"A": "SECRET", "B": "OTHER"})
     cases = {("A", "SECRET"): True, ("A", "OTHER"): False, ("B", "OTHER"): True, ("C", "SECRET"): False, ("", ""): False}
     for (name, password), wanted in cases.items():
         check(f"{name} {password}", passwords.are_right(name, password) == wanted)
     kept = repr(vars(passwords))
     check("no password is kept", "SECRET" not in kept and "OTHER" not in kept)
+
+
+def try_typed(check, answers):
+    """The lines that bytes of a terminal make, in pieces; answers: what the desk says to each line."""
+    begin = ["USER 0 41", "ROOM 0 1", "OPEN 0 0 0", f"CAME 0 0 {b'LOGON A B'.hex().upper()}0A", "SAYS 1 0 1 41 42", "TURN 1 0 1", "DONE 1 0"]
+    for what, (given, wanted, replies) in TYPED.items():
+        for size in (1, 3, len(given)):
+            pieces = [given[at : at + size].hex().upper() for at in range(0, len(given), size)]
+            lines = [*begin, *(f"CAME 2 0 {it}" for it in pieces), *["DONE 3 0"] * len(wanted)]
+            told = [line.split() for it in list(answers(lines))[len(begin) - 1 :] for line in it]
+            found = [bytes.fromhex(it[2].replace("-", "")).decode() for it in told if it[0] == "TYPE"]
+            given_back = b"".join(bytes.fromhex(it[2]) for it in told if it[0] == "GIVE")
+            check(f"{what}, {size} bytes at once", (found, given_back) == (wanted, replies), *found, given_back)
 
 
 class Unread:
@@ -408,12 +401,12 @@ class Unread:
 
 def try_terminal(check):
     """One who does not read is closed, and takes no more memory then."""
-    from terminals import MOST_UNREAD, Terminal
+    from terminals import MOST_UNREAD, SocketConnection
 
     told, writer = [], Unread()
-    terminal = Terminal(None, writer, told.append)
+    connection = SocketConnection(writer, told.append)
     for _ in range(10000):
-        terminal.say("X" * 130)
+        connection.send(b"X" * 130)
     check("one who does not read is closed", writer.is_gone and writer.size <= MOST_UNREAD + 200 and len(told) == 1, *told)
 
 
@@ -494,15 +487,21 @@ def try_logging_on(check, site):
 
     async def tried():
         where = f"{site.folder}/socket"
-        for given in ("LOGON ALICE BUILDER", "LOGON NOBODY WONDER", "LOGON OPER SECRET", "HELLO", "LOGON ALICE WONDER X"):
+        for given in ("LOGON ALICE BUILDER", "LOGON NOBODY WONDER", "LOGON OPER SECRET"):
             stranger = await person(where)
             begun = time.monotonic()
             stranger.type(given)
             answers = [await stranger.line(), await stranger.line()]
             took = time.monotonic() - begun
-            holds = answers == ["GATHJUMLI ONLINE", "LOGON REFUSED"] and took >= 0.5
-            check(f"{given} is refused", holds, f"{took:.2f} s", *answers)
+            check(f"{given} is refused", answers == [BANNER, "LOGON REFUSED"] and took >= 0.5, f"{took:.2f} s", *answers)
             stranger.go()
+        stranger = await person(where)
+        stranger.type("HELLO", "", "LOGON ALICE WONDER X", "LOGON", "LOGON ALICE", "TWO WORDS", "logon alice wonder")
+        await stranger.until("LOGON OK")
+        hints = [it for it in stranger.lines if it == "TYPE LOGON NAME, AND THEN THE PASSWORD"]
+        check("what is no name and password is no guess", len(hints) == 4, *stranger.lines)
+        stranger.type("LOGOFF")
+        await stranger.rest()
         alice = await person(where)
         check("a name and a password", await alice.logon("alice", "wonder") == "LOGON OK", *alice.lines)
         alice.type("STORE G1 0000002A", "DISPLAY G1", "", "MSG BOB HELLO")
@@ -544,6 +543,41 @@ def try_logging_on(check, site):
     secrets = [it for it in ("WONDER", "BUILDER", "SECRET") if it in written]
     check("no password is recorded", not secrets, *secrets)
     check("the recording is for its owner alone", os.stat(f"{site.folder}/{kept_of(site)}/recording").st_mode & 0o777 == 0o600)
+
+
+def try_passwords_file(check, repository, site):
+    """People log on with the passwords of a file, which change while the installation runs."""
+    path = f"{site.folder}/passwords"
+
+    def set_password(name, *words, given=""):
+        return subprocess.run([f"{repository}/bin/passwords", *words, path, name], input=given, capture_output=True, text=True)
+
+    async def answer(*words):
+        one = await person(f"{site.folder}/socket")
+        told = await one.logon(*words)
+        one.go()
+        return told
+
+    done = set_password("ALICE", given="Looking\nGLASS\n")
+    check("a password is set", done.returncode == 0 and not done.stdout, done.stderr)
+    kept = read(path)
+    check("its file is for its owner alone, and has it not", b"LOOKING" not in kept.upper() and os.stat(path).st_mode & 0o777 == 0o600)
+    for name, given in (("BOB", "TWO WORDS\n"), ("BOB", "\n"), ("BOB", "\xe9\n")):
+        done = set_password(name, given=given)
+        check(f"{given!r} is no password", done.returncode == 1 and read(path) == kept, done.stderr)
+    check("a name is a user's", set_password("bob", given="X\n").returncode == 2)
+    check("nobody is removed who is not there", set_password("BOB", "--remove").returncode == 1)
+    site.online("--passwords", path)
+    check("the directory's passwords are none", run(answer("ALICE", "WONDER")) == "LOGON REFUSED")
+    check("those of the file are", run(answer("ALICE", "looking")) == "LOGON OK")
+    set_password("BOB", given="NEW\n")
+    check("also one that is set meanwhile", run(answer("BOB", "NEW")) == "LOGON OK")
+    set_password("ALICE", "--remove")
+    check("and one that is removed is none", run(answer("ALICE", "LOOKING")) == "LOGON REFUSED")
+    check("it is suspended", site.stop() == 0, *site.told)
+    write(path, b"ALICE 12 34\n")
+    site.start("--passwords", path)
+    check("another file is refused", site.ended() == 1 and "line 1 is no name with a salt and a sum" in site.since_start(), *site.told)
 
 
 def kept_of(site):
@@ -912,6 +946,7 @@ def try_all(check, repository, folder, is_stand_in):
     program = f"{repository}/crates/vm370_cli/out/vm370_cli"
     prints = (["PRINT HELLO"], "") if is_stand_in else (PRINTS, "CLOSE 00E")
     try_logging_on(check, make_site(command, f"{folder}/logging on"))
+    try_passwords_file(check, repository, make_site(command, f"{folder}/passwords"))
     try_recovery(check, make_site(command, f"{folder}/recovery"), program)
     try_silence(check, make_site(command, f"{folder}/silence"))
     try_computing(check, make_site(command, f"{folder}/computing"))

@@ -104,10 +104,12 @@ class Streams:
 
     async def read(self, _):
         line = self.lines.pop(0)
+        if callable(line):
+            await line()
+            line = self.lines.pop(0) if self.lines else b""
         if isinstance(line, Exception):
             raise line
-        await line() if callable(line) else None
-        return b"" if callable(line) else line
+        return line
 
     def write(self, data):
         self.written += data
@@ -127,32 +129,41 @@ class Streams:
     abort = close
 
 
-def desk_of(engine):
+def desk_program(program):
+    """The program that is the desk, next to the one of the machines."""
+    return program.replace("vm370_cli", "logon_desk_cli")
+
+
+def desk_of(engine, program):
     from logon import Passwords
     from terminals import Desk
 
     told = []
-    return Desk(engine, Passwords({"A": "SECRET"}), told.append), told
+    desk = Desk(engine, Passwords({"A": "SECRET"}), told.append, program)
+    desk.open()
+    return desk, told
 
 
-def try_lost_connection(check):
+def try_lost_connection(check, program):
     """A connection that the network gives up leaves its user at no terminal, whatever the fault is."""
     from engine import User
 
     async def served(fault):
         user = User("A")
         user.is_on = True
-        streams = Streams(b"LOGON A SECRET\n", fault)
-        desk, told = desk_of(GivenParts({"A": user}))
+        streams = Streams(b"LOGON A SECRET\n", lambda: until_so(lambda: b"RECONNECTED" in streams.written), fault)
+        desk, told = desk_of(GivenParts({"A": user}), program)
         await desk.serve(streams, streams)
         is_told = told == ["A is back from 10.0.0.5", "A leaves his terminal"]
-        return is_told and user.terminal is None and not desk.terminals and not desk.serving
+        is_gone = not user.terminal.is_there and not desk.places and not desk.serving
+        await desk.shut()
+        return is_told and is_gone
 
     for fault in (TimeoutError(110, "Connection timed out"), OSError(113, "No route to host"), ConnectionResetError(), b""):
         check(f"a connection that ends with {fault!r}", run(served(fault)))
 
 
-def try_two_logons(check):
+def try_two_logons(check, program):
     """A user who logs on at two terminals while LOGON is under way is logged on once, and the second terminal takes over."""
     from engine import User
 
@@ -164,7 +175,7 @@ def try_two_logons(check):
             user.become("ON")
 
         engine = GivenParts({"A": user}, slowly)
-        desk, told = desk_of(engine)
+        desk, told = desk_of(engine, program)
         ends = asyncio.Event()
         one, other = (Streams(b"LOGON A SECRET\n", ends.wait) for _ in range(2))
         serving = [asyncio.create_task(desk.serve(one, one))]
@@ -175,6 +186,7 @@ def try_two_logons(check):
         await until_so(lambda: user.is_on)
         ends.set()
         await asyncio.wait(serving, timeout=10)
+        await desk.shut()
         return engine.parts, told, one.written, other.written
 
     parts, told, one, other = run(served())
@@ -426,8 +438,8 @@ def try_faults(check, command, program, folder):
     """All that is tried in seconds, over a stand-in for the program."""
     os.makedirs(folder)
     try_removed_deck(check, folder)
-    try_lost_connection(check)
-    try_two_logons(check)
+    try_lost_connection(check, desk_program(program))
+    try_two_logons(check, desk_program(program))
     try_answers(check)
     try_edits(check, folder)
     try_killed_program(check, make_site(command, f"{folder}/killed"), program)

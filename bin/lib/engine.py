@@ -28,32 +28,46 @@ MINUTE = "%Y-%m-%d %H:%M"
 NO_ROOM = "NOT DONE: NO ROOM FOR A PAGE, TYPE IT AGAIN"
 
 
+class Unattended:
+    """Stands for a user's terminal where there is no desk, and keeps the lines that the desk will want."""
+
+    is_there = False
+
+    def __init__(self):
+        self.lines = collections.deque(maxlen=KEPT_LINES)
+
+    def keep(self, text, minute):
+        self.lines.append((minute, text))
+
+    def show(self, text):
+        pass
+
+    def turn(self, is_on, is_running):
+        if not is_on:
+            self.lines.clear()
+
+
 class User:
-    """A user of the directory: whether he is on and his machine runs, the connection that is his terminal, and what it shows."""
+    """A user of the directory: whether he is on and his machine runs, and his terminal."""
 
     def __init__(self, name):
         self.name = name
         self.is_on = False
         self.is_running = False
-        self.terminal = None
-        # the logon that is under way
-        self.logon = None
+        self.terminal = Unattended()
         # whether he is being logged off
         self.is_forced = False
         # bytes that he typed, and his guests printed, since LOGON
         self.written = 0
-        # each line with the minute of its time
-        self.shown = collections.deque(maxlen=KEPT_LINES)
 
     def keep(self, text, when=None):
-        """Keeps a line for when he comes back."""
+        """Keeps a line for when he comes back, with the minute of its time."""
         self.written += len(text) + 1
-        self.shown.append((when or time.strftime(MINUTE, time.gmtime()), text))
+        self.terminal.keep(text, when or time.strftime(MINUTE, time.gmtime()))
 
     def show(self, text, when=None):
         self.keep(text, when)
-        if self.terminal:
-            self.terminal.say(text)
+        self.terminal.show(text)
 
     def become(self, state):
         if state in ("ON", "OFF"):
@@ -61,9 +75,9 @@ class User:
         else:
             self.is_running = state == "RUNS"
         if state == "OFF":
-            self.shown.clear()
             self.written = 0
             self.is_forced = False
+        self.terminal.turn(self.is_on, self.is_running)
 
 
 class Part(NamedTuple):

@@ -1,21 +1,21 @@
-"""Who may log on, and how guessing is slowed: by the connection and by the name, and nobody is locked out."""
+"""Who may log on, and whether a password is right."""
 import hashlib
 import hmac
 import os
+import re
 
-# wrong tries of a connection, and the seconds before each is answered
-TRY_PAUSES = (0.5, 1, 2)
-# a name waits the first where one wrong guess was made lately, each further one doubles that, up to the last
-FIRST_WAIT, LONGEST_WAIT = 0.25, 4
-SECONDS_TO_FORGET_A_GUESS = 10
-MOST_GUESSES = 20
-PLACES = 1024
+from people import Failure, REFUSED, read_file
+
+ENTRY = re.compile(rb"([A-Z][A-Z0-9]{0,7}) ([0-9a-f]{32}) ([0-9a-f]{64})")
+# a sum takes some 50 ms and 16 MB, whoever makes it
+COSTS = {"n": 1 << 14, "r": 8, "p": 1, "dklen": 32}
 
 
 class Passwords:
     """The passwords of a directory, as sums that are good for this session alone."""
 
     def __init__(self, passwords):
+        self.names = list(passwords)
         self.key = os.urandom(32)
         self.sums = {name: self.sum_of(password) for name, password in passwords.items()}
         self.other = os.urandom(32)
@@ -28,28 +28,40 @@ class Passwords:
         return hmac.compare_digest(self.sum_of(password), self.sums.get(name, self.other)) and name in self.sums
 
 
-class Guesses:
-    """How many guesses were made lately that were not right, by the names. Names share a number of places, so that no flood of
-    them takes memory, and one that is no user's is like any other; which names share one nobody outside can know."""
+class PasswordsFile:
+    """The passwords of a file, which has their salted sums (docs/man/passwords.1); it is read again each time."""
 
-    def __init__(self):
-        self.key = os.urandom(16)
-        self.places = {}
+    def __init__(self, path, names):
+        self.path = path
+        self.names = list(names)
+        self.other = (os.urandom(16), os.urandom(32))
+        read_entries(path)
 
-    def place_of(self, name):
-        return int.from_bytes(hashlib.blake2b(name.encode("latin-1"), key=self.key, digest_size=4).digest(), "big") % PLACES
+    def are_right(self, name, password):
+        """Whether this is the password of the user of this name; of a name that is not there it takes as long."""
+        try:
+            entries = read_entries(self.path)
+        except (OSError, Failure):
+            entries = {}
+        salt, wanted = entries.get(name, self.other)
+        return hmac.compare_digest(salted(password, salt), wanted) and name in entries
 
-    def count(self, name, now):
-        count, when = self.places.get(self.place_of(name), (0, now))
-        return max(0.0, count - (now - when) / SECONDS_TO_FORGET_A_GUESS)
 
-    def begin(self, name, now):
-        """Notes a guess of this name, and gives how many seconds it waits before it is judged, be it right or wrong. It counts
-        from now on, so that who makes many at once waits with each."""
-        count = self.count(name, now)
-        self.places[self.place_of(name)] = (min(MOST_GUESSES, count + 1), now)
-        return min(LONGEST_WAIT, FIRST_WAIT * 2 ** (count - 1)) if count > 0.5 else 0
+def salted(password, salt):
+    """The sum of a password, whose letters the desk makes capitals."""
+    return hashlib.scrypt(password.upper().encode("latin-1"), salt=salt, **COSTS)
 
-    def was_right(self, name, now):
-        """Counts a guess no more."""
-        self.places[self.place_of(name)] = (max(0.0, self.count(name, now) - 1), now)
+
+def read_entries(path):
+    """The names of a passwords file with their salts and sums."""
+    entries = {}
+    for number, line in enumerate(read_file(path).splitlines(), 1):
+        found = ENTRY.fullmatch(line)
+        if not found:
+            raise Failure(REFUSED, f"{path}: line {number} is no name with a salt and a sum")
+        entries[found[1].decode()] = (bytes.fromhex(found[2].decode()), bytes.fromhex(found[3].decode()))
+    return entries
+
+
+def entry_of(name, salt, wanted):
+    return f"{name} {salt.hex()} {wanted.hex()}\n"

@@ -95,7 +95,7 @@ class Operator:
 
     def status(self, rest, reply):
         engine, desk, recording = self.engine, self.installation.desk, self.engine.recording
-        reply(f"{len(self.on())} on, {len(desk.strangers)} about to log on, {engine.parts} parts, "
+        reply(f"{len(self.on())} on, {desk.strangers} about to log on, {engine.parts} parts, "
               f"{'somebody computes' if engine.pace.is_busy else 'all wait'}; "
               f"a start that goes on from here takes about {engine.seconds():.0f} s")  # fmt: skip
         most = self.installation.limits.memory // MEGABYTE
@@ -112,7 +112,7 @@ class Operator:
 
     def users(self, rest, reply):
         for user in self.on():
-            where = "" if user.terminal else ", at no terminal"
+            where = "" if user.terminal.is_there else ", at no terminal"
             reply(f"{user.name} {'runs' if user.is_running else 'is stopped'}{where}, {user.written / MEGABYTE:.1f} MB written")
         reply(f"{len(self.on())} on")
 
@@ -153,12 +153,11 @@ class Operator:
             raise NotDone(f"{word} is not on")
         else:
             user.show(f"OPERATOR: {plain(rest)}")
-            reply(f"{word} is at no terminal, and sees it when he comes back" if not user.terminal else f"sent to {word}")
+            reply(f"{word} is at no terminal, and sees it when he comes back" if not user.terminal.is_there else f"sent to {word}")
 
     def announce(self, text):
         for user in self.engine.users.values():
-            if user.terminal:
-                user.terminal.say(f"OPERATOR: {plain(text)}")
+            user.terminal.show(f"OPERATOR: {plain(text)}")
 
     def set_log_message(self, text, reply):
         if text:

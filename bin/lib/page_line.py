@@ -3,9 +3,11 @@ opened with an address, gives bytes that are typed, gets bytes that are shown, a
 import asyncio
 import socket
 
-from telnet import CLEAN, HIDE, SHOW
-
 MOST_TYPED = 1 << 14
+# what is no printable ASCII character is a blank
+CLEAN = bytes(byte if 32 <= byte < 127 else 32 for byte in range(256))
+# IAC WILL ECHO and IAC WONT ECHO: a telnet shows no more what is typed, and again
+HIDE, SHOW = b"\xff\xfb\x01", b"\xff\xfc\x01"
 
 
 class NoSocket:
@@ -75,14 +77,15 @@ async def serve(desk, line):
 
 
 def users_at(users):
-    """Each connection at which a user is logged on, with that user."""
-    return {it.terminal.writer: it for it in users if it.terminal and it.is_on}
+    """Each page's connection at which a user is logged on, with that user."""
+    there = [user for user in users if user.is_on and user.terminal.is_there]
+    return {user.terminal.connection.writer: user for user in there}
 
 
 def place_of(user):
     """Where a user's terminal is, or None where he is at none."""
-    return (user.terminal.address or "here") if user.terminal else None
+    return (user.terminal.connection.address or "here") if user.terminal.is_there else None
 
 
 def count_strangers(desk):
-    return len(desk.strangers)
+    return desk.strangers

@@ -3,7 +3,7 @@
 # the status for a file that cannot be written
 file_failed=3
 # the programs, and the commands that need a checkout with its sources
-programs="vm370_cli bare370_cli volume_cli frame_map"
+programs="vm370_cli bare370_cli volume_cli frame_map logon_desk_cli"
 of_checkout=" bench bench-against book plant install package "
 version_number=$(cat -- "$root/VERSION")
 

@@ -1,17 +1,29 @@
-"""The connections of people: who logs on at them, and what passes."""
+"""The connections of people, and the program that is the logon desk.
+
+The desk (crates/logon_desk_cli) decides who logs on, whose line a typed line is and who is shown what; here are the sockets. Whoever
+brings people, by telnet or otherwise, makes a Connection: `Desk.come` opens it, `Desk.receive` gives the desk bytes that came, at most
+MOST_BYTES and only while `may_send` is set, and `Desk.leave` tells that it has ended. The desk gives it bytes by `send`, and ends it by
+`close`.
+"""
 import asyncio
 import collections
+import concurrent.futures
 import contextlib
-import re
+import hashlib
+import os
 import socket
+import subprocess
 import time
 
 from engine import typed_line
-from logon import Guesses, TRY_PAUSES
-from telnet import HIDE, SHOW, Typing
+from people import FILE_FAILED, Failure
 
+# those who are about to log on, as the desk counts them, and one more
 MOST_STRANGERS = 80
-SECONDS_TO_LOG_ON = 10
+# bytes that the desk takes at once
+MOST_BYTES = 4096
+# lines for the desk that are told at once: what they and their answers take fits a pipe
+MOST_PENDING = 16
 # what waits for a reader: he is closed over so many bytes
 MOST_UNREAD = 1 << 20
 # of what waits the host takes so many bytes; the rest waits here, where it is counted
@@ -19,67 +31,55 @@ SEND_BUFFER = 1 << 16
 # a connection that is closed has so many seconds to read what waits, where that is little
 SECONDS_TO_LEAVE = 2
 LITTLE_UNREAD = 1 << 16
-ONLINE = "GATHJUMLI ONLINE"
-REFUSED_LOGON = "LOGON REFUSED"
-TOO_LATE = "TOO LATE"
-RECONNECTED = "RECONNECTED"
-# a line after #CP, and its command if that takes a text
-COMMAND = re.compile(rb"( *#[Cc][Pp](?: |$))?(.*)")
-MESSAGE = re.compile(rb"( *[Mm][Ss][Gg] +[^ ]+ ?)(.*)")
-CLOSED = "LOGON IS CLOSED"
-TAKES_OVER = "ANOTHER TERMINAL TAKES OVER"
-GOES_DOWN = "GATHJUMLI GOES DOWN"
+# how often the desk is told the time while somebody is about to log on
+TICK = 0.05
+# for so long wrong passwords are summed before they are told
+SECONDS_TO_SUM = 60
+LOGON = b"LOGON"
+GOES_DOWN = b"GATHJUMLI GOES DOWN\r\n"
+CLOSED = b"LOGON IS CLOSED\r\n"
 
 
-class Terminal:
-    """A connection, by telnet or plain."""
+class Connection:
+    """Somebody who comes from an address; the number of its place, while the desk has one for it."""
 
-    def __init__(self, reader, writer, tell):
-        self.reader = reader
+    def __init__(self, address):
+        self.address = address
+        self.place = None
+        self.user = None
+        # when it is shown again, the minute that was told last
+        self.minute = ""
+        self.may_send = asyncio.Event()
+
+    def send(self, data):
+        """Gives it bytes."""
+
+    def close(self):
+        """Ends it, when it has read what waits."""
+
+
+class SocketConnection(Connection):
+    """A connection by telnet or plain."""
+
+    def __init__(self, writer, tell):
+        peer = writer.get_extra_info("peername")
+        super().__init__(peer[0] if isinstance(peer, tuple) else "")
         self.writer = writer
         self.tell = tell
-        self.name = "a stranger"
-        peer = writer.get_extra_info("peername")
-        self.address = peer[0] if isinstance(peer, tuple) else ""
-        self.typing = Typing()
-        self.lines = collections.deque()
-        self.prepare(writer.get_extra_info("socket"))
-
-    def prepare(self, connection):
         # one that is gone already cannot be asked for anything
         with contextlib.suppress(OSError):
+            connection = writer.get_extra_info("socket")
             connection.setsockopt(socket.SOL_SOCKET, socket.SO_SNDBUF, SEND_BUFFER)
             if connection.family != socket.AF_UNIX:
                 # one that goes without a word is found out some time
                 connection.setsockopt(socket.SOL_SOCKET, socket.SO_KEEPALIVE, 1)
-
-    async def next_line(self):
-        """The next line that is typed, or None where the connection has ended."""
-        while not self.lines:
-            try:
-                data = await self.reader.read(4096)
-            except OSError:
-                # however the network says that the connection is gone
-                return None
-            if not data or self.writer.is_closing():
-                return None
-            self.lines.extend(self.typing.feed(data))
-            if self.typing.replies:
-                self.send(bytes(self.typing.replies))
-                self.typing.replies.clear()
-            # one who sends without end would else have all the time
-            await asyncio.sleep(0)
-        return self.lines.popleft()
-
-    def say(self, text):
-        self.send(text.encode(errors="surrogateescape") + b"\r\n")
 
     def send(self, data):
         if self.writer.is_closing():
             return
         self.writer.write(data)
         if self.unread() > MOST_UNREAD:
-            self.tell(f"{self.name} does not read: closed")
+            self.tell(f"{self.user.name if self.user else 'a stranger'} does not read: closed")
             self.writer.transport.abort()
 
     def unread(self):
@@ -95,155 +95,302 @@ class Terminal:
         asyncio.get_running_loop().call_later(SECONDS_TO_LEAVE, self.writer.transport.abort)
 
 
-class Desk:
-    """Where people log on, and take up again the machines that they left."""
+class Terminal:
+    """The terminal of a user, who logs on at the desk."""
 
-    def __init__(self, engine, passwords, tell):
+    def __init__(self, desk, number):
+        self.desk = desk
+        self.number = number
+        self.connection = None
+
+    @property
+    def is_there(self):
+        return self.connection is not None
+
+    def keep(self, text, minute):
+        """Keeps a line for when he comes back."""
+        self.desk.tell_soon("KEEP", self.number, encoded(minute), encoded(text))
+
+    def show(self, text):
+        """Shows him a line, which is on the disk, if he is there."""
+        self.desk.tell_soon("SHOW", self.number, encoded(text))
+
+    def turn(self, is_on, is_running):
+        self.desk.ask("TURN", self.number, (1 + is_running) * is_on)
+
+    def close(self):
+        if self.connection:
+            self.desk.leave(self.connection)
+
+
+class WrongPasswords:
+    """Sums the wrong passwords, so that the journal has a line for many."""
+
+    def __init__(self, tell):
+        self.tell = tell
+        self.counts = collections.Counter()
+
+    def add(self, name, address):
+        if not self.counts:
+            asyncio.get_running_loop().call_later(SECONDS_TO_SUM, self.tell_all)
+        self.counts[name, address] += 1
+
+    def tell_all(self):
+        for (name, address), count in self.counts.items():
+            passwords = "a wrong password" if count == 1 else f"{count} wrong passwords"
+            self.tell(f"{passwords} for {name or 'nobody here'}{' from ' * bool(address)}{address}")
+        self.counts.clear()
+
+
+class Desk:
+    """The program that is the desk, the connections at its places, and the people who log on."""
+
+    def __init__(self, engine, passwords, tell, program):
         self.engine = engine
         self.passwords = passwords
         self.tell = tell
-        self.guesses = Guesses()
-        self.strangers = []
         # what everybody is shown who logs on
         self.log_message = ""
         # whether nobody may log on who is not on
         self.is_closed = False
+        # how many are about to log on
+        self.strangers = 0
+        self.people = [engine.users[name] for name in passwords.names]
+        self.begun = time.monotonic()
+        self.key = os.urandom(16)
+        self.wrong = WrongPasswords(tell)
+        self.pending = []
+        self.places = {}
         self.serving = set()
-        self.terminals = set()
+        self.tasks = set()
+        self.judging = concurrent.futures.ThreadPoolExecutor(1)
+        self.is_asked = asyncio.Event()
+        self.has_failed = asyncio.Event()
+        self.path = program
+        self.program = None
+
+    def open(self):
+        """Begins the program, and tells it who logs on, and what is known of them since a replay."""
+        self.program = subprocess.Popen([self.path], stdin=subprocess.PIPE, stdout=subprocess.PIPE, start_new_session=True)
+        for user in self.people:
+            self.ask("USER", encoded(user.name))
+        self.room = MOST_STRANGERS + 1 + len(self.people)
+        self.ask("ROOM", self.room)
+        for number, user in enumerate(self.people):
+            before, user.terminal = user.terminal, Terminal(self, number)
+            user.terminal.turn(user.is_on, user.is_running)
+            for minute, text in before.lines:
+                user.terminal.keep(text, minute)
+        self.flush()
+
+    # --- the lines that pass (crates/logon_desk_cli/src: frame.rt, printing.rt) ---
+
+    def ask(self, word, *words):
+        """Tells the desk what has happened, and does what it says then."""
+        self.pending.append(self.line(word, *words))
+        self.flush()
+
+    def tell_soon(self, word, *words):
+        """Tells the desk something with what is told next, at the end of this turn at the latest."""
+        self.pending.append(self.line(word, *words))
+        if len(self.pending) == MOST_PENDING:
+            self.flush()
+        elif len(self.pending) == 1:
+            asyncio.get_running_loop().call_soon(self.flush)
+
+    def line(self, word, *words):
+        return " ".join([word, f"{int(1000 * (time.monotonic() - self.begun)):X}", *map(written, words)]) + "\n"
+
+    def flush(self):
+        """Tells the desk what waits for that, and does what it says to each line."""
+        pending, self.pending = self.pending, []
+        try:
+            self.program.stdin.write("".join(pending).encode())
+            self.program.stdin.flush()
+            for line in pending:
+                # it is silent until it knows everybody
+                if not line.startswith("USER"):
+                    self.obey_all()
+        except (OSError, ValueError):
+            self.has_failed.set()
+        if self.strangers:
+            self.is_asked.set()
+
+    def obey_all(self):
+        """Does what the desk says to a line."""
+        while True:
+            word, *words = self.program.stdout.readline().decode().split()
+            if word == "THAT":
+                self.strangers = int(words[0], 16)
+                return
+            self.obey(word, *words)
+
+    def obey(self, word, number, *words):
+        number = int(number, 16)
+        if word == "TYPE":
+            self.start(self.give(self.people[number], number, read_bytes(words[0])))
+        elif connection := self.places.get(number):
+            getattr(self, f"obey_{word.lower()}")(connection, *words)
+
+    def obey_give(self, connection, data):
+        connection.send(read_bytes(data))
+
+    def obey_back(self, connection, minute, text):
+        """A line that he has seen before, and its minute where that is another one."""
+        if minute != connection.minute:
+            connection.send(b"-- %s UTC\r\n" % read_bytes(minute))
+        connection.minute = minute
+        connection.send(read_bytes(text) + b"\r\n")
+
+    def obey_read(self, connection):
+        connection.may_send.set()
+
+    def obey_asks(self, connection, name, password):
+        self.start(self.judge(connection, name, password))
+
+    def obey_ends(self, connection):
+        del self.places[connection.place]
+        connection.place = None
+        connection.may_send.set()
+        connection.close()
+        user = connection.user
+        if user and user.terminal.connection is connection:
+            user.terminal.connection = None
+            self.engine.note(b"* DISCONNECTED %s\n" % user.name.encode())
+            self.tell(f"{user.name} {'leaves his terminal' if user.is_on else 'is logged off'}")
+
+    def obey_note(self, connection, word, number):
+        user = None if number == "-" else self.people[int(number, 16)]
+        if word == "FAIL":
+            self.wrong.add(user and user.name, connection.address)
+        elif word in ("LOGS", "BACK"):
+            connection.user, user.terminal.connection = user, connection
+            origin = f" from {connection.address}" if connection.address else ""
+            self.tell(f"{user.name} {'logs on' if word == 'LOGS' else 'is back'}{origin}")
+            self.engine.note(f"* CONNECTED {user.name} {connection.address or '-'}\n".encode())
+
+    # --- what takes time ---
+
+    def start(self, work):
+        self.tasks.add(task := asyncio.get_running_loop().create_task(work))
+        task.add_done_callback(self.tasks.discard)
+
+    async def give(self, user, number, text):
+        """Has a line done that is typed for a user."""
+        was_on = user.is_on
+        with contextlib.suppress(asyncio.CancelledError):
+            await self.engine.give(typed_line(user.name, text))
+            if user.is_on and not was_on and text == LOGON and self.log_message:
+                user.terminal.show(self.log_message)
+            self.ask("DONE", number)
+
+    async def judge(self, connection, name, password):
+        """Answers whether a name and a password are right."""
+        given = [word.decode("latin-1") for word in map(read_bytes, (name, password))]
+        is_right = await asyncio.get_running_loop().run_in_executor(self.judging, self.passwords.are_right, *given)
+        if connection.place is None:
+            return
+        if is_right and self.is_closed and not self.engine.users[given[0]].is_on:
+            connection.send(CLOSED)
+            self.leave(connection)
+            return
+        self.ask("SAYS", connection.place, int(is_right), name, password)
+
+    async def work(self):
+        """Tells the desk the time while somebody waits for it; fails where the desk does."""
+        while not self.has_failed.is_set():
+            if not self.strangers:
+                self.is_asked.clear()
+                await first_of(self.is_asked, self.has_failed)
+            await asyncio.sleep(TICK)
+            self.ask("TIME")
+        raise Failure(FILE_FAILED, "the program of the logon desk has died")
+
+    # --- connections ---
+
+    def come(self, connection):
+        """A connection has come; whether there is a place for it."""
+        connection.place = next((it for it in range(self.room) if it not in self.places), None)
+        if connection.place is None:
+            return False
+        self.places[connection.place] = connection
+        connection.may_send.set()
+        self.ask("OPEN", connection.place, self.origin(connection.address))
+        return connection.place is not None
+
+    def origin(self, address):
+        """A number for an address, which nobody outside can know; neighbours in a network of IPv6 have the same one."""
+        parts = address.split(":")
+        network = ":".join(parts[:4]) if len(parts) > 1 else address
+        return int.from_bytes(hashlib.blake2b(network.encode(), key=self.key, digest_size=7).digest(), "big")
+
+    def receive(self, connection, data):
+        """Bytes have come at a connection."""
+        if connection.place is not None:
+            connection.may_send.clear()
+            self.ask("CAME", connection.place, data.hex().upper())
+
+    def leave(self, connection):
+        """A connection has ended."""
+        if connection.place is not None:
+            self.ask("GONE", connection.place)
 
     async def serve(self, reader, writer):
-        """Serves a connection until it ends."""
-        terminal = Terminal(reader, writer, self.tell)
+        """Serves a socket until it ends."""
+        connection = SocketConnection(writer, self.tell)
         self.serving.add(asyncio.current_task())
-        self.terminals.add(terminal)
         # the installation stops by an end of all these
         try:
-            with contextlib.suppress(asyncio.CancelledError):
-                if user := await self.logged_on(terminal):
-                    await self.converse(terminal, user)
+            with contextlib.suppress(asyncio.CancelledError, OSError):
+                is_open = self.come(connection)
+                while is_open:
+                    await connection.may_send.wait()
+                    data = await reader.read(MOST_BYTES)
+                    if not data or connection.place is None:
+                        break
+                    self.receive(connection, data)
         finally:
-            terminal.close()
-            self.terminals.discard(terminal)
+            self.leave(connection)
+            connection.close()
             self.serving.discard(asyncio.current_task())
 
-    async def logged_on(self, terminal):
-        """The user who logs on at a terminal, or None. Where too many are about to, the one who was there longest goes."""
-        self.strangers.append(terminal)
-        if len(self.strangers) > MOST_STRANGERS:
-            self.strangers.pop(0).close()
-        terminal.say(ONLINE)
-        try:
-            return await asyncio.wait_for(self.asked(terminal), SECONDS_TO_LOG_ON)
-        except asyncio.TimeoutError:
-            terminal.say(TOO_LATE)
-            return None
-        finally:
-            with contextlib.suppress(ValueError):
-                self.strangers.remove(terminal)
-
-    async def asked(self, terminal):
-        """The user whose name and password are typed, or None."""
-        for pause in TRY_PAUSES:
-            words = await self.logon_words(terminal)
-            if words is None:
-                return None
-            name, password = words
-            await asyncio.sleep(self.guesses.begin(name, time.monotonic()))
-            if terminal.writer.is_closing():
-                return None
-            if self.passwords.are_right(name, password):
-                self.guesses.was_right(name, time.monotonic())
-                return self.engine.users[name]
-            await asyncio.sleep(pause)
-            terminal.say(REFUSED_LOGON)
-        self.tell(f"{len(TRY_PAUSES)} wrong passwords: closed")
-        return None
-
-    async def logon_words(self, terminal):
-        """Name and password of the next line that is typed, empty where it has none, or None at the end. Where the name stands
-        alone the password is asked for, and not shown."""
-        line = await terminal.next_line()
-        words = folded(line)
-        if len(words) == 2 and words[0] == "LOGON":
-            terminal.send(b"ENTER PASSWORD:\r\n" + HIDE)
-            line = await terminal.next_line()
-            terminal.send(SHOW)
-            words += folded(line)
-        if line is None:
-            return None
-        return words[1:] if len(words) == 3 and words[0] == "LOGON" else ("", "")
-
-    async def converse(self, terminal, user):
-        """What is typed at a terminal is typed at that of the user, until he logs off or another terminal takes over."""
-        if self.is_closed and not (user.is_on or user.logon):
-            terminal.say(CLOSED)
-            return
-        self.take_over(terminal, user)
-        try:
-            if not user.is_on:
-                await self.log_on(user)
-                if self.log_message:
-                    terminal.say(self.log_message)
-            while user.is_on and user.terminal is terminal:
-                line = await terminal.next_line()
-                if line is None:
-                    break
-                if user.terminal is terminal:
-                    await self.engine.give(typed_line(user.name, in_capitals(line, user.is_running)))
-        finally:
-            if user.terminal is terminal:
-                user.terminal = None
-                self.engine.note(b"* DISCONNECTED %s\n" % user.name.encode())
-                self.tell(f"{user.name} {'leaves his terminal' if user.is_on else 'is logged off'}")
-
-    async def log_on(self, user):
-        """Switches the user's machine on, once, however many terminals ask for it at the same time."""
-        if not user.logon:
-            user.logon = asyncio.ensure_future(self.engine.give(typed_line(user.name, b"LOGON")))
-        try:
-            # a terminal that goes takes the logon of another one not with it
-            await asyncio.shield(user.logon)
-        finally:
-            if user.logon and user.logon.done():
-                user.logon = None
-
-    def take_over(self, terminal, user):
-        if user.terminal:
-            user.terminal.say(TAKES_OVER)
-            user.terminal.close()
-        user.terminal, terminal.name = terminal, user.name
-        is_back = user.is_on or user.logon
-        self.tell(f"{user.name} {'is back' if is_back else 'logs on'}{' from ' * bool(terminal.address)}{terminal.address}")
-        self.engine.note(f"* CONNECTED {user.name} {terminal.address or '-'}\n".encode())
-        if is_back:
-            terminal.say(RECONNECTED)
-            minute = ""
-            for when, text in user.shown:
-                if when != minute:
-                    terminal.say(f"-- {when} UTC")
-                minute = when
-                terminal.say(text)
-
     async def shut(self):
-        """Tells all terminals that it ends, and closes them."""
-        for it in list(self.terminals):
-            it.say(GOES_DOWN)
-            it.close()
-        for it in list(self.serving):
-            it.cancel()
+        """Tells all connections that it ends, and closes them."""
+        for connection in list(self.places.values()):
+            connection.send(GOES_DOWN)
+            connection.close()
+        if self.wrong.counts:
+            self.wrong.tell_all()
+        for task in [*self.serving, *self.tasks]:
+            task.cancel()
         if self.serving:
             await asyncio.wait(list(self.serving))
+        self.judging.shutdown(wait=False)
+        if self.program:
+            with contextlib.suppress(OSError):
+                self.program.stdin.close()
+            self.program.wait()
+            self.program.stdout.close()
 
 
-def in_capitals(line, is_running):
-    """A typed line with its command in capitals. What goes to a running machine and the text of a message stay as they are."""
-    attention, command = COMMAND.fullmatch(line).groups(b"")
-    if is_running and not attention:
-        return line
-    message = MESSAGE.fullmatch(command)
-    return attention.upper() + (message[1].upper() + message[2] if message else command.upper())
+async def first_of(*events):
+    """Waits until one of these happens."""
+    tasks = [asyncio.ensure_future(it.wait()) for it in events]
+    try:
+        await asyncio.wait(tasks, return_when=asyncio.FIRST_COMPLETED)
+    finally:
+        for task in tasks:
+            task.cancel()
 
 
-def folded(line):
-    """The words of a line in capitals; of none, none."""
-    return (line or b"").decode("latin-1").upper().split()
+def encoded(text):
+    """A text as the desk reads bytes."""
+    return text.encode(errors="surrogateescape").hex().upper() or "-"
+
+
+def written(word):
+    return f"{word:X}" if isinstance(word, int) else word
+
+
+def read_bytes(word):
+    return b"" if word == "-" else bytes.fromhex(word)

@@ -1,0 +1,7 @@
+pub mod Guesses
+pub mod Account
+pub mod Connection
+pub mod Desk
+pub mod Strangers
+pub mod History
+pub mod Laws

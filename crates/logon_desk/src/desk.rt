@@ -1,0 +1,701 @@
+//! The desk.
+ghost use Rattle.std.specs.Prelude.{◌≡◌, ◌<◌, ◌≤◌, ◌^◌, ◌++◌, ◌∷◌, [], IfNone, IfOk, IfSome, count_by, false, length, map, not, replicate, take};
+ghost use Rattle.std.specs.List.{All};
+ghost use Rattle.logon_desk.specs.Strangers.{IsBusiest, is_stranger};
+ghost use Rattle.std.specs.Result.{OnOk};
+ghost use Rattle.logon_desk.specs.Account.{new_account};
+ghost use Rattle.logon_desk.specs.Connection.{gone};
+ghost use Rattle.logon_desk.specs.Desk.{Answers, Closes, Comes, Does, Finishes, IsStep, Keeps, Opens, Prints, Takes, Turns, Wakes, account_of, after_decoded, after_first, after_line_at, answered, comes_to, connection_at, ended, farewell, greeting, guess_waits, is_gone, is_taking, leaving, logged_on, logon_line, new_desk, after_pause, same_guess, shown, terminal_of, typed_line, wrong_guess};
+
+use crate::account::{Account, KeptLine};
+use crate::connection::{Answer, Connection, Stage, after_line};
+use crate::guesses::{Guesses, queue_of};
+use crate::output::{Entry, Notice, Output, Outputs};
+use crate::strangers::{busiest, strangers};
+use std::alloc::{AllocError, Global};
+use std::marker::Model;
+use std::mem;
+use terminal_lines::{Bytes, Decoded, Guess, in_capitals, printable, said_of, script_line};
+use user_names::{UserNo, user_of};
+
+/// The most bytes that wait at a connection.
+pub const MOST_WAITING: usize = 4096;
+
+/// The most characters of a line that are shown.
+pub const LONGEST_SHOWN: usize = 1024;
+
+/// The wrong guesses after which a connection is closed.
+const MOST_TRIES: u8 = 3;
+
+/// The connections, the users and the queues of guesses.
+#[derive(Drop)]
+pub struct LogonDesk {
+    connections: Vec<Connection>,
+    accounts: Vec<Account>,
+    guesses: Guesses,
+}
+
+impl Model for LogonDesk {
+    ghost use Rattle.std.specs.Prelude.{◌≤◌, length};
+    ghost use Rattle.logon_desk.specs.Desk.{Desk};
+
+    ghost Value = { Desk };
+
+    ghost view = { λ d. record { connections = d.connections.items; accounts = d.accounts.items; guesses = d.guesses } };
+
+    ghost invariant = { λ d. length d.accounts.items ≤ 64 };
+}
+
+impl LogonDesk {
+    /// A desk for the users of these names, with so many places for connections, to which nobody has come.
+    pub fn new(alloc: Global, names: &[Bytes], connections: usize) -> Result<LogonDesk, AllocError>
+        requires { length names.now ≤ 64 }
+        ensures { IfOk result (λ desk. desk ≡ new_desk names.now connections) }
+    {
+        Ok(LogonDesk {
+            connections: places_of(alloc, connections)?,
+            accounts: accounts_of(alloc, names)?,
+            guesses: Guesses::new(alloc)?,
+        })
+    }
+
+    /// How many places there are for connections.
+    pub fn connections(&self) -> usize
+        ensures { result ≡ length self.now.connections }
+    {
+        self.connections.len()
+    }
+
+    /// How many users there are.
+    pub fn users(&self) -> usize
+        ensures value { result ≡ length self.now.accounts }
+        ensures bound { result ≤ 64 }
+    {
+        self.accounts.len()
+    }
+
+    /// How many are about to log on.
+    pub fn strangers(&self) -> usize
+        ensures { result ≡ count_by is_stranger self.now.connections }
+    {
+        strangers(&self.connections)
+    }
+
+    /// One of those who are about to log on, from the address from which most of them have come.
+    pub fn busiest(&self) -> Option<usize>
+        ensures within { IfSome result (λ c. c < length self.now.connections) }
+        ensures busiest { IfSome result (λ c. IsBusiest self.now.connections c) }
+        ensures none { IfNone result (All (λ connection. is_stranger connection ≡ false) self.now.connections) }
+    {
+        busiest(&self.connections)
+    }
+
+    /// Whether a connection is there.
+    pub fn is_open(&self, connection: usize) -> bool
+        requires { connection < length self.now.connections }
+        ensures { result ≡ not (is_gone (connection_at self.now connection).stage) }
+    {
+        !matches!(self.connections[connection].stage, Stage::Gone)
+    }
+
+    /// A connection has come from an address.
+    pub fn open(
+        &mut self,
+        alloc: Global,
+        connection: usize,
+        address: u64,
+        now: u64,
+        out: &mut Outputs,
+    ) -> Result<(), AllocError>
+        requires within { connection < length self.old.connections }
+        requires now { now < 2 ^ 62 }
+        ensures { OnOk result (IsStep self.old (Opens connection address now) out.old self.new out.new) }
+    {
+        self.connections[connection] = Connection::opened(alloc, address, now);
+        say(connection, Notice::Online, out)
+    }
+
+    /// Bytes have come at a connection.
+    pub fn receive(
+        &mut self,
+        alloc: Global,
+        connection: usize,
+        bytes: &[u8],
+        out: &mut Outputs,
+    ) -> Result<(), AllocError>
+        requires within { connection < length self.old.connections }
+        ensures { OnOk result (IsStep self.old (Comes connection bytes.now) out.old self.new out.new) }
+    {
+        let place = &mut self.connections[connection];
+        if bytes.len() > MOST_WAITING || place.waiting.len() > MOST_WAITING - bytes.len() {
+            return self.end(alloc, connection, out);
+        }
+        place.waiting.add(bytes)
+    }
+
+    /// Takes the first byte that waits at a connection, if one is taken there now.
+    pub fn take(
+        &mut self,
+        alloc: Global,
+        connection: usize,
+        now: u64,
+        out: &mut Outputs,
+    ) -> Result<(), AllocError>
+        requires within { connection < length self.old.connections }
+        requires now { now < 2 ^ 62 }
+        ensures { OnOk result (IsStep self.old (Takes connection now) out.old self.new out.new) }
+    {
+        if self.is_taking(connection) && self.waiting(connection) > 0 {
+            self.take_first(alloc, connection, now, out)
+        } else {
+            Ok(())
+        }
+    }
+
+    fn take_first(
+        &mut self,
+        alloc: Global,
+        connection: usize,
+        now: u64,
+        out: &mut Outputs,
+    ) -> Result<(), AllocError>
+        requires within { connection < length self.old.connections }
+        requires some { 0 < length (connection_at self.old connection).waiting }
+        requires now { now < 2 ^ 62 }
+        ensures { OnOk result (Does (after_first self.old connection (connection_at self.old connection).waiting now) out.old self.new out.new) }
+    {
+        let place = &mut self.connections[connection];
+        let Some(byte) = place.waiting.take() else {
+            return Ok(());
+        };
+        let decoded = place.decoder.take(alloc, byte)?;
+        self.after_decoded(alloc, connection, decoded, now, out)
+    }
+
+    /// Whether bytes of a connection are taken now.
+    pub fn is_taking(&self, connection: usize) -> bool
+        requires { connection < length self.now.connections }
+        ensures { result ≡ is_taking self.now connection (connection_at self.now connection).stage }
+    {
+        match &self.connections[connection].stage {
+            Stage::Naming | Stage::Asking(_) => true,
+            Stage::On(user) => self.is_ready(connection, *user),
+            _ => false,
+        }
+    }
+
+    fn is_ready(&self, connection: usize, user: UserNo) -> bool
+        ensures { result ≡ is_taking self.now connection (Stage.On user) }
+    {
+        match self.accounts.get(user.index()) {
+            Some(account) => is_terminal(account.terminal, connection) && !account.is_busy,
+            None => false,
+        }
+    }
+
+    /// How many bytes wait at a connection.
+    pub fn waiting(&self, connection: usize) -> usize
+        requires { connection < length self.now.connections }
+        ensures { result ≡ length (connection_at self.now connection).waiting }
+    {
+        self.connections[connection].waiting.len()
+    }
+
+    fn after_decoded(
+        &mut self,
+        alloc: Global,
+        connection: usize,
+        decoded: Decoded,
+        now: u64,
+        out: &mut Outputs,
+    ) -> Result<(), AllocError>
+        requires within { connection < length self.old.connections }
+        requires now { now < 2 ^ 62 }
+        ensures { OnOk result (Does (after_decoded self.old connection decoded now) out.old self.new out.new) }
+    {
+        match decoded {
+            Decoded::Nothing => Ok(()),
+            Decoded::Line(line) => self.after_line(alloc, connection, line, now, out),
+            Decoded::Declines { command, option } => out.push(Output::Declines {
+                connection,
+                command,
+                option,
+            }),
+            Decoded::AreYouThere => say(connection, Notice::IsThere, out),
+        }
+    }
+
+    fn after_line(
+        &mut self,
+        alloc: Global,
+        connection: usize,
+        line: Bytes,
+        now: u64,
+        out: &mut Outputs,
+    ) -> Result<(), AllocError>
+        requires within { connection < length self.old.connections }
+        requires now { now < 2 ^ 62 }
+        ensures { OnOk result (Does (after_line_at self.old connection line now) out.old self.new out.new) }
+    {
+        match &self.connections[connection].stage {
+            Stage::On(user) => {
+                let user = *user;
+                self.type_line(alloc, user, line.as_slice(), out)
+            }
+            _ => self.logon_line(alloc, connection, &line, now, out),
+        }
+    }
+
+    fn type_line(
+        &mut self,
+        alloc: Global,
+        user: UserNo,
+        line: &[u8],
+        out: &mut Outputs,
+    ) -> Result<(), AllocError>
+        ensures { OnOk result (Does (typed_line self.old user line.now) out.old self.new out.new) }
+    {
+        let line = script_line(alloc, self.is_running(user), line)?;
+        if let Some(account) = self.accounts.get_mut(user.index()) {
+            account.is_busy = true;
+        }
+        out.push(Output::Types { user, line })
+    }
+
+    fn is_running(&self, user: UserNo) -> bool
+        ensures { result ≡ (account_of self.now user).is_running }
+    {
+        match self.accounts.get(user.index()) {
+            Some(account) => account.is_running,
+            None => false,
+        }
+    }
+
+    fn logon_line(
+        &mut self,
+        alloc: Global,
+        connection: usize,
+        line: &Bytes,
+        now: u64,
+        out: &mut Outputs,
+    ) -> Result<(), AllocError>
+        requires within { connection < length self.old.connections }
+        requires now { now < 2 ^ 62 }
+        ensures { OnOk result (Does (logon_line self.old connection (connection_at self.old connection) line.now now) out.old self.new out.new) }
+    {
+        let capitals = in_capitals(alloc, line.as_slice())?;
+        let said = said_of(alloc, capitals.as_slice())?;
+        let place = &mut self.connections[connection];
+        let answer = after_line(mem::replace(&mut place.stage, Stage::Gone), said);
+        self.answered(connection, answer, now, out)
+    }
+
+    fn answered(
+        &mut self,
+        connection: usize,
+        answer: Answer,
+        now: u64,
+        out: &mut Outputs,
+    ) -> Result<(), AllocError>
+        requires within { connection < length self.old.connections }
+        requires now { now < 2 ^ 62 }
+        ensures { OnOk result (Does (answered self.old connection (connection_at self.old connection) answer now) out.old self.new out.new) }
+    {
+        let Answer { stage, notice } = answer;
+        self.come_to(connection, stage, now);
+        match notice {
+            Some(notice) => say(connection, notice, out),
+            None => Ok(()),
+        }
+    }
+
+    fn come_to(&mut self, connection: usize, stage: Stage, now: u64)
+        requires within { connection < length self.old.connections }
+        requires now { now < 2 ^ 62 }
+        ensures { self.new ≡ comes_to self.old connection (connection_at self.old connection) stage now }
+    {
+        match stage {
+            Stage::Waiting(guess) => self.guess_waits(connection, guess, now),
+            stage => self.connections[connection].stage = stage,
+        }
+    }
+
+    fn guess_waits(&mut self, connection: usize, guess: Guess, now: u64)
+        requires within { connection < length self.old.connections }
+        requires now { now < 2 ^ 62 }
+        ensures { self.new ≡ guess_waits self.old connection (connection_at self.old connection) guess now }
+    {
+        let place = &mut self.connections[connection];
+        let queue = queue_of(guess.name.as_slice(), place.address);
+        let wait = self.guesses.begin(queue, now);
+        place.patience = place.patience.begun(now, wait);
+        place.stage = Stage::Waiting(guess);
+    }
+
+    /// This time has come for a connection.
+    pub fn wake(
+        &mut self,
+        alloc: Global,
+        connection: usize,
+        now: u64,
+        out: &mut Outputs,
+    ) -> Result<(), AllocError>
+        requires within { connection < length self.old.connections }
+        requires now { now < 2 ^ 62 }
+        ensures { OnOk result (IsStep self.old (Wakes connection now) out.old self.new out.new) }
+    {
+        let place = &mut self.connections[connection];
+        match &place.stage {
+            Stage::Naming | Stage::Asking(_) if place.patience.deadline <= now => {
+                say(connection, Notice::TooLate, out)?;
+                self.end(alloc, connection, out)
+            }
+            Stage::Waiting(guess) if place.patience.due <= now => {
+                let guess = guess.copy(alloc)?;
+                let asked = guess.copy(alloc)?;
+                place.stage = Stage::Judged(guess);
+                out.push(Output::Asks {
+                    connection,
+                    guess: asked,
+                })
+            }
+            Stage::Refused if place.patience.due <= now => self.after_pause(
+                alloc, connection, now, out,
+            ),
+            Stage::On(user) => {
+                let user = *user;
+                self.leave_behind(alloc, connection, user, out)
+            }
+            _ => Ok(()),
+        }
+    }
+
+    fn after_pause(
+        &mut self,
+        alloc: Global,
+        connection: usize,
+        now: u64,
+        out: &mut Outputs,
+    ) -> Result<(), AllocError>
+        requires within { connection < length self.old.connections }
+        requires now { now < 2 ^ 62 }
+        ensures { OnOk result (Does (after_pause self.old connection (connection_at self.old connection) now) out.old self.new out.new) }
+    {
+        say(connection, Notice::Refused, out)?;
+        let place = &mut self.connections[connection];
+        if place.patience.tries >= MOST_TRIES {
+            return self.end(alloc, connection, out);
+        }
+        place.stage = Stage::Naming;
+        place.patience = place.patience.again(now);
+        Ok(())
+    }
+
+    fn leave_behind(
+        &mut self,
+        alloc: Global,
+        connection: usize,
+        user: UserNo,
+        out: &mut Outputs,
+    ) -> Result<(), AllocError>
+        requires within { connection < length self.old.connections }
+        ensures { OnOk result (Does (Rattle.logon_desk.specs.Desk.wake_by self.old connection (connection_at self.old connection) (Stage.On user) 0) out.old self.new out.new) }
+    {
+        let terminal = self.terminal(user);
+        if is_terminal(terminal, connection) {
+            return Ok(());
+        }
+        if terminal.is_some() {
+            say(connection, Notice::TakesOver, out)?;
+        }
+        self.end(alloc, connection, out)
+    }
+
+    /// The connection that was the last at which a user logged on, if he has not logged off.
+    fn terminal(&self, user: UserNo) -> Option<usize>
+        ensures { result ≡ (account_of self.now user).terminal }
+    {
+        match self.accounts.get(user.index()) {
+            Some(account) => account.terminal,
+            None => None,
+        }
+    }
+
+    /// The host answers whether a name and a password are right.
+    pub fn answer(
+        &mut self,
+        alloc: Global,
+        connection: usize,
+        guess: &Guess,
+        is_right: bool,
+        now: u64,
+        out: &mut Outputs,
+    ) -> Result<(), AllocError>
+        requires within { connection < length self.old.connections }
+        requires now { now < 2 ^ 62 }
+        ensures { OnOk result (IsStep self.old (Answers connection guess.now is_right now) out.old self.new out.new) }
+    {
+        let is_awaited = match &self.connections[connection].stage {
+            Stage::Judged(other) => is_same(other, guess),
+            _ => false,
+        };
+        if !is_awaited {
+            return Ok(());
+        }
+        match user_of(&self.accounts, guess.name.as_slice()) {
+            Some(user) if is_right => self.log_on(alloc, connection, guess, user, now, out),
+            user => self.wrong_guess(connection, user, now, out),
+        }
+    }
+
+    fn log_on(
+        &mut self,
+        alloc: Global,
+        connection: usize,
+        guess: &Guess,
+        user: UserNo,
+        now: u64,
+        out: &mut Outputs,
+    ) -> Result<(), AllocError>
+        requires within { connection < length self.old.connections }
+        requires user { user < length self.old.accounts }
+        requires now { now < 2 ^ 62 }
+        ensures { OnOk result (Does (logged_on self.old connection guess.now user now) out.old self.new out.new) }
+    {
+        greet(alloc, connection, user, &self.accounts[user.index()], out)?;
+        let place = &mut self.connections[connection];
+        let queue = queue_of(guess.name.as_slice(), place.address);
+        place.stage = Stage::On(user);
+        self.guesses.was_right(queue, now);
+        let account = &mut self.accounts[user.index()];
+        account.terminal = Some(connection);
+        account.is_busy = account.is_busy || !account.is_on;
+        Ok(())
+    }
+
+    fn wrong_guess(
+        &mut self,
+        connection: usize,
+        user: Option<UserNo>,
+        now: u64,
+        out: &mut Outputs,
+    ) -> Result<(), AllocError>
+        requires within { connection < length self.old.connections }
+        requires now { now < 2 ^ 62 }
+        ensures { OnOk result (Does (wrong_guess self.old connection user now) out.old self.new out.new) }
+    {
+        let place = &mut self.connections[connection];
+        place.stage = Stage::Refused;
+        place.patience = place.patience.refused(now);
+        out.push(Output::Notes(Entry::WrongPassword { user, connection }))
+    }
+
+    /// A connection has ended, or is to end.
+    pub fn close(
+        &mut self,
+        alloc: Global,
+        connection: usize,
+        out: &mut Outputs,
+    ) -> Result<(), AllocError>
+        requires within { connection < length self.old.connections }
+        ensures { OnOk result (IsStep self.old (Closes connection) out.old self.new out.new) }
+    {
+        if let Stage::On(user) = &self.connections[connection].stage {
+            let user = *user;
+            if is_terminal(self.terminal(user), connection) {
+                out.push(Output::Notes(Entry::Leaves { user, connection }))?;
+            }
+        }
+        self.end(alloc, connection, out)
+    }
+
+    fn end(&mut self, alloc: Global, connection: usize, out: &mut Outputs) -> Result<(), AllocError>
+        requires within { connection < length self.old.connections }
+        ensures { OnOk result (Does (ended self.old connection []) out.old self.new out.new) }
+    {
+        self.connections[connection] = Connection::gone(alloc);
+        out.push(Output::Ends { connection })
+    }
+
+    /// Shows a user a line of the transcript, which is on the disk.
+    pub fn print(
+        &self,
+        alloc: Global,
+        user: UserNo,
+        line: &[u8],
+        out: &mut Outputs,
+    ) -> Result<(), AllocError>
+        ensures { OnOk result (IsStep self.now (Prints user line.now) out.old self.now out.new) }
+    {
+        match self.terminal_of(user) {
+            Some(connection) => out.push(Output::Shows {
+                connection,
+                user,
+                line: shown(alloc, line)?,
+            }),
+            None => Ok(()),
+        }
+    }
+
+    /// The connection at which a user is on.
+    pub fn terminal_of(&self, user: UserNo) -> Option<usize>
+        ensures { result ≡ terminal_of self.now user }
+    {
+        let connection = self.terminal(user)?;
+        match self.connections.get(connection) {
+            Some(place) if is_user(&place.stage, user) => Some(connection),
+            _ => None,
+        }
+    }
+
+    /// Keeps a line of a user for when he comes back.
+    pub fn keep(&mut self, alloc: Global, user: UserNo, line: &KeptLine) -> Result<(), AllocError>
+        requires { user < length self.old.accounts }
+        ensures { OnOk result (IsStep self.old (Keeps user line.now) [] self.new []) }
+    {
+        let line = KeptLine {
+            minute: shown(alloc, line.minute.as_slice())?,
+            text: shown(alloc, line.text.as_slice())?,
+        };
+        self.accounts[user.index()].kept.keep(line)
+    }
+
+    /// The machine of a user is on or off, and runs or is stopped.
+    pub fn turn(&mut self, user: UserNo, is_on: bool, is_running: bool)
+        requires { user < length self.old.accounts }
+        ensures { IsStep self.old (Turns user is_on is_running) [] self.new [] }
+    {
+        let account = &mut self.accounts[user.index()];
+        account.is_on = is_on;
+        account.is_running = is_running;
+        if !is_on {
+            account.terminal = None;
+            account.kept.clear();
+        }
+    }
+
+    /// The line that was typed for a user is done.
+    pub fn finish(&mut self, user: UserNo)
+        requires { user < length self.old.accounts }
+        ensures { IsStep self.old (Finishes user) [] self.new [] }
+    {
+        let account = &mut self.accounts[user.index()];
+        account.is_busy = false;
+        if !account.is_on {
+            account.terminal = None;
+        }
+    }
+}
+
+/// Places at which there is no connection.
+fn places_of(alloc: Global, connections: usize) -> Result<Vec<Connection>, AllocError>
+    ensures { IfOk result (λ places. places.items ≡ replicate connections gone) }
+{
+    let mut places = Vec::new(alloc);
+    for _ in 0..connections {
+        places.push(Connection::gone(alloc))?;
+    }
+    Ok(places)
+}
+
+/// Users whose machines are off.
+fn accounts_of(alloc: Global, names: &[Bytes]) -> Result<Vec<Account>, AllocError>
+    ensures { IfOk result (λ accounts. accounts.items ≡ map new_account names.now) }
+{
+    let mut accounts = Vec::new(alloc);
+    for name in names {
+        accounts.push(Account::new(alloc, Bytes::of(alloc, name.as_slice())?))?;
+    }
+    Ok(accounts)
+}
+
+/// Gives a connection a text of the desk's own.
+fn say(connection: usize, notice: Notice, out: &mut Outputs) -> Result<(), AllocError>
+    ensures { OnOk result (out.new ≡ out.old ++ Output.Says connection notice ∷ []) }
+{
+    out.push(Output::Says { connection, notice })
+}
+
+/// What a user is shown who logs on.
+fn greet(
+    alloc: Global,
+    connection: usize,
+    user: UserNo,
+    account: &Account,
+    out: &mut Outputs,
+) -> Result<(), AllocError>
+    ensures { OnOk result (out.new ≡ out.old ++ greeting connection user account.now) }
+{
+    if !account.is_on && !account.is_busy {
+        out.push(Output::Notes(Entry::LogsOn { user, connection }))?;
+        return out.push(Output::Types {
+            user,
+            line: Bytes::of(alloc, b"LOGON")?,
+        });
+    }
+    out.push(Output::Notes(Entry::IsBack { user, connection }))?;
+    say(connection, Notice::Reconnected, out)?;
+    show_again(alloc, connection, user, account.kept.as_slice(), out)
+}
+
+fn show_again(
+    alloc: Global,
+    connection: usize,
+    user: UserNo,
+    lines: &[KeptLine],
+    out: &mut Outputs,
+) -> Result<(), AllocError>
+    ensures { OnOk result (out.new ≡ out.old ++ map (λ line. Output.ShowsAgain connection user line) lines.now) }
+{
+    for line in lines {
+        out.push(Output::ShowsAgain {
+            connection,
+            user,
+            line: line.copy(alloc)?,
+        })?;
+    }
+    Ok(())
+}
+
+fn is_terminal(terminal: Option<usize>, connection: usize) -> bool
+    ensures { result ≡ Rattle.logon_desk.specs.Desk.is_terminal terminal connection }
+{
+    match terminal {
+        Some(other) => other == connection,
+        None => false,
+    }
+}
+
+fn is_user(stage: &Stage, user: UserNo) -> bool
+    ensures { result ≡ Rattle.logon_desk.specs.Desk.is_user stage.now user }
+{
+    match stage {
+        Stage::On(other) => other.index() == user.index(),
+        _ => false,
+    }
+}
+
+fn is_same(one: &Guess, other: &Guess) -> bool
+    ensures { result ≡ same_guess one.now other.now }
+{
+    one.name.as_slice() == other.name.as_slice()
+        && one.password.as_slice() == other.password.as_slice()
+}
+
+/// A line as it is shown: its first characters, without what a terminal takes for something else.
+fn shown(alloc: Global, line: &[u8]) -> Result<Bytes, AllocError>
+    ensures { IfOk result (λ copy. copy ≡ shown line.now) }
+{
+    let line = first_characters(line);
+    Ok(Bytes::owning(line.iter().map(|c| printable(*c)).collect(alloc)?))
+}
+
+fn first_characters(line: &[u8]) -> &[u8]
+    ensures { result.now ≡ take 1024 line.now }
+{
+    if line.len() > LONGEST_SHOWN {
+        &line[..LONGEST_SHOWN]
+    } else {
+        line
+    }
+}

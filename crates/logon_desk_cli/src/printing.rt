@@ -1,0 +1,148 @@
+//! The lines that the program writes.
+ghost use Rattle.std.specs.Prelude.{◌<◌};
+
+use logon_desk::{Entry, Notice, Output};
+use std::alloc::AllocError;
+use terminal_lines::Bytes;
+use user_names::UserNo;
+
+/// The desk's own texts.
+fn text_of(notice: Notice) -> &'static [u8] {
+    match notice {
+        Notice::Online => b"GATHJUMLI ONLINE: TYPE LOGON NAME\r\n",
+        Notice::TypeLogon => b"TYPE LOGON NAME, AND THEN THE PASSWORD\r\n",
+        Notice::EnterPassword => b"ENTER PASSWORD:\r\n\xff\xfb\x01",
+        Notice::PasswordTaken => b"\xff\xfc\x01",
+        Notice::NoPassword => b"\xff\xfc\x01THAT IS NO PASSWORD: TYPE LOGON NAME\r\n",
+        Notice::Refused => b"LOGON REFUSED\r\n",
+        Notice::TooLate => b"TOO LATE\r\n",
+        Notice::Reconnected => b"RECONNECTED\r\n",
+        Notice::TakesOver => b"ANOTHER TERMINAL TAKES OVER\r\n",
+        Notice::IsThere => b"[YES]\r\n",
+    }
+}
+
+/// The line for one thing that is to be done.
+pub fn print(output: &Output, text: &mut Bytes) -> Result<(), AllocError> {
+    match output {
+        Output::Says { connection, notice } => give(*connection, text_of(*notice), b"", text),
+        Output::Declines {
+            connection,
+            command,
+            option,
+        } => give(*connection, &[255, *command, *option], b"", text),
+        Output::Shows {
+            connection,
+            line,
+            ..
+        } => give(*connection, line.as_slice(), b"\r\n", text),
+        Output::ShowsAgain {
+            connection,
+            line,
+            ..
+        } => {
+            word(b"BACK", *connection, text)?;
+            push_bytes(line.minute.as_slice(), b"", text)?;
+            push_bytes(line.text.as_slice(), b"", text)?;
+            text.push(b'\n')
+        }
+        Output::Types { user, line } => {
+            word(b"TYPE", user.index(), text)?;
+            push_bytes(line.as_slice(), b"", text)?;
+            text.push(b'\n')
+        }
+        Output::Asks { connection, guess } => {
+            word(b"ASKS", *connection, text)?;
+            push_bytes(guess.name.as_slice(), b"", text)?;
+            push_bytes(guess.password.as_slice(), b"", text)?;
+            text.push(b'\n')
+        }
+        Output::Ends { connection } => {
+            word(b"ENDS", *connection, text)?;
+            text.push(b'\n')
+        }
+        Output::Notes(entry) => note(*entry, text),
+    }
+}
+
+/// A line that only has a number.
+pub fn print_number(name: &[u8], number: usize, text: &mut Bytes) -> Result<(), AllocError> {
+    word(name, number, text)?;
+    text.push(b'\n')
+}
+
+fn note(entry: Entry, text: &mut Bytes) -> Result<(), AllocError> {
+    match entry {
+        Entry::LogsOn { user, connection } => note_of(b"LOGS", Some(user), connection, text),
+        Entry::IsBack { user, connection } => note_of(b"BACK", Some(user), connection, text),
+        Entry::Leaves { user, connection } => note_of(b"LEFT", Some(user), connection, text),
+        Entry::WrongPassword { user, connection } => note_of(b"FAIL", user, connection, text),
+    }
+}
+
+fn note_of(
+    name: &[u8],
+    user: Option<UserNo>,
+    connection: usize,
+    text: &mut Bytes,
+) -> Result<(), AllocError> {
+    word(b"NOTE", connection, text)?;
+    text.push(b' ')?;
+    text.extend(name)?;
+    text.push(b' ')?;
+    match user {
+        Some(user) => push_number(user.index(), text)?,
+        None => text.push(b'-')?,
+    }
+    text.push(b'\n')
+}
+
+fn give(connection: usize, bytes: &[u8], end: &[u8], text: &mut Bytes) -> Result<(), AllocError> {
+    word(b"GIVE", connection, text)?;
+    push_bytes(bytes, end, text)?;
+    text.push(b'\n')
+}
+
+fn word(name: &[u8], number: usize, text: &mut Bytes) -> Result<(), AllocError> {
+    text.extend(name)?;
+    text.push(b' ')?;
+    push_number(number, text)
+}
+
+/// A number of at most four hexadecimal digits.
+fn push_number(number: usize, text: &mut Bytes) -> Result<(), AllocError> {
+    push_byte((number / 256 % 256) as u8, text)?;
+    push_byte((number % 256) as u8, text)
+}
+
+/// Bytes in hexadecimal, and a hyphen for none.
+fn push_bytes(bytes: &[u8], end: &[u8], text: &mut Bytes) -> Result<(), AllocError> {
+    text.push(b' ')?;
+    if bytes.is_empty() && end.is_empty() {
+        return text.push(b'-');
+    }
+    push_all(bytes, text)?;
+    push_all(end, text)
+}
+
+fn push_all(bytes: &[u8], text: &mut Bytes) -> Result<(), AllocError> {
+    for byte in bytes {
+        push_byte(*byte, text)?;
+    }
+    Ok(())
+}
+
+fn push_byte(byte: u8, text: &mut Bytes) -> Result<(), AllocError> {
+    text.push(digit(byte / 16))?;
+    text.push(digit(byte % 16))
+}
+
+fn digit(value: u8) -> u8
+    requires { value < 16 }
+{
+    if value < 10 {
+        b'0' + value
+    } else {
+        b'A' + (value - 10)
+    }
+}

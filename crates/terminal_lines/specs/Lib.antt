@@ -1,0 +1,4 @@
+pub mod Typed
+pub mod Decoder
+pub mod Words
+pub mod Script
