@@ -8,6 +8,7 @@ import collections
 import contextlib
 import hmac
 import os
+import re
 import secrets
 import time
 
@@ -184,15 +185,17 @@ class UserPage:
             self.put({"is": "refused", "what": plain(kind)[:20], "why": str(reason)})
 
     async def log_on(self, message):
-        words = [text_in(message, it).encode("latin-1", "replace") for it in ("name", "password")]
-        if not all(words) or any(byte <= 32 or byte >= 127 for it in words for byte in it):
-            raise Refused("a name and a password are words")
+        name, password = (text_in(message, it).encode("latin-1", "replace") for it in ("name", "password"))
+        if not re.fullmatch(b"[!-~]+", name) or not re.fullmatch(b"[ -~]+", password):
+            raise Refused("a name is a word, and a password a line")
         if self.user():
             raise Refused("you are logged on")
         if not self.line:
             self.line = PageLine(self.address, self.show, self.unread)
             self.conversation = asyncio.create_task(self.converse())
-        await self.line.type(b"LOGON " + b" ".join(words))
+        # the password is a line of its own, as a telnet sends it that is asked for it
+        await self.line.type(b"LOGON " + name)
+        await self.line.type(password)
 
     async def type(self, message):
         await self.type_line(text_in(message, "text").encode("latin-1", "replace"))
