@@ -346,6 +346,7 @@ ENTRIES = {
 
 def try_tables(check, folder):
     try_passwords(check)
+    try_wrong_passwords(check)
     try_terminal(check)
     try_recordings(check, folder)
     try_pace(check)
@@ -361,6 +362,24 @@ def try_passwords(check):
         check(f"{name} {password}", passwords.are_right(name, password) == wanted)
     kept = repr(vars(passwords))
     check("no password is kept", "SECRET" not in kept and "OTHER" not in kept)
+
+
+def try_wrong_passwords(check):
+    """Many wrong passwords are a line of the journal, with the name and the address."""
+    from terminals import WrongPasswords
+
+    async def summed():
+        told = []
+        wrong = WrongPasswords(told.append)
+        for name, address in [("A", "10.0.0.5")] * 7 + [("B", "")] + [(None, "10.0.0.5")] * 2:
+            wrong.add(name, address)
+        before = list(told)
+        wrong.tell_all()
+        return before, told, dict(wrong.counts)
+
+    before, told, left = run(summed())
+    wanted = ["7 wrong passwords for A from 10.0.0.5", "a wrong password for B", "2 wrong passwords for nobody here from 10.0.0.5"]
+    check("wrong passwords are summed", (before, told, left) == ([], wanted, {}), *told)
 
 
 def try_typed(check, answers):

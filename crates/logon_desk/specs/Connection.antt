@@ -5,8 +5,10 @@ use Rattle.logon_desk.specs.declared.connection.Answer.{Answer}
 use Rattle.logon_desk.specs.declared.connection.Connection.{Connection}
 use Rattle.logon_desk.specs.declared.connection.Patience.{Patience}
 use Rattle.logon_desk.specs.declared.connection.Stage.{Stage}
-use Rattle.logon_desk.specs.declared.connection.Stage.TheVariants.{Gone, Naming, Asking, Waiting, Judged, Refused, On}
-use Rattle.logon_desk.specs.declared.output.Notice.TheVariants.{EnterPassword, NoPassword, PasswordTaken, TypeLogon}
+use Rattle.logon_desk.specs.declared.connection.Stage.TheVariants.{Gone, Naming, Asking, Waiting, Judged}
+use Rattle.logon_desk.specs.declared.connection.Stage.TheVariants.{Refused, On}
+use Rattle.logon_desk.specs.declared.output.Notice.TheVariants.{EnterPassword, NoPassword, PasswordTaken}
+use Rattle.logon_desk.specs.declared.output.Notice.TheVariants.{TypeLogon}
 use Rattle.terminal_lines.specs.declared.words.Said.{Said}
 use Rattle.terminal_lines.specs.declared.words.Said.TheVariants.{Both, Name, Word, Other}
 
@@ -30,7 +32,8 @@ opened address now = record {
   address = address;
 }
 
--- what comes of a line of somebody who is about to log on. A name and its password stand in one line or in two; nothing else is
+-- what comes of a line of somebody who is about to log on. A name and its password stand in one line or in
+-- two; nothing else is
 -- a guess
 abbrev pub after_line : Stage → Said → Answer
 after_line Naming (Both guess) = record { stage = Waiting guess; notice = None }

@@ -1,5 +1,7 @@
 -- The desk: what an event makes of it, and what it does then.
-use Rattle.std.specs.Prelude.{◌≡◌, ℕ, ◌+◌, ◌==◌, ◌&&◌, ◌||◌, not, nat_le, nat_lt, if◌then◌else◌, Bool, true, false, List, [], ◌∷◌, ◌++◌, length, map, replicate, take, slice_index, slice_index_or, slice_set, Option, Some, None, codes}
+use Rattle.std.specs.Prelude.{◌≡◌, ℕ, ◌+◌, ◌==◌, ◌&&◌, ◌||◌, not, nat_le, nat_lt, if◌then◌else◌, Bool, true}
+use Rattle.std.specs.Prelude.{false, List, [], ◌∷◌, ◌++◌, length, map, replicate, take, slice_index}
+use Rattle.std.specs.Prelude.{slice_index_or, slice_set, Option, Some, None, codes}
 use Rattle.std.specs.Str.{bytes_eq}
 use Rattle.text_words.specs.Words.{words_of}
 use Rattle.user_names.specs.Users.{user_of}
@@ -14,14 +16,18 @@ use Rattle.logon_desk.specs.declared.account.KeptLine.{KeptLine}
 use Rattle.logon_desk.specs.declared.connection.Answer.{Answer}
 use Rattle.logon_desk.specs.declared.connection.Connection.{Connection}
 use Rattle.logon_desk.specs.declared.connection.Stage.{Stage}
-use Rattle.logon_desk.specs.declared.connection.Stage.TheVariants.{Gone, Naming, Asking, Waiting, Judged, Refused, On}
+use Rattle.logon_desk.specs.declared.connection.Stage.TheVariants.{Gone, Naming, Asking, Waiting, Judged}
+use Rattle.logon_desk.specs.declared.connection.Stage.TheVariants.{Refused, On}
 use Rattle.terminal_lines.specs.declared.decoder.Decoded.{Decoded}
-use Rattle.terminal_lines.specs.declared.decoder.Decoded.TheVariants.{Nothing, Line, Declines as Refuses, AreYouThere}
+use Rattle.terminal_lines.specs.declared.decoder.Decoded.TheVariants.{Nothing, Line, Declines as Refuses}
+use Rattle.terminal_lines.specs.declared.decoder.Decoded.TheVariants.{AreYouThere}
 use Rattle.logon_desk.specs.declared.output.Entry.TheVariants.{LogsOn, IsBack, Leaves, WrongPassword}
 use Rattle.logon_desk.specs.declared.output.Notice.{Notice}
-use Rattle.logon_desk.specs.declared.output.Notice.TheVariants.{Online, IsThere, Reconnected, TakesOver, TooLate, Refused as TellsRefused}
+use Rattle.logon_desk.specs.declared.output.Notice.TheVariants.{Online, IsThere, Reconnected, TakesOver}
+use Rattle.logon_desk.specs.declared.output.Notice.TheVariants.{TooLate, Refused as TellsRefused}
 use Rattle.logon_desk.specs.declared.output.Output.{Output}
-use Rattle.logon_desk.specs.declared.output.Output.TheVariants.{Says, Declines, Shows, ShowsAgain, Types, Asks, Ends, Notes}
+use Rattle.logon_desk.specs.declared.output.Output.TheVariants.{Says, Declines, Shows, ShowsAgain, Types}
+use Rattle.logon_desk.specs.declared.output.Output.TheVariants.{Asks, Ends, Notes}
 use Rattle.terminal_lines.specs.declared.words.Guess.{Guess}
 
 -- the connections, the users and the queues of guesses

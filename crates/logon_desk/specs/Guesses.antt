@@ -1,5 +1,6 @@
 -- How long a guess of a password waits for its turn.
-use Rattle.std.specs.Prelude.{◌+◌, ◌-◌, ◌*◌, ◌/◌, ◌%◌, ◌^◌, ℕ, List, fold, replicate, nat_lt, if◌then◌else◌, min}
+use Rattle.std.specs.Prelude.{◌+◌, ◌-◌, ◌*◌, ◌/◌, ◌%◌, ◌^◌, ℕ, List, fold, replicate, nat_lt, if◌then◌else◌}
+use Rattle.std.specs.Prelude.{min}
 
 -- the queue in which a guess waits: guesses of one name from one address wait in one queue
 abbrev pub mixed : ℕ → ℕ → ℕ

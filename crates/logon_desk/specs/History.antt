@@ -1,11 +1,13 @@
 -- What happens at the desk, one event after another, and who is on by that.
-use Rattle.std.specs.Prelude.{◌≡◌, ◌≢◌, ◌==◌, ◌⊎◌, ℕ, Bool, true, false, if◌then◌else◌, List, [], ◌∷◌, ◌++◌, fold, map, Option, Some}
+use Rattle.std.specs.Prelude.{◌≡◌, ◌≢◌, ◌==◌, ◌⊎◌, ℕ, Bool, true, false, if◌then◌else◌, List, [], ◌∷◌, ◌++◌}
+use Rattle.std.specs.Prelude.{fold, map, Option, Some}
 use Rattle.std.specs.List.{AllByRecursion}
 use Rattle.text_words.specs.Words.{words_of}
 use Rattle.user_names.specs.Users.{user_of}
 use Rattle.logon_desk.specs.Account.{last_lines}
 use Rattle.terminal_lines.specs.Decoder.{after_byte, nothing_typed}
-use Rattle.logon_desk.specs.Desk.{Answers, Closes, Comes, Desk, Event, Finishes, Keeps, Opens, Prints, Takes, Turns, Wakes, connection_at, names, shown, step}
+use Rattle.logon_desk.specs.Desk.{Answers, Closes, Comes, Desk, Event, Finishes, Keeps, Opens, Prints, Takes}
+use Rattle.logon_desk.specs.Desk.{Turns, Wakes, connection_at, names, shown, step}
 use Rattle.terminal_lines.specs.Typed.{Typed}
 use Rattle.terminal_lines.specs.Words.{capital, said_by}
 use Rattle.logon_desk.specs.declared.account.KeptLine.{KeptLine}
@@ -79,8 +81,10 @@ Stays c user (Turns other true is_running) = Unit {0}
 Stays c user (Turns other false is_running) = other ≢ user
 Stays c user (Finishes other) = Unit {0}
 
--- the user logged on at the connection: the host said that this name and this password are right, when they were the last lines
--- of all the bytes that had come there since it was opened, but for those that waited; the name is his; and since then the
+-- the user logged on at the connection: the host said that this name and this password are right, when they
+-- were the last lines
+-- of all the bytes that had come there since it was opened, but for those that waited; the name is his; and
+-- since then the
 -- connection was neither opened nor closed, nor his machine switched off
 pub record IsOnBy (first : Desk) (c user : ℕ) (events : List Event) : Type 0 where
   pub later : List Event

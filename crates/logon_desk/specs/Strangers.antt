@@ -1,9 +1,11 @@
 -- Those who are about to log on.
-use Rattle.std.specs.Prelude.{ℕ, ◌≡◌, ◌≤◌, ◌<◌, ◌==◌, ◌&&◌, Bool, true, false, List, count_by, length, slice_index_or}
+use Rattle.std.specs.Prelude.{ℕ, ◌≡◌, ◌≤◌, ◌<◌, ◌==◌, ◌&&◌, Bool, true, false, List, count_by, length}
+use Rattle.std.specs.Prelude.{slice_index_or}
 use Rattle.logon_desk.specs.Connection.{gone}
 use Rattle.logon_desk.specs.declared.connection.Connection.{Connection}
 use Rattle.logon_desk.specs.declared.connection.Stage.{Stage}
-use Rattle.logon_desk.specs.declared.connection.Stage.TheVariants.{Gone, Naming, Asking, Waiting, Judged, Refused, On}
+use Rattle.logon_desk.specs.declared.connection.Stage.TheVariants.{Gone, Naming, Asking, Waiting, Judged}
+use Rattle.logon_desk.specs.declared.connection.Stage.TheVariants.{Refused, On}
 
 abbrev pub is_stage_of_stranger : Stage → Bool
 is_stage_of_stranger Gone = false
@@ -27,5 +29,6 @@ strangers_from connections address = count_by (comes_from address) connections
 -- a stranger from whose address no fewer strangers have come than from any other's
 pub record IsBusiest (connections : List Connection) (c : ℕ) : Type 0 where
   pub stranger : is_stranger (slice_index_or connections c gone) ≡ true
-  pub most : (other : ℕ) → other < length connections → is_stranger (slice_index_or connections other gone) ≡ true
+  pub most : (other : ℕ) → other < length connections
+      → is_stranger (slice_index_or connections other gone) ≡ true
       → strangers_from connections (slice_index_or connections other gone).address ≤ strangers_from connections (slice_index_or connections c gone).address

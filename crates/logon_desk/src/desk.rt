@@ -1,11 +1,17 @@
 //! The desk.
-ghost use Rattle.std.specs.Prelude.{◌≡◌, ◌<◌, ◌≤◌, ◌^◌, ◌++◌, ◌∷◌, [], IfNone, IfOk, IfSome, count_by, false, length, map, not, replicate, take};
+ghost use Rattle.std.specs.Prelude.{◌≡◌, ◌<◌, ◌≤◌, ◌^◌, ◌++◌, ◌∷◌, [], IfNone, IfOk, IfSome, count_by, false};
+ghost use Rattle.std.specs.Prelude.{length, map, not, replicate, take};
 ghost use Rattle.std.specs.List.{All};
 ghost use Rattle.logon_desk.specs.Strangers.{IsBusiest, is_stranger};
 ghost use Rattle.std.specs.Result.{OnOk};
 ghost use Rattle.logon_desk.specs.Account.{new_account};
 ghost use Rattle.logon_desk.specs.Connection.{gone};
-ghost use Rattle.logon_desk.specs.Desk.{Answers, Closes, Comes, Does, Finishes, IsStep, Keeps, Opens, Prints, Takes, Turns, Wakes, account_of, after_decoded, after_first, after_line_at, answered, comes_to, connection_at, ended, farewell, greeting, guess_waits, is_gone, is_taking, leaving, logged_on, logon_line, new_desk, after_pause, same_guess, shown, terminal_of, typed_line, wrong_guess};
+ghost use Rattle.logon_desk.specs.Desk.{Answers, Closes, Comes, Does, Finishes, IsStep, Keeps, Opens, Prints};
+ghost use Rattle.logon_desk.specs.Desk.{Takes, Turns, Wakes, account_of, after_decoded, after_first};
+ghost use Rattle.logon_desk.specs.Desk.{after_line_at, answered, comes_to, connection_at, ended, farewell};
+ghost use Rattle.logon_desk.specs.Desk.{greeting, guess_waits, is_gone, is_taking, leaving, logged_on};
+ghost use Rattle.logon_desk.specs.Desk.{logon_line, new_desk, after_pause, same_guess, shown, terminal_of};
+ghost use Rattle.logon_desk.specs.Desk.{typed_line, wrong_guess};
 
 use crate::account::{Account, KeptLine};
 use crate::connection::{Answer, Connection, Stage, after_line};

@@ -1,5 +1,6 @@
 //! What the desk promises, whatever happens.
-ghost use Rattle.logon_desk.specs.Laws.{HasAuthority, HasBounds, HasSecrets, IsComplete, IsIsolated, WaitsBriefly};
+ghost use Rattle.logon_desk.specs.Laws.{HasAuthority, HasBounds, HasSecrets, IsComplete, IsIsolated};
+ghost use Rattle.logon_desk.specs.Laws.{WaitsBriefly};
 
 /// Whoever is on has given the user's name and password at that connection, and the host has said
 /// that they are right; a line of the script is typed by nobody else, a line of the transcript is

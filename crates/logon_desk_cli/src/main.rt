@@ -1,5 +1,6 @@
-//! The program `logondesk`: lines with what happens come at standard input, and lines with what is
-//! to be done then go to standard output. `frame.rt` has the ones, `printing.rt` the others.
+//! The program `logondesk [FILE]`: lines with what happens come from a file or at standard input,
+//! and lines with what is to be done then go to standard output. `frame.rt` has the ones,
+//! `printing.rt` the others.
 #![tactic(auto)]
 
 mod frame;
@@ -7,12 +8,22 @@ mod printing;
 mod program;
 
 use crate::program::Session;
-use std::io;
+use std::io::{self, BufRead, BufReader};
+use std::{env, fs};
 
 fn main(rt: HostRuntime) -> io::Result<()> {
     let alloc = rt.alloc();
+    match env::args(&rt)?.nth(1) {
+        Some(path) => serve(&rt, BufReader::new(alloc, fs::open(&rt, path.as_str())?)?),
+        None => serve(&rt, BufReader::new(alloc, rt.reader())?),
+    }
+}
+
+/// Takes lines until they end, or one says nothing.
+fn serve<R: BufRead + Drop>(rt: &HostRuntime, reader: R) -> io::Result<()> {
+    let alloc = rt.alloc();
     let mut session = Session::new(alloc);
-    for line in rt.lines(alloc) {
+    for line in reader.lines(alloc) {
         let line = line?;
         let is_read = session.take(alloc, line.as_bytes())?;
         rt.write_all(session.printed())?;

@@ -1,8 +1,10 @@
 -- The bytes of a terminal as lines: telnet's NVT (RFC 854) or plain text.
-use Rattle.std.specs.Prelude.{◌==◌, ◌||◌, ◌&&◌, not, if◌then◌else◌, nat_lt, nat_le, ◌-◌, ℕ, Bool, true, false, List, [], ◌∷◌, ◌++◌, length, take, codes}
+use Rattle.std.specs.Prelude.{◌==◌, ◌||◌, ◌&&◌, not, if◌then◌else◌, nat_lt, nat_le, ◌-◌, ℕ, Bool, true, false}
+use Rattle.std.specs.Prelude.{List, [], ◌∷◌, ◌++◌, length, take, codes}
 use Rattle.terminal_lines.specs.Typed.{Typed}
 use Rattle.terminal_lines.specs.declared.decoder.Expects.{Expects}
-use Rattle.terminal_lines.specs.declared.decoder.Expects.TheVariants.{Text, Command, Option, Parameter, ParameterEnd}
+use Rattle.terminal_lines.specs.declared.decoder.Expects.TheVariants.{Text, Command, Option, Parameter}
+use Rattle.terminal_lines.specs.declared.decoder.Expects.TheVariants.{ParameterEnd}
 use Rattle.terminal_lines.specs.declared.decoder.Decoded.{Decoded}
 use Rattle.terminal_lines.specs.declared.decoder.Decoded.TheVariants.{Nothing, Line, Declines, AreYouThere}
 
@@ -43,7 +45,8 @@ after_character t byte =
 abbrev pub after_text : Typed → ℕ → AfterByte
 after_text t byte = if byte == 255 then gives t.line Command t.is_after_return Nothing else after_character t byte
 
--- SB, WILL to DONT, IAC for the byte 255, EC, EL, break and interrupt for the line #CP, AYT; other commands are passed over
+-- SB, WILL to DONT, IAC for the byte 255, EC, EL, break and interrupt for the line #CP, AYT; other commands
+-- are passed over
 abbrev pub after_command : Typed → ℕ → AfterByte
 after_command t byte =
     if byte == 250 then gives t.line Parameter t.is_after_return Nothing

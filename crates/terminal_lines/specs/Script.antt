@@ -1,5 +1,6 @@
 -- A typed line as it stands in the script.
-use Rattle.std.specs.Prelude.{◌-◌, ◌&&◌, not, if◌then◌else◌, ℕ, Bool, List, [], ◌++◌, length, map, take, codes}
+use Rattle.std.specs.Prelude.{◌-◌, ◌&&◌, not, if◌then◌else◌, ℕ, Bool, List, [], ◌++◌, length, map, take}
+use Rattle.std.specs.Prelude.{codes}
 use Rattle.std.specs.Str.{bytes_eq}
 use Rattle.text_words.specs.Words.{after_first_word, unindented, word_of}
 use Rattle.terminal_lines.specs.Words.{capital}

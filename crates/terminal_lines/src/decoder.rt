@@ -1,7 +1,8 @@
 //! The lines that the bytes of a terminal make, by telnet (RFC 854) or plain.
 ghost use Rattle.std.specs.Prelude.{◌≡◌, IfOk};
 ghost use Rattle.std.specs.Result.{OnOk};
-ghost use Rattle.terminal_lines.specs.Decoder.{after_byte, after_command, after_option, after_text, nothing_typed, printable, with_character};
+ghost use Rattle.terminal_lines.specs.Decoder.{after_byte, after_command, after_option, after_text};
+ghost use Rattle.terminal_lines.specs.Decoder.{nothing_typed, printable, with_character};
 
 use crate::bytes::Bytes;
 use std::alloc::{AllocError, Global};
