@@ -11,7 +11,7 @@ import time
 import web_library
 from decks import Folders
 from engine import User
-from installation import run, write_text as write
+from installation import BANNER, run, write_text as write
 from logon import Passwords
 from minidisks import Minidisks
 from operator_pages import OperatorPage, OperatorPages
@@ -23,7 +23,6 @@ from spooling import WAITS, WRITTEN
 from terminals import MOST_UNREAD, Desk
 from tls import tls_of
 
-BANNER = "GATHJUMLI ONLINE"
 OWN, OTHER = "http://127.0.0.1:8370", "http://evil.example"
 MISDIRECTED, FORBIDDEN, LOST = http.HTTPStatus.MISDIRECTED_REQUEST, http.HTTPStatus.FORBIDDEN, http.HTTPStatus.NOT_FOUND
 # what a browser asks for: path, host, origin, whether it is encrypted, and the status, or None where a WebSocket is opened
