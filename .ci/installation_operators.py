@@ -8,7 +8,7 @@ import shutil
 import subprocess
 import termios
 
-from installation import PATIENCE, logged_on, make_site, names_in, on, read, run, write_text as write
+from installation import PATIENCE, logged_on, make_site, names_in, on, person, read, run, write_text as write
 
 
 def operator(site, *words, given=None):
@@ -185,11 +185,39 @@ def try_commands(check, site):
     recording = read(site.record)
     holds = b"LINE ALICE hello\n" in recording and b"LINE ALICE   #CP DISPLAY G1\n" in recording
     check("what goes to a running machine stays as it was typed", holds)
+    planned = operator(site, "end", "at", "03:00").stdout
     site.stop()
     site.online(*more)
     answer = operator(site, "logmsg").stdout
     check("the log message outlives a start", "Closed on Sunday" in answer, answer)
+    check("so does a planned end", planned and planned[9:] in site.since_start(), planned, *site.told)
+    holds = operator(site, "end", "cancel").returncode == 0 and not os.path.exists(f"{site.record}.end-at")
+    check("until it is taken back", holds)
+    run(try_closed(check, site))
+    site.stop()
+    write(f"{site.record}.end-at", "2026-01-02 03:00\n")
+    site.online(*more)
+    told = "the session was to end at 2026-01-02 03:00, which is past: it goes on"
+    check("one that is past is told", told in site.since_start() and not os.path.exists(f"{site.record}.end-at"), *site.told)
     check("the operator's user is nobody who is on", operator(site, "end").returncode == 0 and site.ended() == 0, *site.told)
+
+
+async def try_closed(check, site):
+    """While logon is closed who is on may come back, and nobody else may come."""
+    alice = await on(site)
+    closed = operator(site, "logon", "closed").stdout
+    alice.go()
+    back = await on(site)
+    other = await person(f"{site.folder}/socket")
+    refused = await other.logon("BOB", "BUILDER")
+    opened = operator(site, "logon", "open").stdout
+    bob = await on(site, "BOB", "BUILDER")
+    told = (closed[9:], back.lines[1], refused, opened[9:], bob.lines[1])
+    wanted = ("logon is closed\n", "RECONNECTED", "LOGON IS CLOSED", "logon is open\n", "LOGON OK")
+    check("logon is closed, and opened", told == wanted, *told)
+    for one in (back, bob):
+        one.type("LOGOFF")
+        await one.rest()
 
 
 def try_small_faults(check, site):

@@ -81,6 +81,11 @@ class Bench:
                 best = min(best, used.ru_utime + used.ru_stime)
         return best
 
+    def output(self, *words):
+        """What a run prints."""
+        with tempfile.TemporaryDirectory() as room:
+            return subprocess.run(self.command(room, *words), stdout=subprocess.PIPE, check=True).stdout.decode()
+
     def instructions(self, *words):
         """How many instructions of the host a run takes."""
         with tempfile.TemporaryDirectory() as room:

@@ -114,6 +114,7 @@ class Folders:
         self.readers = readers
         self.sender = sender
         self.tell = tell
+        self.giving = asyncio.Lock()
         self.seen = {}
         # files that failed: with which state of the file and of the folder, and the reason
         self.failed = {}
@@ -168,25 +169,40 @@ class Folders:
         if mark in self.engine.recording.decks:
             return ""
         reason, scripts = await in_thread(self.judged, folder, file, user)
-        for script in scripts[:-1]:
-            await self.engine.give(Part(script))
         if scripts:
             self.engine.recording.decks.add(mark)
-            await self.engine.give(Part(scripts[-1] + mark, is_kept=True))
+            await self.give_all([*map(Part, scripts[:-1]), Part(scripts[-1] + mark, is_kept=True)])
         return reason
 
     def judged(self, folder, file, user):
         """Why the file is refused, or else the scripts that give it to the user."""
-        if user not in self.readers:
-            return f"{user} has no reader", []
         data, state = folder.read(file.name)
         if state != file.state:
             raise OSError(0, "the file changes while it is read")
+        return self.scripts_of(file.name, data, user)
+
+    async def read_in(self, name, data, user):
+        """Gives a user a deck of these bytes; the reason if it is refused."""
+        reason, scripts = self.scripts_of(name, data, user)
+        if scripts:
+            await self.give_all([*map(Part, scripts[:-1]), Part(scripts[-1], is_kept=True)])
+        return reason
+
+    async def give_all(self, parts):
+        """Has the parts of a deck done. The sender punches one deck after the other."""
+        async with self.giving:
+            for part in parts:
+                await self.engine.give(part)
+
+    def scripts_of(self, name, data, user):
+        """Why a deck is refused, or else the scripts that give it to the user."""
+        if user not in self.readers:
+            return f"{user} has no reader", []
         if len(data) > MOST_BYTES:
             return f"more than {MOST_BYTES} bytes", []
         if not data:
             return "it has no card", []
-        if not file.name.endswith(".deck"):
+        if not name.endswith(".deck"):
             wrong = wrong_text(data.replace(b"\r\n", b"\n"))
             return wrong, [] if wrong else [text_deck(data, user)]
         if len(data) % CARD:

@@ -120,10 +120,10 @@ def stored(loop):
 class Emulator:
     """The emulator, started once for each run: by its commands' file, since it reads no input without a terminal."""
 
-    def __init__(self, room):
+    def __init__(self, room, conf=CONF):
         self.room = room
         with open(f"{room}/conf", "w", encoding="utf-8") as file:
-            file.write(CONF)
+            file.write(conf)
 
     def used(self, commands, text):
         """Seconds of processor time that it has used when its log has a text."""

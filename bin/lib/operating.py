@@ -1,5 +1,6 @@
 """What an operator of an installation types, and what is answered."""
 import asyncio
+import contextlib
 import datetime
 import os
 import re
@@ -7,12 +8,14 @@ import subprocess
 import threading
 
 from host import MEGABYTE, memory_of
+from people import ask_build, read_file, write_whole
 
 DONE, NOT_DONE, ENDS = range(3)
 # before all of the recording is done again
 ALWAYS = {"status", "help", "suspend"}
 MOST_SPOOL_LINES = 40
 WARNED_MINUTES = (10, 5, 1)
+MINUTE = "%Y-%m-%d %H:%M"
 HELP = """\
 status             who is on, memory, sizes, the age of the session, how long a start takes
 users              who is on, and how much each has written since LOGON
@@ -20,12 +23,14 @@ frames             in which frames pages are; this takes as long as a start
 spool              the files that users closed for the operator, the last ones
 message TEXT       a line for each terminal; message USER TEXT for one user
 logmsg TEXT        a line for everybody who logs on; logmsg alone shows it, logmsg off ends it
+logon closed       nobody logs on any more, but who is on may come back; logon open ends that
 force USER         logs a user off
 suspend            ends this command; the next start goes on from here
 end                if nobody is on and all printouts are written, ends the session: volumes
                    are saved, and the recording is set aside
 end now            ends it whoever is on
-end at HH:MM       ends it then, whoever is on; users are warned. end cancel takes it back"""
+end at HH:MM       ends it then, whoever is on; users are warned. A suspend in between changes
+                   nothing of that; end cancel takes it back"""
 
 
 class NotDone(Exception):
@@ -42,8 +47,10 @@ class Operator:
         self.tell = installation.tell
         self.mapping = None
         self.ending = []
+        # where the time of the end is written down, so that the next start knows it
+        self.ending_path = f"{installation.options['record']}.end-at"
         self.commands = {"status": self.status, "users": self.users, "spool": self.spool, "message": self.message,
-                         "logmsg": self.set_log_message, "force": self.force, "suspend": self.suspend, "end": self.end,
+                         "logmsg": self.set_log_message, "logon": self.set_logon, "force": self.force, "suspend": self.suspend, "end": self.end,
                          "help": self.help}  # fmt: skip
 
     def read(self, loop, lines):
@@ -126,6 +133,11 @@ class Operator:
         self.mapping.start()
 
     def map_frames(self, script, reply, end):
+        # a build would take minutes in silence
+        if ask_build("tell", "frame_map").endswith("not built"):
+            reply("the program frame_map is not built: run bin/framemap once by hand")
+            end(NOT_DONE)
+            return
         done = subprocess.run(self.framemap, input=script, capture_output=True)
         for line in (done.stderr if done.returncode else done.stdout).decode(errors="replace").splitlines():
             reply(line)
@@ -151,6 +163,14 @@ class Operator:
         if text:
             self.installation.set_log_message("" if text == "off" else plain(text))
         reply(self.installation.desk.log_message or "there is no log message")
+
+    def set_logon(self, text, reply):
+        desk = self.installation.desk
+        if text not in ("", "open", "closed"):
+            raise NotDone("logon closed or logon open")
+        if text:
+            desk.is_closed = text == "closed"
+        reply(f"logon is {'closed' if desk.is_closed else 'open'}")
 
     def force(self, name, reply):
         user = self.named(name)
@@ -178,6 +198,7 @@ class Operator:
             raise NotDone(f"still on: {' '.join(on)} (end now ends all the same)")
         if not rest and unwritten:
             raise NotDone(f"not written: {' '.join(unwritten[:8])} (end now ends all the same: bin/printouts makes them later)")
+        self.cancel()
         self.tell("the session ends")
         self.installation.stop(is_end=True)
         return ENDS
@@ -187,19 +208,39 @@ class Operator:
         now = datetime.datetime.now()
         when = now.replace(hour=hour, minute=minute, second=0, microsecond=0)
         when += datetime.timedelta(days=1) * (when <= now)
-        loop, left = asyncio.get_running_loop(), (when - now).total_seconds()
-        self.ending = [f"the session ends at {when:%Y-%m-%d %H:%M}"]
+        write_whole(self.ending_path, f"{when:{MINUTE}}\n".encode())
+        self.plan_end(when)
+        reply(self.ending[0])
+
+    def resume(self):
+        """Plans the end again that was planned before a suspend."""
+        if not os.path.exists(self.ending_path):
+            return
+        text = read_file(self.ending_path).decode(errors="replace").strip()
+        with contextlib.suppress(ValueError):
+            when = datetime.datetime.strptime(text, MINUTE)
+            if when > datetime.datetime.now():
+                self.plan_end(when)
+                self.tell(self.ending[0])
+                return
+        os.unlink(self.ending_path)
+        self.tell(f"the session was to end at {text}, which is past: it goes on")
+
+    def plan_end(self, when):
+        loop, left = asyncio.get_running_loop(), (when - datetime.datetime.now()).total_seconds()
+        self.ending = [f"the session ends at {when:{MINUTE}}"]
         for minutes in WARNED_MINUTES:
             if left > 60 * minutes:
                 told = f"GATHJUMLI GOES DOWN IN {minutes} MINUTE{'S' * (minutes > 1)}"
                 self.ending.append(loop.call_later(left - 60 * minutes, self.announce, told))
         self.ending.append(loop.call_later(left, self.end, "now", self.tell))
-        reply(self.ending[0])
 
     def cancel(self):
         for planned in self.ending[1:]:
             planned.cancel()
         self.ending = []
+        with contextlib.suppress(FileNotFoundError):
+            os.unlink(self.ending_path)
 
 
 def plain(text):

@@ -54,7 +54,8 @@ place_programs() {
 }
 
 place_commands() {
-    cp -- "$root/VERSION" "$place/" && cp -R -- "$root/bin/lib" "$place/bin/" && rm -rf -- "$place/bin/lib/__pycache__" || return 1
+    cp -- "$root/VERSION" "$place/" && cp -R -- "$root/bin/lib" "$place/bin/" && rm -rf -- "$place/bin/lib/__pycache__" &&
+        cp -R -- "$root/web" "$place/" || return 1
     for command in $(installed_commands); do
         cp -- "$root/bin/$command" "$place/bin/" && ln -sf "../lib/gathjumli/bin/$command" "$1/bin/$command" || return 1
     done

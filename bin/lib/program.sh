@@ -129,7 +129,7 @@ END_OF_STATUSES
 # --- running ---
 
 # Runs the program on these words but --unproved, with standard input for a path -, and ends as it does. Where it names a line of a text that is refused, that line is
-# shown: of the file in $script, $directory or $text. A signal ends the program too.
+# shown: of the file in $script, $directory or $text. A signal ends the program too. If $watches is set, somebody at a terminal sees how many events are done.
 run_program() {
     is_option=true
     for word in "$@"; do
@@ -146,7 +146,11 @@ run_program() {
     trap 'stop_program 129' HUP
     trap 'stop_program 130' INT
     trap 'stop_program 143' TERM
-    "$program" "$@" <&4 2> "$errors" &
+    if [ -n "${watches-}" ] && [ -t 2 ] && [ -z "${option_follow-}" ] && command -v python3 > /dev/null; then
+        PYTHONDONTWRITEBYTECODE=1 python3 "$root/bin/lib/watched.py" "$name" "$script" "$program" "$@" <&4 3>&2 2> "$errors" &
+    else
+        "$program" "$@" <&4 2> "$errors" &
+    fi
     running=$!
     ended=0
     wait "$running" || ended=$?
@@ -155,9 +159,13 @@ run_program() {
     exit "$ended"
 }
 
-# stop_program STATUS: ends the program that runs
+# stop_program STATUS: ends the program that runs, once all that it printed is shown
 stop_program() {
-    [ -z "$running" ] || kill "$running" 2> /dev/null || true
+    trap '' HUP INT TERM
+    [ -z "$running" ] || {
+        kill "$running" 2> /dev/null || true
+        wait "$running" || true
+    }
     exit "$1"
 }
 

@@ -37,6 +37,7 @@ TICK = 0.05
 SECONDS_TO_SUM = 60
 LOGON = b"LOGON"
 GOES_DOWN = b"GATHJUMLI GOES DOWN\r\n"
+CLOSED = b"LOGON IS CLOSED\r\n"
 
 
 class Connection:
@@ -150,6 +151,8 @@ class Desk:
         self.tell = tell
         # what everybody is shown who logs on
         self.log_message = ""
+        # whether nobody may log on who is not on
+        self.is_closed = False
         # how many are about to log on
         self.strangers = 0
         self.people = [engine.users[name] for name in passwords.names]
@@ -283,10 +286,15 @@ class Desk:
 
     async def judge(self, connection, name, password):
         """Answers whether a name and a password are right."""
-        given = (it.decode("latin-1") for it in map(read_bytes, (name, password)))
+        given = [word.decode("latin-1") for word in map(read_bytes, (name, password))]
         is_right = await asyncio.get_running_loop().run_in_executor(self.judging, self.passwords.are_right, *given)
-        if connection.place is not None:
-            self.ask("SAYS", connection.place, int(is_right), name, password)
+        if connection.place is None:
+            return
+        if is_right and self.is_closed and not self.engine.users[given[0]].is_on:
+            connection.send(CLOSED)
+            self.leave(connection)
+            return
+        self.ask("SAYS", connection.place, int(is_right), name, password)
 
     async def work(self):
         """Tells the desk the time while somebody waits for it; fails where the desk does."""

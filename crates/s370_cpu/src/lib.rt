@@ -51,4 +51,4 @@ pub use laws::{
 pub use opcodes::{FetchRow, Opcode, StoreRow, opcode_of};
 pub use register_rows::register_row;
 pub use store_rows::store_row;
-pub use unit::{is_steady, may_overflow, step};
+pub use unit::{is_steady, may_overflow, step, step_in};

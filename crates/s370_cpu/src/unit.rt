@@ -1,6 +1,7 @@
 //! One unit of a processor: an instruction, or the program interruption that comes in its place.
-ghost use Rattle.std.specs.Prelude.{◌≡◌, ℕ, Bool, Ok, false, length, slice_index, true};
+ghost use Rattle.std.specs.Prelude.{◌≡◌, ℕ, ◌+◌, ◌%◌, ◌≤◌, Bool, Ok, false, length, slice_index, true};
 ghost use Rattle.s370_store.specs.Access.{IsGranted};
+ghost use Rattle.s370_store.specs.Blocks.{MayFetch};
 ghost use Rattle.s370_rows.specs.State.{state_of};
 ghost use Rattle.s370_rows.specs.Rows.{MeetsRow};
 ghost use Rattle.s370_cpu.specs.Fetch.{fetched, halfwords_of, instruction_at};
@@ -12,13 +13,14 @@ use crate::conclude::{Stop, conclude};
 use crate::execute::{EXECUTE, target_of};
 use crate::fetch::{fetch, length_of, may_fetch_longest};
 use crate::fetch_rows::fetch_row;
-use crate::known::load_known;
+use crate::known::{load_known, load_known_in};
 use crate::opcodes::{FetchRow, Opcode, RegisterRow, opcode_of};
 use crate::register_rows::register_row;
 use crate::store_rows::store_row;
+use s370_num::Addr24;
 use s370_psw::{Ilc, ProgramCode};
 use s370_rows::{Arithmetic, Cpu, Ending, Instruction, Place, Refusal, Shift};
-use s370_store::{Storage, load_byte};
+use s370_store::{Block, Storage, load_byte, load_byte_in};
 
 /// Carries out an instruction of any state that was fetched, but for its address. The operation code is passed beside
 /// the instruction, so that where it is a constant all but that instruction's row is left out of the code.
@@ -66,6 +68,44 @@ pub fn step<S: Storage>(cpu: &mut Cpu, storage: &mut S) -> Stop
     }
     let opcode = load_byte(storage, start);
     carry_known(cpu, storage, start, opcode)
+}
+
+/// As [`step`], for an instruction in a block that was found for fetches with the processor's key. It stands at an even
+/// address there, with room for the longest instruction.
+#[inline(always)]
+pub fn step_in<S: Storage>(cpu: &mut Cpu, storage: &mut S, start: Addr24, block: Block) -> Stop
+    requires here { start ≡ cpu.old.psw.address }
+    requires may_fetch { MayFetch (length (S.memory storage.old).bytes) (S.memory storage.old).keys
+        (S.present storage.old) cpu.old.psw.key block.first }
+    requires placed { S.IsPlaced storage.old block }
+    requires begins { block.first ≤ start }
+    requires ends { start ≤ block.first + 2042 }
+    requires even { start % 2 ≡ 0 }
+    ensures unit { let before = state_of cpu.old (S.memory storage.old) in
+        let after = state_of cpu.new (S.memory storage.new) in
+        MeetsStep (S.present storage.old) before result after }
+    ensures rest { S.Keeps storage.old storage.new }
+{
+    carry_in(cpu, storage, start, block)
+}
+
+/// As [`step_in`], where the instruction may be fetched.
+#[inline(always)]
+fn carry_in<S: Storage>(cpu: &mut Cpu, storage: &mut S, start: Addr24, block: Block) -> Stop
+    requires here { start ≡ cpu.old.psw.address }
+    requires found { let m = state_of cpu.old (S.memory storage.old) in
+        (fetched m start).result ≡ Ok (instruction_at (S.memory storage.old).bytes start) }
+    requires placed { S.IsPlaced storage.old block }
+    requires begins { block.first ≤ start }
+    requires ends { start ≤ block.first + 2042 }
+    ensures unit { let before = state_of cpu.old (S.memory storage.old) in
+        let after = state_of cpu.new (S.memory storage.new) in
+        MeetsStep (S.present storage.old) before result after }
+    ensures rest { S.Keeps storage.old storage.new }
+{
+    let opcode = load_byte_in(storage, block, start.get());
+    let first = load_known_in(storage, block, start.get(), opcode);
+    carry(cpu, storage, opcode, first)
 }
 
 /// As [`step`], where one look is not enough for the fetch.

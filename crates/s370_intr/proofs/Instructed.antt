@@ -1,14 +1,19 @@
 -- An instruction with what its stop is followed by: what it does, and what is undone where a page is missing.
-use Rattle.std.proofs.Common.{◌≡◌, ℕ, Bool, true, false, length, List, Err, refl, ap, subst, sym, ◌∙◌, inl, inr}
+use Rattle.std.proofs.Common.{◌≡◌, ℕ, ◌+◌, ◌%◌, ◌^◌, Bool, true, false, length, List, Ok, Err, refl, ap, subst, sym, ◌∙◌, inl, inr}
 use Rattle.s370_store.specs.Access.{IsAway}
 use Rattle.s370_store.specs.declared.Page.{Page}
+use Rattle.s370_psw.specs.Fields.{Fields}
 use Rattle.s370_rows.specs.declared.cpu.Cpu.{Cpu}
+use Rattle.s370_rows.specs.declared.instruction.Instruction.{Instruction}
 use Rattle.s370_rows.specs.State.{State}
 use Rattle.s370_subchannels.specs.declared.subchannel.Subchannel.{Subchannel}
 use Rattle.s370_cpu.specs.declared.conclude.Stop.{Stop}
 use Rattle.s370_cpu.specs.declared.conclude.Stop.TheVariants.{Done, Program, Svc, InputOutput, Privileged, Absent}
-use Rattle.s370_cpu.specs.Unit.{MeetsUnit, Ran}
-use Rattle.s370_cpu.specs.Table.{MeetsStep, unit}
+use Rattle.s370_cpu.specs.Fetch.{fetched}
+use Rattle.s370_cpu.specs.Opcodes.{opcode_at}
+use Rattle.s370_cpu.specs.Unit.{MeetsUnit, Ran, place_at}
+use Rattle.s370_cpu.specs.Table.{MeetsStep, is_supervised, supervised, unit}
+use Rattle.s370_cpu.proofs.Refusing.{MovesOn, supervised_moves_on}
 use Rattle.s370_cpu.proofs.Still.{StaysStill, unit_still}
 use Rattle.s370_intr.specs.InputOutput.{Configuration, configuration_of}
 use Rattle.s370_intr.specs.Units.{FollowNeeds, IsSaved, MeetsInstruction, MeetsFollowed, instructed, followed}
@@ -80,3 +85,40 @@ stepped present m m1 (Svc k ilc) n h = h
 stepped present m m1 (InputOutput operation device) n h = absurd h
 stepped present m m1 (Privileged i ilc) n h = absurd (n i ilc refl)
 stepped present m m1 (Absent page) n h = h
+
+-- ---- what is put back
+
+-- an instruction for the supervisor state after which a page is missing has changed the instruction address alone
+pub moved_back : (m m1 : State) (i : Instruction) (ilc : ℕ) (devices : List Subchannel) (c2 : Configuration) (present present1 : ℕ → Bool) (stop : Stop) (page : Page) → is_supervised (opcode_at i.opcode) ≡ true → MeetsUnit (supervised m i ilc) present m stop m1
+    → MeetsFollowed stop present1 (configuration_of m1 devices) (Err page) c2 → record c2.processor.cpu { psw = m.cpu.psw } ≡ m.cpu
+moved_back m m1 i ilc devices c2 present present1 Done page e u h = absurd h.2
+moved_back m m1 i ilc devices c2 present present1 (Program code length_code) page e u h =
+    let moved = subst (λ (r : Ran). MovesOn m (place_at m ilc) r) u (supervised_moves_on m (place_at m ilc) i e) in
+    rw h.0 (rw moved refl)
+moved_back m m1 i ilc devices c2 present present1 (Svc n length_code) page e u h =
+    let moved = subst (λ (r : Ran). MovesOn m (place_at m ilc) r) u (supervised_moves_on m (place_at m ilc) i e) in
+    rw h.0 (rw moved refl)
+moved_back m m1 i ilc devices c2 present present1 (InputOutput operation device) page e u h =
+    let moved = subst (λ (r : Ran). MovesOn m (place_at m ilc) r) u (supervised_moves_on m (place_at m ilc) i e) in
+    rw h.0 (rw moved refl)
+moved_back m m1 i ilc devices c2 present present1 (Privileged other length_code) page e u h = absurd h.2
+moved_back m m1 i ilc devices c2 present present1 (Absent other) page e u h = absurd h.2
+
+-- ---- SVC
+
+shape : (i : Instruction) → i.opcode ≡ 0x0A → (let call : Instruction = record { opcode = 0x0A; second_byte = i.second_byte; second_half = i.second_half; third_half = i.third_half } in i ≡ call)
+shape i e = rw (sym e) refl
+
+-- the unit of an SVC calls the supervisor, and goes on to the next address
+pub called : (m : State) (i : Instruction) (psw : Fields) → (fetched m m.cpu.psw.address).result ≡ Ok i → i.opcode ≡ 0x0A → psw ≡ record m.cpu.psw { address = (m.cpu.psw.address + 2) % 2 ^ 24 }
+    → (unit m).ran ≡ record { stop = Svc i.second_byte 1; state = record m { cpu = record m.cpu { psw = psw } } }
+unfolding opcode_at
+called m i psw e o p = rw (e, p) (rw (shape i o) refl)
+
+-- where page 0 is not there, the address is put back
+pub call_misses : (m m2 : State) (devices : List Subchannel) (i : Instruction) (psw psw2 : Fields) (present : ℕ → Bool) (page : Page) → (fetched m m.cpu.psw.address).result ≡ Ok i → i.opcode ≡ 0x0A → psw ≡ record m.cpu.psw { address = (m.cpu.psw.address + 2) % 2 ^ 24 }
+    → m2 ≡ record m { cpu = record m.cpu { psw = psw } } → psw2 ≡ record m2.cpu.psw { address = m.cpu.psw.address } → page.0 ≡ 0 → IsAway (length m.bytes) present page.0
+    → MeetsInstruction present (configuration_of m devices) (Err page) (configuration_of (record m2 { cpu = record m2.cpu { psw = psw2 } }) devices)
+call_misses m m2 devices i psw psw2 present page e o p same back zero away =
+    let needed : FollowNeeds (unit m).ran.stop (configuration_of (unit m).ran.state devices) page.0 = subst (λ (r : Ran). FollowNeeds r.stop (configuration_of r.state devices) page.0) (sym (called m i psw e o p)) zero in
+    (rw back (rw same (rw p refl)), away, inr needed)

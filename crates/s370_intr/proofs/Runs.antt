@@ -1,6 +1,6 @@
 -- A run of units done, and what comes after it.
 use Rattle.std.proofs.Common.{◌≡◌, ℕ, ◌+◌, ◌<◌, ◌≤◌, zero, suc, Bool, true, false, Option, None, Some, length, replicate, List, [], ◌∷◌, ◌++◌, refl, sym, ◌∙◌, ap, arith, subst}
-use Rattle.std.specs.Prelude.{if◌then◌else◌, ◌==◌}
+use Rattle.std.specs.Prelude.{if◌then◌else◌, ◌==◌, not}
 use Rattle.s370_intr.specs.declared.pending.Pending.{Pending}
 use Rattle.s370_intr.specs.declared.next.Next.{Next}
 use Rattle.s370_intr.specs.declared.next.Next.TheVariants.{Stops, Accepts, AcceptsStatus, Instructs}
@@ -23,8 +23,8 @@ use Rattle.s370_cpu.specs.Laws.{Rights, rights_of}
 use Rattle.s370_cpu.specs.Table.{unit}
 use Rattle.s370_cpu.specs.Unit.{Ran}
 use Rattle.s370_quick.specs.Quick.{DoesUnits}
-use Rattle.s370_intr.specs.InputOutput.{configuration_of}
-use Rattle.s370_intr.specs.Units.{Core, core_of, followed, look, offered, unit_at, with_configuration, enabled_of, is_any, Needs, NeedsAt}
+use Rattle.s370_intr.specs.InputOutput.{Configuration, configuration_of}
+use Rattle.s370_intr.specs.Units.{Core, core_of, followed, instructed, look, offered, unit_at, with_configuration, enabled_of, is_any, Needs, NeedsAt}
 use Rattle.s370_intr.specs.Run.{Run, run, looked, one_more, AllNeeded, EachBrings, IsLacking, IsCut, TellsRun}
 
 abbrev pub all_done : ℕ → Core → Run
@@ -207,6 +207,21 @@ units_done (suc n) present m m' pending list (next, done, rights, rest) e =
     let step : core_of next pending list ≡ unit_at (look c) c = rw e (done_unit m next pending list done) in
     let more = units_done n present next m' pending list rest (looks_same m next pending list rights ∙ e) in
     (goes_on (look c) c (run n (unit_at (look c) c)) (subst Goes (sym e) tt) ∙ ap one_more (ap (run n) (sym step) ∙ more.0) ∙ ap (λ (k : ℕ). all_done k (core_of m' pending list)) (omega arith), more.1)
+
+-- ---- an instruction that is carried out whole
+
+pub is_so : (b : Bool) → not b ≡ false → b ≡ true
+is_so true e = refl
+is_so false e = cc
+
+pub one_instruction : (c c' : Core) → look c ≡ Instructs → c' ≡ unit_at Instructs c → run 1 c ≡ all_done 1 c'
+one_instruction c c' e u = does_more 0 c c c' refl (subst Goes (sym e) tt) (rw e u)
+
+pub instructed_core : (m m' : State) (pending : Pending) (list list' : List Subchannel) → configuration_of m' list' ≡ instructed (configuration_of m list) → core_of m' pending list' ≡ unit_at Instructs (core_of m pending list)
+instructed_core m m' pending list list' e = ap (λ (x : Configuration). with_configuration (core_of m pending list) x) e
+
+pub same_core : (m m' : State) (pending : Pending) (list list' : List Subchannel) → configuration_of m' list' ≡ configuration_of m list → core_of m' pending list' ≡ core_of m pending list
+same_core m m' pending list list' e = ap (λ (x : Configuration). with_configuration (core_of m pending list) x) e
 
 -- what may be accessed in a block, may be as long as size, keys and pages are the same
 pub still_accesses : {access : Access} {size size' : ℕ} {keys keys' : List ℕ} {present present' : ℕ → Bool} (key first : ℕ) → size' ≡ size → keys' ≡ keys → present' ≡ present → MayAccess access size keys present key first → MayAccess access size' keys' present' key first

@@ -2,7 +2,7 @@
 -- conditions, or of a status of a device.
 -- GA22-7000, "Interruptions", "Program Interruption", "Supervisor-Call Interruption", "External Interruption" and
 -- "Input/Output Interruption".
-use Rattle.std.specs.Prelude.{◌≡◌, ℕ, ◌-◌, ◌/◌, ◌%◌, ◌^◌, ◌==◌, if◌then◌else◌, Bool, not, ◌&&◌, ◌||◌, List, length, slice_index, bit_or, Option, Some, None, Result, Ok, Err, ⊤, ◌⊎◌}
+use Rattle.std.specs.Prelude.{◌≡◌, ℕ, ◌-◌, ◌/◌, ◌%◌, ◌^◌, ◌==◌, if◌then◌else◌, Bool, true, false, not, ◌&&◌, ◌||◌, List, length, slice_index, bit_or, Option, Some, None, Result, Ok, Err, ⊤, ◌⊎◌}
 use Rattle.s370_psw.specs.Fields.{Fields, enables_external}
 use Rattle.s370_psw.specs.ProgramCode.{program_number}
 use Rattle.s370_store.specs.Access.{IsAway}
@@ -150,6 +150,11 @@ abbrev pub Meets : Configuration → (ℕ → Type 0) → (ℕ → Bool) → Con
 Meets wanted needs present old (Ok _) new = new ≡ wanted
 Meets wanted needs present old (Err page) new =
     (new ≡ old) × IsAway (length old.processor.bytes) present page.0 × needs page.0
+
+-- an instruction that was carried out with what its stop is followed by, if so; else nothing has changed
+abbrev pub IsDoneIf : Bool → Configuration → Configuration → Type 0
+IsDoneIf true old new = new ≡ instructed old
+IsDoneIf false old new = new ≡ old
 
 -- what a stop is followed by
 abbrev pub MeetsFollowed : Stop → (ℕ → Bool) → Configuration → Result ⊤ Page → Configuration → Type 0

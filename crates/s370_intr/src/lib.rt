@@ -27,6 +27,7 @@
 //! ```
 #![tactic(auto)]
 
+mod apart;
 mod class;
 mod input_output;
 mod laws;

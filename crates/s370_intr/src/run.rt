@@ -1,6 +1,7 @@
 //! Units, one after another.
 ghost use Rattle.std.specs.Prelude.{◌≡◌, ℕ, ◌+◌, ◌*◌, ◌/◌, ◌%◌, ◌<◌, ◌≤◌, List, [], ◌∷◌, IfSome, IsSome, length, Result, true};
 ghost use Rattle.s370_store.specs.Blocks.{MayFetch};
+ghost use Rattle.s370_store.specs.Memory.{Memory};
 ghost use Rattle.s370_rows.specs.State.{state_of};
 ghost use Rattle.s370_quick.specs.Quick.{IsLongMoveAt};
 ghost use Rattle.s370_intr.specs.Laws.{begun};
@@ -8,9 +9,8 @@ ghost use Rattle.s370_intr.specs.Units.{MeetsUnitAt, NeedsAt, core_of, look};
 ghost use Rattle.s370_intr.specs.declared.next.Next.TheVariants as next;
 ghost use Rattle.s370_intr.specs.Run.{AllNeeded, DoesInstructions, EachBrings, SuppliesUnit, TellsRun, run};
 ghost use Rattle.s370_intr.specs.declared.next.Reason.TheVariants as reasons;
-ghost use Rattle.s370_subchannels.specs.declared.subchannel.Subchannel.{Subchannel};
-ghost use Rattle.s370_intr.specs.declared.pending.Pending.{Pending};
 
+use crate::apart::instruct_in;
 use crate::next::{Next, Reason, is_plain, next_of};
 use crate::pending::Pending;
 use crate::unit::{Processor, accept, accept_status, instruct_saving};
@@ -272,51 +272,47 @@ fn move_parts<S: Storage>(
     units
 }
 
-/// The same, where an MVCL stands in a block that was found; else none.
-#[inline(always)]
-fn move_parts_in<S: Storage>(
-    cpu: &mut Cpu,
-    storage: &mut S,
-    start: Addr24,
-    block: Block,
-    limit: u32,
-) -> u32
-    requires here { start ≡ cpu.old.psw.address }
-    requires may_fetch { MayFetch (length (S.memory storage.old).bytes) (S.memory storage.old).keys
-        (S.present storage.old) cpu.old.psw.key block.first }
-    requires placed { S.IsPlaced storage.old block }
-    requires begins { block.first ≤ start }
-    requires ends { start ≤ block.first + 2042 }
-    requires even { start % 2 ≡ 0 }
-    ensures done { let before = state_of cpu.old (S.memory storage.old) in
-        let after = state_of cpu.new (S.memory storage.new) in
-        DoesInstructions result before after }
-    ensures within { result ≤ limit }
-    ensures rest { S.Keeps storage.old storage.new }
-{
-    if load_byte_in(storage, block, start.get()) != LONG_MOVE {
-        return 0;
-    }
-    let second_byte = load_byte_in(storage, block, start.get() + 1);
-    move_parts(cpu, storage, start, second_byte, limit)
+/// What the loop did, and where it stopped.
+#[derive(Clone, Copy)]
+struct Steady {
+    units: u32,
+    /// The block of the next instruction, if the loop leaves that out.
+    block: Option<Block>,
 }
 
-/// Instructions that are done in one go, one after another and at most so many: how many were done. After each of them
-/// a look would say what it said before: so the block from which they are fetched is looked up once, as long as they
-/// stay in it. This has no other unit in it, so that registers are left for what it needs.
-#[inline(never)]
-fn instruct_quickly<S: Storage>(cpu: &mut Cpu, storage: &mut S, limit: u32) -> u32
+/// What a processor did that began with an instruction and nothing pending, and whether that is so again.
+#[derive(Clone, Copy)]
+struct Went {
+    units: u32,
+    is_plain: bool,
+}
+
+/// Instructions that are done in one go, one after another and at most so many. After each of them a look would say what
+/// it said before: so the block from which they are fetched is looked up once, as long as they stay in it.
+#[inline(always)]
+fn instruct_steadily<S: Storage>(cpu: &mut Cpu, storage: &mut S, limit: u32) -> Steady
     ensures done { let before = state_of cpu.old (S.memory storage.old) in
         let after = state_of cpu.new (S.memory storage.new) in
-        DoesInstructions result before after }
-    ensures within { result ≤ limit }
+        DoesInstructions result.units before after }
+    ensures within { result.units ≤ limit }
+    ensures left { IfSome result.block (λ block. result.units < limit) }
+    ensures may_fetch { IfSome result.block
+        (λ block. MayFetch (length (S.memory storage.new).bytes) (S.memory storage.new).keys
+        (S.present storage.new) cpu.new.psw.key block.first) }
+    ensures placed { IfSome result.block (λ block. S.IsPlaced storage.new block) }
+    ensures begins { IfSome result.block (λ block. block.first ≤ cpu.new.psw.address) }
+    ensures ends { IfSome result.block (λ block. cpu.new.psw.address ≤ block.first + 2042) }
+    ensures even { IfSome result.block (λ _. cpu.new.psw.address % 2 ≡ 0) }
     ensures rest { S.Keeps storage.old storage.new }
 {
     let mut next = cpu.psw.address();
     let key = cpu.psw.key();
     let mut block = match storage.find_block(next.get(), Access::Fetch, key) {
         Some(found) => found,
-        None => return 0,
+        None => return Steady {
+            units: 0,
+            block: None,
+        },
     };
     // The blocks of operands: at first they are fetched from that of the instructions, and there is none for stores.
     let mut held = Held {
@@ -326,32 +322,152 @@ fn instruct_quickly<S: Storage>(cpu: &mut Cpu, storage: &mut S, limit: u32) -> u
     for units in 0..limit {
         block = match block_of(storage, block, next, key) {
             Some(found) => found,
-            None => return units,
+            None => return Steady { units, block: None },
         };
         match step_quickly(cpu, storage, next, block, &mut held) {
             Some(address) => next = address,
-            None => return units + move_parts_in(cpu, storage, next, block, limit - units),
+            None => {
+                return Steady {
+                    units,
+                    block: Some(block),
+                };
+            }
         }
     }
-    limit
+    Steady {
+        units: limit,
+        block: None,
+    }
+}
+
+/// Goes on with an instruction that the loop left out, from the block in which it stands: with parts of an MVCL, or with
+/// all of any other. None are done if a page is missing.
+#[inline(never)]
+fn instruct_apart<P: Processor, S: Keyed>(
+    cpu: &mut Cpu,
+    pending: Pending,
+    subchannels: &mut Subchannels,
+    storage: &mut S,
+    block: Block,
+    limit: u32,
+) -> Went
+    requires size { 8192 ≤ length (S.Storage.memory storage.old).bytes }
+    requires plain { (m : Memory) → look (core_of (state_of cpu.old m) pending subchannels.old) ≡ next.Instructs }
+    requires some { 0 < limit }
+    requires may_fetch { MayFetch (length (S.Storage.memory storage.old).bytes) (S.Storage.memory storage.old).keys
+        (S.Storage.present storage.old) cpu.old.psw.key block.first }
+    requires placed { S.Storage.IsPlaced storage.old block }
+    requires begins { block.first ≤ cpu.old.psw.address }
+    requires ends { cpu.old.psw.address ≤ block.first + 2042 }
+    requires even { cpu.old.psw.address % 2 ≡ 0 }
+    ensures done { let before = core_of
+        (state_of cpu.old (S.Storage.memory storage.old)) pending subchannels.old in
+        let after = core_of (state_of cpu.new (S.Storage.memory storage.new)) pending subchannels.new in
+        run result.units before ≡ record { core = after; units = result.units; reason = reasons.Count } }
+    ensures plain { (m : Memory) → result.is_plain ≡ true
+        → look (core_of (state_of cpu.new m) pending subchannels.new) ≡ next.Instructs }
+    ensures within { result.units ≤ limit }
+    ensures rest { S.KeepsRest storage.old storage.new }
+{
+    let start = cpu.psw.address();
+    if load_byte_in(storage, block, start.get()) == LONG_MOVE {
+        let second_byte = load_byte_in(storage, block, start.get() + 1);
+        let units = move_parts(cpu, storage, start, second_byte, limit);
+        return Went {
+            units,
+            is_plain: true,
+        };
+    }
+    if !instruct_in::<P, S>(cpu, subchannels, storage, start, block) {
+        return Went {
+            units: 0,
+            is_plain: true,
+        };
+    }
+    Went {
+        units: 1,
+        is_plain: is_plain(cpu, pending, subchannels),
+    }
+}
+
+/// Instructions one after another, at most so many, as long as each of them can be done at once and nothing is pending
+/// then. This has no other unit in it, so that registers are left for what it needs.
+#[inline(never)]
+fn instruct_quickly<P: Processor, S: Keyed>(
+    cpu: &mut Cpu,
+    pending: Pending,
+    subchannels: &mut Subchannels,
+    storage: &mut S,
+    limit: u32,
+) -> Went
+    requires size { 8192 ≤ length (S.Storage.memory storage.old).bytes }
+    requires plain { (m : Memory) → look (core_of (state_of cpu.old m) pending subchannels.old) ≡ next.Instructs }
+    ensures done { let before = core_of
+        (state_of cpu.old (S.Storage.memory storage.old)) pending subchannels.old in
+        let after = core_of (state_of cpu.new (S.Storage.memory storage.new)) pending subchannels.new in
+        run result.units before ≡ record { core = after; units = result.units; reason = reasons.Count } }
+    ensures plain { (m : Memory) → result.is_plain ≡ true
+        → look (core_of (state_of cpu.new m) pending subchannels.new) ≡ next.Instructs }
+    ensures within { result.units ≤ limit }
+    ensures rest { S.KeepsRest storage.old storage.new }
+{
+    let mut units = 0;
+    while units < limit {
+        let steady = instruct_steadily(cpu, storage, limit - units);
+        units += steady.units;
+        let block = match steady.block {
+            Some(block) => block,
+            None => {
+                return Went {
+                    units,
+                    is_plain: true,
+                };
+            }
+        };
+        let went = instruct_apart::<P, S>(cpu, pending, subchannels, storage, block, limit - units);
+        units += went.units;
+        if went.units == 0 || !went.is_plain {
+            return Went {
+                units,
+                is_plain: went.is_plain,
+            };
+        }
+    }
+    Went {
+        units,
+        is_plain: true,
+    }
 }
 
 /// The same, where there is an instruction with nothing pending; else none.
 #[inline(always)]
-fn go_quickly<S: Storage>(is_plain: bool, cpu: &mut Cpu, storage: &mut S, limit: u32) -> u32
-    ensures done { (pending : Pending) → (list : List Subchannel) →
-        let before = core_of (state_of cpu.old (S.memory storage.old)) pending list in
-        let after = core_of (state_of cpu.new (S.memory storage.new)) pending list in
-        (is_plain ≡ true → look before ≡ next.Instructs)
-        → (run result before ≡ record { core = after; units = result; reason = reasons.Count })
-        × (is_plain ≡ true → look after ≡ next.Instructs) }
-    ensures within { result ≤ limit }
-    ensures rest { S.Keeps storage.old storage.new }
+fn go_quickly<P: Processor, S: Keyed>(
+    is_plain: bool,
+    cpu: &mut Cpu,
+    pending: Pending,
+    subchannels: &mut Subchannels,
+    storage: &mut S,
+    limit: u32,
+) -> Went
+    requires size { 8192 ≤ length (S.Storage.memory storage.old).bytes }
+    requires plain { (m : Memory) → is_plain ≡ true
+        → look (core_of (state_of cpu.old m) pending subchannels.old) ≡ next.Instructs }
+    ensures done { let before = core_of
+        (state_of cpu.old (S.Storage.memory storage.old)) pending subchannels.old in
+        let after = core_of (state_of cpu.new (S.Storage.memory storage.new)) pending subchannels.new in
+        run result.units before ≡ record { core = after; units = result.units; reason = reasons.Count } }
+    ensures plain { (m : Memory) → result.is_plain ≡ true
+        → look (core_of (state_of cpu.new m) pending subchannels.new) ≡ next.Instructs }
+    ensures within { result.units ≤ limit }
+    ensures rest { S.KeepsRest storage.old storage.new }
 {
     if is_plain {
-        instruct_quickly(cpu, storage, limit)
+        instruct_quickly::<P, S>(cpu, pending, subchannels, storage, limit)
     } else {
-        0
+        Went {
+            units: 0,
+            is_plain: false,
+        }
     }
 }
 
@@ -386,8 +502,9 @@ pub fn run_units<P: Processor, S: UnitSupply>(
         × (length units ≤ begun result.units result.reason) }
     ensures between { S.IsBetween storage.new }
 {
-    let mut plain = is_plain(cpu, *pending, subchannels);
-    let mut units = go_quickly(plain, cpu, storage, count);
+    let plain = is_plain(cpu, *pending, subchannels);
+    let mut went = go_quickly::<P, S>(plain, cpu, *pending, subchannels, storage, count);
+    let mut units = went.units;
     // A turn that ends here has made up nothing that only other units need.
     if units == count {
         return Ran {
@@ -397,7 +514,7 @@ pub fn run_units<P: Processor, S: UnitSupply>(
     }
     let mut spare = blank_cpu();
     while units < count {
-        let next = next_of(plain, cpu, *pending, subchannels);
+        let next = next_of(went.is_plain, cpu, *pending, subchannels);
         match next {
             Next::Stops(reason) => return Ran { units, reason },
             _ => {}
@@ -412,8 +529,9 @@ pub fn run_units<P: Processor, S: UnitSupply>(
             }
         }
         units += 1;
-        plain = is_plain(cpu, *pending, subchannels);
-        units += go_quickly(plain, cpu, storage, count - units);
+        let plain = is_plain(cpu, *pending, subchannels);
+        went = go_quickly::<P, S>(plain, cpu, *pending, subchannels, storage, count - units);
+        units += went.units;
     }
     Ran {
         units: count,

@@ -69,10 +69,10 @@ impl Processor for RealCpu {
     }
 }
 
-/// Goes on with an instruction for the supervisor state that was handed back, and with what follows it. The registers
-/// are copied, since an answer may have to be undone. It is out of line, so that the loop over units is for the others.
+/// Goes on with an instruction for the supervisor state that was handed back, and with what follows it. It is out of
+/// line, so that the loop over units is for the others.
 #[inline(never)]
-fn instruct_control<P: Processor, S: Keyed>(
+pub(crate) fn instruct_control<P: Processor, S: Keyed>(
     cpu: &mut Cpu,
     subchannels: &mut Subchannels,
     storage: &mut S,
@@ -89,7 +89,7 @@ fn instruct_control<P: Processor, S: Keyed>(
         MeetsInstruction (S.Storage.present storage.old) before result after }
     ensures rest { S.KeepsRest storage.old storage.new }
 {
-    let spare = *cpu;
+    let psw = cpu.psw;
     let stop = P::control(cpu, storage, i, ilc);
     match stop {
         Stop::Absent(page) => return Err(page),
@@ -98,8 +98,8 @@ fn instruct_control<P: Processor, S: Keyed>(
     match follow::<P, S>(cpu, subchannels, storage, stop) {
         Ok(()) => Ok(()),
         Err(page) => {
-            // What interrupts, or asks a device, has changed registers alone.
-            *cpu = spare;
+            // What interrupts, or asks a device, has changed the instruction address alone.
+            cpu.psw = psw;
             Err(page)
         }
     }
@@ -177,7 +177,7 @@ fn save<S: Storage>(cpu: &Cpu, spare: &mut Cpu, storage: &S)
 /// Carries out what the stop of an instruction is followed by: its interruption, or the answer of the device that it
 /// asks.
 #[inline(always)]
-fn follow<P: Processor, S: Keyed>(
+pub(crate) fn follow<P: Processor, S: Keyed>(
     cpu: &mut Cpu,
     subchannels: &mut Subchannels,
     storage: &mut S,

@@ -1,40 +1,40 @@
-use Rattle.std.proofs.Common.{◌≡◌, ◌∙◌, ap, sym, subst}
-use Rattle.s370_rows.specs.State.{State, state_of}
-use Rattle.s370_cpu.specs.Laws.{Rights}
-use Rattle.s370_intr.specs.Units.{Core, core_of, look, unit_at}
-use Rattle.s370_intr.proofs.Runs.{all_done, does_many, does_more, done_unit, looks_same, still_accesses, still_held, Goes}
+use Rattle.std.proofs.Common.{◌+◌, arith}
+use Rattle.s370_intr.proofs.Runs.{does_many, is_so}
 use Rattle.s370_intr.proofs.run.instruct_quickly.Goals as goal
+
+pub returns-in-None-clause-done : goal.returns-in-None-clause-done
+returns-in-None-clause-done g c =
+    let steady = c.instruct_steadily-steady.ensures.done c.args.pending c.loop-units.subchannels (c.loop-units.invariant.plain (g.S.Storage.memory c.loop-units.storage)) in
+    does_many c.loop-units.units c.instruct_steadily-steady.result.units _ _ _ c.loop-units.invariant.done steady.0
+
+pub returns-in-None-clause-plain : goal.returns-in-None-clause-plain
+returns-in-None-clause-plain g c m is_it =
+    (c.instruct_steadily-steady.ensures.done c.args.pending c.loop-units.subchannels (c.loop-units.invariant.plain (g.S.Storage.memory c.loop-units.storage))).1
+
+pub instruct_apart-went-requires-clause-plain : goal.instruct_apart-went-requires-clause-plain
+instruct_apart-went-requires-clause-plain g c m =
+    (c.instruct_steadily-steady.ensures.done c.args.pending c.loop-units.subchannels (c.loop-units.invariant.plain (g.S.Storage.memory c.loop-units.storage))).1
+
+pub returns-then-went-eq0-clause-done : goal.returns-then-went-eq0-clause-done
+returns-then-went-eq0-clause-done g c =
+    let steady = c.instruct_steadily-steady.ensures.done c.args.pending c.loop-units.subchannels (c.loop-units.invariant.plain (g.S.Storage.memory c.loop-units.storage)) in
+    does_many (c.loop-units.units + c.instruct_steadily-steady.result.units) c.instruct_apart-went.result.units _ _ _
+    (does_many c.loop-units.units c.instruct_steadily-steady.result.units _ _ _ c.loop-units.invariant.done steady.0) c.instruct_apart-went.ensures.done
+
+pub returns-then-went-eq0-clause-rest : goal.returns-then-went-eq0-clause-rest
+returns-then-went-eq0-clause-rest g c =
+    g.met.S.Keyed.rest_on _ _ _ (g.met.S.Keyed.rest_on _ _ _ c.loop-units.invariant.rest (g.met.S.Keyed.rest_kept _ _ c.instruct_steadily-steady.ensures.rest)) c.instruct_apart-went.ensures.rest
 
 pub loop-units-preserved : goal.loop-units-preserved
 loop-units-preserved g c =
-    let m0 = state_of c.args.cpu.now (g.S.Storage.memory c.args.storage.now) in
-    let m = state_of c.loop-units.cpu (g.S.Storage.memory c.loop-units.storage) in
-    let m' = state_of c.step_quickly.new.cpu (g.S.Storage.memory c.step_quickly.new.storage) in
+    let steady = c.instruct_steadily-steady.ensures.done c.args.pending c.loop-units.subchannels (c.loop-units.invariant.plain (g.S.Storage.memory c.loop-units.storage)) in
     record {
-      here = c.in-Some-step_quickly.ensures.step.next;
-      key = c.loop-units.invariant.key ∙ sym (ap (λ (r : Rights). r.key) c.step_quickly.ensures.step.rights);
-      low = c.in-Some-block_of.ensures.low;
-      may_fetch = still_accesses c.key-key.result c.in-Some-block_of.found.first (g.met.S.Storage.keeps_size _ _ c.step_quickly.ensures.rest) (ap (λ (r : Rights). r.keys) c.step_quickly.ensures.step.rights) (g.met.S.Storage.keeps_present _ _ c.step_quickly.ensures.rest) c.in-Some-block_of.ensures.may_fetch;
-      placed = g.met.S.Storage.placed_kept _ _ c.in-Some-block_of.found c.step_quickly.ensures.rest c.in-Some-block_of.ensures.placed;
-      operands = still_held c.key-key.result c.step_quickly.new.held (λ block kept. g.met.S.Storage.placed_kept _ _ block c.step_quickly.ensures.rest kept) (g.met.S.Storage.keeps_size _ _ c.step_quickly.ensures.rest) (ap (λ (r : Rights). r.keys) c.step_quickly.ensures.step.rights) (g.met.S.Storage.keeps_present _ _ c.step_quickly.ensures.rest) (rw (sym c.loop-units.invariant.key) at c.step_quickly.ensures.operands);
-      done = λ pending list e.
-          (let before = c.loop-units.invariant.done pending list e in
-          let step : core_of m' pending list ≡ unit_at (look (core_of m pending list)) (core_of m pending list) = rw before.1 (done_unit m m' pending list (c.in-Some-step_quickly.ensures.step.done)) in
-          (does_more c.loop-units.units (core_of m0 pending list) (core_of m pending list) (core_of m' pending list) before.0 (subst Goes (sym before.1) tt) step, looks_same m m' pending list c.step_quickly.ensures.step.rights ∙ before.1));
-      rest = g.met.S.Storage.keeps_on _ _ _ c.loop-units.invariant.rest c.step_quickly.ensures.rest;
+      within = omega (arith, c.instruct_steadily-steady.ensures.within, c.instruct_apart-went.ensures.within, c.loop-units-test.true);
+      plain = λ m. c.instruct_apart-went.ensures.plain m (is_so c.instruct_apart-went.result.is_plain c.if-not-went.false);
+      done = does_many (c.loop-units.units + c.instruct_steadily-steady.result.units) c.instruct_apart-went.result.units _ _ _
+          (does_many c.loop-units.units c.instruct_steadily-steady.result.units _ _ _ c.loop-units.invariant.done steady.0) c.instruct_apart-went.ensures.done;
+      rest = g.met.S.Keyed.rest_on _ _ _ (g.met.S.Keyed.rest_on _ _ _ c.loop-units.invariant.rest (g.met.S.Keyed.rest_kept _ _ c.instruct_steadily-steady.ensures.rest)) c.instruct_apart-went.ensures.rest;
     }
 
-pub returns-in-None-step_quickly-clause-done : goal.returns-in-None-step_quickly-clause-done
-returns-in-None-step_quickly-clause-done g c pending list e =
-    let m0 = state_of c.args.cpu.now (g.S.Storage.memory c.args.storage.now) in
-    let m = state_of c.loop-units.cpu (g.S.Storage.memory c.loop-units.storage) in
-    let m1 = state_of c.step_quickly.new.cpu (g.S.Storage.memory c.step_quickly.new.storage) in
-    let m2 = state_of c.move_parts_in.new.cpu (g.S.Storage.memory c.move_parts_in.new.storage) in
-    let before = c.loop-units.invariant.done pending list e in
-    let same : core_of m1 pending list ≡ core_of m pending list = ap (λ (x : State). core_of x pending list) c.in-None-step_quickly.ensures.step.still in
-    let parts = c.move_parts_in.ensures.done pending list (ap look same ∙ before.1) in
-    (does_many c.loop-units.units c.move_parts_in.result (core_of m0 pending list) (core_of m1 pending list) (core_of m2 pending list) (before.0 ∙ ap (λ (x : Core). all_done c.loop-units.units x) (sym same)) parts.0, parts.1)
-
-pub returns-in-None-step_quickly-clause-rest : goal.returns-in-None-step_quickly-clause-rest
-returns-in-None-step_quickly-clause-rest g c =
-    g.met.S.Storage.keeps_on _ _ _ (g.met.S.Storage.keeps_on _ _ _ c.loop-units.invariant.rest c.step_quickly.ensures.rest) c.move_parts_in.ensures.rest
+pub returns-clause-plain : goal.returns-clause-plain
+returns-clause-plain g c m is_it = c.loop-units.invariant.plain m

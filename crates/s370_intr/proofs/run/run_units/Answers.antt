@@ -11,36 +11,32 @@ use Rattle.s370_intr.proofs.run.run_units.Goals as goal
 
 pub returns-then-units-count-clause-told : goal.returns-then-units-count-clause-told
 returns-then-units-count-clause-told g c =
-    let n = c.go_quickly-units.result in
+    let n = c.go_quickly-went.result.units in
     let first = core_of (state_of c.args.cpu.now (g.S.Storage.memory c.args.storage.now)) c.args.pending.now c.args.subchannels.now in
-    let now = core_of (state_of c.go_quickly-units.new.cpu (g.S.Storage.memory c.go_quickly-units.new.storage)) c.args.pending.now c.args.subchannels.now in
-    let plain = c.is_plain-plain.ensures (g.S.Storage.memory c.args.storage.now) in
-    let quick = c.go_quickly-units.ensures.done c.args.pending.now c.args.subchannels.now plain in
+    let now = core_of (state_of c.go_quickly-went.new.cpu (g.S.Storage.memory c.go_quickly-went.new.storage)) c.args.pending.now c.go_quickly-went.new.subchannels in
     let told : Run = record { core = now; units = n; reason = Count } in
-    subst (λ (k : ℕ). run k first ≡ told) c.if-units-count.true quick.0
+    subst (λ (k : ℕ). run k first ≡ told) c.if-units-count.true c.go_quickly-went.ensures.done
 
 pub returns-then-units-count-clause-supply : goal.returns-then-units-count-clause-supply
 returns-then-units-count-clause-supply g c =
-    let n = c.go_quickly-units.result in
+    let n = c.go_quickly-went.result.units in
     let first = core_of (state_of c.args.cpu.now (g.S.Storage.memory c.args.storage.now)) c.args.pending.now c.args.subchannels.now in
     let quiet : List (List ℕ) = replicate n [] in
     let many : length quiet ≡ n = length-replicate n [] in
-    let quickly = g.met.S.Keyed.rest_kept _ _ c.go_quickly-units.ensures.rest in
+    let quickly = c.go_quickly-went.ensures.rest in
     (quiet, g.met.S.UnitSupply.came_none _ _ n c.requires.between quickly, each_none first 0 n, omega (arith, many))
 
 pub loop-units-init : goal.loop-units-init
 loop-units-init g c =
-    let n = c.go_quickly-units.result in
+    let n = c.go_quickly-went.result.units in
     let first = core_of (state_of c.args.cpu.now (g.S.Storage.memory c.args.storage.now)) c.args.pending.now c.args.subchannels.now in
-    let plain = c.is_plain-plain.ensures (g.S.Storage.memory c.args.storage.now) in
-    let quick = c.go_quickly-units.ensures.done c.args.pending.now c.args.subchannels.now plain in
-    let quickly = g.met.S.Keyed.rest_kept _ _ c.go_quickly-units.ensures.rest in
+    let quickly = c.go_quickly-went.ensures.rest in
     record {
-      within = c.go_quickly-units.ensures.within;
-      ran = quick.0;
+      within = c.go_quickly-went.ensures.within;
+      ran = c.go_quickly-went.ensures.done;
       supply = (replicate n [], g.met.S.UnitSupply.came_none _ _ n c.requires.between quickly, each_none first 0 n, length-replicate n []);
       between = g.met.S.UnitSupply.between_kept _ _ quickly c.requires.between;
-      plain = λ m is_it. quick.1 is_it;
+      plain = c.go_quickly-went.ensures.plain;
     }
 
 pub returns-in-Stops-clause-told : goal.returns-in-Stops-clause-told
@@ -80,11 +76,11 @@ returns-in-Err g c =
 pub loop-units-preserved : goal.loop-units-preserved
 loop-units-preserved g c =
     let k = c.loop-units.units in
-    let n = c.go_quickly-units-in-loop-units.result in
+    let n = c.go_quickly-went-in-loop-units.result.units in
     let first = core_of (state_of c.args.cpu.now (g.S.Storage.memory c.args.storage.now)) c.args.pending.now c.args.subchannels.now in
     let now = core_of (state_of c.loop-units.cpu (g.S.Storage.memory c.loop-units.storage)) c.loop-units.pending c.loop-units.subchannels in
     let new = core_of (state_of c.supplied.new.cpu (g.S.Storage.memory c.supplied.new.storage)) c.supplied.new.pending c.supplied.new.subchannels in
-    let end = core_of (state_of c.go_quickly-units-in-loop-units.new.cpu (g.S.Storage.memory c.go_quickly-units-in-loop-units.new.storage)) c.supplied.new.pending c.supplied.new.subchannels in
+    let end = core_of (state_of c.go_quickly-went-in-loop-units.new.cpu (g.S.Storage.memory c.go_quickly-went-in-loop-units.new.storage)) c.supplied.new.pending c.go_quickly-went-in-loop-units.new.subchannels in
     let e : c.next_of-next.result ≡ look now = c.next_of-next.ensures (g.S.Storage.memory c.loop-units.storage) in
     let s = c.loop-units.invariant.supply in
     let t = c.in-Ok.ensures.supply in
@@ -92,17 +88,15 @@ loop-units-preserved g c =
     let step : new ≡ unit_at (look now) now = subst (λ (l : Next). new ≡ unit_at l now) e c.in-Ok.ensures.unit in
     let needed : AllNeeded (NeedsAt (look now) now) t.0 = subst (λ (l : Next). AllNeeded (NeedsAt l now) t.0) e t.2 in
     let one : run (k + 1) first ≡ all_done (k + 1) new = does_more k first now new c.loop-units.invariant.ran goes step in
-    let plain = c.is_plain-plain-in-loop-units.ensures (g.S.Storage.memory c.supplied.new.storage) in
-    let quick = c.go_quickly-units-in-loop-units.ensures.done c.supplied.new.pending c.supplied.new.subchannels plain in
-    let within : n ≤ c.args.count - (k + 1) = c.go_quickly-units-in-loop-units.ensures.within in
+    let within : n ≤ c.args.count - (k + 1) = c.go_quickly-went-in-loop-units.ensures.within in
     let less : k < c.args.count = c.loop-units-test.true in
     let quiet : List (List ℕ) = replicate n [] in
     let many : length quiet ≡ n = length-replicate n [] in
-    let quickly = g.met.S.Keyed.rest_kept _ _ c.go_quickly-units-in-loop-units.ensures.rest in
+    let quickly = c.go_quickly-went-in-loop-units.ensures.rest in
     let quietly = g.met.S.UnitSupply.came_none _ _ n c.in-Ok.ensures.between quickly in
     record {
       within = omega (arith, within, less);
-      ran = does_many (k + 1) n first new end one quick.0;
+      ran = does_many (k + 1) n first new end one c.go_quickly-went-in-loop-units.ensures.done;
       supply = (
         (s.0 ++ t.0 ∷ []) ++ quiet,
         g.met.S.UnitSupply.came_on _ _ _ (s.0 ++ t.0 ∷ []) quiet (g.met.S.UnitSupply.came_on _ _ _ s.0 (t.0 ∷ []) s.1 t.1) quietly,
@@ -110,5 +104,5 @@ loop-units-preserved g c =
         omega (arith, s.3, length-append s.0 (t.0 ∷ []), length-append (s.0 ++ t.0 ∷ []) quiet, many),
       );
       between = g.met.S.UnitSupply.between_kept _ _ quickly c.in-Ok.ensures.between;
-      plain = λ m is_it. quick.1 is_it;
+      plain = c.go_quickly-went-in-loop-units.ensures.plain;
     }

@@ -1,0 +1,162 @@
+"""The operator's page: what happens, who is on, and the commands of bin/operator (docs/OPERATING.md), to whoever has the token."""
+import asyncio
+import contextlib
+import os
+import secrets
+import time
+
+from host import MEGABYTE, memory_of
+from operating import DONE, plain
+from page_line import count_strangers, place_of
+from pages import Refused, is_token, text_in
+
+SECONDS_BETWEEN_STATES = 1
+MOST_PAGES = 16
+MOST_COMMAND = 4096
+# lines that wait to be sent to one page
+MOST_UNSENT = 2000
+TOKEN_BYTES = 24
+
+
+class PageOutlet:
+    """An outlet of the journal that leads to a page; any thread may put a line."""
+
+    def __init__(self, page, loop):
+        self.page = page
+        self.loop = loop
+
+    def put(self, text, prefix=None):
+        now = round(time.time() * 1000)
+        try:
+            self.loop.call_soon_threadsafe(self.page.put, {"is": "happens", "time": now, "text": plain(text)})
+        except RuntimeError:
+            # the loop has ended
+            pass
+
+    def close(self):
+        pass
+
+
+class OperatorPage:
+    """One page of an operator: what it is told before its token was right is nothing."""
+
+    def __init__(self, pages, address, outbox):
+        self.pages = pages
+        self.address = address
+        self.outbox = outbox
+        self.is_known = False
+        self.outlet = PageOutlet(self, pages.loop)
+
+    def is_somebody(self):
+        return self.is_known
+
+    def put(self, message):
+        if len(self.outbox.messages) < MOST_UNSENT:
+            self.outbox.put(message)
+
+    def open(self):
+        if len(self.pages.all) >= MOST_PAGES:
+            raise Refused("there are too many operators")
+        self.is_known = True
+        self.pages.all.add(self)
+        self.pages.journal.add(self.outlet)
+        self.pages.tell(f"an operator comes by a page from {self.address}")
+        self.put({"is": "open"})
+        self.put(self.pages.state())
+
+    def close(self):
+        if self.is_known:
+            self.pages.all.discard(self)
+            self.pages.journal.remove(self.outlet)
+
+    async def take(self, message):
+        """Obeys a message. Each has the token."""
+        kind = str(message.get("is"))
+        try:
+            if not is_token(message.get("token"), self.pages.token):
+                await asyncio.sleep(1)
+                raise Refused("the token is wrong")
+            if not self.is_known:
+                self.open()
+            if kind == "command":
+                self.command(plain(text_in(message, "text"))[:MOST_COMMAND].strip(), message.get("number"))
+            elif kind == "frames":
+                self.frames()
+            elif kind != "open":
+                raise Refused(f"there is no message {plain(kind)[:20]}")
+        except Refused as reason:
+            self.put({"is": "refused", "what": plain(kind)[:20], "why": str(reason)})
+
+    def command(self, text, number):
+        """Has a command done; its answer comes in lines, and how it ended last."""
+        self.pages.operator.do(text, self.sender("answer", number), lambda how: self.from_thread({"is": "end", "number": number, "how": how}))
+
+    def sender(self, kind, number):
+        return lambda text: self.from_thread({"is": kind, "number": number, "text": plain(text)})
+
+    def frames(self):
+        """Has the frames looked for, and sends the map as a whole."""
+        lines, begun = [], time.monotonic()
+
+        def end(how):
+            took = round(time.monotonic() - begun, 2)
+            self.from_thread({"is": "frames", "lines": lines, "done": how == DONE, "took": took})
+
+        self.pages.operator.do("frames", lines.append, end)
+
+    def from_thread(self, message):
+        self.pages.loop.call_soon_threadsafe(self.put, message)
+
+
+class OperatorPages:
+    """All pages of operators."""
+
+    def __init__(self, installation, loop):
+        self.installation = installation
+        self.operator = installation.operator
+        self.journal = installation.journal
+        self.tell = installation.tell
+        self.loop = loop
+        self.all = set()
+        self.path = f"{installation.options['record']}.web-token"
+        self.token = self.read_token()
+
+    def read_token(self):
+        """The token of the file next to the recording, which only its owner can read; it is made if it is not there, or was for others
+        to read."""
+        with contextlib.suppress(FileNotFoundError):
+            if not os.stat(self.path).st_mode & 0o077:
+                with open(self.path) as file:
+                    if found := file.read().strip():
+                        return found
+            os.unlink(self.path)
+        token = secrets.token_urlsafe(TOKEN_BYTES)
+        handle = os.open(self.path, os.O_WRONLY | os.O_CREAT | os.O_EXCL, 0o600)
+        with open(handle, "w") as file:
+            file.write(f"{token}\n")
+        return token
+
+    def state(self):
+        """What an operator sees at a glance."""
+        installation, engine = self.installation, self.installation.engine
+        recording = engine.recording
+        people = [it for it in engine.users.values() if it is not installation.receiver]
+        return {
+            "is": "state", "time": round(time.time() * 1000), "users": [self.user(it) for it in people],
+            "strangers": count_strangers(installation.desk), "parts": engine.parts, "busy": engine.pace.is_busy, "command": memory_of(os.getpid()) // MEGABYTE,
+            "program": engine.memory() // MEGABYTE, "most": installation.limits.memory // MEGABYTE, "lines": recording.lines,
+            "size": recording.size(), "begun": recording.begun_at(), "start": round(engine.seconds(), 1), "free": recording.free() // MEGABYTE,
+            "printouts": len(engine.printouts.all), "unwritten": len(engine.printouts.unwritten()), "ending": self.operator.ending[:1],
+        }  # fmt: skip
+
+    def user(self, user):
+        return {"name": user.name, "on": user.is_on, "running": user.is_running, "from": place_of(user), "written": user.written}
+
+    async def watch(self):
+        """Tells all pages how things are, each second."""
+        while True:
+            await asyncio.sleep(SECONDS_BETWEEN_STATES)
+            if self.all:
+                state = self.state()
+                for page in list(self.all):
+                    page.put(state)

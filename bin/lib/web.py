@@ -1,0 +1,197 @@
+"""Pages in browsers: files of the folder web, and a WebSocket for each page (docs/OPERATING.md, "Pages"). Debian's python3-websockets does
+the protocol; what the messages mean is in bin/lib/pages.py and bin/lib/operator_pages.py."""
+import asyncio
+import collections
+import json
+import logging
+import resource
+
+from websockets.exceptions import ConnectionClosed
+from websockets.legacy.server import WebSocketServerProtocol, serve
+
+from minidisks import Minidisks
+from operator_pages import OperatorPage, OperatorPages
+from page_requests import HEADERS, USER_SOCKET, answer_to, read_files
+from pages import Outbox, Pages, Rate
+from people import FILE_FAILED, Failure
+from tls import how
+
+# a connection that asks for nothing goes after so many seconds; of too many that nobody has logged on at one goes
+SECONDS_TO_ASK = 10
+MOST_CONNECTIONS = 512
+MOST_MESSAGE = 3 << 14
+# files and connections that the command may have open
+MOST_OPEN = 1 << 13
+LIMITS = {"max_size": MOST_MESSAGE, "max_queue": 2, "read_limit": 1 << 16, "write_limit": 1 << 16, "ping_interval": 20, "ping_timeout": 20,
+          "close_timeout": 2, "compression": None, "server_header": None}  # fmt: skip
+WRONG_MESSAGE = 1008
+
+
+class Connection(WebSocketServerProtocol):
+    """A browser's connection, which goes if it asks for nothing."""
+
+    crowd = None
+    page = None
+
+    def connection_made(self, transport):
+        super().connection_made(transport)
+        self.crowd.add(self)
+        self.loop.call_later(SECONDS_TO_ASK, self.give_up)
+
+    def connection_lost(self, error):
+        super().connection_lost(error)
+        self.crowd.discard(self)
+
+    def give_up(self):
+        if self.state.name == "CONNECTING":
+            self.transport.abort()
+
+    def is_stranger(self):
+        """Whether nobody is logged on here."""
+        return not (self.page and self.page.is_somebody())
+
+    def address(self):
+        return (self.remote_address or [""])[0]
+
+
+class Crowd:
+    """All connections, the oldest first. Of too many the oldest stranger goes of the address that has most strangers."""
+
+    def __init__(self):
+        self.all = {}
+
+    def add(self, connection):
+        self.all[connection] = None
+        if len(self.all) > MOST_CONNECTIONS:
+            strangers = [it for it in self.all if it.is_stranger()]
+            counts = collections.Counter(it.address() for it in strangers)
+            crowded = counts.most_common(1)[0][0] if counts else None
+            gone = next((it for it in strangers if it.address() == crowded), connection)
+            self.discard(gone)
+            gone.transport.abort()
+
+    def discard(self, connection):
+        self.all.pop(connection, None)
+
+
+class Web:
+    """The server of pages."""
+
+    def __init__(self, installation, tls):
+        self.installation = installation
+        self.tls = tls
+        self.files = read_files()
+        loop = asyncio.get_running_loop()
+        self.pages = Pages(installation, Minidisks(installation.directory, installation.volumes))
+        self.operators = OperatorPages(installation, loop)
+        self.crowd = Crowd()
+        self.tasks = [loop.create_task(it.watch()) for it in (self.pages, self.operators)]
+
+    async def listen(self, where):
+        address, _, port = where.rpartition(":")
+        logger = logging.Logger("web", logging.CRITICAL + 1)
+        kind = type("OwnConnection", (Connection,), {"crowd": self.crowd})
+        more = {"create_protocol": kind, "process_request": self.answer, "logger": logger, "backlog": 512, **LIMITS, **how(self.tls)}
+        allow_more_files()
+        try:
+            self.server = await serve(self.serve, address.strip("[]"), int(port), **more)
+        except OSError as error:
+            raise Failure(FILE_FAILED, f"{where}: {error.strerror}") from None
+        scheme = "https" if self.tls else "http"
+        self.installation.tell(f"pages are at {scheme}://{where}/, the operator's at /operator with the token in {self.operators.path}")
+
+    async def answer(self, path, headers):
+        # of a header that is there twice none is taken
+        host, origin = (found[0] if len(found := headers.get_all(name)) == 1 else "" for name in ("Host", "Origin"))
+        found = answer_to(path, host, origin, bool(self.tls), self.files)
+        if found is None:
+            return None
+        status, kind, body = found
+        return status, {**HEADERS, "Content-Type": kind, "Content-Length": str(len(body)), "Connection": "close"}.items(), body
+
+    async def serve(self, connection):
+        """Serves the page of a connection until that ends."""
+        outbox = Outbox()
+        sender = asyncio.create_task(send_all(connection, outbox))
+        try:
+            page = self.page_of(connection, outbox, await received(connection)) if connection.path.startswith(USER_SOCKET) else None
+            if page:
+                await self.converse_with_user(connection, page, outbox)
+            else:
+                await self.converse_with_operator(connection, outbox)
+        except (ValueError, RecursionError):
+            await connection.close(WRONG_MESSAGE)
+        except ConnectionClosed:
+            pass
+        finally:
+            sender.cancel()
+
+    def page_of(self, connection, outbox, message):
+        page, answer = self.pages.open(message, connection.address())
+        connection.page = page
+        if page.connection:
+            # the browser has come back before its old connection was missed
+            page.connection.transport.abort()
+        page.connection = connection
+        outbox.put(answer)
+        page.attach(outbox)
+        return page
+
+    async def converse_with_user(self, connection, page, outbox):
+        rate = Rate()
+        try:
+            while True:
+                await outbox.room()
+                await asyncio.sleep(rate.wait())
+                await page.take(await received(connection))
+        finally:
+            if page.connection is connection:
+                page.connection = None
+                page.detach()
+
+    async def converse_with_operator(self, connection, outbox):
+        page = connection.page = OperatorPage(self.operators, connection.address(), outbox)
+        try:
+            while True:
+                await outbox.room()
+                await page.take(await received(connection))
+                if not page.is_known:
+                    await connection.close(WRONG_MESSAGE)
+        finally:
+            page.close()
+
+    async def close(self):
+        for task in self.tasks:
+            task.cancel()
+        self.server.close()
+        await self.server.wait_closed()
+
+
+def allow_more_files():
+    """Has the host allow so many files that a flood of connections leaves some for others."""
+    soft, hard = resource.getrlimit(resource.RLIMIT_NOFILE)
+    most = MOST_OPEN if hard == resource.RLIM_INFINITY else min(MOST_OPEN, hard)
+    if soft != resource.RLIM_INFINITY and soft < most:
+        resource.setrlimit(resource.RLIMIT_NOFILE, (most, hard))
+
+
+async def received(connection):
+    """The next message of a page, an object. What is none is a ValueError."""
+    text = await connection.recv()
+    if isinstance(text, bytes):
+        raise ValueError
+    found = json.loads(text)
+    if not isinstance(found, dict):
+        raise ValueError
+    return found
+
+
+async def send_all(connection, outbox):
+    """Sends what a page is told, as fast as the browser takes that."""
+    try:
+        while True:
+            await connection.send(json.dumps(await outbox.taken()))
+    except ConnectionClosed:
+        pass
+    finally:
+        outbox.close()
