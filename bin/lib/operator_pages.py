@@ -140,13 +140,14 @@ class OperatorPages:
         """What an operator sees at a glance."""
         installation, engine = self.installation, self.installation.engine
         recording = engine.recording
-        people = [it for it in engine.users.values() if it is not installation.receiver]
+        people = [user for user in engine.users.values() if user is not installation.receiver]
         return {
-            "is": "state", "time": round(time.time() * 1000), "users": [self.user(it) for it in people],
-            "strangers": count_strangers(installation.desk), "parts": engine.parts, "busy": engine.pace.is_busy, "command": memory_of(os.getpid()) // MEGABYTE,
-            "program": engine.memory() // MEGABYTE, "most": installation.limits.memory // MEGABYTE, "lines": recording.lines,
-            "size": recording.size(), "begun": recording.begun_at(), "start": round(engine.seconds(), 1), "free": recording.free() // MEGABYTE,
-            "printouts": len(engine.printouts.all), "unwritten": len(engine.printouts.unwritten()), "ending": self.operator.ending[:1],
+            "is": "state", "time": round(time.time() * 1000), "users": [self.user(user) for user in people],
+            "strangers": count_strangers(installation.desk), "parts": engine.parts, "busy": engine.pace.is_busy,
+            "command": memory_of(os.getpid()) // MEGABYTE, "program": engine.memory() // MEGABYTE,
+            "most": installation.limits.memory // MEGABYTE, "lines": recording.lines, "size": recording.size(), "begun": recording.begun_at(),
+            "start": round(engine.seconds(), 1), "free": recording.free() // MEGABYTE, "printouts": len(engine.printouts.all),
+            "unwritten": len(engine.printouts.unwritten()), "ending": self.operator.ending[:1],
         }  # fmt: skip
 
     def user(self, user):

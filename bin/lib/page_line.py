@@ -76,7 +76,7 @@ async def serve(desk, line):
 
 def users_at(users):
     """Each connection at which a user is logged on, with that user."""
-    return {it.terminal.writer: it for it in users if it.terminal and it.is_on}
+    return {user.terminal.writer: user for user in users if user.terminal and user.is_on}
 
 
 def place_of(user):

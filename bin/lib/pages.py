@@ -185,7 +185,7 @@ class UserPage:
             self.put({"is": "refused", "what": plain(kind)[:20], "why": str(reason)})
 
     async def log_on(self, message):
-        name, password = (text_in(message, it).encode("latin-1", "replace") for it in ("name", "password"))
+        name, password = (text_in(message, field).encode("latin-1", "replace") for field in ("name", "password"))
         if not re.fullmatch(b"[!-~]+", name) or not re.fullmatch(b"[ -~]+", password):
             raise Refused("a name is a word, and a password a line")
         if self.user():
@@ -238,14 +238,14 @@ class UserPage:
 
     async def list_files(self, message):
         user = self.logged_on()
-        files = [it for it in self.pages.printouts.all if it.user == user.name][-MOST_FILES:]
-        told = [{"name": it.name, "lines": it.lines, "state": it.state} for it in files]
+        files = [printout for printout in self.pages.printouts.all if printout.user == user.name][-MOST_FILES:]
+        told = [{"name": printout.name, "lines": printout.lines, "state": printout.state} for printout in files]
         self.put({"is": "files", "files": told, "kept": bool(self.pages.printouts.folder)})
 
     async def show_file(self, message):
         """Sends a piece of one of the user's own files."""
         user, name, place = self.logged_on(), text_in(message, "name"), number_in(message, "at")
-        if not any(it.name == name and it.user == user.name for it in self.pages.printouts.all):
+        if not any(printout.name == name and printout.user == user.name for printout in self.pages.printouts.all):
             raise Refused("you have no such file")
         if not self.pages.printouts.folder:
             raise Refused("the operator keeps no printouts")
