@@ -59,6 +59,7 @@ class OperatorPage:
             raise Refused("there are too many operators")
         self.is_known = True
         self.pages.all.add(self)
+        self.pages.opened.set()
         self.pages.journal.add(self.outlet)
         self.pages.tell(f"an operator comes by a page from {self.address}")
         self.put({"is": "open"})
@@ -118,6 +119,7 @@ class OperatorPages:
         self.tell = installation.tell
         self.loop = loop
         self.all = set()
+        self.opened = asyncio.Event()
         self.path = f"{installation.options['record']}.web-token"
         self.token = self.read_token()
 
@@ -156,8 +158,11 @@ class OperatorPages:
     async def watch(self):
         """Tells all pages how things are, each second."""
         while True:
+            await self.opened.wait()
             await asyncio.sleep(SECONDS_BETWEEN_STATES)
-            if self.all:
-                state = self.state()
-                for page in list(self.all):
-                    page.put(state)
+            if not self.all:
+                self.opened.clear()
+                continue
+            state = self.state()
+            for page in list(self.all):
+                page.put(state)

@@ -294,6 +294,7 @@ class Pages:
         self.tell = installation.tell
         self.minidisks = minidisks
         self.all = {}
+        self.opened = asyncio.Event()
 
     def users_at(self):
         """Each connection to the desk at which a user is logged on, with that user."""
@@ -311,6 +312,7 @@ class Pages:
                 return page, {"is": "resumed"}
         page = UserPage(self, address)
         self.all[page.name] = page
+        self.opened.set()
         return page, {"is": "new", "page": page.name, "token": page.token}
 
     def forget(self, page):
@@ -319,6 +321,10 @@ class Pages:
     async def watch(self):
         """Tells pages what has become of their machines, and gives up those to which no browser comes back."""
         while True:
+            if not self.all:
+                # nobody is there for whom to look
+                self.opened.clear()
+                await self.opened.wait()
             await asyncio.sleep(SECONDS_BETWEEN_LOOKS)
             users, now = self.users_at(), time.monotonic()
             for page in list(self.all.values()):
