@@ -60,7 +60,7 @@ class Engine:
     """In the place of the program: it logs on and off, answers a line by the same line, and notes what it is given."""
 
     def __init__(self, folder):
-        self.users = {it: User(it) for it in ("ALICE", "BOB")}
+        self.users = {name: User(name) for name in ("ALICE", "BOB")}
         self.printouts = Printouts(folder)
         self.given = []
 
@@ -149,11 +149,11 @@ ANSWERED = {"LOGON OK", "LOGOFF OK", "RECONNECTED", "LOGON REFUSED"}
 
 
 def lines(told):
-    return [it[2] for message in told if message["is"] == "lines" for it in message["lines"]]
+    return [line[2] for message in told if message["is"] == "lines" for line in message["lines"]]
 
 
 def refusals(told):
-    return [it["why"] for it in told if it["is"] == "refused"]
+    return [message["why"] for message in told if message["is"] == "refused"]
 
 
 # each message of a page at which ALICE is logged on, and what is told
@@ -191,9 +191,11 @@ OBEYED = {
 WITH_TOKEN = ("a line", "the key to stop", "a second logon", "a deck")
 FOR_USERS = ("a line", "the key to begin", "files", "a file", "minidisks", "a deck")
 SHAPES = {
-    "lines": lambda it: [line[2] for line in it["lines"]], "files": lambda it: [(file["name"], file["lines"], file["state"]) for file in it["files"]],
-    "piece": lambda it: (it["at"], it["next"], it["size"], it["text"]), "deck": lambda it: (it["name"], it["told"]),
-    "disks": lambda it: [(disk["address"], disk["volume"], disk["right"], disk["cylinders"], disk["tracks"]) for disk in it["disks"]],
+    "lines": lambda message: [line[2] for line in message["lines"]],
+    "files": lambda message: [(file["name"], file["lines"], file["state"]) for file in message["files"]],
+    "piece": lambda message: (message["at"], message["next"], message["size"], message["text"]),
+    "deck": lambda message: (message["name"], message["told"]),
+    "disks": lambda message: [(disk["address"], disk["volume"], disk["right"], disk["cylinders"], disk["tracks"]) for disk in message["disks"]],
 }  # fmt: skip
 
 
@@ -210,7 +212,7 @@ async def try_messages(check, folder):
         while not told and time.monotonic() < until:
             await asyncio.sleep(0.002)
             told = await browser.told()
-        found = refusals(told) if isinstance(wanted, str) else [(it["is"], SHAPES[it["is"]](it)) for it in told if it["is"] in SHAPES]
+        found = refusals(told) or [(kind, SHAPES[kind](message)) for message in told if (kind := message["is"]) in SHAPES]
         check(f"a page: {name}", found == ([wanted] if isinstance(wanted, str) else wanted), *map(str, told))
         browser.page.close()
     for name in WITH_TOKEN:
@@ -276,7 +278,7 @@ async def try_coming_back(check, folder):
     again = Browser(house, words)
     told = await again.told()
     check("who comes back misses nothing", again.page is page and lines(told) == ["LOGON OK", "MEANWHILE"], *map(str, told))
-    numbers = [it[0] for message in told if message["is"] == "lines" for it in message["lines"]]
+    numbers = [line[0] for message in told if message["is"] == "lines" for line in message["lines"]]
     check("and sees nothing twice", numbers == [3, 4], *map(str, numbers))
     await again.send({"is": "seen", "number": 4})
     check("what was seen is not kept", not page.lines and page.size == 0)
@@ -330,7 +332,7 @@ async def try_bounds(check, folder):
     check("a deck has a bound", refusals(told) == [f"more than {MOST_DECK} bytes"] and len(house.engine.given) == given, *map(str, told[:3]))
     await browser.send({"is": "deck", "name": "x", "data": base64.b64encode(b"ONE\nTW").decode(), "more": True})
     told = await browser.send({"is": "deck", "name": "x", "data": base64.b64encode(b"O\n").decode(), "more": False})
-    holds = [it["told"] for it in told if it["is"] == "deck"] == ["read in"] and house.engine.given[-1] == b"DECK ALICE 2\nONE\nTWO\n"
+    holds = [message["told"] for message in told if message["is"] == "deck"] == ["read in"] and house.engine.given[-1] == b"DECK ALICE 2\nONE\nTWO\n"
     check("a deck in pieces is one", holds, *map(str, house.engine.given[-1:]))
 
 
@@ -370,13 +372,13 @@ async def try_operators(check, folder):
     with contextlib.suppress(asyncio.TimeoutError):
         await asyncio.wait_for(page.take({"is": "command", "text": "end now", "token": "x"}), 5)
     told = page.outbox.messages
-    check("a wrong token", [it["is"] for it in told] == ["refused"] and not page.is_known and not operated.outlets, *map(str, told))
+    check("a wrong token", [message["is"] for message in told] == ["refused"] and not page.is_known and not operated.outlets, *map(str, told))
     page = OperatorPage(pages, "192.0.2.1", Outbox())
     await page.take({"is": "open", "token": pages.token})
     await page.take({"is": "command", "text": " status\n", "number": 3, "token": pages.token})
     operated.outlets[0].put("BOB logs on\n")
     await asyncio.sleep(0.01)
-    told = [(it["is"], it.get("text", it.get("how"))) for it in page.outbox.messages]
+    told = [(message["is"], message.get("text", message.get("how"))) for message in page.outbox.messages]
     wanted = [("open", None), ("state", None), ("answer", "status!"), ("end", 0), ("happens", "BOB logs on ")]
     check("an operator's page", told == wanted, *map(str, told))
     page.close()
@@ -391,7 +393,7 @@ def try_requests(check):
     check("pages have no parts from elsewhere", "default-src 'none'" in POLICY and "unsafe" not in POLICY and HEADERS["X-Frame-Options"] == "DENY")
     outside = [path for path, (_, data) in files.items() if b"http:" in data.replace(b"http://www.w3.org/", b"") or b"https://" in data]
     pages = {path: data for path, (kind, data) in files.items() if kind.startswith("text/html")}
-    inline = [path for path, data in pages.items() if any(it in data for it in (b"style=", b"onclick", b"<style"))]
+    inline = [path for path, data in pages.items() if any(word in data for word in (b"style=", b"onclick", b"<style"))]
     check("nor does a file name one", not outside and not inline, *outside, *inline)
 
 

@@ -66,7 +66,7 @@ def try_watching(check, folder):
     check("events of a script that is not there", turns_in(f"{folder}/none") == 0)
     with open(script, "w") as file:
         file.write("RUN A 5\nRUN A 6\n")
-    told = b"name: 1 of 2 events done"
+    told = b"name: events done: 1 of 2"
     slow = "echo '= A 5 COUNT'; sleep 2.6; echo '= A 6 COUNT'; exit 4"
     shown = Shown(slow, script)
     check("a long run is told", told in shown.bytes and shown.status == 4, f"{shown.status}", shown.bytes)

@@ -78,15 +78,15 @@ for (const button of document.querySelectorAll("[data-fill]")) {
 // --- who is on ---
 
 function showState(state) {
-  const rows = state.users.map((it) => userRow(it));
+  const rows = state.users.map(userRow);
   find("users").tBodies[0].replaceChildren(...rows);
-  const on = state.users.filter((it) => it.on).length;
+  const on = state.users.filter((user) => user.on).length;
   find("who").textContent = `operator: ${on} on, ${state.strangers} about to log on`;
   const figures = [["Machines", state.busy ? "somebody computes" : "all wait"], ["Session", `since ${state.begun} UTC`],
     ["Recording", `${state.lines.toLocaleString()} lines, ${(state.size / 1048576).toFixed(1)} MB; ${state.free.toLocaleString()} MB free`],
     ["Memory", `command ${state.command} MB, program ${state.program} MB of ${state.most} MB`],
     ["Printouts", `${state.printouts} closed, ${state.unwritten} not written`], ["A start takes", `about ${state.start} s`],
-    ...state.ending.map((it) => ["End", it])];
+    ...state.ending.map((text) => ["End", text])];
   find("figures").replaceChildren(...figures.flatMap(([name, value]) => [element("dt", "", name), element("dd", "", value)]));
   if (before && state.time > before.time) rates.push((1000 * (state.parts - before.parts)) / (state.time - before.time));
   while (rates.length > SECONDS_SHOWN) rates.shift();
@@ -122,7 +122,7 @@ function userRow(user) {
 
 function drawRates() {
   const most = Math.max(1, ...rates);
-  const points = rates.map((it, place) => `${(240 * (place + SECONDS_SHOWN - rates.length)) / (SECONDS_SHOWN - 1)},${58 - (50 * it) / most}`);
+  const points = rates.map((rate, place) => `${(240 * (place + SECONDS_SHOWN - rates.length)) / (SECONDS_SHOWN - 1)},${58 - (50 * rate) / most}`);
   const line = drawn("polyline", { points: points.join(" "), class: "rate" });
   find("rate").replaceChildren(line, drawn("text", { x: 2, y: 10, class: "above" }, `${most.toFixed(0)} at most`));
 }
@@ -166,7 +166,7 @@ function showFrames(message) {
 
 function drawFrames(owners, count, slots, allSlots) {
   const names = [...new Set(owners.filter(Boolean))].sort();
-  const colour = new Map(names.map((it, place) => [it, COLOURS[place % COLOURS.length]]));
+  const colour = new Map(names.map((name, place) => [name, COLOURS[place % COLOURS.length]]));
   const rows = Math.ceil(count / FRAMES_IN_A_ROW);
   const picture = find("frames");
   picture.setAttribute("viewBox", `0 0 ${FRAMES_IN_A_ROW * 10} ${Math.max(1, rows) * 10}`);
@@ -177,10 +177,10 @@ function drawFrames(owners, count, slots, allSlots) {
     cell.append(drawn("title", {}, `frame ${place}: ${owners[place] ?? "free"}`));
     picture.append(cell);
   }
-  const told = names.map((it) => {
-    const item = element("li", "", `${it} ${owners.filter((owner) => owner === it).length}`);
+  const told = names.map((name) => {
+    const item = element("li", "", `${name} ${owners.filter((owner) => owner === name).length}`);
     const mark = drawn("svg", { viewBox: "0 0 10 10", class: "mark" });
-    mark.append(drawn("rect", { width: 10, height: 10, fill: colour.get(it) }));
+    mark.append(drawn("rect", { width: 10, height: 10, fill: colour.get(name) }));
     item.prepend(mark);
     return item;
   });

@@ -27,7 +27,7 @@ function printedLine(line) {
 
 // the rows of a card that a character punches: 12, 11, 0, 1 .. 9
 const HOLES = new Map([[" ", []]]);
-const zoned = (text, zone, from) => [...text].forEach((it, place) => HOLES.set(it, [...zone, from + place]));
+const zoned = (text, zone, from) => [...text].forEach((character, place) => HOLES.set(character, [...zone, from + place]));
 zoned("0123456789", [], 2);
 zoned("ABCDEFGHI", [0], 3);
 zoned("JKLMNOPQR", [1], 3);
@@ -36,16 +36,16 @@ Object.entries({
   "/": [2, 3], "-": [1], "&": [0], ".": [0, 5, 10], ",": [2, 5, 10], "*": [1, 6, 10], "(": [0, 7, 10], ")": [1, 7, 10], "+": [0, 8, 10],
   "=": [8, 10], "'": [7, 10], ":": [4, 10], "#": [5, 10], "@": [6, 10], $: [1, 5, 10], ";": [1, 8, 10], "<": [0, 6, 10], ">": [2, 8, 10],
   "%": [2, 6, 10], _: [2, 7, 10], "?": [2, 9, 10], '"': [9, 10],
-}).forEach(([it, rows]) => HOLES.set(it, rows));
+}).forEach(([character, rows]) => HOLES.set(character, rows));
 
 /** A card with its holes, and what they say above. */
 export function card(text) {
   const picture = drawn("svg", { viewBox: "0 0 668 130", class: "card", role: "img", "aria-label": `card: ${text.trimEnd()}` });
   picture.append(drawn("path", { d: "M14 .5H667.5V129.5H.5V16Z", class: "edge" }));
-  [...text.slice(0, 80)].forEach((it, column) => {
+  [...text.slice(0, 80)].forEach((character, column) => {
     const x = 14 + column * 8;
-    if (it !== " ") picture.append(drawn("text", { x, y: 12, class: "above" }, it));
-    for (const row of HOLES.get(it) ?? []) picture.append(drawn("rect", { x: x + 1, y: 17 + row * 9, width: 4, height: 7, class: "hole" }));
+    if (character !== " ") picture.append(drawn("text", { x, y: 12, class: "above" }, character));
+    for (const row of HOLES.get(character) ?? []) picture.append(drawn("rect", { x: x + 1, y: 17 + row * 9, width: 4, height: 7, class: "hole" }));
   });
   return picture;
 }

@@ -44,8 +44,7 @@ const OBEYED = {
   files: showFiles,
   piece: showPiece,
   disks(message) {
-    find("tracks").replaceChildren(...message.disks.flatMap((it) => [
-      element("p", "", `${it.address} on ${it.volume} ${it.right}, ${it.cylinders} cylinders, ${it.tracks.length} tracks with records`), disk(it)]));
+    find("tracks").replaceChildren(...message.disks.flatMap(shownDisk));
     if (!message.disks.length) find("tracks").textContent = "You have none.";
   },
   refused(message) {
@@ -118,7 +117,7 @@ for (const button of document.querySelectorAll("[data-key]")) {
 // --- the machine ---
 
 find("look").addEventListener("click", () => {
-  for (const what of ["PSW", ...Array.from({ length: 16 }, (_, it) => `G${it}`)]) change({ is: "line", text: `#CP DISPLAY ${what}` });
+  for (const what of ["PSW", ...Array.from({ length: 16 }, (_, register) => `G${register}`)]) change({ is: "line", text: `#CP DISPLAY ${what}` });
 });
 
 /** Looks at files when one is closed, and keeps what a line of the console tells of a register. */
@@ -126,7 +125,7 @@ function read(text) {
   if (CLOSED.test(text)) setTimeout(() => user && ask({ is: "files" }), TIME_TO_WRITE);
   const psw = PSW.exec(text);
   const register = REGISTER.exec(text);
-  if (psw) showPsw(...psw.slice(1).map((it) => Number.parseInt(it, 16)));
+  if (psw) showPsw(...psw.slice(1).map((word) => Number.parseInt(word, 16)));
   if (register) {
     const rows = find("registers").tBodies[0];
     while (rows.rows.length < 4) rows.insertRow();
@@ -183,19 +182,24 @@ find("again").addEventListener("click", () => ask({ is: "files" }));
 find("show-disks").addEventListener("click", () => ask({ is: "disks" }));
 
 function showFiles(message) {
-  const rows = message.files.reverse().map((it) => {
+  const rows = message.files.reverse().map((file) => {
     const row = element("li");
-    const kind = it.name.startsWith("PUN") ? "card" : "line";
-    const open = element("button", "", `${it.name.replace(".txt", "")}, ${it.lines.toLocaleString()} ${kind}${it.lines === 1 ? "" : "s"}`);
+    const kind = file.name.startsWith("PUN") ? "card" : "line";
+    const open = element("button", "", `${file.name.replace(".txt", "")}, ${file.lines.toLocaleString()} ${kind}${file.lines === 1 ? "" : "s"}`);
     open.type = "button";
-    open.disabled = !message.kept || it.state !== "written";
-    open.addEventListener("click", () => openListing(it));
-    row.append(open, element("span", "note", ` ${it.state}`));
+    open.disabled = !message.kept || file.state !== "written";
+    open.addEventListener("click", () => openListing(file));
+    row.append(open, element("span", "note", ` ${file.state}`));
     return row;
   });
   if (!rows.length) rows.push(element("li", "note", "none yet: CLOSE 00E closes what was printed"));
   if (!message.kept) rows.push(element("li", "note", "the operator keeps no printouts"));
   find("files").replaceChildren(...rows);
+}
+
+function shownDisk(found) {
+  const told = `${found.address} on ${found.volume} ${found.right}, ${found.cylinders} cylinders, ${found.tracks.length} tracks with records`;
+  return [element("p", "", told), disk(found)];
 }
 
 function openListing(file) {

@@ -47,5 +47,5 @@ class Minidisks:
         found = VOLUME.match(done.stdout)
         if done.returncode or not found:
             raise OSError(0, "the volume cannot be read")
-        tracks = [tuple(map(int, it)) for it in TRACK.findall(done.stdout)]
-        return found[1].decode(), [(*it[:3], 100 * it[3] // it[4]) for it in tracks]
+        tracks = [tuple(map(int, track)) for track in TRACK.findall(done.stdout)]
+        return found[1].decode(), [(*track[:3], 100 * track[3] // track[4]) for track in tracks]

@@ -59,6 +59,7 @@ class OperatorPage:
             raise Refused("there are too many operators")
         self.is_known = True
         self.pages.all.add(self)
+        self.pages.opened.set()
         self.pages.journal.add(self.outlet)
         self.pages.tell(f"an operator comes by a page from {self.address}")
         self.put({"is": "open"})
@@ -118,6 +119,7 @@ class OperatorPages:
         self.tell = installation.tell
         self.loop = loop
         self.all = set()
+        self.opened = asyncio.Event()
         self.path = f"{installation.options['record']}.web-token"
         self.token = self.read_token()
 
@@ -140,13 +142,14 @@ class OperatorPages:
         """What an operator sees at a glance."""
         installation, engine = self.installation, self.installation.engine
         recording = engine.recording
-        people = [it for it in engine.users.values() if it is not installation.receiver]
+        people = [user for user in engine.users.values() if user is not installation.receiver]
         return {
-            "is": "state", "time": round(time.time() * 1000), "users": [self.user(it) for it in people],
-            "strangers": count_strangers(installation.desk), "parts": engine.parts, "busy": engine.pace.is_busy, "command": memory_of(os.getpid()) // MEGABYTE,
-            "program": engine.memory() // MEGABYTE, "most": installation.limits.memory // MEGABYTE, "lines": recording.lines,
-            "size": recording.size(), "begun": recording.begun_at(), "start": round(engine.seconds(), 1), "free": recording.free() // MEGABYTE,
-            "printouts": len(engine.printouts.all), "unwritten": len(engine.printouts.unwritten()), "ending": self.operator.ending[:1],
+            "is": "state", "time": round(time.time() * 1000), "users": [self.user(user) for user in people],
+            "strangers": count_strangers(installation.desk), "parts": engine.parts, "busy": engine.pace.is_busy,
+            "command": memory_of(os.getpid()) // MEGABYTE, "program": engine.memory() // MEGABYTE,
+            "most": installation.limits.memory // MEGABYTE, "lines": recording.lines, "size": recording.size(), "begun": recording.begun_at(),
+            "start": round(engine.seconds(), 1), "free": recording.free() // MEGABYTE, "printouts": len(engine.printouts.all),
+            "unwritten": len(engine.printouts.unwritten()), "ending": self.operator.ending[:1],
         }  # fmt: skip
 
     def user(self, user):
@@ -155,8 +158,11 @@ class OperatorPages:
     async def watch(self):
         """Tells all pages how things are, each second."""
         while True:
+            await self.opened.wait()
             await asyncio.sleep(SECONDS_BETWEEN_STATES)
-            if self.all:
-                state = self.state()
-                for page in list(self.all):
-                    page.put(state)
+            if not self.all:
+                self.opened.clear()
+                continue
+            state = self.state()
+            for page in list(self.all):
+                page.put(state)

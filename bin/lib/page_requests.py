@@ -10,7 +10,7 @@ FOLDER = os.path.join(ROOT, "web")
 HTML, SCRIPT, SHEET = "text/html; charset=utf-8", "text/javascript; charset=utf-8", "text/css; charset=utf-8"
 FILES = {"/": ("user.html", HTML), "/operator": ("operator.html", HTML), "/style.css": ("style.css", SHEET),
          "/icon.svg": ("icon.svg", "image/svg+xml"),
-         **{f"/{it}": (it, SCRIPT) for it in ("connection.js", "paper.js", "user.js", "operator.js")}}  # fmt: skip
+         **{f"/{name}": (name, SCRIPT) for name in ("connection.js", "paper.js", "user.js", "operator.js")}}  # fmt: skip
 USER_SOCKET, OPERATOR_SOCKET = "/socket", "/operator/socket"
 POLICY = ("default-src 'none'; script-src 'self'; style-src 'self'; connect-src 'self'; img-src 'self'; base-uri 'none'; "
           "form-action 'none'; frame-ancestors 'none'")  # fmt: skip

@@ -185,7 +185,7 @@ class UserPage:
             self.put({"is": "refused", "what": plain(kind)[:20], "why": str(reason)})
 
     async def log_on(self, message):
-        name, password = (text_in(message, it).encode("latin-1", "replace") for it in ("name", "password"))
+        name, password = (text_in(message, field).encode("latin-1", "replace") for field in ("name", "password"))
         if not re.fullmatch(b"[!-~]+", name) or not re.fullmatch(b"[ -~]+", password):
             raise Refused("a name is a word, and a password a line")
         if self.user():
@@ -238,14 +238,14 @@ class UserPage:
 
     async def list_files(self, message):
         user = self.logged_on()
-        files = [it for it in self.pages.printouts.all if it.user == user.name][-MOST_FILES:]
-        told = [{"name": it.name, "lines": it.lines, "state": it.state} for it in files]
+        files = [printout for printout in self.pages.printouts.all if printout.user == user.name][-MOST_FILES:]
+        told = [{"name": printout.name, "lines": printout.lines, "state": printout.state} for printout in files]
         self.put({"is": "files", "files": told, "kept": bool(self.pages.printouts.folder)})
 
     async def show_file(self, message):
         """Sends a piece of one of the user's own files."""
         user, name, place = self.logged_on(), text_in(message, "name"), number_in(message, "at")
-        if not any(it.name == name and it.user == user.name for it in self.pages.printouts.all):
+        if not any(printout.name == name and printout.user == user.name for printout in self.pages.printouts.all):
             raise Refused("you have no such file")
         if not self.pages.printouts.folder:
             raise Refused("the operator keeps no printouts")
@@ -294,6 +294,7 @@ class Pages:
         self.tell = installation.tell
         self.minidisks = minidisks
         self.all = {}
+        self.opened = asyncio.Event()
 
     def users_at(self):
         """Each connection to the desk at which a user is logged on, with that user."""
@@ -311,6 +312,7 @@ class Pages:
                 return page, {"is": "resumed"}
         page = UserPage(self, address)
         self.all[page.name] = page
+        self.opened.set()
         return page, {"is": "new", "page": page.name, "token": page.token}
 
     def forget(self, page):
@@ -319,6 +321,10 @@ class Pages:
     async def watch(self):
         """Tells pages what has become of their machines, and gives up those to which no browser comes back."""
         while True:
+            if not self.all:
+                # nobody is there for whom to look
+                self.opened.clear()
+                await self.opened.wait()
             await asyncio.sleep(SECONDS_BETWEEN_LOOKS)
             users, now = self.users_at(), time.monotonic()
             for page in list(self.all.values()):

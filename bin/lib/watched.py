@@ -79,7 +79,7 @@ class Progress:
         self.next = time.monotonic() + SECONDS_BETWEEN
         of_all = f" of {self.all:,}" if self.all else ""
         done = min(self.count.done, self.all or self.count.done)
-        self.write(ERASE + f"{self.name}: {done:,}{of_all} events done".encode())
+        self.write(ERASE + f"{self.name}: events done: {done:,}{of_all}".encode())
         self.is_shown = True
 
     def hide(self):

@@ -63,10 +63,10 @@ class Crowd:
     def add(self, connection):
         self.all[connection] = None
         if len(self.all) > MOST_CONNECTIONS:
-            strangers = [it for it in self.all if it.is_stranger()]
-            counts = collections.Counter(it.address() for it in strangers)
+            strangers = [other for other in self.all if other.is_stranger()]
+            counts = collections.Counter(other.address() for other in strangers)
             crowded = counts.most_common(1)[0][0] if counts else None
-            gone = next((it for it in strangers if it.address() == crowded), connection)
+            gone = next((other for other in strangers if other.address() == crowded), connection)
             self.discard(gone)
             gone.transport.abort()
 
@@ -85,7 +85,7 @@ class Web:
         self.pages = Pages(installation, Minidisks(installation.directory, installation.volumes))
         self.operators = OperatorPages(installation, loop)
         self.crowd = Crowd()
-        self.tasks = [loop.create_task(it.watch()) for it in (self.pages, self.operators)]
+        self.tasks = [loop.create_task(pages.watch()) for pages in (self.pages, self.operators)]
 
     async def listen(self, where):
         address, _, port = where.rpartition(":")
