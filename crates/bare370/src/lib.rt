@@ -27,6 +27,7 @@ pub mod arguments;
 pub mod follow_arguments;
 mod installation;
 pub mod program;
+pub mod runs;
 
 pub use arguments::{BareOptions, bare_arguments};
 pub use installation::{OneMachine, machine_of};

@@ -3,16 +3,12 @@
 //!
 //! The transcript goes to standard output. A failure is one line on standard error, and its kind is the
 //! exit status.
-ghost use Rattle.std.specs.Prelude.{◌≤◌};
 
 use crate::arguments::bare_arguments;
 use crate::follow_arguments::follow_arguments;
-use crate::installation::{OneMachine, machine_of};
-use machine_devices::AttachError;
-use programs::parts::Left;
-use programs::program::{asks_to_follow, follow_input, play, words, wrong_use};
-use programs::{Ended, Failure, finish, owned, read_volumes, save_volume};
-use sessions::Detail;
+use crate::runs::{follow_machine, run_files};
+use programs::program::{asks_to_follow, input, output, words, wrong_use};
+use programs::{Ended, Failure, HostFiles, finish};
 use std::rt::{Env, Files};
 
 /// The program's name, as it tells it.
@@ -55,13 +51,8 @@ fn run<R: AllocGlobal + Files + Env + Input + Print + Eprint>(
         Ok(options) => options,
         Err(error) => return Err(wrong_use(rt, &error, USAGE_NOTE)),
     };
-    let volumes = options.volumes.as_slice();
-    let mut machine = machine(rt, options.storage.blocks(), volumes)?;
-    play(rt, &mut machine, options.script, is_watched)?;
-    if options.save {
-        save_disks(rt, &machine, volumes)?;
-    }
-    Ok(())
+    let mut output = output(rt, is_watched)?;
+    run_files(rt.alloc(), &mut HostFiles::new(rt), &options, &mut output)
 }
 
 /// Follows a script by these words, whose parts are read from standard input, and writes its transcript to standard
@@ -74,53 +65,13 @@ fn follow<R: AllocGlobal + Files + Input + Print + Eprint>(
         Ok(options) => options,
         Err(error) => return Err(wrong_use(rt, &error, USAGE_NOTE)),
     };
-    let volumes = options.volumes.as_slice();
-    let detail = if options.terminals {
-        Detail::Terminals
-    } else {
-        Detail::Whole
-    };
-    let machine = machine(rt, options.storage.blocks(), volumes)?;
-    match follow_input(rt, machine, detail)? {
-        Left::Ended(machine) if options.save => save_disks(rt, &machine, volumes),
-        Left::Ended(_) | Left::Cut(_) => Ok(()),
-    }
-}
-
-/// The machine with so many blocks of storage and disks of the volumes at these paths.
-fn machine<R: AllocGlobal + Files>(
-    rt: &R,
-    blocks: u32,
-    volumes: &[&str],
-) -> Result<OneMachine, Failure>
-    requires least { 4 ≤ blocks }
-    requires most { blocks ≤ 2048 }
-{
-    let volumes = read_volumes(rt, volumes)?;
-    match machine_of(rt.alloc(), blocks, volumes) {
-        Ok(machine) => Ok(machine),
-        Err(error) => Err(unattached(error)),
-    }
-}
-
-/// Why no machine is made whose disks are not attached.
-fn unattached(error: AttachError) -> Failure {
-    match error {
-        AttachError::Memory => Failure::Memory,
-        // More volumes than a machine has disks, which are words that are not the program's.
-        AttachError::Address => Failure::Usage,
-    }
-}
-
-/// Writes the images of all volumes of the machine back to these paths, in their order.
-fn save_disks<R: AllocGlobal + Files>(
-    rt: &R,
-    machine: &OneMachine,
-    paths: &[&str],
-) -> Result<(), Failure> {
-    let paths = owned(rt.alloc(), paths)?;
-    for (disk, path) in machine.machine().disks().iter().zip(paths) {
-        save_volume(rt, disk.unit().volume(), path)?;
-    }
-    Ok(())
+    let mut input = input(rt)?;
+    let mut output = output(rt, false)?;
+    follow_machine(
+        rt.alloc(),
+        &mut HostFiles::new(rt),
+        &options,
+        &mut input,
+        &mut output,
+    )
 }

@@ -1,5 +1,5 @@
 -- What a program says of an image that is not read or written, and its exit status.
-use Rattle.std.specs.Prelude.{ℕ, List, ◌++◌, codes}
+use Rattle.std.specs.Prelude.{◌≡◌, ◌⊎◌, ℕ, List, ◌++◌, codes, Result, Ok, Err}
 use Rattle.std.specs.Fmt.{decimal}
 use Rattle.ckd_image.specs.declared.faults.ImageError.{ImageError}
 use Rattle.ckd_image.specs.declared.faults.ImageError.TheVariants as images
@@ -19,3 +19,9 @@ abbrev pub image_status : ImageError → ℕ
 image_status images.Memory = 4
 image_status (images.Device count) = 3
 image_status _ = 1
+
+-- what is told of how a program has ended, whose failures have these among them: its failure, or that there is no memory to tell it. A
+-- wrong use has been told before
+abbrev pub IsTold : {F : Type 0} → F → F → Result (Unit {0}) F → Result (Unit {0}) F → Type 0
+IsTold memory usage (Ok done) told = told ≡ Ok done
+IsTold memory usage (Err failure) told = (told ≡ Err failure) ⊎ ((told ≡ Err memory) × (failure ≡ usage → ⊥))

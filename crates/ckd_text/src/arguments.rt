@@ -1,5 +1,5 @@
 //! The words of the programs: which files they are to read and to write.
-ghost use Rattle.std.specs.Prelude.{◌≡◌, ◌&&◌, IfOk, IfErr, IfSome, OnOk, IsSome, Some, codes, map, option_map, true};
+ghost use Rattle.std.specs.Prelude.{◌≡◌, ◌&&◌, ◌⊎◌, ◌↔◌, IfOk, IfErr, IfSome, None, OnOk, IsSome, Some, codes, map, option_map, true};
 ghost use Rattle.clap.specs.Words.{app_of, first_of, found_of, rows_of};
 ghost use Rattle.clap.specs.Values.{kind_of};
 ghost use Rattle.clap.specs.declared.error.kind.ErrorKind.TheVariants.{OutOfMemory};
@@ -119,20 +119,21 @@ fn matched<'a, S: AsStr>(
     let command = command(alloc, tool)?;
     match command.try_get_matches_from(words) {
         Ok(matches) => Ok(matches),
-        Err(error) => Err(refusal(alloc, &error)),
+        Err(error) => Err(refusal(&error, error.to_string(alloc).ok())),
     }
 }
 
-/// What is told of an error of `clap`.
-fn refusal(alloc: Global, error: &ClapError) -> UsageError
-    ensures { kind_of error.now ≡ OutOfMemory → result ≡ UsageError.Memory }
+/// What is told of an error of `clap`, whose text is this if there was memory for it.
+fn refusal(error: &ClapError, text: Option<String>) -> UsageError
+    ensures memory { (result ≡ UsageError.Memory) ↔ ((kind_of error.now ≡ OutOfMemory) ⊎ (text ≡ None)) }
+    ensures usage { IfSome text (λ told. (kind_of error.now ≡ OutOfMemory) ⊎ (result ≡ UsageError.Usage told)) }
 {
     if error.kind() == ErrorKind::OutOfMemory {
         return UsageError::Memory;
     }
-    match error.to_string(alloc) {
-        Ok(text) => UsageError::Usage(text),
-        Err(_) => UsageError::Memory,
+    match text {
+        Some(text) => UsageError::Usage(text),
+        None => UsageError::Memory,
     }
 }
 

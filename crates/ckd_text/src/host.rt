@@ -1,7 +1,8 @@
 //! What the programs share: their words, the files that they read, and what they say of a failure.
 ghost use Rattle.std.specs.Prelude.{◌≡◌, ◌⊎◌};
 ghost use Rattle.std.specs.Process.{exit_status};
-ghost use Rattle.ckd_text.specs.Faults.{IsTold, outcome_of};
+ghost use Rattle.ckd_image.specs.Told.{IsTold};
+ghost use Rattle.ckd_text.specs.Faults.{outcome_of};
 
 use crate::faults::{Failure, fault_line, outcome};
 use s370_num::host::Counted;
@@ -29,7 +30,7 @@ impl Termination for Ended {
 
 /// The end of a program, whose failure is told on standard error. One that there is no memory to tell is want of memory.
 pub(crate) fn ended_of<R: AllocGlobal + Eprint>(rt: &R, ended: Result<(), Failure>) -> Ended
-    ensures { IsTold ended result.ended }
+    ensures { IsTold Failure.Memory Failure.Usage ended result.ended }
 {
     match ended {
         Ok(()) => Ended { ended: Ok(()) },
@@ -41,7 +42,7 @@ pub(crate) fn ended_of<R: AllocGlobal + Eprint>(rt: &R, ended: Result<(), Failur
 
 /// Prints the line of a failure, and gives what was told. A wrong use has been told by a longer text.
 fn tell<R: AllocGlobal + Eprint>(rt: &R, failure: Failure) -> Failure
-    ensures { (result ≡ failure) ⊎ (result ≡ Failure.Memory) }
+    ensures { (result ≡ failure) ⊎ ((result ≡ Failure.Memory) × (failure ≡ Failure.Usage → ⊥)) }
 {
     if failure == Failure::Usage {
         return failure;

@@ -4,14 +4,13 @@
 //! Its words, its refusals and its exit statuses are those of `vm370`; what that would print is not kept.
 use crate::map::frame_map;
 use crate::nowhere::Nowhere;
-use programs::program::{open, words, wrong_use};
-use programs::{Ended, Failure, finish};
-use s370_num::host::{Counted, HostWriter, write_all};
+use programs::program::{output, words, wrong_use};
+use programs::{Ended, Failure, FileStore, HostFiles, finish, save_images, saved_paths};
+use s370_num::host::{HostWriter, write_all};
 use sessions::session::session;
-use std::io;
 use std::rt::{Env, Files};
 use vm370::arguments::arguments;
-use vm370::program::{boot, save};
+use vm370::runs::read_system;
 
 /// The program's name, as it tells it.
 const PROGRAM: &str = "framemap";
@@ -48,15 +47,19 @@ fn run<R: AllocGlobal + Files + Env + Print + Eprint>(rt: &R) -> Result<(), Fail
         Ok(options) => options,
         Err(error) => return Err(wrong_use(rt, &error, USAGE_NOTE)),
     };
-    let mut machines = boot(rt, &options)?;
-    let mut script = open(rt, options.script)?;
+    let volumes = options.volumes.as_slice();
+    let mut files = HostFiles::new(rt);
+    let mut machines = read_system(alloc, &mut files, options.directory, volumes, options.sizes)?;
+    let mut script = files.open(options.script)?;
     session(alloc, &mut machines, &mut script, &mut Nowhere)?;
     let map = frame_map(alloc, machines.system(), options.sizes)?;
-    let Ok(output) = io::BufWriter::new(alloc, io::writer(rt)) else {
-        return Err(Failure::Memory);
-    };
-    let mut writer = Counted::new(output);
-    write_all(&mut writer, &map)?;
-    writer.flush()?;
-    save(rt, machines.system(), &options)
+    let mut output = output(rt, false)?;
+    write_all(&mut output, &map)?;
+    output.flush()?;
+    save_images(
+        alloc,
+        &mut files,
+        &machines,
+        saved_paths(options.save, volumes),
+    )
 }

@@ -3,3 +3,4 @@ pub mod Texts
 pub mod Imaged
 pub mod Framed
 pub mod Exchanges
+pub mod Deeds

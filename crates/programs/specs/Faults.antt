@@ -1,5 +1,5 @@
 -- What the program says of its failure, and its exit status.
-use Rattle.std.specs.Prelude.{◌≡◌, ◌⊎◌, ℕ, List, ◌++◌, codes, Result, Ok, Err}
+use Rattle.std.specs.Prelude.{ℕ, List, ◌++◌, codes, Result, Ok, Err}
 use Rattle.std.specs.Fmt.{decimal}
 use Rattle.ckd_image.specs.Told.{image_status, image_text}
 use Rattle.cp_directory.specs.declared.faults.DirError.{DirError}
@@ -76,8 +76,3 @@ status_of failures.Usage = 2
 abbrev pub outcome_of : Result (Unit {0}) Failure → ℕ
 outcome_of (Ok done) = 0
 outcome_of (Err failure) = status_of failure
-
--- what is told of how a program has ended: its failure, or that there is no memory to tell it
-abbrev pub IsTold : Result (Unit {0}) Failure → Result (Unit {0}) Failure → Type 0
-IsTold (Ok done) told = told ≡ Ok done
-IsTold (Err failure) told = (told ≡ Err failure) ⊎ (told ≡ Err failures.Memory)

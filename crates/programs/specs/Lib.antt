@@ -3,3 +3,4 @@ pub mod BootFaults
 pub mod Faults
 pub mod Parts
 pub mod Opened
+pub mod Runs

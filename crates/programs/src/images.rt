@@ -1,8 +1,8 @@
 //! The images of volumes: files of the host that are read at first, and written again at the end.
-ghost use Rattle.std.specs.Prelude.{◌≡◌};
+ghost use Rattle.std.specs.Prelude.{◌≡◌, IfErr, IfOk, map, string_bytes};
+ghost use Rattle.ckd_image.specs.declared.faults.ImageError.{ImageError};
 
 use crate::faults::Failure;
-use crate::opener::{HostFiles, read_images};
 use ckd_image::{ImageError, image};
 use ckd_volume::Volume;
 use s370_num::host::{Counted, HostFault, read_all};
@@ -15,17 +15,11 @@ use std::rt::Files;
 /// What is told where the host makes, opens or renames no file: its first failure.
 const FAILED: ImageError = ImageError::Device(1);
 
-/// The volumes whose images stand at these paths, in their order.
-pub fn read_volumes<R: AllocGlobal + Files>(
-    rt: &R,
-    paths: &[&str],
-) -> Result<Vec<Volume>, Failure> {
-    read_images(rt.alloc(), &HostFiles::new(rt), paths)
-}
-
 /// These paths as texts of their own. They are made before an image is written, so that one that is not saved for want
 /// of memory can be told.
-pub fn owned(alloc: Global, paths: &[&str]) -> Result<Vec<String>, AllocError> {
+pub(crate) fn owned(alloc: Global, paths: &[&str]) -> Result<Vec<String>, AllocError>
+    ensures { IfOk result (λ owned. map string_bytes owned.items ≡ map (λ path. path.now) paths.now) }
+{
     let mut owned = Vec::new(alloc);
     for path in paths {
         owned.push(String::from_str(alloc, path)?)?;
@@ -38,11 +32,13 @@ pub fn owned(alloc: Global, paths: &[&str]) -> Result<Vec<String>, AllocError> {
 /// It is written to a new file beside that one, which is renamed when it is whole. So whatever fails, either image is
 /// there, and none that is half written. Where no file can be made beside it, the one that stands there is written over,
 /// and where that fails it is written back.
-pub fn save_volume<R: AllocGlobal + Files>(
+pub(crate) fn save_volume<R: AllocGlobal + Files>(
     rt: &R,
     volume: &Volume,
     path: String,
-) -> Result<(), Failure> {
+) -> Result<(), Failure>
+    ensures { IfErr result (λ failure. (error : ImageError) × (failure ≡ Failure.Unsaved error path)) }
+{
     match put(rt, volume, &path) {
         Ok(()) => Ok(()),
         Err(error) => Err(Failure::Unsaved(error, path)),
@@ -51,7 +47,7 @@ pub fn save_volume<R: AllocGlobal + Files>(
 
 /// What is told of a path to which no volume of the system belongs: its image is not saved. No file has failed, but an
 /// image without a volume is not whole.
-pub fn without_volume(path: String) -> Failure
+pub(crate) fn without_volume(path: String) -> Failure
     ensures { result ≡ Failure.Unsaved ImageError.Truncated path }
 {
     Failure::Unsaved(ImageError::Truncated, path)

@@ -14,14 +14,17 @@
 
 mod boot_faults;
 mod faults;
+pub mod files;
 mod images;
-pub mod opener;
 pub mod parts;
 pub mod program;
 pub mod words;
 
 pub use boot_faults::BootFault;
 pub use faults::{Failure, fault_line, outcome};
-pub use images::{owned, read_volumes, save_volume, without_volume};
+pub use files::{
+    FileStore, HasVolumes, HostFiles, follow_files, read_images, run_script, save_images,
+    saved_paths,
+};
 pub use program::{Ended, finish};
 pub use words::UsageError;

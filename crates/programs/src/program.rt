@@ -4,14 +4,13 @@ ghost use Rattle.std.specs.List.{list_any};
 ghost use Rattle.std.specs.Str.{bytes_eq};
 ghost use Rattle.s370_num.specs.Counted.{failures_of};
 ghost use Rattle.std.specs.Process.{exit_status};
-ghost use Rattle.programs.specs.Faults.{IsTold, outcome_of};
+ghost use Rattle.ckd_image.specs.Told.{IsTold};
+ghost use Rattle.programs.specs.Faults.{outcome_of};
 
 use crate::faults::{Failure, fault_line, outcome};
-use crate::parts::{Left, follow_parts};
 use crate::words::UsageError;
 use s370_num::host::Counted;
-use sessions::session::session;
-use sessions::{Detail, Installation};
+use std::alloc::Global;
 use std::process::{ExitCode, Termination};
 use std::rt::{Env, Files};
 use std::{env, fs, io};
@@ -36,7 +35,7 @@ impl Termination for Ended {
 /// The end of a program: a failure is told on standard error, and gives the exit status. One that there is no memory to
 /// tell is want of memory.
 pub fn finish<R: AllocGlobal + Eprint>(rt: &R, ended: Result<(), Failure>) -> Ended
-    ensures { IsTold ended result.ended }
+    ensures { IsTold Failure.Memory Failure.Usage ended result.ended }
 {
     match ended {
         Ok(()) => Ended { ended: Ok(()) },
@@ -48,7 +47,7 @@ pub fn finish<R: AllocGlobal + Eprint>(rt: &R, ended: Result<(), Failure>) -> En
 
 /// Prints the line of a failure, and gives what was told. A wrong use has been told by a longer text.
 fn tell<R: AllocGlobal + Eprint>(rt: &R, failure: Failure) -> Failure
-    ensures { (result ≡ failure) ⊎ (result ≡ Failure.Memory) }
+    ensures { (result ≡ failure) ⊎ ((result ≡ Failure.Memory) × (failure ≡ Failure.Usage → ⊥)) }
 {
     if failure == Failure::Usage {
         return failure;
@@ -70,43 +69,27 @@ fn tell<R: AllocGlobal + Eprint>(rt: &R, failure: Failure) -> Failure
 /// The bytes of a transcript that are held back at most, where nobody looks on.
 const HELD_BACK: usize = 8192;
 
-/// Plays the script at a path, and writes its transcript to standard output: where somebody looks on, the lines of each
-/// event as they come.
-pub fn play<R: AllocGlobal + Files + Print, I: Installation>(
-    rt: &R,
-    installation: &mut I,
-    path: &str,
-    is_watched: bool,
-) -> Result<(), Failure> {
-    let mut script = open(rt, path)?;
-    let room = if is_watched { 0 } else { HELD_BACK };
-    let Ok(output) = io::BufWriter::with_capacity(rt.alloc(), room, io::writer(rt)) else {
-        return Err(Failure::Memory);
-    };
-    Ok(session(
-        rt.alloc(),
-        installation,
-        &mut script,
-        &mut Counted::new(output),
-    )?)
+/// Standard output, as a transcript is written to it.
+pub type Output<'a, R> = Counted<io::BufWriter<io::Printer<'a, R>, Global>>;
+
+/// Standard input, as the parts of a script are read from it.
+pub type PartInput<R> = Counted<io::BufReader<R, Global>>;
+
+/// Standard input for the parts of a script.
+pub fn input<R: AllocGlobal + Input>(rt: &R) -> Result<PartInput<R::Reader>, Failure> {
+    match io::BufReader::new(rt.alloc(), rt.reader()) {
+        Ok(input) => Ok(Counted::new(input)),
+        Err(_) => Err(Failure::Memory),
+    }
 }
 
-/// Follows the parts of a script on standard input, writes its transcript to standard output, and gives the installation
-/// at the end, and whether the end was asked for.
-pub fn follow_input<R: AllocGlobal + Input + Print, I: Installation + Drop>(
-    rt: &R,
-    installation: I,
-    detail: Detail,
-) -> Result<Left<I>, Failure> {
-    let Ok(input) = io::BufReader::new(rt.alloc(), rt.reader()) else {
-        return Err(Failure::Memory);
-    };
-    let Ok(output) = io::BufWriter::new(rt.alloc(), io::writer(rt)) else {
-        return Err(Failure::Memory);
-    };
-    let mut reader = Counted::new(input);
-    let mut writer = Counted::new(output);
-    Ok(follow_parts(rt.alloc(), installation, detail, &mut reader, &mut writer)?)
+/// Standard output for a transcript: where somebody looks on, nothing is held back.
+pub fn output<R: AllocGlobal + Print>(rt: &R, is_watched: bool) -> Result<Output<'_, R>, Failure> {
+    let room = if is_watched { 0 } else { HELD_BACK };
+    match io::BufWriter::with_capacity(rt.alloc(), room, io::writer(rt)) {
+        Ok(output) => Ok(Counted::new(output)),
+        Err(_) => Err(Failure::Memory),
+    }
 }
 
 /// What words that name no options are as a failure. A wrong use is told here, by its text and then this note.

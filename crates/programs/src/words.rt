@@ -1,5 +1,5 @@
 //! The words of a program, as `clap` reads them.
-ghost use Rattle.std.specs.Prelude.{◌≡◌, IfOk, codes, false, map, option_map};
+ghost use Rattle.std.specs.Prelude.{◌≡◌, ◌⊎◌, ◌↔◌, IfOk, IfSome, None, codes, false, map, option_map};
 ghost use Rattle.clap.specs.Words.{all_of, first_of, found_of, one_of, rows_of, rule_of};
 ghost use Rattle.clap.specs.Values.{kind_of};
 ghost use Rattle.clap.specs.declared.error.kind.ErrorKind.TheVariants.{OutOfMemory};
@@ -83,16 +83,17 @@ fn copied<'a>(alloc: Global, texts: &[&'a str]) -> Result<Vec<&'a str>, AllocErr
     texts.iter().copied().collect(alloc)
 }
 
-/// What is told of an error of `clap`.
-pub fn refusal(alloc: Global, error: &ClapError) -> UsageError
-    ensures { kind_of error.now ≡ OutOfMemory → result ≡ UsageError.Memory }
+/// What is told of an error of `clap`, whose text is this if there was memory for it.
+pub fn refusal(error: &ClapError, text: Option<String>) -> UsageError
+    ensures memory { (result ≡ UsageError.Memory) ↔ ((kind_of error.now ≡ OutOfMemory) ⊎ (text ≡ None)) }
+    ensures usage { IfSome text (λ told. (kind_of error.now ≡ OutOfMemory) ⊎ (result ≡ UsageError.Usage told)) }
 {
     if error.kind() == ErrorKind::OutOfMemory {
         return UsageError::Memory;
     }
-    match error.to_string(alloc) {
-        Ok(text) => UsageError::Usage(text),
-        Err(_) => UsageError::Memory,
+    match text {
+        Some(text) => UsageError::Usage(text),
+        None => UsageError::Memory,
     }
 }
 

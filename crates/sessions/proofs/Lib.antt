@@ -15,3 +15,4 @@ pub mod Changes
 pub mod SameLines
 pub mod Told
 pub mod Whole
+pub mod Fair

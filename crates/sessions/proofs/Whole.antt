@@ -1,36 +1,61 @@
--- A text of which no line lacks its end.
-use Rattle.std.proofs.Common.{◌≡◌, ℕ, ◌+◌, Bool, true, false, inl, inr, List, [], ◌∷◌, ◌++◌, Option, Some, None, refl, ap, rules, tests, arith}
+-- A text of which no line lacks its end, and the line that does, as a loop finds it.
+use Rattle.std.proofs.Common.{◌≡◌, ◌∙◌, ℕ, ◌+◌, Bool, true, false, inl, inr, List, [], ◌∷◌, ◌++◌, length, Option, Some, None, refl, sym, ap, rules, tests, arith}
 use Rattle.std.specs.Prelude.{◌==◌, if◌then◌else◌}
-use Rattle.sessions.specs.Follow.{HasWholeLines, unended_from, unended_line}
+use Rattle.std.specs.List.{onto_first}
+use Rattle.text_words.specs.Lines.{lines_of}
+use Rattle.sessions.specs.Follow.{HasWholeLines, is_whole, unended_line}
 
--- it ends with LF
-abbrev IsEnded : List ℕ → Type 0
-IsEnded text = (front : List ℕ) × (text ≡ front ++ 10 ∷ [])
-
--- as it does behind a line that has begun
-abbrev EndsSo : Bool → List ℕ → Type 0
-EndsSo true text = HasWholeLines text
-EndsSo false text = IsEnded text
+-- ---- whole lines
 
 lf : (c : ℕ) → (c == 10) ≡ true → c ≡ 10
 lf c e = search (rules, tests, e)
 
-one_more : (c : ℕ) (cs : List ℕ) → HasWholeLines cs → c ≡ 10 → IsEnded (c ∷ cs)
-one_more c cs (inl none) is = ([], rw (none, is) refl)
-one_more c cs (inr whole) is = (c ∷ whole.0, ap (λ (l : List ℕ). c ∷ l) whole.1)
+further : (c d : ℕ) (cs : List ℕ) → HasWholeLines (d ∷ cs) → HasWholeLines (c ∷ d ∷ cs)
+further c d cs (inl none) = cc none
+further c d cs (inr whole) = inr (c ∷ whole.0, ap (λ (l : List ℕ). c ∷ l) whole.1)
 
-further : (c : ℕ) (cs : List ℕ) → IsEnded cs → IsEnded (c ∷ cs)
-further c cs whole = (c ∷ whole.0, ap (λ (l : List ℕ). c ∷ l) whole.1)
+whole_text : (text : List ℕ) → is_whole text ≡ true → HasWholeLines text
+whole_text [] e = inl refl
+whole_text (c ∷ []) e = inr ([], ap (λ (x : ℕ). x ∷ []) (lf c e))
+whole_text (c ∷ d ∷ cs) e = further c d cs (whole_text (d ∷ cs) e)
 
-step : (line c : ℕ) (cs : List ℕ) (is : Bool) → ((n : ℕ) (b : Bool) → unended_from n b cs ≡ None → EndsSo b cs) → (c == 10) ≡ is → (if is then unended_from (line + 1) true cs else unended_from line false cs) ≡ None → IsEnded (c ∷ cs)
-step line c cs true ends e h = one_more c cs (ends (line + 1) true h) (lf c e)
-step line c cs false ends e h = further c cs (ends line false h)
-
-ends : (text : List ℕ) (line : ℕ) (is_ended : Bool) → unended_from line is_ended text ≡ None → EndsSo is_ended text
-ends [] line true h = inl refl
-ends [] line false h = cc
-ends (c ∷ cs) line true h = inr (step line c cs (c == 10) (ends cs) refl h)
-ends (c ∷ cs) line false h = step line c cs (c == 10) (ends cs) refl h
+none_unended : (is : Bool) (line : ℕ) → (if is then None else Some line) ≡ None → is ≡ true
+none_unended true line e = refl
+none_unended false line e = cc e
 
 pub whole : (text : List ℕ) → unended_line text ≡ None → HasWholeLines text
-whole text h = ends text 1 true h
+whole text e = whole_text text (none_unended (is_whole text) (length (lines_of text)) e)
+
+-- ---- a loop
+
+-- what a loop finds in the rest of a text, where this line stands before that, and may have begun
+abbrev pub unended_from : ℕ → Bool → List ℕ → Option ℕ
+unended_from line true [] = None
+unended_from line false [] = Some line
+unended_from line is_ended (c ∷ cs) = if c == 10 then unended_from (line + 1) true cs else unended_from line false cs
+
+last_one : (c n m : ℕ) (is : Bool) → n + length (if is then [] ∷ [] else onto_first c []) ≡ m + 1 → (if is then unended_from (n + 1) true [] else unended_from n false []) ≡ (if is then None else Some m)
+last_one c n m true e = refl
+last_one c n m false e = ap Some (omega (arith, e))
+
+onto_some : (c d : ℕ) (is : Bool) (lines : List (List ℕ)) → length (onto_first c (if is then [] ∷ lines else onto_first d lines)) ≡ length (if is then [] ∷ lines else onto_first d lines)
+onto_some c d true lines = refl
+onto_some c d false [] = refl
+onto_some c d false (line ∷ lines) = refl
+
+more_than_one : (c d : ℕ) (ds : List ℕ) (n m : ℕ) (is : Bool)
+    → ((k : ℕ) (b : Bool) → k + length (lines_of (d ∷ ds)) ≡ m + 1 → unended_from k b (d ∷ ds) ≡ (if is_whole (d ∷ ds) then None else Some m))
+    → n + length (if is then [] ∷ lines_of (d ∷ ds) else onto_first c (lines_of (d ∷ ds))) ≡ m + 1
+    → (if is then unended_from (n + 1) true (d ∷ ds) else unended_from n false (d ∷ ds)) ≡ (if is_whole (d ∷ ds) then None else Some m)
+more_than_one c d ds n m true h e = h (n + 1) true (omega (arith, e))
+more_than_one c d ds n m false h e = h n false (ap (λ (k : ℕ). n + k) (sym (onto_some c d (d == 10) (lines_of ds))) ∙ e)
+
+from_lines : (cs : List ℕ) (c m n : ℕ) (b : Bool) → n + length (lines_of (c ∷ cs)) ≡ m + 1 → unended_from n b (c ∷ cs) ≡ (if is_whole (c ∷ cs) then None else Some m)
+from_lines [] c m n true e = last_one c n m (c == 10) e
+from_lines [] c m n false e = last_one c n m (c == 10) e
+from_lines (d ∷ ds) c m n true e = more_than_one c d ds n m (c == 10) (from_lines ds d m) e
+from_lines (d ∷ ds) c m n false e = more_than_one c d ds n m (c == 10) (from_lines ds d m) e
+
+pub unended_at_first : (text : List ℕ) → unended_line text ≡ unended_from 1 true text
+unended_at_first [] = refl
+unended_at_first (c ∷ cs) = sym (from_lines cs c (length (lines_of (c ∷ cs))) 1 true (omega arith))

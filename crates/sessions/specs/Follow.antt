@@ -1,6 +1,7 @@
 -- A script that is given part by part.
-use Rattle.std.specs.Prelude.{◌≡◌, ◌==◌, ℕ, ◌+◌, Bool, true, false, if◌then◌else◌, List, [], ◌∷◌, ◌++◌, ◌⊎◌, Option, Some, None, Result, Ok, Err}
+use Rattle.std.specs.Prelude.{◌≡◌, ◌==◌, ℕ, Bool, true, if◌then◌else◌, length, List, [], ◌∷◌, ◌++◌, ◌⊎◌, Option, Some, None, Result, Ok, Err}
 use Rattle.std.specs.Io.KnownBytes.{Appends}
+use Rattle.text_words.specs.Lines.{lines_of}
 use Rattle.session_script.specs.Script.{Said, script_of}
 use Rattle.session_script.specs.Users.{KnownUser}
 use Rattle.sessions.specs.Files.{closing_lines}
@@ -16,14 +17,15 @@ use Rattle.sessions.specs.declared.schedule.Detail.{Detail}
 abbrev pub HasWholeLines : List ℕ → Type 0
 HasWholeLines text = (text ≡ []) ⊎ ((front : List ℕ) × (text ≡ front ++ 10 ∷ []))
 
--- the line that nothing ends, counted from 1, where the last line is one; this line stands before the text, and may have begun
-abbrev pub unended_from : ℕ → Bool → List ℕ → Option ℕ
-unended_from line true [] = None
-unended_from line false [] = Some line
-unended_from line is_ended (c ∷ cs) = if c == 10 then unended_from (line + 1) true cs else unended_from line false cs
+-- whether each line is ended by LF
+abbrev pub is_whole : List ℕ → Bool
+is_whole [] = true
+is_whole (c ∷ []) = c == 10
+is_whole (c ∷ d ∷ cs) = is_whole (d ∷ cs)
 
+-- the last line, where nothing ends it: its number, counted from 1, is how many lines there are
 abbrev pub unended_line : List ℕ → Option ℕ
-unended_line text = unended_from 1 true text
+unended_line text = if is_whole text then None else Some (length (lines_of text))
 
 -- a line that nothing ends is refused, where no other one is
 abbrev pub ended_script : Result (List Said) ℕ → Option ℕ → Result (List Said) ℕ

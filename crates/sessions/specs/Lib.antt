@@ -6,3 +6,4 @@ pub mod Session
 pub mod News
 pub mod Alike
 pub mod Follow
+pub mod Fair

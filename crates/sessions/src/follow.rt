@@ -80,8 +80,8 @@ impl<I: Installation + Drop> Follower<I> {
         &self.installation
     }
 
-    /// Judges a part of the script as a whole, of which each line has to be ended; then does it, and writes the lines that come of it as they come. After a
-    /// failure there is nothing that goes on.
+    /// Judges a part of the script as a whole, of which each line has to be ended; then does it, and writes the lines that
+    /// come of it as they come. After a failure there is nothing that goes on.
     pub fn part<W: HostWriter>(
         self,
         alloc: Global,

@@ -3,3 +3,4 @@ pub mod Options
 pub mod FollowOptions
 pub mod BootFaults
 pub mod Histories
+pub mod Runs

@@ -123,7 +123,7 @@ fn matched<'a, S: AsStr>(
     let command = command(alloc, program)?;
     match command.try_get_matches_from(words) {
         Ok(matches) => Ok(matches),
-        Err(error) => Err(refusal(alloc, &error)),
+        Err(error) => Err(refusal(&error, error.to_string(alloc).ok())),
     }
 }
 

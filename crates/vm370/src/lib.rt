@@ -27,6 +27,7 @@ pub mod follow_arguments;
 mod installation;
 mod laws;
 pub mod program;
+pub mod runs;
 
 pub use installation::SharedMachines;
 pub use laws::sessions_are_histories;

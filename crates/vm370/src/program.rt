@@ -4,17 +4,11 @@
 //! The transcript goes to standard output. A failure is one line on standard error, and its kind is the
 //! exit status; of an image that is not saved a second line has the path.
 
-use crate::arguments::{Options, arguments};
-use crate::boot_faults::{boot_failure, names_of};
+use crate::arguments::arguments;
 use crate::follow_arguments::follow_arguments;
-use crate::installation::SharedMachines;
-use cp_core::{Sizes, System};
-use cp_directory::read_directory;
-use programs::parts::Left;
-use programs::program::{asks_to_follow, follow_input, open, play, words, wrong_use};
-use programs::{Ended, Failure, finish, owned, read_volumes, save_volume, without_volume};
-use s370_num::host::read_all;
-use sessions::Detail;
+use crate::runs::{follow_system, run_files};
+use programs::program::{asks_to_follow, input, output, words, wrong_use};
+use programs::{Ended, Failure, HostFiles, finish};
 use std::rt::{Env, Files};
 
 /// The program's name, as it tells it.
@@ -59,9 +53,8 @@ fn run<R: AllocGlobal + Files + Env + Input + Print + Eprint>(
         Ok(options) => options,
         Err(error) => return Err(wrong_use(rt, &error, USAGE_NOTE)),
     };
-    let mut machines = boot(rt, &options)?;
-    play(rt, &mut machines, options.script, is_watched)?;
-    save(rt, machines.system(), &options)
+    let mut output = output(rt, is_watched)?;
+    run_files(alloc, &mut HostFiles::new(rt), &options, &mut output)
 }
 
 /// Follows a script by these words, whose parts are read from standard input, and writes its transcript to standard
@@ -75,74 +68,13 @@ fn follow<R: AllocGlobal + Files + Input + Print + Eprint>(
         Ok(options) => options,
         Err(error) => return Err(wrong_use(rt, &error, USAGE_NOTE)),
     };
-    let volumes = options.volumes.as_slice();
-    let detail = if options.terminals {
-        Detail::Terminals
-    } else {
-        Detail::Whole
-    };
-    let machines = boot_of(rt, options.directory, volumes, options.sizes)?;
-    match follow_input(rt, machines, detail)? {
-        Left::Ended(machines) if options.save => save_volumes(rt, machines.system(), volumes),
-        Left::Ended(_) | Left::Cut(_) => Ok(()),
-    }
-}
-
-/// The system that the directory and the volumes of these options state.
-pub fn boot<R: AllocGlobal + Files>(
-    rt: &R,
-    options: &Options<'_>,
-) -> Result<SharedMachines, Failure> {
-    boot_of(
-        rt,
-        options.directory,
-        options.volumes.as_slice(),
-        options.sizes,
+    let mut input = input(rt)?;
+    let mut output = output(rt, false)?;
+    follow_system(
+        alloc,
+        &mut HostFiles::new(rt),
+        &options,
+        &mut input,
+        &mut output,
     )
-}
-
-/// The system that the directory and the volumes at these paths state.
-fn boot_of<R: AllocGlobal + Files>(
-    rt: &R,
-    directory: &str,
-    volumes: &[&str],
-    sizes: Sizes,
-) -> Result<SharedMachines, Failure> {
-    let alloc = rt.alloc();
-    let text = read_all(alloc, &mut open(rt, directory)?)?;
-    let directory = read_directory(alloc, &text)?;
-    let volumes = read_volumes(rt, volumes)?;
-    let names = names_of(alloc, directory.users())?;
-    match System::boot(alloc, directory, volumes, sizes) {
-        Ok(system) => Ok(SharedMachines::new(system)),
-        Err(error) => Err(boot_failure(alloc, names, error)),
-    }
-}
-
-/// Writes the images of the volumes of the system back, in their order, where the options ask for that.
-pub fn save<R: AllocGlobal + Files>(
-    rt: &R,
-    system: &System,
-    options: &Options<'_>,
-) -> Result<(), Failure> {
-    if !options.save {
-        return Ok(());
-    }
-    save_volumes(rt, system, options.volumes.as_slice())
-}
-
-/// Writes the images of the volumes of the system to these paths, in their order.
-fn save_volumes<R: AllocGlobal + Files>(
-    rt: &R,
-    system: &System,
-    paths: &[&str],
-) -> Result<(), Failure> {
-    let paths = owned(rt.alloc(), paths)?;
-    for (index, path) in paths.into_iter().enumerate() {
-        match system.volume(index) {
-            Some(volume) => save_volume(rt, volume, path)?,
-            None => return Err(without_volume(path)),
-        }
-    }
-    Ok(())
 }

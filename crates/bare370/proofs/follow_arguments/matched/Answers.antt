@@ -1,4 +1,4 @@
-use Rattle.std.proofs.Common.{ap, sym, ◌∙◌, map}
+use Rattle.std.proofs.Common.{ap, sym, inl, ◌∙◌, map}
 use Rattle.clap.specs.Words.{App, fault_of, is_simple, is_simple_and_free, matches_of, takes}
 use Rattle.bare370.specs.FollowOptions.{HasNoFault, is_taken, rows_named}
 use Rattle.bare370.proofs.follow_arguments.matched.Goals as goal
@@ -13,4 +13,4 @@ returns-in-Ok-clause-taken g c = sym (ap (λ (a : App). fault_of a (map g.S.AsSt
 
 pub returns-in-Err-clause-err : goal.returns-in-Err-clause-err
 unfolding is_taken
-returns-in-Err-clause-err g c taken = c.refusal.ensures (c.in-Err.ensures.passes (ap (λ (a : App). takes a (map g.S.AsStr.text c.args.words.now)) c.in_ok-command.ensures ∙ taken))
+returns-in-Err-clause-err g c taken = c.refusal.ensures.memory.1 (inl (c.in-Err.ensures.passes (ap (λ (a : App). takes a (map g.S.AsStr.text c.args.words.now)) c.in_ok-command.ensures ∙ taken)))

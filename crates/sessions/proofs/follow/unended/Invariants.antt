@@ -1,5 +1,6 @@
 use Rattle.std.proofs.Common.{◌≡◌, ◌≤◌, ◌+◌, drop}
-use Rattle.sessions.specs.Follow.{unended_from, unended_line}
+use Rattle.sessions.specs.Follow.{unended_line}
+use Rattle.sessions.proofs.Whole.{unended_from}
 use Rattle.sessions.proofs.follow.unended.Given as goal
 
 abbrev pub invariant-loop-byte : goal.invariant-loop-byte

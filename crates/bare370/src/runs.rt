@@ -1,0 +1,128 @@
+//! What the program does with its files: it reads images, makes the machine of their volumes, plays or follows a script,
+//! and saves the images.
+ghost use Rattle.std.specs.Prelude.{◌≡◌, ◌≤◌, [], IfErr, IfOk, OnErr, OnOk, map};
+ghost use Rattle.programs.specs.Opened.{Adds, AddsFront, opens};
+ghost use Rattle.bare370.specs.Runs.{IsFailedWholeFollowing, IsFailedWholeRun, IsMachineOf, IsMade, IsWholeFollowing, IsWholeRun, blocks_of, detail_of, machine_volumes};
+
+use crate::arguments::BareOptions;
+use crate::follow_arguments::FollowOptions;
+use crate::installation::{OneMachine, machine_of};
+use ckd_volume::Volume;
+use cp_directory::StorageSize;
+use machine_devices::AttachError;
+use programs::{
+    Failure, FileStore, HasVolumes, follow_files, read_images, run_script, saved_paths,
+};
+use s370_num::host::{HostReader, HostWriter};
+use sessions::Detail;
+use std::alloc::Global;
+
+impl HasVolumes for OneMachine {
+    ghost volumes = { machine_volumes };
+
+    fn volume(&self, index: usize) -> Option<&Volume> {
+        match self.machine().disks().get(index) {
+            Some(disk) => Some(disk.unit().volume()),
+            None => None,
+        }
+    }
+}
+
+/// Makes the machine that these options name, plays the script and writes its transcript, and saves the images of the
+/// volumes if the options ask for that.
+pub fn run_files<F: FileStore, W: HostWriter>(
+    alloc: Global,
+    files: &mut F,
+    options: &BareOptions<'_>,
+    writer: &mut W,
+) -> Result<(), Failure>
+    ensures ok { OnOk result (IsWholeRun F.gives F.File.remaining options.now (F.deeds files.old) (F.deeds files.new)
+        (W.contents writer.old) (W.contents writer.new)) }
+    ensures flushed { OnOk result (W.held writer.new ≡ []) }
+    ensures err { IfErr result (IsFailedWholeRun F.gives F.File.remaining options.now (F.deeds files.old)
+        (F.deeds files.new) (W.contents writer.old) (W.contents writer.new)) }
+{
+    let volumes = options.volumes.as_slice();
+    let saved = saved_paths(options.save, volumes);
+    let mut machine = read_machine(alloc, files, options.storage, volumes)?;
+    run_script(alloc, files, &mut machine, options.script, saved, writer)
+}
+
+/// Makes the machine that these options name, follows the parts of a script that an input has and writes what comes of
+/// each, and saves the images of the volumes if the options ask for that and the input asked for its end.
+pub fn follow_machine<F: FileStore, R: HostReader, W: HostWriter>(
+    alloc: Global,
+    files: &mut F,
+    options: &FollowOptions<'_>,
+    reader: &mut R,
+    writer: &mut W,
+) -> Result<(), Failure>
+    ensures ok { OnOk result (IsWholeFollowing F.gives F.File.remaining options.now (F.deeds files.old) (F.deeds files.new)
+        (R.remaining reader.old) (R.remaining reader.new) (W.contents writer.old) (W.contents writer.new)) }
+    ensures flushed { OnOk result (W.held writer.new ≡ []) }
+    ensures err { IfErr result (IsFailedWholeFollowing F.gives F.File.remaining options.now (F.deeds files.old)
+        (F.deeds files.new) (R.remaining reader.old) (R.remaining reader.new) (W.contents writer.old)
+        (W.contents writer.new)) }
+{
+    let volumes = options.volumes.as_slice();
+    let saved = saved_paths(options.save, volumes);
+    let machine = read_machine(alloc, files, options.storage, volumes)?;
+    follow_files(
+        alloc,
+        files,
+        machine,
+        detail_of(options.terminals),
+        saved,
+        reader,
+        writer,
+    )
+}
+
+/// Reads the images at these paths, and makes a machine with a storage of this size and a disk over each volume.
+pub fn read_machine<F: FileStore>(
+    alloc: Global,
+    files: &mut F,
+    storage: StorageSize,
+    volumes: &[&str],
+) -> Result<OneMachine, Failure>
+    ensures ok { IfOk result (IsMachineOf F.gives F.File.remaining (map (λ path. path.now) volumes.now) (blocks_of storage)) }
+    ensures deeds { OnOk result
+        (Adds (F.deeds files.old) (F.deeds files.new) (opens (map (λ path. path.now) volumes.now))) }
+    ensures err { OnErr result
+        (AddsFront (F.deeds files.old) (F.deeds files.new) (opens (map (λ path. path.now) volumes.now))) }
+{
+    let volumes = read_images(alloc, files, volumes)?;
+    made(alloc, storage.blocks(), volumes)
+}
+
+/// Makes a machine with so many blocks of storage and a disk over each of these volumes.
+fn made(alloc: Global, blocks: u32, volumes: Vec<Volume>) -> Result<OneMachine, Failure>
+    requires least { 4 ≤ blocks }
+    requires most { blocks ≤ 2048 }
+    ensures { IfOk result (IsMade blocks volumes.items) }
+{
+    match machine_of(alloc, blocks, volumes) {
+        Ok(machine) => Ok(machine),
+        Err(error) => Err(unattached(error)),
+    }
+}
+
+/// Why no machine is made whose disks are not attached.
+fn unattached(error: AttachError) -> Failure {
+    match error {
+        AttachError::Memory => Failure::Memory,
+        // More volumes than a machine has disks, which are words that are not the program's.
+        AttachError::Address => Failure::Usage,
+    }
+}
+
+/// Which lines of turns a transcript has.
+fn detail_of(terminals: bool) -> Detail
+    ensures { result ≡ detail_of terminals }
+{
+    if terminals {
+        Detail::Terminals
+    } else {
+        Detail::Whole
+    }
+}
