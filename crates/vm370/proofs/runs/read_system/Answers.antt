@@ -23,4 +23,4 @@ returns-clause-deeds g c =
     let deeds = g.F.FileStore.deeds in
     let paths = map (λ p. p.now) c.args.volumes.now in
     on_ok c.boot.result
-      (adds_more (deeds c.args.files.now) (deeds c.read_users.new.files) (deeds c.read_images.new.files) (Opens c.args.directory.now ∷ []) (opens paths) c.read_users.ensures.deeds c.in_ok-volumes.ensures.deeds)
+    (adds_more (deeds c.args.files.now) (deeds c.read_users.new.files) (deeds c.read_images.new.files) (Opens c.args.directory.now ∷ []) (opens paths) c.read_users.ensures.deeds c.in_ok-volumes.ensures.deeds)
