@@ -17,7 +17,7 @@ returns-clause-ok g c =
     if_ok c.made.result (λ a made. record {
       volumes = volumes;
       images = c.in_ok-volumes.ensures.ok;
-      made = subst (λ (n : ℕ). IsMade n volumes a) c.blocks.ensures made;
+      made = subst (λ (n : ℕ). IsMade n volumes a) c.blocks-2.ensures made;
     }) c.made.ensures
 
 pub returns-clause-err : goal.returns-clause-err
