@@ -17,7 +17,15 @@ HERE = os.path.dirname(os.path.realpath(__file__))
 ENTRY = 0x200
 # the most cards of a deck
 DECK = 1000
+# turns of a card: the machine, the reader, the machine, the printer
+TURNS = 4
+# as many turns as a line of a script may deal
+MOST_TURNS = 100000
+# as many units as a line of a script runs here, and more than any round takes
+UNITS = 1000000
+MOST_UNITS = 3000
 CARD = "A CARD OF SOME SIXTY COLUMNS, WHICH IS PRINTED AS IT STANDS"
+DIRECTORY = "USER A PW 256K\nSPOOL 00C READER\nSPOOL 00E PRINTER\n"
 
 
 @dataclass
@@ -67,7 +75,7 @@ class Ours:
 
     def __init__(self, guest, bench, place):
         self.guest, self.bench = guest, bench
-        self.user, self.first = ("A", "USER A PW 256K\n") if place == "user" else ("BARE", "256K")
+        self.user, self.first = ("A", DIRECTORY) if place == "user" else ("BARE", "256K")
 
     def script(self, rounds):
         """The script that does so many rounds."""
@@ -76,8 +84,10 @@ class Ours:
         stores = [f"STORE {at:X} {data}" for at, data in assembled(self.guest)]
         lines = [f"LINE {self.user} {line}" for line in ("LOGON", *stores, f"STORE G1 {count:08X}", f"BEGIN {ENTRY:X}")]
         if not self.guest.reads:
-            return lines + [f"RUN {self.user} 1000000"] * (rounds // 1000 + 1)
-        return lines[:-1] + [f"DECK {self.user} {DECK}", *[CARD] * DECK] * decks + lines[-1:] + ["AUTO 100000"] * (decks // 10 + 1)
+            return lines + [f"RUN {self.user} {UNITS}"] * (rounds * MOST_UNITS // UNITS + 1)
+        turns = TURNS * (rounds + decks) + TURNS
+        dealt = [f"AUTO {min(MOST_TURNS, turns - at)}" for at in range(0, turns, MOST_TURNS)]
+        return lines[:-1] + [f"DECK {self.user} {DECK}", *[CARD] * DECK] * decks + lines[-1:] + dealt
 
     def seconds(self, rounds):
         """The processor time of so many rounds, after which the guest waits at its end."""
