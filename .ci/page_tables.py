@@ -218,7 +218,7 @@ async def try_logons(check, folder):
         check(f"{name!r} and {password!r} log nobody on", told == ["a name is a word, and a password a line"], *told)
     check("and nobody is asked", not browser.page.line)
     for guess in range(3):
-        await browser.log_on("ALICE", "WRONG")
+        await browser.log_on("STRANGER", "WRONG")
     until = time.monotonic() + 20
     told = []
     while not refusals(told) and time.monotonic() < until:
