@@ -243,8 +243,16 @@ async def try_logons(check, folder):
         told = refusals(await browser.log_on(name, password))
         check(f"{name!r} and {password!r} log nobody on", told == ["a name is a word, and a password a line"], *told)
     check("and nobody is asked", not browser.page.line)
-    browser.page.line = PageLine("192.0.2.1", browser.page.show, browser.page.unread)
+    for guess in range(3):
+        await browser.log_on("STRANGER", "WRONG")
+    until = time.monotonic() + 20
+    told = []
+    while not refusals(told) and time.monotonic() < until:
+        await asyncio.sleep(0.05)
+        told += await browser.told()
+    check("who is closed is told", refusals(told) == ["the desk has closed the connection: log on again"], *map(str, told))
     # what only looks as if somebody was on
+    browser.page.line = PageLine("192.0.2.1", browser.page.show, browser.page.unread)
     browser.page.line.write(b"LOGON OK\r\n")
     told = await browser.send({"is": "files"})
     check("a line that looks like a logon is none", refusals(told) == ["NOT LOGGED ON"], *map(str, told))

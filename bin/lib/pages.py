@@ -97,6 +97,8 @@ class UserPage:
         self.left_at = 0.0
         self.line = None
         self.conversation = None
+        # whether somebody has logged on at the line
+        self.was_used = False
         self.number = 0
         # lines that the browser has not said to have seen: number, time, text
         self.lines = collections.deque()
@@ -150,6 +152,7 @@ class UserPage:
     def look(self, user):
         """Tells the browser who is on, and whether his machine runs, if that has changed."""
         found = {"is": "on", "user": user.name, "running": user.is_running} if user else {"is": "off"}
+        self.was_used = self.was_used or bool(user)
         if found != self.told:
             self.told = found
             self.put(found)
@@ -162,6 +165,8 @@ class UserPage:
         finally:
             self.line = None
             self.deck = None
+            if not self.was_used:
+                self.put({"is": "refused", "what": "logon", "why": "the desk has closed the connection: log on again"})
             self.look(None)
             if not self.outbox:
                 self.pages.forget(self)
@@ -191,7 +196,7 @@ class UserPage:
         if self.user():
             raise Refused("you are logged on")
         if not self.line:
-            self.line = PageLine(self.address, self.show, self.unread)
+            self.line, self.was_used = PageLine(self.address, self.show, self.unread), False
             self.conversation = asyncio.create_task(self.converse())
         # the password is a line of its own, as a telnet sends it that is asked for it
         await self.line.type(b"LOGON " + name)
