@@ -243,10 +243,9 @@ async def try_logons(check, folder):
         told = refusals(await browser.log_on(name, password))
         check(f"{name!r} and {password!r} log nobody on", told == ["a name is a word, and a password a line"], *told)
     check("and nobody is asked", not browser.page.line)
+    told, until = [], time.monotonic() + 20
     for guess in range(3):
-        await browser.log_on("STRANGER", "WRONG")
-    until = time.monotonic() + 20
-    told = []
+        told += await browser.send({"is": "logon", "name": "STRANGER", "password": "WRONG"})
     while not refusals(told) and time.monotonic() < until:
         await asyncio.sleep(0.05)
         told += await browser.told()
