@@ -263,7 +263,9 @@ def try_listing(check, site):
     site.online("--printouts", f"{site.folder}/prints")
     before, meanwhile, lines = run(tried())
     told = f"before {1000 * before:.0f} ms, meanwhile {1000 * meanwhile:.0f} ms"
-    check(f"a listing of {LINES} lines keeps nobody waiting", meanwhile < max(0.1, 3 * before) and lines == LINES, told, f"{lines}")
+    # on a host that is busy with others everybody waits for that; lines that are struck in the engine took 50 s
+    bound = 0.1 if os.getloadavg()[0] < os.cpu_count() else 1
+    check(f"a listing of {LINES} lines keeps nobody waiting", meanwhile < max(bound, 3 * before) and lines == LINES, told, f"{lines}")
     check("it is suspended", site.stop() == 0, *site.told)
 
 
