@@ -38,7 +38,7 @@ class PageOutlet:
 
 
 class OperatorPage:
-    """One page of an operator: what it is told before its token was right is nothing."""
+    """One page of an operator: nothing is sent to it before its token was right."""
 
     def __init__(self, pages, address, outbox):
         self.pages = pages

@@ -24,7 +24,7 @@ PIECE = 1 << 16
 MOST_FILES = 200
 MESSAGES_AT_ONCE, MESSAGES_A_SECOND = 400, 200
 NO_LINE = "NOT LOGGED ON"
-# what it takes to keep a line, beside its text
+# what it takes to keep a line, without its text
 LINE_COST = 64
 KEYS = {"attention": b"", "stop": b"#CP", "external": b"#CP EXTERNAL", "begin": b"BEGIN"}
 
@@ -150,7 +150,7 @@ class UserPage:
         return bool(self.told) and self.told["is"] == "on"
 
     def look(self, user):
-        """Tells the browser who is on, and whether his machine runs, if that has changed."""
+        """Sends the browser who is on, and whether his machine runs, if that has changed."""
         found = {"is": "on", "user": user.name, "running": user.is_running} if user else {"is": "off"}
         self.was_used = self.was_used or bool(user)
         if found != self.told:

@@ -2,7 +2,7 @@
 
 The desk (crates/logon_desk_cli) decides who logs on, whose line a typed line is and who is shown what; here are the sockets. Whoever
 brings people, by telnet or otherwise, makes a Connection: `Desk.come` opens it, `Desk.receive` gives the desk bytes that came, at most
-MOST_BYTES and only while `may_send` is set, and `Desk.leave` tells that it has ended. The desk gives it bytes by `send`, and ends it by
+MOST_BYTES and only while `may_send` is set, and `Desk.leave` reports that it has ended. The desk gives it bytes by `send`, and ends it by
 `close`.
 """
 import asyncio
@@ -22,7 +22,7 @@ from people import FILE_FAILED, Failure
 MOST_STRANGERS = 80
 # bytes that the desk takes at once
 MOST_BYTES = 4096
-# lines for the desk that are told at once: what they and their answers take fits a pipe
+# lines that the desk is given at once: what they and their answers take fits a pipe
 MOST_PENDING = 16
 # what waits for a reader: he is closed over so many bytes
 MOST_UNREAD = 1 << 20
@@ -31,9 +31,9 @@ SEND_BUFFER = 1 << 16
 # a connection that is closed has so many seconds to read what waits, where that is little
 SECONDS_TO_LEAVE = 2
 LITTLE_UNREAD = 1 << 16
-# how often the desk is told the time while somebody is about to log on
+# how often the desk is given the time while somebody is about to log on
 TICK = 0.05
-# for so long wrong passwords are summed before they are told
+# for so long wrong passwords are summed before the journal has them
 SECONDS_TO_SUM = 60
 LOGON = b"LOGON"
 GOES_DOWN = b"GATHJUMLI GOES DOWN\r\n"
@@ -47,7 +47,7 @@ class Connection:
         self.address = address
         self.place = None
         self.user = None
-        # when it is shown again, the minute that was told last
+        # when lines are shown again, the minute that was shown last
         self.minute = ""
         self.may_send = asyncio.Event()
 
@@ -170,7 +170,7 @@ class Desk:
         self.program = None
 
     def open(self):
-        """Begins the program, and tells it who logs on, and what is known of them since a replay."""
+        """Begins the program, and gives it the users, and what is known of them since a replay."""
         self.program = subprocess.Popen([self.path], stdin=subprocess.PIPE, stdout=subprocess.PIPE, start_new_session=True)
         for user in self.people:
             self.ask("USER", encoded(user.name))
@@ -191,7 +191,7 @@ class Desk:
         self.flush()
 
     def tell_soon(self, word, *words):
-        """Tells the desk something with what is told next, at the end of this turn at the latest."""
+        """Gives the desk something with what comes next, at the end of this turn at the latest."""
         self.pending.append(self.line(word, *words))
         if len(self.pending) == MOST_PENDING:
             self.flush()

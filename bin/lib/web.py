@@ -187,7 +187,7 @@ async def received(connection):
 
 
 async def send_all(connection, outbox):
-    """Sends what a page is told, as fast as the browser takes that."""
+    """Sends a page its messages, as fast as the browser takes them."""
     try:
         while True:
             await connection.send(json.dumps(await outbox.taken()))

@@ -11,7 +11,7 @@ TRIAL = "import sys, websockets.legacy.server, websockets.version as found; sys.
 
 
 def need_library():
-    """Goes on under the system's Python if this one lacks the library; fails if both do."""
+    """Goes on under the system's Python if this one has no such library; fails if neither has."""
     try:
         import websockets.legacy.server  # noqa: F401
 
