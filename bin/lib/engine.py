@@ -15,7 +15,7 @@ from recording import PRINTED, TURNS, TYPED, sum_of_file, weight_of
 
 # lines that one who comes back sees again
 KEPT_LINES = 24
-# turns in a part at most, and in the first after all waited
+# turns in a part at most, and after all waited, or with lines that are typed, at least
 MOST_TURNS = 100000
 FEW_TURNS = 4
 # where so many turns found no frame all wait for one: each of 64 users may have 32 programs to be served
@@ -81,13 +81,17 @@ class User:
 
 
 class Part(NamedTuple):
-    """Lines that the program is given at once; what of them is typed, each with the user's name; how many turns it deals; whether
-    it has to be on the disk before anything else is done."""
+    """Lines that the program is given at once, and after them so many turns; what of the lines is typed, each with the user's
+    name; whether it has to be on the disk before anything else is done."""
 
-    lines: bytes
+    lines: bytes = b""
     typed: tuple = ()
     turns: int = 0
     is_kept: bool = False
+
+    def script(self):
+        """The part as the program reads it."""
+        return self.lines + (b"AUTO %d\n" % self.turns if self.turns else b"")
 
 
 def typed_line(name, text):
@@ -97,7 +101,7 @@ def typed_line(name, text):
 def part_of(entry):
     """The part that an entry of a recording was."""
     if turns := TURNS.fullmatch(entry):
-        return Part(entry, turns=int(turns[1]))
+        return Part(turns=int(turns[1]))
     typed = TYPED.fullmatch(entry)
     return typed_line(typed[1].decode(), typed[2]) if typed else Part(entry)
 
@@ -121,8 +125,9 @@ class Pace:
             # little is wasted where the next line wakes nobody
             self.turns = min(self.turns, FEW_TURNS)
 
-    def wake(self):
-        self.is_busy = True
+    def woke(self, came):
+        """Notes what came of lines that were typed, and of a few turns after them."""
+        self.is_busy = not came.is_idle
         self.stuck = 0
 
 
@@ -215,21 +220,27 @@ class Engine:
     async def deal(self):
         """Deals some turns. What it takes to show what guests print is time too, but not what the disk takes."""
         turns, begun = self.pace.turns, time.monotonic()
-        came = await self.do(Part(b"AUTO %d\n" % turns, turns=turns))
+        came = await self.do(Part(turns=turns))
         self.pace.took(turns, time.monotonic() - begun - self.settling, came)
 
     async def do_waiting(self):
-        """All that waits is one part, so that many people wait for the disk once."""
+        """All that waits is one part, so that many people wait for the disk once. Whoever typed gets a turn in it, so that what
+        his machine answers is not kept waiting by a long part of others' turns."""
         given, self.waiting = self.waiting, []
-        parts = [it for it, _ in given]
-        typed = tuple(it for part in parts for it in part.typed)
-        lines = b"".join(it.lines for it in parts) + self.take_marks()
-        await self.do(Part(lines, typed, is_kept=any(it.is_kept for it in parts)))
+        parts = [part for part, _ in given]
+        typed = tuple(line for part in parts for line in part.typed)
+        lines = b"".join(part.lines for part in parts) + self.take_marks()
+        turns = max(FEW_TURNS, self.count_running() + len(typed)) if given else 0
+        came = await self.do(Part(lines, typed, turns, any(part.is_kept for part in parts)))
         if given:
-            self.pace.wake()
+            self.pace.woke(came)
         for _, done in given:
             if not done.done():
                 done.set_result(None)
+
+    def count_running(self):
+        """How many machines run."""
+        return sum(user.is_running for user in self.users.values())
 
     async def do(self, part):
         came = await asyncio.get_running_loop().run_in_executor(self.thread, self.step, part)
@@ -241,10 +252,10 @@ class Engine:
         """Does a part, and has it on the disk where something of it is shown."""
         came = self.asked(part)
         done = time.monotonic()
+        if part.lines:
+            self.recording.add(part.lines)
         if part.turns:
             self.recording.add_turns(part.turns)
-        else:
-            self.recording.add(part.lines)
         if part.is_kept or came.files or any(not it.startswith("= ") for it in came.events):
             self.recording.settle()
         self.printouts.put(came.files)
@@ -254,7 +265,7 @@ class Engine:
     def asked(self, part):
         """What comes of a part. A program that has died is started again and asked once more; what kills it twice ends all."""
         try:
-            return self.checked(self.program.do, part.lines)
+            return self.checked(self.program.do, part.script())
         except Died as death:
             if self.is_stopping:
                 raise
@@ -263,7 +274,7 @@ class Engine:
             if not self.is_whole:
                 raise
             self.tell("the program goes on")
-            return self.checked(self.program.do, part.lines)
+            return self.checked(self.program.do, part.script())
 
     def restart(self):
         """Has another program do the recording: all that anybody was shown is in it."""
@@ -323,13 +334,13 @@ class Engine:
         def take_first():
             part, number, when = sent.popleft()
             take(part, self.checked(self.program.answer, line=number), when.decode()[:16])
-            progress.add(weight_of(part.lines))
+            progress.add(weight_of(part.script()))
 
         for number, when, entry in self.recording.entries():
             if self.is_stopping:
                 return
             part = part_of(entry)
-            self.program.send(part.lines)
+            self.program.send(part.script())
             sent.append((part, number, when))
             if len(sent) >= AHEAD:
                 take_first()
