@@ -478,7 +478,7 @@ def try_pace(check):
     pace.turns = 1000
     pace.took(1000, 0.001, Came([], [], [], True))
     check("few turns where all wait", not pace.is_busy and pace.turns <= FEW_TURNS)
-    pace.wake()
+    pace.woke(Came([], [], [], False))
     done = 0
     while pace.is_busy and done < 10 * STUCK_TURNS:
         done += pace.turns
