@@ -11,10 +11,16 @@ A source goes through three rooms. Expander makes statements of its lines: macro
 Assembler goes over the statements until each name keeps its address, and then makes bytes of them. A form prints the bytes.
 """
 
+from __future__ import annotations
+
+from typing import TYPE_CHECKING
 import os
 import re
 import sys
 from collections import namedtuple
+
+if TYPE_CHECKING:
+    from desk import Account, Place
 
 REFUSED = 74
 # no machine has more storage
@@ -29,7 +35,7 @@ ATTRIBUTE = re.compile(f"(?<![{LETTERS}0-9])[LKN]'(?=[{LETTERS}&])")
 class Fault(Exception):
     """What is wrong with a statement, and at which index of its text where one is known."""
 
-    def __init__(self, text, index=None):
+    def __init__(self, text: str, index: object = None) -> None:
         super().__init__(text)
         self.text = text
         self.index = index
@@ -50,7 +56,7 @@ CODES = bytes.fromhex(
 EBCDIC = dict(zip(ALPHABET, CODES))
 
 
-def ebcdic(text, index=None):
+def ebcdic(text: str, index: object = None) -> bytes:
     """The bytes of a text."""
     for character in text:
         if character not in EBCDIC:
@@ -64,16 +70,20 @@ def ebcdic(text, index=None):
 class Origin:
     """Where a statement came from: its file, where its pieces stood there, and the call of the macro that made it."""
 
-    def __init__(self, path, pieces, caller=None, made=None):
+    def __init__(
+        self, path: str, pieces: object, caller: object = None, made: object = None
+    ) -> None:
         self.path = path
         self.pieces = pieces
         self.caller = caller
         self.made = made
 
-    def message(self, fault):
+    def message(self, fault: object) -> object:
         """The lines that tell a fault."""
         index = fault.index or 0
-        start, line, column = [piece for piece in self.pieces if piece[0] <= index or piece[0] == 0][-1]
+        start, line, column = [
+            piece for piece in self.pieces if piece[0] <= index or piece[0] == 0
+        ][-1]
         if self.made is not None:
             where = f"{self.path}:{line}"
             lines = [f"{where}: {fault.text}, in: {' '.join(self.made.split())}"]
@@ -82,14 +92,16 @@ class Origin:
         else:
             lines = [f"{self.path}:{line}:{column + index - start + 1}: {fault.text}"]
         if self.caller:
-            lines.append(f"{self.caller.path}:{self.caller.pieces[0][1]}: the macro was called here")
+            lines.append(
+                f"{self.caller.path}:{self.caller.pieces[0][1]}: the macro was called here"
+            )
         return lines
 
 
 class Statement:
     """A name, an operation and operands, as parts of one text."""
 
-    def __init__(self, text, origin):
+    def __init__(self, text: str, origin: str) -> None:
         self.text = text
         self.origin = origin
         match = re.match(r"\S*", text)
@@ -100,25 +112,25 @@ class Statement:
         self.start = skip_blanks(text, self.operation_at + match.end())
         self.end = None
 
-    def reader(self):
+    def reader(self) -> object:
         """A reader of the operands, which end at the first blank that is in no text."""
         if self.end is None:
             self.end = operands_end(self.text, self.start)
         return Reader(self.text, self.start, self.end)
 
-    def operands(self):
+    def operands(self) -> object:
         """The operands as they stand."""
         reader = self.reader()
         return reader.text[reader.at : reader.end]
 
 
-def skip_blanks(text, at):
+def skip_blanks(text: str, at: int) -> object:
     while at < len(text) and text[at] in " \t":
         at += 1
     return at
 
 
-def operands_end(text, start):
+def operands_end(text: str, start: int) -> object:
     """Where operands that begin here end."""
     quoted = None
     for at in range(start, len(text)):
@@ -131,7 +143,7 @@ def operands_end(text, start):
     return len(text)
 
 
-def split_list(text):
+def split_list(text: str) -> object:
     """The parts between the commas that are in no text and in no parentheses."""
     parts, depth, quoted, last = [], 0, False, 0
     for at, character in enumerate(text):
@@ -150,39 +162,39 @@ def split_list(text):
 class Reader:
     """A place in a text, which goes forward."""
 
-    def __init__(self, text, at, end):
+    def __init__(self, text: str, at: int, end: object) -> None:
         self.text = text
         self.at = at
         self.end = end
 
-    def is_done(self):
+    def is_done(self) -> bool:
         return self.at >= self.end
 
-    def peek(self):
+    def peek(self) -> object:
         return "" if self.is_done() else self.text[self.at]
 
-    def take(self, character):
+    def take(self, character: object) -> bool:
         """Whether this character is next; it is read then."""
         if self.peek() != character:
             return False
         self.at += 1
         return True
 
-    def need(self, character):
+    def need(self, character: object) -> None:
         if not self.take(character):
             raise Fault(f"'{character}' is missing before {self.rest()}", self.at)
 
-    def match(self, pattern):
+    def match(self, pattern: object) -> object:
         """What a pattern matches here, which is read then, or None."""
         found = re.compile(pattern).match(self.text, self.at, self.end)
         if found:
             self.at = found.end()
         return found
 
-    def rest(self):
+    def rest(self) -> object:
         return self.text[self.at : self.end] or "the end"
 
-    def quoted(self):
+    def quoted(self) -> tuple:
         """The text between apostrophes that begins here, with each doubled one read as one, and where it began."""
         self.need("'")
         start = self.at
@@ -191,7 +203,7 @@ class Reader:
         return found.group().replace("''", "'"), start
 
 
-def read_lines(path):
+def read_lines(path: str) -> list:
     try:
         with open(path, "rb") as file:
             text = file.read()
@@ -203,7 +215,9 @@ def read_lines(path):
 
 # --- macros and conditional assembly ---
 
-CONDITIONAL = set("AIF AGO ANOP SETA SETB SETC LCLA LCLB LCLC GBLA GBLB GBLC MNOTE MEXIT COPY".split())
+CONDITIONAL = set(
+    "AIF AGO ANOP SETA SETB SETC LCLA LCLB LCLC GBLA GBLB GBLC MNOTE MEXIT COPY".split()
+)
 MOST_JUMPS = 4096
 MOST_DEPTH = 40
 
@@ -213,7 +227,7 @@ Macro = namedtuple("Macro", "name label positional keywords path lines first tak
 class Frame:
     """Lines that are gone through: those of a file, or those of a macro that was called."""
 
-    def __init__(self, path, lines, first=1, caller=None):
+    def __init__(self, path: str, lines: list, first: int = 1, caller: object = None) -> None:
         self.path = path
         self.lines = lines
         self.first = first
@@ -224,7 +238,7 @@ class Frame:
         self.lists = []
         self.places = sequence_symbols(lines)
 
-    def next_text(self):
+    def next_text(self) -> tuple | None:
         """The next statement's text, with the lines that it goes on in, and where its pieces stood; None at the end."""
         if self.at >= len(self.lines):
             return None
@@ -235,16 +249,21 @@ class Frame:
             column = skip_blanks(line, 0) if pieces else 0
             pieces.append((len(text), number, column))
             text += line[column:]
-            if is_comment(text) or not goes_on(text) or self.at >= len(self.lines) or is_comment(self.lines[self.at]):
+            if (
+                is_comment(text)
+                or not goes_on(text)
+                or self.at >= len(self.lines)
+                or is_comment(self.lines[self.at])
+            ):
                 return text, pieces
             text = text[: operands_end(text, Statement(text, None).start)]
 
 
-def is_comment(line):
+def is_comment(line: bytes) -> bool:
     return line.startswith(("*", ".*")) or not line.strip()
 
 
-def goes_on(text):
+def goes_on(text: str) -> bool:
     """Whether the operands end in a comma, so that the next line has more of them."""
     statement = Statement(text, None)
     if statement.operation in CONDITIONAL or not statement.operation:
@@ -255,7 +274,7 @@ def goes_on(text):
         return False
 
 
-def sequence_symbols(lines):
+def sequence_symbols(lines: list) -> object:
     """Where each line stands that has a name with a point before it, but for those of macros that are stated here."""
     places, depth = {}, 0
     for at, line in enumerate(lines):
@@ -274,7 +293,7 @@ def sequence_symbols(lines):
 class Expander:
     """Makes statements of a source."""
 
-    def __init__(self):
+    def __init__(self) -> None:
         self.statements = []
         self.faults = []
         self.macros = {}
@@ -284,12 +303,16 @@ class Expander:
         # the first line after END, if there is one
         self.left_over = None
 
-    def go(self, path):
+    def go(self, path: str) -> None:
         frame = Frame(path, read_lines(path))
         self.run(frame, 0)
-        self.left_over = f"{path}:{frame.at + frame.first}" if any(not is_comment(it) for it in frame.lines[frame.at :]) else None
+        self.left_over = (
+            f"{path}:{frame.at + frame.first}"
+            if any(not is_comment(line) for line in frame.lines[frame.at :])
+            else None
+        )
 
-    def run(self, frame, depth):
+    def run(self, frame: object, depth: object) -> None:
         if depth > MOST_DEPTH:
             raise Refused(f"macros or copies stand in one another more than {MOST_DEPTH} deep")
         while not self.has_ended:
@@ -309,7 +332,7 @@ class Expander:
             except Fault as fault:
                 self.faults.append((origin, fault))
 
-    def step(self, frame, statement, depth):
+    def step(self, frame: object, statement: object, depth: object) -> None:
         if statement.operation == "MACRO":
             self.define(frame)
         elif statement.operation in CONDITIONAL:
@@ -317,14 +340,16 @@ class Expander:
         else:
             self.statement(frame, statement, depth)
 
-    def statement(self, frame, statement, depth):
+    def statement(self, frame: object, statement: object, depth: object) -> None:
         """A statement of the program, or a call."""
         text = substitute(statement.text, frame, self)
         if text != statement.text:
             pieces = statement.origin.pieces[:1]
             statement = Statement(text, Origin(frame.path, pieces, frame.caller, made=text))
         if statement.name.startswith("."):
-            statement = Statement(" " * len(statement.name) + statement.text[len(statement.name) :], statement.origin)
+            statement = Statement(
+                " " * len(statement.name) + statement.text[len(statement.name) :], statement.origin
+            )
         if statement.operation in self.macros:
             self.call(self.macros[statement.operation], statement, depth)
             return
@@ -332,7 +357,7 @@ class Expander:
         if statement.operation == "END":
             self.has_ended = True
 
-    def define(self, frame):
+    def define(self, frame: object) -> None:
         """A macro, whose prototype is the next statement."""
         found = frame.next_text()
         while found and is_comment(found[0]):
@@ -367,7 +392,7 @@ class Expander:
             prototype.operation, label, positional, keywords, frame.path, body, first, takes_lists
         )
 
-    def call(self, macro, statement, depth):
+    def call(self, macro: object, statement: object, depth: object) -> None:
         self.calls += 1
         frame = Frame(macro.path, macro.lines, macro.first, statement.origin)
         frame.variables = dict(macro.keywords)
@@ -376,7 +401,11 @@ class Expander:
         operands = statement.operands()
         for operand in split_list(operands) if operands else []:
             match = NAME.match(operand)
-            if match and operand[match.end() : match.end() + 1] == "=" and match.group() in macro.keywords:
+            if (
+                match
+                and operand[match.end() : match.end() + 1] == "="
+                and match.group() in macro.keywords
+            ):
                 frame.variables[match.group()] = operand[match.end() + 1 :]
             else:
                 frame.lists.append(operand)
@@ -389,9 +418,11 @@ class Expander:
             frame.variables[macro.label] = statement.name
         self.run(frame, depth + 1)
 
-    def condition(self, frame, statement, depth):
+    def condition(self, frame: object, statement: object, depth: object) -> None:
         """A statement of conditional assembly."""
-        operation, reader = statement.operation, Reader(statement.text, statement.start, len(statement.text.rstrip()))
+        operation, reader = statement.operation, Reader(
+            statement.text, statement.start, len(statement.text.rstrip())
+        )
         if operation == "AIF":
             reader.need("(")
             terms = Terms(reader, frame, self)
@@ -409,7 +440,9 @@ class Expander:
         elif operation[:3] in ("LCL", "GBL"):
             self.declare(frame, statement)
         elif operation == "MNOTE":
-            raise Fault(substitute(statement.text[statement.start :], frame, self).strip().strip("'"))
+            raise Fault(
+                substitute(statement.text[statement.start :], frame, self).strip().strip("'")
+            )
         elif operation == "COPY":
             named = substitute(statement.operands(), frame, self).strip("'")
             path = os.path.join(os.path.dirname(frame.path), named)
@@ -419,16 +452,19 @@ class Expander:
                 raise Fault(str(refused), statement.start) from refused
             self.run(copied, depth + 1)
 
-    def jump(self, frame, reader):
+    def jump(self, frame: object, reader: int) -> None:
         found = reader.match(rf"\.{NAME.pattern}")
         if not found or found.group() not in frame.places:
-            raise Fault(f"no statement here has the name {reader.rest() if not found else found.group()}", reader.at)
+            raise Fault(
+                f"no statement here has the name {reader.rest() if not found else found.group()}",
+                reader.at,
+            )
         frame.jumps += 1
         if frame.jumps > MOST_JUMPS:
             raise Refused(f"more than {MOST_JUMPS} jumps: AIF or AGO goes round for ever")
         frame.at = frame.places[found.group()]
 
-    def declare(self, frame, statement):
+    def declare(self, frame: object, statement: object) -> None:
         start = "" if statement.operation[3] == "C" else "0"
         for name in split_list(statement.operands()):
             match = VARIABLE.fullmatch(name)
@@ -440,7 +476,7 @@ class Expander:
             else:
                 frame.variables[match.group(1)] = start
 
-    def assign(self, frame, statement, value):
+    def assign(self, frame: object, statement: object, value: object) -> None:
         match = VARIABLE.fullmatch(statement.name)
         if not match:
             raise Fault(f"{statement.operation} has the name of a variable before it, as &N", 0)
@@ -450,7 +486,7 @@ class Expander:
         else:
             frame.variables[name] = value
 
-    def value(self, frame, name, index):
+    def value(self, frame: object, name: str, index: object) -> object:
         value = frame.variables.get(name)
         if value is None and name in frame.variables:
             value = self.globals[name]
@@ -459,7 +495,7 @@ class Expander:
         return value
 
 
-def substitute(text, frame, expander):
+def substitute(text: str, frame: object, expander: object) -> object:
     """A text with the values of its variables."""
     out, at = "", 0
     while True:
@@ -479,7 +515,7 @@ def substitute(text, frame, expander):
             at += 1
 
 
-def variable(text, match, frame, expander):
+def variable(text: str, match: object, frame: object, expander: object) -> tuple:
     """The value of the variable that was matched, with its subscript, and where it ends."""
     name, at = match.group(1), match.end()
     if text.startswith("(", at) and (name == "SYSLIST" or name in frame.variables and frame.caller):
@@ -489,22 +525,25 @@ def variable(text, match, frame, expander):
         terms.need(")")
         if name == "SYSLIST":
             return element(frame.lists, number), reader.at
-        return element([""] + members(expander.value(frame, name, match.start())), number), reader.at
+        return (
+            element([""] + members(expander.value(frame, name, match.start())), number),
+            reader.at,
+        )
     return expander.value(frame, name, match.start()), at
 
 
-def members(value):
+def members(value: object) -> object:
     """The parts of a list in parentheses; anything else is a list of itself."""
     if value.startswith("(") and value.endswith(")"):
         return split_list(value[1:-1])
     return [value] if value else []
 
 
-def element(parts, number):
+def element(parts: object, number: int) -> object:
     return parts[number] if 0 <= number < len(parts) else ""
 
 
-def read_text(reader, frame, expander):
+def read_text(reader: int, frame: object, expander: object) -> object:
     """The value of SETC: texts between apostrophes, cut by (first,length), one after another by a point."""
     out = ""
     while True:
@@ -527,38 +566,38 @@ def read_text(reader, frame, expander):
 class Terms:
     """Reads and works out an expression of conditional assembly: a number, or a text."""
 
-    def __init__(self, reader, frame, expander):
+    def __init__(self, reader: int, frame: object, expander: object) -> None:
         self.reader = reader
         self.frame = frame
         self.expander = expander
 
-    def need(self, character):
+    def need(self, character: object) -> None:
         self.skip()
         self.reader.need(character)
 
-    def skip(self):
+    def skip(self) -> None:
         self.reader.match(r"[ \t]*")
 
-    def word(self, *words):
+    def word(self, *words: object) -> object:
         self.skip()
         found = self.reader.match(r"(?:%s)\b" % "|".join(words))
         return found.group() if found else None
 
-    def either(self):
+    def either(self) -> object:
         value = self.both()
         while self.word("OR"):
             right = self.both()
             value = bool(value) or bool(right)
         return value
 
-    def both(self):
+    def both(self) -> object:
         value = self.negation()
         while self.word("AND"):
             right = self.negation()
             value = bool(value) and bool(right)
         return value
 
-    def negation(self):
+    def negation(self) -> object:
         if self.word("NOT"):
             return not self.negation()
         left = self.sum()
@@ -579,7 +618,7 @@ class Terms:
             "GE": left >= right,
         }[relation]
 
-    def sum(self):
+    def sum(self) -> object:
         value = self.product()
         while self.reader.peek() in ("+", "-") and self.reader.peek():
             sign = 1 if self.reader.take("+") else -1
@@ -588,7 +627,7 @@ class Terms:
             value = self.number(value) + sign * self.number(self.product())
         return value
 
-    def product(self):
+    def product(self) -> object:
         value = self.term()
         while self.reader.peek() in ("*", "/") and self.reader.peek():
             if self.reader.take("*"):
@@ -598,12 +637,12 @@ class Terms:
                 value = quotient(self.number(value), self.number(self.term()))
         return value
 
-    def number(self, value):
+    def number(self, value: object) -> int:
         if isinstance(value, str):
             raise Fault(f"{value!r} is no number", self.reader.at)
         return int(value)
 
-    def term(self):
+    def term(self) -> object:
         self.skip()
         reader, at = self.reader, self.reader.at
         if reader.take("("):
@@ -630,7 +669,7 @@ class Terms:
         return self.self_defining(found.group(), at)
 
     @staticmethod
-    def self_defining(text, at):
+    def self_defining(text: str, at: int) -> object:
         match = re.fullmatch(r"(-?[0-9]+)|X'([0-9A-Fa-f]+)'|B'([01]+)'|C'(.*)'", text)
         if not match:
             raise Fault(f"{text!r} is no number", at)
@@ -638,10 +677,14 @@ class Terms:
             return int(match.group(1))
         if match.group(2):
             return int(match.group(2), 16)
-        return int(match.group(3), 2) if match.group(3) else int.from_bytes(ebcdic(match.group(4), at), "big")
+        return (
+            int(match.group(3), 2)
+            if match.group(3)
+            else int.from_bytes(ebcdic(match.group(4), at), "big")
+        )
 
 
-def quotient(left, right):
+def quotient(left: object, right: object) -> object:
     """Towards zero; by zero it is zero, as in the field."""
     if right == 0:
         return 0
@@ -682,7 +725,7 @@ ABSENT = set(
 )
 
 
-def operations():
+def operations() -> object:
     """Each operation's form, codes and mask, by its name."""
     table = {}
     for form, text in FORMS.items():
@@ -715,7 +758,7 @@ PROGRAM = "the program"
 NOTHING = {"PRINT", "TITLE", "EJECT", "SPACE"}
 
 
-def digits_value(text, start, base):
+def digits_value(text: str, start: int, base: object) -> int:
     digits = "0123456789ABCDEF"[:base]
     for place, character in enumerate(text):
         if character.upper() not in digits:
@@ -724,7 +767,9 @@ def digits_value(text, start, base):
     return int(text, base) if text else 0
 
 
-def fitted(data, length, start, is_left=False, fill=b"\0"):
+def fitted(
+    data: bytes, length: int, start: int, is_left: bool = False, fill: bytes = b"\0"
+) -> object:
     """Bytes in an area of a length: filled where they are shorter, and refused where a byte would be lost."""
     if not length:
         return data
@@ -737,15 +782,18 @@ def fitted(data, length, start, is_left=False, fill=b"\0"):
     return data + more if is_left else more + data
 
 
-def number_bytes(number, length, start, is_signed):
+def number_bytes(number: int, length: int, start: int, is_signed: object) -> bytes:
     """A number in so many bytes, as a signed one, or as whichever it fits."""
     lowest, highest = -(1 << (8 * length - 1)), (1 << (8 * length - (1 if is_signed else 0))) - 1
     if not lowest <= number <= highest:
-        raise Fault(f"{number} does not fit into a length of {length}, which holds {lowest} to {highest}", start)
+        raise Fault(
+            f"{number} does not fit into a length of {length}, which holds {lowest} to {highest}",
+            start,
+        )
     return (number & ((1 << (8 * length)) - 1)).to_bytes(length, "big")
 
 
-def packed(text, start):
+def packed(text: str, start: int) -> object:
     match = re.fullmatch(r"([+-]?)([0-9]+)", text)
     if not match:
         raise Fault(f"no decimal number: {text}", start)
@@ -753,7 +801,7 @@ def packed(text, start):
     return bytes.fromhex(digits if len(digits) % 2 == 0 else "0" + digits)
 
 
-def zoned(text, start):
+def zoned(text: str, start: int) -> bytes:
     data = bytearray(ebcdic(text.lstrip("+-"), start))
     packed(text, start)
     data[-1] = (0xD0 if text.startswith("-") else 0xC0) + (data[-1] & 15)
@@ -766,7 +814,7 @@ def zoned(text, start):
 class Assembler:
     """Statements become bytes. A pass goes over all of them; passes end when no name's value changes any more."""
 
-    def __init__(self, statements):
+    def __init__(self, statements: object) -> None:
         self.statements = statements
         self.names = {statement.name for statement in statements}
         self.symbols = {}
@@ -783,15 +831,17 @@ class Assembler:
             "PSW": self.status,
         }  # fmt: skip
 
-    def go(self):
+    def go(self) -> None:
         for _ in range(30):
             before = self.symbols
             self.one_pass()
             if self.symbols == before:
                 return
-        raise Refused("some names never keep a value: an EQU, ORG or DS speaks of what comes behind it")
+        raise Refused(
+            "some names never keep a value: an EQU, ORG or DS speaks of what comes behind it"
+        )
 
-    def one_pass(self):
+    def one_pass(self) -> None:
         self.before, self.symbols, self.faults = self.symbols, {}, []
         self.memory, self.stated = bytearray(), bytearray()
         self.lines, self.entry = [], None
@@ -810,7 +860,7 @@ class Assembler:
         except Fault as fault:
             self.faults.append((self.statement.origin, fault))
 
-    def lay(self, statement):
+    def lay(self, statement: object) -> None:
         operation = statement.operation
         if operation in OPERATIONS:
             self.instruction(statement)
@@ -824,7 +874,7 @@ class Assembler:
             raise Fault(self.unknown(operation), statement.operation_at)
 
     @staticmethod
-    def unknown(operation):
+    def unknown(operation: object) -> str:
         if operation in ABSENT:
             return f"this machine has no {operation} (docs/MACHINE.md); DC X'..' stores any bytes"
         if operation.startswith("."):
@@ -833,7 +883,7 @@ class Assembler:
 
     # names and places
 
-    def define(self, name, value, length):
+    def define(self, name: str, value: object, length: int) -> None:
         if not name:
             return
         if not NAME.fullmatch(name):
@@ -842,19 +892,21 @@ class Assembler:
             raise Fault(f"the name {name} stands before another statement too", 0)
         self.symbols[name] = Symbol(value, length)
 
-    def here(self):
+    def here(self) -> object:
         return self.sections[self.here_in]
 
-    def align(self, alignment):
+    def align(self, alignment: object) -> None:
         self.move_to(-(-self.here() // alignment) * alignment)
 
-    def move_to(self, place):
+    def move_to(self, place: Place) -> None:
         if not 0 <= place <= MOST_STORAGE:
-            raise Fault(f"the address {place & 0xFFFFFFFF:X} is past all storage", self.statement.start)
+            raise Fault(
+                f"the address {place & 0xFFFFFFFF:X} is past all storage", self.statement.start
+            )
         self.sections[self.here_in] = place
         self.highest[self.here_in] = max(self.highest[self.here_in], place)
 
-    def reserve(self, length):
+    def reserve(self, length: int) -> object:
         """An area here; where it begins."""
         place = self.here()
         self.move_to(place + length)
@@ -863,19 +915,19 @@ class Assembler:
             self.stated[place : place + length] = b"\1" * length
         return place
 
-    def grow(self):
+    def grow(self) -> None:
         missing = self.highest[PROGRAM] - len(self.memory)
         self.memory += bytes(max(0, missing))
         self.stated += bytes(max(0, missing))
 
-    def store(self, place, data):
+    def store(self, place: Place, data: bytes) -> None:
         if self.here_in == PROGRAM:
             self.memory[place : place + len(data)] = data
         self.made = (self.made[0], self.made[1] + data) if self.made[1] else (place, data)
 
     # expressions
 
-    def expression(self, reader):
+    def expression(self, reader: int) -> tuple:
         """The value, and the length of what its first term names, or None where that is a number."""
         start = reader.at
         sign = -1 if reader.take("-") else 1
@@ -892,7 +944,7 @@ class Assembler:
         return value, length
 
     @staticmethod
-    def joined(left, right, sign, start):
+    def joined(left: object, right: object, sign: object, start: int) -> object:
         number = left.number + sign * right.number
         if right.section is None:
             return Value(number, left.section)
@@ -904,7 +956,7 @@ class Assembler:
             return Value(number, None)
         raise Fault("an address of a DSECT is joined with another address", start)
 
-    def product(self, reader):
+    def product(self, reader: int) -> tuple:
         start = reader.at
         value, length = self.term(reader)
         while reader.peek() in ("*", "/") and reader.peek():
@@ -914,11 +966,13 @@ class Assembler:
                 raise Fault("an address of a DSECT is multiplied or divided", start)
             if not is_times and right.number == 0:
                 raise Fault("a division by zero", start)
-            number = value.number * right.number if is_times else quotient(value.number, right.number)
+            number = (
+                value.number * right.number if is_times else quotient(value.number, right.number)
+            )
             value = Value(number, None)
         return value, length
 
-    def term(self, reader):
+    def term(self, reader: int) -> tuple:
         at = reader.at
         if reader.take("("):
             value, length = self.expression(reader)
@@ -943,7 +997,7 @@ class Assembler:
         return symbol.value, symbol.length
 
     @staticmethod
-    def self_defining(reader, kind):
+    def self_defining(reader: int, kind: str) -> object:
         text, start = reader.quoted()
         if kind == "C":
             data = ebcdic(text.replace("&&", "&"), start)
@@ -957,14 +1011,14 @@ class Assembler:
             raise Fault(f"{kind}'..' has more than 32 bits", start)
         return number
 
-    def length_of(self, reader):
+    def length_of(self, reader: int) -> object:
         at = reader.at
         found = reader.match(NAME)
         if not found:
             raise Fault(f"L' wants a name, and not {reader.rest()}", at)
         return self.symbol(found.group(), at).length
 
-    def symbol(self, name, at):
+    def symbol(self, name: str, at: int) -> object:
         if name in self.symbols:
             return self.symbols[name]
         if name in self.before:
@@ -973,31 +1027,33 @@ class Assembler:
             raise Fault(f"the value of {name} is not known here: it hangs on itself", at)
         raise Fault(f"no statement has the name {name}", at)
 
-    def absolute(self, reader, lowest, highest, what):
+    def absolute(self, reader: int, lowest: object, highest: object, what: str) -> object:
         """A number within bounds."""
         at = reader.at
         value, _ = self.expression(reader)
         if value.section not in (None, PROGRAM):
             raise Fault(f"{what} is an address of a DSECT", at)
         if not lowest <= value.number <= highest:
-            raise Fault(f"{what} is {value.number}, and {lowest} to {highest} is what it may be", at)
+            raise Fault(
+                f"{what} is {value.number}, and {lowest} to {highest} is what it may be", at
+            )
         return value.number
 
     # operands
 
-    def register(self, reader, what="a register"):
+    def register(self, reader: int, what: str = "a register") -> object:
         return self.absolute(reader, 0, 15, what)
 
-    def comma(self, reader):
+    def comma(self, reader: int) -> None:
         if reader.is_done():
             raise Fault(f"{self.statement.operation} lacks an operand here", reader.at)
         reader.need(",")
 
-    def finish(self, reader):
+    def finish(self, reader: int) -> None:
         if not reader.is_done():
             raise Fault(f"{self.statement.operation} has no use for {reader.rest()}", reader.at)
 
-    def base_of(self, value):
+    def base_of(self, value: object) -> object:
         """The register and the displacement of an address by USING, or None."""
         best = None
         for base in self.bases:
@@ -1007,7 +1063,7 @@ class Assembler:
                     best = (base.register, distance)
         return best
 
-    def implied(self, value, at):
+    def implied(self, value: object, at: int) -> object:
         """The register and the displacement of an address for which none is written."""
         if value.section is None and 0 <= value.number <= 4095:
             return 0, value.number
@@ -1020,7 +1076,7 @@ class Assembler:
             raise Fault(f"no USING says which register has an address of {value.section}", at)
         raise Fault(self.unreached(value), at)
 
-    def written(self, value, register, at):
+    def written(self, value: object, register: object, at: int) -> tuple:
         if value.section == PROGRAM and value.number > 4095:
             raise Fault(self.unreached(value), at)
         if not 0 <= value.number <= 4095:
@@ -1028,11 +1084,15 @@ class Assembler:
         return register, value.number
 
     @staticmethod
-    def unreached(value):
-        place = f"{value.number & 0xFFFFFFFF:X}" if value.section else f"{value.number} ({value.number & 0xFFFFFFFF:X} in hexadecimal)"
+    def unreached(value: object) -> str:
+        place = (
+            f"{value.number & 0xFFFFFFFF:X}"
+            if value.section
+            else f"{value.number} ({value.number & 0xFFFFFFFF:X} in hexadecimal)"
+        )
         return f"the address {place} needs a base: no USING reaches it, and it lies past FFF"
 
-    def place(self, reader):
+    def place(self, reader: int) -> tuple:
         """An address as it is written: its value, its length, and what stands in parentheses behind it."""
         if reader.is_done():
             raise Fault(f"{self.statement.operation} lacks an operand here", reader.at)
@@ -1048,10 +1108,10 @@ class Assembler:
             reader.need(")")
         return value, length, inner
 
-    def inner_number(self, at, highest, what):
+    def inner_number(self, at: int, highest: object, what: str) -> object:
         return self.absolute(Reader(self.statement.text, at, self.statement.end), 0, highest, what)
 
-    def indexed(self, reader):
+    def indexed(self, reader: int) -> tuple:
         """D(X,B): index, base and displacement."""
         at = reader.at
         value, _, inner = self.place(reader)
@@ -1067,7 +1127,7 @@ class Assembler:
             return last, *self.base_of(value)
         return 0, *self.written(value, last, at)
 
-    def based(self, reader):
+    def based(self, reader: int) -> object:
         """D(B): base and displacement."""
         at = reader.at
         value, _, inner = self.place(reader)
@@ -1076,10 +1136,13 @@ class Assembler:
         if len(inner) > 1 or inner[0] is None:
             raise Fault("D(B) has a base and nothing else", at)
         if value.section is not None and self.base_of(value):
-            raise Fault(f"{self.statement.operation} has no index here, and USING gives this address its base", at)
+            raise Fault(
+                f"{self.statement.operation} has no index here, and USING gives this address its base",
+                at,
+            )
         return self.written(value, self.inner_number(inner[0], 15, "a register"), at)
 
-    def long(self, reader, most):
+    def long(self, reader: int, most: int) -> tuple:
         """D(L,B): length, base and displacement."""
         at = reader.at
         value, length, inner = self.place(reader)
@@ -1090,14 +1153,16 @@ class Assembler:
         elif length is None:
             raise Fault("the length is not known: a number has none, so write it, as X'48'(4)", at)
         if not 0 <= length <= most:
-            raise Fault(f"the length is {length}, and 0 to {most} is what it may be: write another", at)
+            raise Fault(
+                f"the length is {length}, and 0 to {most} is what it may be: write another", at
+            )
         if len(inner) == 2:
             return length, *self.written(value, self.inner_number(inner[1], 15, "a register"), at)
         return length, *self.implied(value, at)
 
     # instructions
 
-    def instruction(self, statement):
+    def instruction(self, statement: object) -> None:
         self.align(2)
         form, code, mask = OPERATIONS[statement.operation]
         length = LENGTHS[code[0] >> 6]
@@ -1106,71 +1171,83 @@ class Assembler:
         self.define(statement.name, self.start_of_line, length)
         place = self.reserve(length)
         reader = statement.reader()
-        data = self.forms[form](code, reader) if mask is None else self.forms[form](code, reader, mask)
+        data = (
+            self.forms[form](code, reader) if mask is None else self.forms[form](code, reader, mask)
+        )
         self.finish(reader)
         self.store(place, data)
 
     @staticmethod
-    def halfword(base, displacement):
+    def halfword(base: object, displacement: object) -> bytes:
         return bytes([base << 4 | displacement >> 8, displacement & 255])
 
-    def form_rr(self, code, reader):
+    def form_rr(self, code: int, reader: int) -> object:
         first = self.register(reader)
         self.comma(reader)
         return code + bytes([first << 4 | self.register(reader)])
 
-    def form_r(self, code, reader):
+    def form_r(self, code: int, reader: int) -> object:
         return code + bytes([self.register(reader) << 4])
 
-    def form_i(self, code, reader):
+    def form_i(self, code: int, reader: int) -> object:
         return code + bytes([self.absolute(reader, 0, 255, "the code")])
 
-    def form_br(self, code, reader, mask):
+    def form_br(self, code: int, reader: int, mask: object) -> object:
         return code + bytes([mask << 4 | self.register(reader)])
 
-    def form_rx(self, code, reader):
+    def form_rx(self, code: int, reader: int) -> object:
         first = self.register(reader)
         self.comma(reader)
         return self.form_bx(code, reader, first)
 
-    def form_bx(self, code, reader, first):
+    def form_bx(self, code: int, reader: int, first: int) -> object:
         index, base, displacement = self.indexed(reader)
         return code + bytes([first << 4 | index]) + self.halfword(base, displacement)
 
-    def form_rs(self, code, reader):
+    def form_rs(self, code: int, reader: int) -> object:
         first = self.register(reader)
         self.comma(reader)
         third = self.register(reader)
         self.comma(reader)
         return code + bytes([first << 4 | third]) + self.halfword(*self.based(reader))
 
-    def form_shift(self, code, reader):
+    def form_shift(self, code: int, reader: int) -> object:
         first = self.register(reader)
         self.comma(reader)
         return code + bytes([first << 4]) + self.halfword(*self.based(reader))
 
-    def form_si(self, code, reader):
+    def form_si(self, code: int, reader: int) -> object:
         place = self.halfword(*self.based(reader))
         self.comma(reader)
         return code + bytes([self.absolute(reader, 0, 255, "the byte")]) + place
 
-    def form_s(self, code, reader):
+    def form_s(self, code: int, reader: int) -> object:
         return code + self.halfword(*self.based(reader))
 
-    def form_ss(self, code, reader):
+    def form_ss(self, code: int, reader: int) -> object:
         length, base, displacement = self.long(reader, 256)
         self.comma(reader)
-        return code + bytes([max(length - 1, 0)]) + self.halfword(base, displacement) + self.halfword(*self.based(reader))
+        return (
+            code
+            + bytes([max(length - 1, 0)])
+            + self.halfword(base, displacement)
+            + self.halfword(*self.based(reader))
+        )
 
-    def form_ss2(self, code, reader):
+    def form_ss2(self, code: int, reader: int) -> object:
         first, *place = self.long(reader, 16)
         self.comma(reader)
         second, *other = self.long(reader, 16)
-        return code + bytes([max(first - 1, 0) << 4 | max(second - 1, 0)]) + self.halfword(*place) + self.halfword(*other)
+        return (
+            code
+            + bytes([max(first - 1, 0) << 4 | max(second - 1, 0)])
+            + self.halfword(*place)
+            + self.halfword(*other)
+        )
 
     # constants
 
-    def constant(self, reader, is_area):
+    def constant(self, reader: int, is_area: object) -> object:
         """Reads one constant: [times]type[Llength][value]."""
         start = reader.at
         times = 1
@@ -1199,7 +1276,7 @@ class Assembler:
         length = self.constant_length(kind, explicit or normal, value, at)
         return Constant(times, kind, explicit, value, at, length, 1 if explicit else alignment)
 
-    def explicit_length(self, reader, kind):
+    def explicit_length(self, reader: int, kind: str) -> object:
         if not reader.match("L"):
             return None
         at = reader.at
@@ -1217,7 +1294,7 @@ class Assembler:
         return length
 
     @staticmethod
-    def in_parentheses(reader):
+    def in_parentheses(reader: int) -> object:
         start, depth, quoted = reader.at, 1, False
         while not reader.is_done():
             character = reader.peek()
@@ -1230,7 +1307,7 @@ class Assembler:
                 return reader.text[start : reader.at - 1]
         raise Fault("')' is missing", start)
 
-    def constant_length(self, kind, length, value, start):
+    def constant_length(self, kind: str, length: int, value: object, start: int) -> object:
         """How many bytes all values of a constant have, done once."""
         if value is None:
             return length or 1
@@ -1246,20 +1323,25 @@ class Assembler:
             return sum(len(part.lstrip("+-")) for part in parts)
         return length * len(parts)
 
-    def constant_bytes(self, constant, place):
+    def constant_bytes(self, constant: object, place: Place) -> object:
         """The bytes of a constant, once, at a place."""
         kind, value, start = constant.type, constant.value, constant.start
         if kind == "D":
-            raise Fault("D has no value here, since the machine has no floating point: DS D, or 0D to align", start)
+            raise Fault(
+                "D has no value here, since the machine has no floating point: DS D, or 0D to align",
+                start,
+            )
         if kind == "C":
-            return fitted(ebcdic(value.replace("&&", "&"), start), constant.explicit, start, True, b"\x40")
+            return fitted(
+                ebcdic(value.replace("&&", "&"), start), constant.explicit, start, True, b"\x40"
+            )
         out = b""
         for part in split_list(value):
             out += self.part_bytes(constant, part, start, place + len(out))
             start += len(part) + 1
         return out
 
-    def part_bytes(self, constant, part, start, place):
+    def part_bytes(self, constant: object, part: bytes, start: int, place: Place) -> object:
         kind, explicit = constant.type, constant.explicit
         if kind in "XB":
             width, base = (2, 16) if kind == "X" else (8, 2)
@@ -1280,7 +1362,7 @@ class Assembler:
         except Fault as fault:
             raise type(fault)(fault.text, start + (fault.index or 0)) from fault
 
-    def address_bytes(self, reader, kind, length, place):
+    def address_bytes(self, reader: int, kind: str, length: int, place: Place) -> object:
         line = self.start_of_line
         if line is not None:
             self.start_of_line = Value(place, self.here_in)
@@ -1303,18 +1385,21 @@ class Assembler:
             raise Fault(f"{kind}(..) has no use for {reader.rest()}", reader.at)
         return data
 
-    def lay_constant(self, constant, is_area):
+    def lay_constant(self, constant: object, is_area: object) -> None:
         """One constant where the program is now."""
         place = self.reserve(constant.times * constant.length)
         if is_area or constant.times == 0:
             return
         if constant.type in "AYS":
-            data = b"".join(self.constant_bytes(constant, place + n * constant.length) for n in range(constant.times))
+            data = b"".join(
+                self.constant_bytes(constant, place + n * constant.length)
+                for n in range(constant.times)
+            )
         else:
             data = self.constant_bytes(constant, place) * constant.times
         self.store(place, data)
 
-    def data(self, statement):
+    def data(self, statement: object) -> None:
         """DC and DS."""
         is_area = statement.operation == "DS"
         reader = statement.reader()
@@ -1341,7 +1426,7 @@ class Assembler:
 
     # literals
 
-    def literal(self, reader):
+    def literal(self, reader: int) -> object:
         """The place of a literal, which stands behind the next LTORG or at the end."""
         start = reader.at
         reader.need("=")
@@ -1352,13 +1437,13 @@ class Assembler:
         self.pending.setdefault(text, (constant, self.statement.origin, start))
         return self.symbol_of_literal(text, constant)
 
-    def symbol_of_literal(self, text, constant):
+    def symbol_of_literal(self, text: str, constant: object) -> tuple:
         symbol = self.before.get((self.pools, text))
         if symbol is None:
             return Value(self.here(), PROGRAM), constant.length
         return symbol.value, constant.length
 
-    def pool(self, statement):
+    def pool(self, statement: object) -> None:
         """LTORG."""
         self.align(8)
         self.define(statement.name, Value(self.here(), self.here_in), 1)
@@ -1366,7 +1451,7 @@ class Assembler:
             raise Fault("literals have no place in a DSECT", statement.operation_at)
         self.place_literals()
 
-    def place_literals(self):
+    def place_literals(self) -> None:
         """Those that came since the last LTORG: doublewords first, then words, halfwords and others, in order."""
         if not self.pending:
             return
@@ -1375,7 +1460,7 @@ class Assembler:
             self.move_to(self.highest[PROGRAM])
             self.align(8)
 
-        def rank(text):
+        def rank(text: str) -> object:
             size = self.pending[text][0].times * self.pending[text][0].length
             return -max(unit for unit in (8, 4, 2, 1) if size % unit == 0)
 
@@ -1387,13 +1472,15 @@ class Assembler:
             try:
                 self.lay_constant(constant, False)
             except Fault as fault:
-                self.faults.append((origin, Fault(fault.text, start if fault.index is None else fault.index)))
+                self.faults.append(
+                    (origin, Fault(fault.text, start if fault.index is None else fault.index))
+                )
         self.pending = {}
         self.pools += 1
 
     # other statements
 
-    def equate(self, statement):
+    def equate(self, statement: object) -> None:
         reader = statement.reader()
         self.instruction_length = 1
         value, length = self.expression(reader)
@@ -1404,7 +1491,7 @@ class Assembler:
         self.finish(reader)
         self.define(statement.name, value, 1 if length is None else length)
 
-    def origin(self, statement):
+    def origin(self, statement: object) -> None:
         if statement.name:
             raise Fault("ORG has no name: write it before the next statement, or before EQU *", 0)
         reader = statement.reader()
@@ -1414,11 +1501,13 @@ class Assembler:
         at = reader.at
         value, _ = self.expression(reader)
         self.finish(reader)
-        if value.section not in (self.here_in, None) or (value.section is None and self.here_in != PROGRAM):
+        if value.section not in (self.here_in, None) or (
+            value.section is None and self.here_in != PROGRAM
+        ):
             raise Fault(f"ORG leads out of {self.here_in}", at)
         self.move_to(value.number)
 
-    def begin(self, statement):
+    def begin(self, statement: object) -> None:
         """START."""
         self.here_in = PROGRAM
         reader = statement.reader()
@@ -1427,7 +1516,7 @@ class Assembler:
             self.finish(reader)
         self.define(statement.name, Value(self.here(), PROGRAM), 1)
 
-    def section(self, statement):
+    def section(self, statement: object) -> None:
         """CSECT goes on with the program, DSECT states what storage looks like somewhere."""
         if statement.operation == "CSECT":
             self.here_in = PROGRAM
@@ -1442,18 +1531,20 @@ class Assembler:
             self.define(statement.name, Value(0, statement.name), 1)
         self.made = (self.here(), b"")
 
-    def using(self, statement):
+    def using(self, statement: object) -> None:
         reader = statement.reader()
         value, _ = self.expression(reader)
         if reader.is_done():
             raise Fault("USING has an address and a register", reader.at)
         while reader.take(","):
             register = self.register(reader)
-            self.bases = [base for base in self.bases if base.register != register] + [Base(value, register)]
+            self.bases = [base for base in self.bases if base.register != register] + [
+                Base(value, register)
+            ]
             value = Value(value.number + 4096, value.section)
         self.finish(reader)
 
-    def drop(self, statement):
+    def drop(self, statement: object) -> None:
         reader = statement.reader()
         if reader.is_done():
             self.bases = []
@@ -1468,20 +1559,20 @@ class Assembler:
                 break
         self.finish(reader)
 
-    def end(self, statement):
+    def end(self, statement: object) -> None:
         reader = statement.reader()
         if not reader.is_done():
             self.entry = self.absolute(reader, 0, MOST_STORAGE - 1, "the address to begin at")
             self.finish(reader)
 
-    def doubleword(self, statement):
+    def doubleword(self, statement: object) -> tuple:
         self.align(8)
         self.start_of_line = Value(self.here(), self.here_in)
         self.instruction_length = 8
         self.define(statement.name, self.start_of_line, 8)
         return self.reserve(8), statement.reader()
 
-    def command(self, statement):
+    def command(self, statement: object) -> None:
         """CCW code,address,flags,count"""
         place, reader = self.doubleword(statement)
         code = self.absolute(reader, 0, 255, "the command")
@@ -1492,9 +1583,15 @@ class Assembler:
         self.comma(reader)
         count = self.absolute(reader, 0, 65535, "the count")
         self.finish(reader)
-        self.store(place, bytes([code]) + address.to_bytes(3, "big") + bytes([flags, 0]) + count.to_bytes(2, "big"))
+        self.store(
+            place,
+            bytes([code])
+            + address.to_bytes(3, "big")
+            + bytes([flags, 0])
+            + count.to_bytes(2, "big"),
+        )
 
-    def status(self, statement):
+    def status(self, statement: object) -> None:
         """PSW left,address"""
         place, reader = self.doubleword(statement)
         left = self.absolute(reader, 0, 0xFFFFFFFF, "the left word")
@@ -1509,7 +1606,7 @@ class Assembler:
 # --- what comes out ---
 
 
-def assembled(path):
+def assembled(path: str) -> object:
     """The program of a source: an Assembler that has gone over all of it."""
     expander = Expander()
     expander.go(path)
@@ -1517,7 +1614,9 @@ def assembled(path):
     assembler.go()
     faults = expander.faults + assembler.faults
     if faults:
-        for origin, fault in sorted(faults, key=lambda pair: pair[0].pieces[0][1] if pair[0].path == path else 0):
+        for origin, fault in sorted(
+            faults, key=lambda pair: pair[0].pieces[0][1] if pair[0].path == path else 0
+        ):
             for line in origin.message(fault):
                 print(line, file=sys.stderr)
         raise Refused(None)
@@ -1527,13 +1626,13 @@ def assembled(path):
     return assembler
 
 
-def entry_of(program):
+def entry_of(program: str) -> object:
     if program.entry is None:
         raise Refused("END names no address to begin at")
     return program.entry
 
 
-def print_script(program, user, has_begin):
+def print_script(program: str, user: Account, has_begin: object) -> None:
     """Sixteen bytes a line, without the words of zero at either end; with its start it is a script of its own."""
     if has_begin:
         print(f"LINE {user} LOGON")
@@ -1553,7 +1652,7 @@ def print_script(program, user, has_begin):
 LOADER, LOADER_SIZE = 0x80, 0xE0
 
 
-def print_deck(program):
+def print_deck(program: str) -> None:
     """Three cards of the loader, 48 bytes of the program a card, and the end with the words that channels use."""
     entry = entry_of(program)
     place = LOADER
@@ -1566,8 +1665,13 @@ def print_deck(program):
     cards = [loader[:24], loader[place : place + 72], loader[place + 72 : place + 144]]
     for start in range(0, len(program.memory), 48):
         # the loader is not written over
-        below, above = min(start + 48, max(start, place)), max(start, min(start + 48, place + LOADER_SIZE))
-        for first, data in ((start, program.memory[start:below]), (above, program.memory[above : start + 48])):
+        below, above = min(start + 48, max(start, place)), max(
+            start, min(start + 48, place + LOADER_SIZE)
+        )
+        for first, data in (
+            (start, program.memory[start:below]),
+            (above, program.memory[above : start + 48]),
+        ):
             if any(data):
                 cards.append(card("TXT", first, data))
     cards.append(card("END", entry, program.memory[64:76].ljust(12, b"\0")))
@@ -1575,7 +1679,7 @@ def print_deck(program):
         sys.stdout.buffer.write(data + b"\x40" * (80 - len(data)))
 
 
-def assembled_statements(statements):
+def assembled_statements(statements: object) -> bytes:
     assembler = Assembler(statements)
     assembler.go()
     for origin, fault in assembler.faults:
@@ -1583,28 +1687,39 @@ def assembled_statements(statements):
     return bytes(assembler.memory)
 
 
-def card(kind, address, data):
+def card(kind: str, address: int, data: bytes) -> object:
     """02 and the kind, an address in columns 6 to 8, a length in 11 and 12, the bytes from column 17 on."""
     blank = b"\x40"
     return (
-        b"\x02" + ebcdic(kind) + blank + address.to_bytes(3, "big") + 2 * blank + len(data).to_bytes(2, "big") + 4 * blank + data
+        b"\x02"
+        + ebcdic(kind)
+        + blank
+        + address.to_bytes(3, "big")
+        + 2 * blank
+        + len(data).to_bytes(2, "big")
+        + 4 * blank
+        + data
     )
 
 
-def print_volume(program, serial):
+def print_volume(program: str, serial: str) -> None:
     """Record 1 of the first track is the PSW and the command word that reads record 2, the program from 18 on."""
     entry = entry_of(program)
     if any(program.memory[:24]):
-        raise Refused("a program on a volume begins at 18 at the lowest: below stand its first bytes, which say how to go on")
+        raise Refused(
+            "a program on a volume begins at 18 at the lowest: below stand its first bytes, which say how to go on"
+        )
     data = program.memory[24:]
     if len(data) > 12871:
-        raise Refused("a program on a volume ends at 325F at the highest, where the first track is full")
+        raise Refused(
+            "a program on a volume ends at 325F at the highest, where the first track is full"
+        )
     print(f"VOLUME {serial} 1")
     print(f"REC 0 0 0000000001 - 0000000000{entry:06X}060000182000{len(data):04X}0000000000000000")
     print(f"REC 0 0 0000000002 - {data.hex().upper()}")
 
 
-def addresses(program):
+def addresses(program: str) -> object:
     """The names of the program's addresses, but those that other names or numbers equate."""
     found = {}
     for statement, section, place, _ in program.lines:
@@ -1613,20 +1728,33 @@ def addresses(program):
     return found
 
 
-def print_listing(program):
+def print_listing(program: str) -> None:
     """Of each statement its address, its bytes, eight a line, and its text; then each name with its address and length."""
     for statement, section, place, data in program.lines:
-        has_place = data or statement.operation in ("DS", "DC", "ORG", "DSECT", "CSECT", "LTORG") or not statement.operation
-        address = f"{place:06X}" if has_place and section == PROGRAM else f"+{place:05X}" if has_place else ""
+        has_place = (
+            data
+            or statement.operation in ("DS", "DC", "ORG", "DSECT", "CSECT", "LTORG")
+            or not statement.operation
+        )
+        address = (
+            f"{place:06X}"
+            if has_place and section == PROGRAM
+            else f"+{place:05X}"
+            if has_place
+            else ""
+        )
         print(f"{address:6} {data[:8].hex().upper():16} {statement.text.rstrip()}")
         for start in range(8, len(data), 8):
             print(f"{place + start:06X} {data[start : start + 8].hex().upper()}")
     print()
-    for key, symbol in sorted((str(key if isinstance(key, str) else key[1]), value) for key, value in program.symbols.items()):
+    for key, symbol in sorted(
+        (str(key if isinstance(key, str) else key[1]), value)
+        for key, value in program.symbols.items()
+    ):
         print(f"{symbol.value.number:06X} {symbol.length:5d} {key}")
 
 
-def main(words):
+def main(words: list[str]) -> object:
     form, source = words[0], words[-1]
     try:
         program = assembled(source)
@@ -1643,7 +1771,9 @@ def main(words):
         sys.stdout.flush()
     except Refused as refused:
         text = refused.args[0]
-        print(f"asm370: {source}: {text}" if text else f"asm370: {source} is refused", file=sys.stderr)
+        print(
+            f"asm370: {source}: {text}" if text else f"asm370: {source} is refused", file=sys.stderr
+        )
         return REFUSED
     return 0
 

@@ -1,4 +1,6 @@
 """Channel words as text (docs/MACHINE.md, "Channel" and "Devices")."""
+from __future__ import annotations
+
 
 FLAGS = {0x80: "CD", 0x40: "CC", 0x20: "SLI", 0x10: "SKIP", 0x08: "PCI", 0x04: "IDA"}
 UNIT_STATUS = {
@@ -30,38 +32,45 @@ COMMANDS = {
 }  # fmt: skip
 
 
-def names(bits, table):
+def names(bits: object, table: object) -> str:
     return ", ".join(text for bit, text in table.items() if bits & bit)
 
 
-def is_jump(word):
+def is_jump(word: str) -> bool:
     """Whether a command word is a transfer in channel."""
     return word[0] & 15 == 8
 
 
-def address_in(word):
+def address_in(word: str) -> object:
     return int.from_bytes(word[1:4], "big")
 
 
-def command_text(word, kind):
+def command_text(word: str, kind: str) -> str:
     """A command word: its fields in hexadecimal, and what they say."""
-    shown = f"{word[0]:02X} {address_in(word):06X} {word[4]:02X} {int.from_bytes(word[6:8], 'big'):04X}"
+    shown = (
+        f"{word[0]:02X} {address_in(word):06X} {word[4]:02X} {int.from_bytes(word[6:8], 'big'):04X}"
+    )
     if is_jump(word):
         return f"{shown}  Transfer in Channel"
-    said = (SENSES | COMMANDS.get(kind, {})).get(word[0], "a command that the device does not have" if kind else "")
+    said = (SENSES | COMMANDS.get(kind, {})).get(
+        word[0], "a command that the device does not have" if kind else ""
+    )
     return f"{shown}  {said}; {names(word[4], FLAGS)}".rstrip("; ")
 
 
-def status_text(word):
+def status_text(word: str) -> str:
     """A channel status word: its fields in hexadecimal, and what they say."""
-    said = "; ".join(it for it in (names(word[4], UNIT_STATUS), names(word[5], CHANNEL_STATUS)) if it)
+    said = "; ".join(
+        item for item in (names(word[4], UNIT_STATUS), names(word[5], CHANNEL_STATUS)) if item
+    )
     shown = f"{word[0]:02X} {address_in(word):06X} {word[4]:02X}{word[5]:02X} {int.from_bytes(word[6:8], 'big'):04X}"
     return f"{shown}  {said}".rstrip()
 
 
-def chained(start, word_at):
+def chained(start: int, word_at: object) -> list:
     """The places of a program's words and the words, in the order in which chaining and transfers lead to them; of a transfer
-    back what a status modifier leads to behind it. word_at gives a word, or None where there is none."""
+    back what a status modifier leads to behind it. word_at gives a word, or None where there is none.
+    """
     found = {}
     place, before = start, None
     while place is not None and place not in found and len(found) < 400:

@@ -2,6 +2,8 @@
 
 An operator sends lines, each a command. What is sent to him are lines that begin with + for what happens and with = for an answer;
 at the end of each answer a dot and a number say whether the command was done, was refused, or ends the installation."""
+from __future__ import annotations
+
 import contextlib
 import os
 import socket
@@ -17,7 +19,7 @@ HAPPENS, ANSWER, END_OF_ANSWER = "+", "=", "."
 class Consoles:
     """The operators at a socket."""
 
-    def __init__(self, listener, operator, journal, loop):
+    def __init__(self, listener: object, operator: object, journal: object, loop: object) -> None:
         self.listener = listener
         self.operator = operator
         self.journal = journal
@@ -25,7 +27,7 @@ class Consoles:
         self.count = 0
         threading.Thread(target=self.accept_all, daemon=True).start()
 
-    def accept_all(self):
+    def accept_all(self) -> None:
         while True:
             try:
                 connection, _ = self.listener.accept()
@@ -37,7 +39,7 @@ class Consoles:
             self.count += 1
             threading.Thread(target=self.serve, args=(connection,), daemon=True).start()
 
-    def serve(self, connection):
+    def serve(self, connection: object) -> None:
         """Serves one operator until he goes."""
         outlet = Outlet(os.dup(connection.fileno()), prefix=HAPPENS)
         self.journal.add(outlet)
@@ -60,11 +62,15 @@ class Consoles:
             outlet.close()
             os.close(outlet.handle)
 
-    def do(self, text, outlet):
+    def do(self, text: str, outlet: object) -> None:
         """Has a command done, whose answer is for this operator only."""
-        self.operator.do(text, lambda answer: outlet.put(answer, ANSWER), lambda how: outlet.put_as_is(f"{END_OF_ANSWER}{how}"))
+        self.operator.do(
+            text,
+            lambda answer: outlet.put(answer, ANSWER),
+            lambda how: outlet.put_as_is(f"{END_OF_ANSWER}{how}"),
+        )
 
-    def close(self):
+    def close(self) -> None:
         with contextlib.suppress(OSError):
             self.listener.shutdown(socket.SHUT_RDWR)
         self.listener.close()

@@ -1,4 +1,8 @@
 """Folders from which decks of cards are read in."""
+from __future__ import annotations
+
+from collections.abc import Callable, Iterator
+from typing import TYPE_CHECKING
 import asyncio
 import contextlib
 import itertools
@@ -8,6 +12,9 @@ import stat
 from engine import Part
 from punching import CARD, cards_of, sent
 from recording import DECK_READ
+
+if TYPE_CHECKING:
+    from desk import Account
 
 # a DECK line of a script has so many cards at most
 MOST_CARDS = 1000
@@ -21,36 +28,36 @@ OPEN_FILE = os.O_RDONLY | os.O_NOFOLLOW | os.O_NONBLOCK | os.O_CLOEXEC
 OPEN_NEW = os.O_WRONLY | os.O_CREAT | os.O_EXCL | os.O_NOFOLLOW | os.O_CLOEXEC
 
 
-def wrong_text(data):
+def wrong_text(data: bytes) -> str:
     """Why a file is no deck of characters, or nothing."""
     cards = data.removesuffix(b"\n").split(b"\n")
-    wrong = [place for place, it in enumerate(cards, 1) if len(it) > CARD]
+    wrong = [place for place, item in enumerate(cards, 1) if len(item) > CARD]
     if wrong:
         return f"card {wrong[0]} is longer than {CARD}"
     return f"more than {MOST_CARDS} cards" if len(cards) > MOST_CARDS else ""
 
 
-def text_deck(data, user):
+def text_deck(data: bytes, user: Account) -> object:
     """A deck of characters as a line of a script and its cards."""
     cards = data.replace(b"\r\n", b"\n").removesuffix(b"\n").split(b"\n")
-    return b"DECK %s %d\n" % (user.encode(), len(cards)) + b"".join(it + b"\n" for it in cards)
+    return b"DECK %s %d\n" % (user.encode(), len(cards)) + b"".join(card + b"\n" for card in cards)
 
 
 class Sender:
     """A user of the directory whose machine punches decks of any bytes for others. Nobody logs on to it."""
 
-    def __init__(self, name, punch):
+    def __init__(self, name: str, punch: object) -> None:
         self.name = name
         self.punch = punch
 
-    def scripts(self, data, receiver):
+    def scripts(self, data: bytes, receiver: object) -> list:
         return list(sent(cards_of(data), self.name, self.punch, receiver))
 
 
 class DeckFile:
     """A file in a user's folder. Its state changes whenever the file does."""
 
-    def __init__(self, name, state):
+    def __init__(self, name: str, state: str) -> None:
         self.name = name
         self.state = state
 
@@ -59,26 +66,32 @@ class DeckFolder:
     """The open folder of one user. Every name is looked up in the folder itself, so that links and renamed folders lead nowhere
     else. What the user does in it can only make an operation on his own file fail."""
 
-    def __init__(self, path):
+    def __init__(self, path: str) -> None:
         self.handle = os.open(path, OPEN_FOLDER)
 
-    def close(self):
+    def close(self) -> None:
         os.close(self.handle)
 
-    def files(self):
+    def files(self) -> Iterator:
         """The plain files, in the order of their names; links, folders and pipes are no decks."""
         with os.scandir(self.handle) as entries:
-            names = (entry.name for entry in entries if not entry.name.startswith(".") and entry.is_file(follow_symlinks=False))
+            names = (
+                entry.name
+                for entry in entries
+                if not entry.name.startswith(".") and entry.is_file(follow_symlinks=False)
+            )
             found = sorted(itertools.islice(names, MOST_FILES))
         for name in found:
             with contextlib.suppress(FileNotFoundError):
-                yield DeckFile(name, state_of(os.stat(name, dir_fd=self.handle, follow_symlinks=False)))
+                yield DeckFile(
+                    name, state_of(os.stat(name, dir_fd=self.handle, follow_symlinks=False))
+                )
 
-    def changed(self):
+    def changed(self) -> object:
         """When a name was last added or removed."""
         return os.fstat(self.handle).st_mtime_ns
 
-    def read(self, name):
+    def read(self, name: str) -> tuple:
         """The bytes of a file, one more than a deck may have at most, and its state."""
         handle = os.open(name, OPEN_FILE, dir_fd=self.handle)
         with open(handle, "rb") as file:
@@ -87,7 +100,7 @@ class DeckFolder:
                 raise OSError(0, "the file has another name, or is no plain file")
             return file.read(MOST_BYTES + 1), state_of(found)
 
-    def move(self, name, inner, reason):
+    def move(self, name: str, inner: object, reason: object) -> None:
         """Moves a file to an inner folder under a name that is new there, next to it the reason why it is refused, if it is."""
         with contextlib.suppress(FileExistsError):
             os.mkdir(inner, dir_fd=self.handle)
@@ -95,7 +108,9 @@ class DeckFolder:
         try:
             taken = set(os.listdir(target))
             numbered = (f"{name}.{count}" if count > 1 else name for count in itertools.count(1))
-            moved = next(new for new in numbered if new not in taken and f"{new}.reason" not in taken)
+            moved = next(
+                new for new in numbered if new not in taken and f"{new}.reason" not in taken
+            )
             os.rename(name, moved, src_dir_fd=self.handle, dst_dir_fd=target)
             if reason:
                 with open(os.open(f"{moved}.reason", OPEN_NEW, 0o666, dir_fd=target), "w") as file:
@@ -108,7 +123,9 @@ class Folders:
     """A folder for each user; what is put into it is read in as a deck for him, and goes to `done` or `refused`. A file whose
     name ends with .deck has 80 bytes a card, any other is text, a line a card."""
 
-    def __init__(self, folder, engine, readers, sender, tell):
+    def __init__(
+        self, folder: str, engine: object, readers: object, sender: object, tell: Callable
+    ) -> None:
         self.folder = folder
         self.engine = engine
         self.readers = readers
@@ -119,13 +136,13 @@ class Folders:
         # files that failed: with which state of the file and of the folder, and the reason
         self.failed = {}
 
-    def make(self):
+    def make(self) -> None:
         """Makes the folders that are missing."""
         os.makedirs(self.folder, exist_ok=True)
         for user in sorted(self.readers):
             os.makedirs(os.path.join(self.folder, user), exist_ok=True)
 
-    async def watch(self):
+    async def watch(self) -> None:
         """Looks at the folders every two seconds. A file is taken if it did not change in between."""
         while True:
             found = {}
@@ -137,7 +154,7 @@ class Folders:
             self.failed = {key: failure for key, failure in self.failed.items() if key in found}
             await asyncio.sleep(SECONDS)
 
-    async def look_at(self, user, found):
+    async def look_at(self, user: Account, found: object) -> None:
         """Reads in the files of a user that have not changed since the last round."""
         folder = DeckFolder(os.path.join(self.folder, user))
         try:
@@ -150,7 +167,7 @@ class Folders:
         finally:
             folder.close()
 
-    async def read(self, folder, file, user):
+    async def read(self, folder: str, file: object, user: Account) -> None:
         """Gives a user the deck of a file, and moves the file. If that fails the reason is reported once, and the file is skipped
         until it or its folder changes."""
         try:
@@ -160,10 +177,12 @@ class Folders:
         except OSError as error:
             key, reason = (user, file.name), error.strerror
             if self.failed.get(key, ["", ""])[1] != (file.state, reason):
-                self.tell(f"deck {file.name} for {user}: {reason}; the file is skipped until it changes")
+                self.tell(
+                    f"deck {file.name} for {user}: {reason}; the file is skipped until it changes"
+                )
             self.failed[key] = [(file.state, folder.changed()), (file.state, reason)]
 
-    async def give(self, folder, file, user):
+    async def give(self, folder: str, file: object, user: Account) -> str:
         """Gives a user the deck of a file, once even if the host crashes before the file is moved; the reason if it is refused."""
         mark = DECK_READ + b"%s %d %d %d\n" % (user.encode(), *file.state)
         if mark in self.engine.recording.decks:
@@ -174,27 +193,27 @@ class Folders:
             await self.give_all([*map(Part, scripts[:-1]), Part(scripts[-1] + mark, is_kept=True)])
         return reason
 
-    def judged(self, folder, file, user):
+    def judged(self, folder: str, file: object, user: Account) -> object:
         """Why the file is refused, or else the scripts that give it to the user."""
         data, state = folder.read(file.name)
         if state != file.state:
             raise OSError(0, "the file changes while it is read")
         return self.scripts_of(file.name, data, user)
 
-    async def read_in(self, name, data, user):
+    async def read_in(self, name: str, data: bytes, user: Account) -> object:
         """Gives a user a deck of these bytes; the reason if it is refused."""
         reason, scripts = self.scripts_of(name, data, user)
         if scripts:
             await self.give_all([*map(Part, scripts[:-1]), Part(scripts[-1], is_kept=True)])
         return reason
 
-    async def give_all(self, parts):
+    async def give_all(self, parts: object) -> None:
         """Has the parts of a deck done. The sender punches one deck after the other."""
         async with self.giving:
             for part in parts:
                 await self.engine.give(part)
 
-    def scripts_of(self, name, data, user):
+    def scripts_of(self, name: str, data: bytes, user: Account) -> tuple:
         """Why a deck is refused, or else the scripts that give it to the user."""
         if user not in self.readers:
             return f"{user} has no reader", []
@@ -212,11 +231,11 @@ class Folders:
         return "", self.sender.scripts(data, user)
 
 
-async def in_thread(work, *given):
+async def in_thread(work: str, *given: object) -> object:
     """Does what waits for a disk without keeping anybody waiting."""
     return await asyncio.get_running_loop().run_in_executor(None, work, *given)
 
 
-def state_of(found):
+def state_of(found: object) -> tuple:
     """What differs as soon as a file has changed."""
     return found.st_ino, found.st_size, found.st_mtime_ns

@@ -1,4 +1,7 @@
 """A program that goes on from where a script has led it (docs/COMMAND_LINE.md, "Parts of a script")."""
+from __future__ import annotations
+
+from collections.abc import Iterator
 import os
 import queue
 import re
@@ -26,14 +29,15 @@ class Died(Failure):
 
 class Came(NamedTuple):
     """What came of a part: the lines of the transcript; each file that it closed for the operator, its heading and the lines of its
-    entries, as bytes; each user's new state, a word and his name; whether its last turn found nobody ready."""
+    entries, as bytes; each user's new state, a word and his name; whether its last turn found nobody ready.
+    """
 
     events: list
     files: list
     states: list
     is_idle: bool
 
-    def headings(self):
+    def headings(self) -> list:
         return [heading for heading, _ in self.files]
 
 
@@ -47,14 +51,14 @@ class Answers:
     """Cuts what a program writes into answers as it arrives. A file's entries stay as they are, since a listing may have millions
     of lines, and whoever handles each of them keeps others waiting."""
 
-    def __init__(self):
+    def __init__(self) -> None:
         self.left = b""
         self.begin()
 
-    def begin(self):
+    def begin(self) -> None:
         self.events, self.files, self.states, self.is_idle = [], [], [], False
 
-    def feed(self, data):
+    def feed(self, data: bytes) -> Iterator:
         """The answers that these bytes end."""
         data = self.left + data
         place, end = 0, data.rfind(b"\n") + 1
@@ -70,7 +74,7 @@ class Answers:
                     yield answer
             place = stop
 
-    def take(self, line):
+    def take(self, line: bytes) -> object:
         """Takes a line; the answer that it ends, or None."""
         if not line.startswith(b"> "):
             self.events.append(text_of(line))
@@ -84,20 +88,22 @@ class Answers:
             self.is_idle = True
         elif word in (b"DONE", b"REFUSED"):
             files = [(heading, b"".join(pieces)) for heading, pieces in self.files]
-            answer = Refused(int(rest)) if rest else Came(self.events, files, self.states, self.is_idle)
+            answer = (
+                Refused(int(rest)) if rest else Came(self.events, files, self.states, self.is_idle)
+            )
             self.begin()
             return answer
         return None
 
 
-def text_of(line):
+def text_of(line: bytes) -> str:
     return line.decode(errors="surrogateescape")
 
 
 class Program:
     """A program that is given a script part by part; some of its answers may be still to come."""
 
-    def __init__(self, machines, *options):
+    def __init__(self, machines: object, *options: object) -> None:
         self.errors = tempfile.TemporaryFile()
         streams = {"stdin": subprocess.PIPE, "stdout": subprocess.PIPE, "stderr": self.errors}
         # an interrupt at the terminal is for the command alone
@@ -108,7 +114,7 @@ class Program:
         self.answers = queue.SimpleQueue()
         threading.Thread(target=self.listen, daemon=True).start()
 
-    def listen(self):
+    def listen(self) -> None:
         """Takes what the program writes, so that it never waits for a reader."""
         answers = Answers()
         with self.process.stdout as output:
@@ -118,12 +124,12 @@ class Program:
                     self.answers.put(answer)
         self.answers.put(None)
 
-    def send(self, part):
+    def send(self, part: bytes) -> None:
         """Gives it a part, whose answer is awaited later."""
         self.awaited += 1
         self.write(b"%d\n%s" % (len(part), part))
 
-    def write(self, data):
+    def write(self, data: bytes) -> None:
         try:
             self.process.stdin.write(data)
             self.process.stdin.flush()
@@ -131,14 +137,14 @@ class Program:
             # it has ended, and its answer will tell why
             pass
 
-    def do(self, part):
+    def do(self, part: bytes) -> object:
         """What comes of a part. Where it is refused, nothing has happened."""
         self.send(part)
         while self.awaited > 1:
             self.answer()
         return self.answer()
 
-    def answer(self):
+    def answer(self) -> object:
         """What came of the first part whose answer is awaited."""
         self.awaited -= 1
         answer = self.answers.get()
@@ -148,14 +154,14 @@ class Program:
             raise ScriptRefused(answer.line)
         return answer
 
-    def finish(self):
+    def finish(self) -> None:
         """Ends the session, which saves volumes if the program was told to."""
         self.is_ending = True
         self.write(b"END\n")
         if self.process.wait():
             raise self.failed()
 
-    def failed(self):
+    def failed(self) -> object:
         """Why the program has ended by itself."""
         status = self.process.wait()
         self.errors.seek(0)
@@ -165,7 +171,7 @@ class Program:
         found = failure(status, told)
         return Died(found.status, *found.lines) if status < 0 or status == NO_MEMORY else found
 
-    def close(self):
+    def close(self) -> None:
         self.process.kill()
         self.process.wait()
         self.errors.close()
@@ -178,15 +184,15 @@ class Program:
 class Follower(Program):
     """One that keeps the script which it was given."""
 
-    def __init__(self, machines):
+    def __init__(self, machines: object) -> None:
         super().__init__(machines)
         self.script = b""
 
-    def send(self, part):
+    def send(self, part: bytes) -> None:
         self.script += part
         super().send(part)
 
-    def do(self, part):
+    def do(self, part: bytes) -> object:
         before = self.script
         try:
             return super().do(part)

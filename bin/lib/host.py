@@ -1,10 +1,12 @@
 """What processes take of the host."""
+from __future__ import annotations
+
 import os
 
 MEGABYTE = 1 << 20
 
 
-def memory_of(process):
+def memory_of(process: object) -> object:
     """The bytes of memory that a process has, or 0 if it is gone."""
     try:
         with open(f"/proc/{process}/statm") as file:
@@ -13,7 +15,7 @@ def memory_of(process):
         return 0
 
 
-def processor_seconds(process):
+def processor_seconds(process: object) -> object:
     """The processor time that a process took until now, or 0 if it is gone."""
     try:
         with open(f"/proc/{process}/stat") as file:
@@ -23,6 +25,6 @@ def processor_seconds(process):
         return 0.0
 
 
-def usual_memory():
+def usual_memory() -> object:
     """Half of the host's memory."""
     return os.sysconf("SC_PHYS_PAGES") * os.sysconf("SC_PAGE_SIZE") // 2

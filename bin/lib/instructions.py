@@ -1,4 +1,6 @@
 """Instructions as bin/asm370 takes them: the table of docs/MACHINE.md, and the text of an instruction's bytes."""
+from __future__ import annotations
+
 
 # operands of a form: what stands where in the bytes
 RR = "{r1},{r2}"
@@ -37,12 +39,12 @@ INSTRUCTIONS = {
 ALIKE = {"9C01": "SIOF", "9E01": "HDV"}
 
 
-def length(first):
+def length(first: int) -> object:
     """How many bytes an instruction has, by its first byte."""
     return (2, 4, 4, 6)[first >> 6]
 
 
-def text_of(code):
+def text_of(code: int) -> tuple:
     """The name and the operands of an instruction's bytes; of an unknown code DC and the bytes."""
     code = code[: length(code[0])]
     if code[0] not in INSTRUCTIONS or len(code) < length(code[0]):
@@ -52,7 +54,7 @@ def text_of(code):
     return name, form.format(**fields(code))
 
 
-def fields(code):
+def fields(code: int) -> dict:
     """The fields of an instruction's bytes, by the names in the forms above."""
     code = code + bytes(6)
     second, third = int.from_bytes(code[2:4], "big"), int.from_bytes(code[4:6], "big")
@@ -70,7 +72,7 @@ def fields(code):
     }
 
 
-def place_of(code, registers):
+def place_of(code: int, registers: object) -> object:
     """The address of the storage operand of an instruction of forms RX and S, modulo 2^24."""
     name, form = INSTRUCTIONS[code[0]]
     found = fields(code)
@@ -80,7 +82,7 @@ def place_of(code, registers):
     return place & 0xFFFFFF
 
 
-def under_execute(code, target, registers):
+def under_execute(code: int, target: object, registers: object) -> object:
     """The target of EX as it is carried out."""
     register = code[1] >> 4
     joined = target[1] | (registers[register] & 255 if register else 0)

@@ -1,5 +1,8 @@
 """The volumes of an installation. While a session goes on they stay as they were when it began; its end replaces them, and a
 crash in the midst of that is made good by the next start."""
+from __future__ import annotations
+
+from collections.abc import Callable
 import contextlib
 import fcntl
 import glob
@@ -18,14 +21,14 @@ class Keeping:
     """Where the images of a session come to when it ends: a folder next to the recording, until they are in their places. Each
     start has another one, since a program whose command was killed may still write to its own."""
 
-    def __init__(self, record, directory, volumes):
+    def __init__(self, record: object, directory: str, volumes: object) -> None:
         self.record = record
         self.directory = directory
         self.volumes = volumes
         self.folder = ""
         self.locked = []
 
-    def lock(self):
+    def lock(self) -> None:
         """Keeps the volumes from any other installation until it is closed."""
         for volume in self.volumes:
             file = open(volume, "rb")
@@ -33,16 +36,21 @@ class Keeping:
             try:
                 fcntl.flock(file, fcntl.LOCK_EX | fcntl.LOCK_NB)
             except BlockingIOError:
-                raise Failure(REFUSED, f"another installation uses {volume}, or it is named twice") from None
+                raise Failure(
+                    REFUSED, f"another installation uses {volume}, or it is named twice"
+                ) from None
 
-    def close(self):
+    def close(self) -> None:
         for file in self.locked:
             file.close()
 
-    def paths(self):
-        return [os.path.join(self.folder, f"volume-{place}") for place in range(1, len(self.volumes) + 1)]
+    def paths(self) -> list:
+        return [
+            os.path.join(self.folder, f"volume-{place}")
+            for place in range(1, len(self.volumes) + 1)
+        ]
 
-    def begin(self):
+    def begin(self) -> object:
         """The paths by which the program reads the volumes, and will save others."""
         self.forget()
         where, name = os.path.split(os.path.abspath(self.record))
@@ -51,20 +59,24 @@ class Keeping:
             os.symlink(os.path.realpath(volume), path)
         return self.paths()
 
-    def forget(self):
+    def forget(self) -> None:
         """Removes the folders of this start and of those before it."""
-        for it in glob.glob(glob.escape(os.path.abspath(self.record) + ENDING) + "*"):
-            shutil.rmtree(it, ignore_errors=True)
+        for path in glob.glob(glob.escape(os.path.abspath(self.record) + ENDING) + "*"):
+            shutil.rmtree(path, ignore_errors=True)
 
-    def make_room(self):
+    def make_room(self) -> None:
         """What the program saves from now on comes into the folder, and not to the volumes themselves."""
         for path in self.paths():
             os.unlink(path)
             with open(path, "xb"):
                 pass
-        write_whole(os.path.join(self.folder, DIRECTORY), without_passwords(read_whole(self.directory)), is_settled=True)
+        write_whole(
+            os.path.join(self.folder, DIRECTORY),
+            without_passwords(read_whole(self.directory)),
+            is_settled=True,
+        )
 
-    def saved_mark(self):
+    def saved_mark(self) -> object:
         """The line of the recording that tells that all is saved, once it is on the disk: in which folder, and the sums."""
         for path in self.paths():
             sync_file(path)
@@ -72,21 +84,30 @@ class Keeping:
         words = [os.path.basename(self.folder), *map(sum_of_file, self.paths())]
         return SAVED + " ".join(words).encode(errors="surrogateescape")
 
-    def set_aside(self, recording, tell):
+    def set_aside(self, recording: object, tell: Callable) -> object:
         """Puts the saved images in the places of the volumes, and returns the folder to which the recording goes with these as they
         were, and with the directory. What of this was done before a crash stays."""
         self.find(recording.last)
         aside = recording.aside()
         os.makedirs(aside, 0o700, exist_ok=True)
         for path, volume, known in zip(self.paths(), self.volumes, recording.volume_sums()):
-            self.replace(path, volume, known, recording.name(), os.path.join(aside, os.path.basename(path)), tell)
+            self.replace(
+                path,
+                volume,
+                known,
+                recording.name(),
+                os.path.join(aside, os.path.basename(path)),
+                tell,
+            )
         copy_whole(os.path.join(self.folder, DIRECTORY), os.path.join(aside, DIRECTORY))
         os.replace(self.record, os.path.join(aside, "recording"))
         sync_folder(self.record)
         self.forget()
         return aside
 
-    def replace(self, path, volume, known, name, aside, tell):
+    def replace(
+        self, path: str, volume: object, known: object, name: str, aside: object, tell: Callable
+    ) -> None:
         """Puts a saved image in the place of a volume whose sum is still as it is known, and keeps the old one aside. A volume
         that somebody else has changed stays as it is: the image comes next to it."""
         now = sum_of_file(volume) if os.path.exists(volume) else ""
@@ -97,17 +118,29 @@ class Keeping:
             return
         copied = f"{os.path.realpath(volume)}.{name}"
         copy_whole(path, copied)
-        tell(f"{volume} was changed by somebody else during the session, and stays as it is; the volume of the session is {copied}")
+        tell(
+            f"{volume} was changed by somebody else during the session, and stays as it is; the volume of the session is {copied}"
+        )
 
-    def find(self, mark):
+    def find(self, mark: object) -> None:
         """Finds the images that were saved, as the recording tells."""
-        words = mark.removeprefix(SAVED).decode(errors="surrogateescape").rstrip("\n").rsplit(" ", len(self.volumes))
+        words = (
+            mark.removeprefix(SAVED)
+            .decode(errors="surrogateescape")
+            .rstrip("\n")
+            .rsplit(" ", len(self.volumes))
+        )
         self.folder = os.path.join(os.path.dirname(os.path.abspath(self.record)), words[0])
-        if words[1:] != [sum_of_file(it) if os.path.exists(it) else "" for it in self.paths()]:
-            raise Failure(FILE_FAILED, f"{self.folder} lacks images that were saved at the end of {self.record}")
+        if words[1:] != [
+            sum_of_file(path) if os.path.exists(path) else "" for path in self.paths()
+        ]:
+            raise Failure(
+                FILE_FAILED,
+                f"{self.folder} lacks images that were saved at the end of {self.record}",
+            )
 
 
-def keep(volume, aside):
+def keep(volume: object, aside: object) -> None:
     """Has an image under another name too, where that is not there yet."""
     if os.path.exists(aside):
         return
@@ -118,13 +151,13 @@ def keep(volume, aside):
         copy_whole(volume, aside)
 
 
-def put(path, volume):
+def put(path: str, volume: object) -> None:
     """Puts a file in the place of a volume, for the same people."""
     place = os.path.realpath(volume)
     copy_whole(path, place, os.stat(place))
 
 
-def copy_whole(path, to, owned=None):
+def copy_whole(path: str, to: object, owned: object = None) -> None:
     """A copy that is there whole or not at all, also after the host has crashed; whose it is, is told by a file's state."""
     copied = f"{to}.new-{os.getpid()}"
     try:
@@ -147,7 +180,7 @@ def copy_whole(path, to, owned=None):
     sync_folder(to)
 
 
-def sync_file(path):
+def sync_file(path: str) -> None:
     file = os.open(path, os.O_RDONLY)
     try:
         os.fsync(file)

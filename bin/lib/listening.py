@@ -1,4 +1,6 @@
 """Sockets at a path of the file system."""
+from __future__ import annotations
+
 import os
 import socket
 import stat
@@ -6,7 +8,7 @@ import stat
 from people import FILE_FAILED, Failure
 
 
-def unix_socket(path, mode=None):
+def unix_socket(path: str, mode: int = None) -> object:
     """A socket that listens at a path, with these rights of its file. What a dead process left there is replaced; a living one
     keeps it."""
     found = socket.socket(socket.AF_UNIX, socket.SOCK_STREAM)
@@ -26,7 +28,7 @@ def unix_socket(path, mode=None):
         raise Failure(FILE_FAILED, f"{path}: {error.strerror or error}") from None
 
 
-def free(path):
+def free(path: str) -> None:
     """Removes the socket of a process that is gone."""
     with socket.socket(socket.AF_UNIX, socket.SOCK_STREAM) as trial:
         try:

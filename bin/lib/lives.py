@@ -1,9 +1,15 @@
 """What a recording tells of each user: his console, his cards, his files, and what his machine did at which moment."""
+from __future__ import annotations
+
+from typing import TYPE_CHECKING
 import collections
 import re
 
 from printed import entries_in
 from recording import TYPED
+
+if TYPE_CHECKING:
+    from desk import Account
 
 # lines of a console that are kept, the last ones
 MOST_LINES = 3000
@@ -23,16 +29,18 @@ class Time:
     """How much of each kind there was in each stretch of time. Stretches are joined in pairs as it goes on, so that it takes no
     more memory the longer it is."""
 
-    def __init__(self):
+    def __init__(self) -> None:
         self.width = 1
         self.now = 0
-        self.lanes = collections.defaultdict(lambda: {it: collections.Counter() for it in KINDS})
+        self.lanes = collections.defaultdict(
+            lambda: {kind: collections.Counter() for kind in KINDS}
+        )
         self.clock = []
 
-    def add(self, user, kind, amount):
+    def add(self, user: Account, kind: str, amount: object) -> None:
         self.lanes[user][kind][self.now // self.width] += amount
 
-    def pass_by(self, moments):
+    def pass_by(self, moments: object) -> None:
         self.now += moments
         while self.now // self.width >= 2 * STRETCHES:
             self.width *= 2
@@ -40,7 +48,7 @@ class Time:
                 for kind, counts in lane.items():
                     lane[kind] = halved(counts)
 
-    def stamp(self, text):
+    def stamp(self, text: str) -> None:
         """Notes a time of the day."""
         if not self.clock or self.now - self.clock[-1][0] >= self.width:
             self.clock.append((self.now, text))
@@ -48,7 +56,7 @@ class Time:
             del self.clock[1::2]
 
 
-def halved(counts):
+def halved(counts: object) -> object:
     found = collections.Counter()
     for place, amount in counts.items():
         found[place // 2] += amount
@@ -59,23 +67,23 @@ class Life:
     """What a user's console shows, each line with its kind and its time, the decks that the operator gave him, and when somebody
     was at his terminal: from when until when, and from where."""
 
-    def __init__(self):
+    def __init__(self) -> None:
         self.console = collections.deque(maxlen=MOST_LINES)
         self.lines = 0
         self.decks = collections.deque(maxlen=MOST_DECKS)
         self.connections = collections.deque(maxlen=MOST_CONNECTIONS)
         self.is_connected = False
 
-    def print(self, kind, text, when):
+    def print(self, kind: str, text: str, when: object) -> None:
         self.lines += 1
         self.console.append((kind, text, when))
 
-    def connect(self, when, address):
+    def connect(self, when: object, address: int) -> None:
         self.disconnect(when)
         self.connections.append([when, "", address])
         self.is_connected = True
 
-    def disconnect(self, when):
+    def disconnect(self, when: object) -> None:
         if self.is_connected:
             self.connections[-1][1] = when
         self.is_connected = False
@@ -84,13 +92,13 @@ class Life:
 class Story:
     """What a recording tells, entry by entry."""
 
-    def __init__(self, users):
-        self.lives = {it: Life() for it in users}
+    def __init__(self, users: list) -> None:
+        self.lives = {user: Life() for user in users}
         self.time = Time()
         self.files = []
         self.when = ""
 
-    def take(self, program, when, entries):
+    def take(self, program: str, when: object, entries: object) -> None:
         """Has a program do the entries of a recording that have one time."""
         if when:
             self.when = when
@@ -105,19 +113,19 @@ class Story:
             for event in came.events:
                 self.read_event(event, typed)
 
-    def read_comment(self, words):
+    def read_comment(self, words: list[str]) -> None:
         """Notes who comes to a terminal, and who leaves it."""
         if words[1:2] == ["CONNECTED"] and len(words) == 4 and words[2] in self.lives:
             self.lives[words[2]].connect(self.when, words[3])
         elif words[1:2] == ["DISCONNECTED"] and words[2:] and words[2] in self.lives:
             self.lives[words[2]].disconnect(self.when)
 
-    def are_people(self):
+    def are_people(self) -> object:
         """The users at whose terminals somebody was; all, if the recording is of before that was noted."""
         found = {name for name, life in self.lives.items() if life.connections}
         return found or set(self.lives)
 
-    def read_entry(self, entry):
+    def read_entry(self, entry: object) -> object:
         """Notes what is typed and given; who typed it, or None."""
         if typed := TYPED.fullmatch(entry):
             name = typed[1].decode()
@@ -130,7 +138,7 @@ class Story:
             self.lives[head.split(" ")[1]].decks.append(cards)
         return None
 
-    def read_event(self, event, typed):
+    def read_event(self, event: object, typed: object) -> None:
         name, colon, text = event.partition(": ")
         if colon and name in self.lives:
             self.lives[name].print(kind_of(text, name == typed), text, self.when)
@@ -145,5 +153,5 @@ class Story:
             self.time.add(lacked[1], "lacks", 1)
 
 
-def kind_of(text, is_reply):
+def kind_of(text: str, is_reply: object) -> str:
     return "other" if text.startswith("MSG FROM ") else "reply" if is_reply else "guest"

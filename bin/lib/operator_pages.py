@@ -1,4 +1,7 @@
 """The operator's page: what happens, who is on, and the commands of bin/operator (docs/OPERATING.md), to whoever has the token."""
+from __future__ import annotations
+
+from typing import TYPE_CHECKING
 import asyncio
 import contextlib
 import os
@@ -9,6 +12,9 @@ from host import MEGABYTE, memory_of
 from operating import DONE, plain
 from page_line import count_strangers, place_of
 from pages import Refused, is_token, text_in
+
+if TYPE_CHECKING:
+    from desk import Account
 
 SECONDS_BETWEEN_STATES = 1
 MOST_PAGES = 16
@@ -21,40 +27,42 @@ TOKEN_BYTES = 24
 class PageOutlet:
     """An outlet of the journal that leads to a page; any thread may put a line."""
 
-    def __init__(self, page, loop):
+    def __init__(self, page: object, loop: object) -> None:
         self.page = page
         self.loop = loop
 
-    def put(self, text, prefix=None):
+    def put(self, text: str, prefix: object = None) -> None:
         now = round(time.time() * 1000)
         try:
-            self.loop.call_soon_threadsafe(self.page.put, {"is": "happens", "time": now, "text": plain(text)})
+            self.loop.call_soon_threadsafe(
+                self.page.put, {"is": "happens", "time": now, "text": plain(text)}
+            )
         except RuntimeError:
             # the loop has ended
             pass
 
-    def close(self):
+    def close(self) -> None:
         pass
 
 
 class OperatorPage:
     """One page of an operator: nothing is sent to it before its token was right."""
 
-    def __init__(self, pages, address, outbox):
+    def __init__(self, pages: object, address: int, outbox: object) -> None:
         self.pages = pages
         self.address = address
         self.outbox = outbox
         self.is_known = False
         self.outlet = PageOutlet(self, pages.loop)
 
-    def is_somebody(self):
+    def is_somebody(self) -> object:
         return self.is_known
 
-    def put(self, message):
+    def put(self, message: str) -> None:
         if len(self.outbox.messages) < MOST_UNSENT:
             self.outbox.put(message)
 
-    def open(self):
+    def open(self) -> None:
         if len(self.pages.all) >= MOST_PAGES:
             raise Refused("there are too many operators")
         self.is_known = True
@@ -65,12 +73,12 @@ class OperatorPage:
         self.put({"is": "open"})
         self.put(self.pages.state())
 
-    def close(self):
+    def close(self) -> None:
         if self.is_known:
             self.pages.all.discard(self)
             self.pages.journal.remove(self.outlet)
 
-    async def take(self, message):
+    async def take(self, message: str) -> None:
         """Obeys a message. Each has the token."""
         kind = str(message.get("is"))
         try:
@@ -80,7 +88,9 @@ class OperatorPage:
             if not self.is_known:
                 self.open()
             if kind == "command":
-                self.command(plain(text_in(message, "text"))[:MOST_COMMAND].strip(), message.get("number"))
+                self.command(
+                    plain(text_in(message, "text"))[:MOST_COMMAND].strip(), message.get("number")
+                )
             elif kind == "frames":
                 self.frames()
             elif kind != "open":
@@ -88,31 +98,35 @@ class OperatorPage:
         except Refused as reason:
             self.put({"is": "refused", "what": plain(kind)[:20], "why": str(reason)})
 
-    def command(self, text, number):
+    def command(self, text: str, number: int) -> None:
         """Has a command done; its answer comes in lines, and how it ended last."""
-        self.pages.operator.do(text, self.sender("answer", number), lambda how: self.from_thread({"is": "end", "number": number, "how": how}))
+        self.pages.operator.do(
+            text,
+            self.sender("answer", number),
+            lambda how: self.from_thread({"is": "end", "number": number, "how": how}),
+        )
 
-    def sender(self, kind, number):
+    def sender(self, kind: str, number: int) -> object:
         return lambda text: self.from_thread({"is": kind, "number": number, "text": plain(text)})
 
-    def frames(self):
+    def frames(self) -> None:
         """Has the frames looked for, and sends the map as a whole."""
         lines, begun = [], time.monotonic()
 
-        def end(how):
+        def end(how: object) -> None:
             took = round(time.monotonic() - begun, 2)
             self.from_thread({"is": "frames", "lines": lines, "done": how == DONE, "took": took})
 
         self.pages.operator.do("frames", lines.append, end)
 
-    def from_thread(self, message):
+    def from_thread(self, message: str) -> None:
         self.pages.loop.call_soon_threadsafe(self.put, message)
 
 
 class OperatorPages:
     """All pages of operators."""
 
-    def __init__(self, installation, loop):
+    def __init__(self, installation: object, loop: object) -> None:
         self.installation = installation
         self.operator = installation.operator
         self.journal = installation.journal
@@ -123,7 +137,7 @@ class OperatorPages:
         self.path = f"{installation.options['record']}.web-token"
         self.token = self.read_token()
 
-    def read_token(self):
+    def read_token(self) -> object:
         """The token of the file next to the recording, which only its owner can read; it is made if it is not there, or was for others
         to read."""
         with contextlib.suppress(FileNotFoundError):
@@ -138,7 +152,7 @@ class OperatorPages:
             file.write(f"{token}\n")
         return token
 
-    def state(self):
+    def state(self) -> dict:
         """What an operator sees at a glance."""
         installation, engine = self.installation, self.installation.engine
         recording = engine.recording
@@ -152,10 +166,16 @@ class OperatorPages:
             "unwritten": len(engine.printouts.unwritten()), "ending": self.operator.ending[:1],
         }  # fmt: skip
 
-    def user(self, user):
-        return {"name": user.name, "on": user.is_on, "running": user.is_running, "from": place_of(user), "written": user.written}
+    def user(self, user: Account) -> dict:
+        return {
+            "name": user.name,
+            "on": user.is_on,
+            "running": user.is_running,
+            "from": place_of(user),
+            "written": user.written,
+        }
 
-    async def watch(self):
+    async def watch(self) -> None:
         """Tells all pages how things are, each second."""
         while True:
             await self.opened.wait()

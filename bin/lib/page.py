@@ -1,8 +1,15 @@
 """A page of what a recording tells, one file without outside parts."""
+from __future__ import annotations
+
+from collections.abc import Iterator
+from typing import TYPE_CHECKING
 import html
 
 from lives import STRETCHES
 from printed import HEADING, PAGE_LENGTH, page_text
+
+if TYPE_CHECKING:
+    from desk import Account
 
 WIDTH, LEFT, LANE = 1100, 90, 46
 MOST_CARDS = 6
@@ -25,20 +32,20 @@ repeating-linear-gradient(#fff 0 36px,#dff0dd 36px 72px)}
 table{border-collapse:collapse}td{padding:0 1.2em 0 0}
 """
 # the rows of a card that a character punches: 12, 11, 0, 1 .. 9
-PUNCHES = {it: (row,) for row, it in zip(range(2, 12), "0123456789")}
-PUNCHES |= {it: (0, row) for row, it in zip(range(3, 12), "ABCDEFGHI")}
-PUNCHES |= {it: (1, row) for row, it in zip(range(3, 12), "JKLMNOPQR")}
-PUNCHES |= {it: (2, row) for row, it in zip(range(4, 12), "STUVWXYZ")}
+PUNCHES = {item: (row,) for row, item in zip(range(2, 12), "0123456789")}
+PUNCHES |= {item: (0, row) for row, item in zip(range(3, 12), "ABCDEFGHI")}
+PUNCHES |= {item: (1, row) for row, item in zip(range(3, 12), "JKLMNOPQR")}
+PUNCHES |= {item: (2, row) for row, item in zip(range(4, 12), "STUVWXYZ")}
 PUNCHES |= {"/": (2, 3), "-": (1,), "&": (0,), ".": (0, 5, 10), ",": (2, 5, 10), "*": (1, 6, 10), "(": (0, 7, 10),
             ")": (1, 7, 10), "+": (0, 8, 10), "=": (8, 10), "'": (7, 10), ":": (4, 10), "#": (5, 10), "@": (6, 10),
             "$": (1, 5, 10), ";": (1, 8, 10), "<": (0, 6, 10), ">": (2, 8, 10), "%": (2, 6, 10), "_": (2, 7, 10),
             "?": (2, 9, 10), '"': (9, 10)}  # fmt: skip
 
 
-def page(title, about, story, looks, pictures):
+def page(title: object, about: object, story: object, looks: object, pictures: object) -> str:
     """The page: about has lines of its head, looks how many pages came until which moment, pictures titles and pictures."""
     pieces = [f"<!doctype html><html lang=en><meta charset=utf-8><title>{html.escape(title)}</title><style>{STYLE}</style>",
-              f"<h1>GATHJUMLI</h1><table>{''.join(row(*it) for it in about)}</table>",
+              f"<h1>GATHJUMLI</h1><table>{''.join(row(*cells) for cells in about)}</table>",
               '<p class=note>Green: how much of a stretch of time the machine ran. Red, above: devices were served. Blue, below: '
               'lines were typed. Purple: no frame was free. Grey: pages came to frames. Time goes by units and typed lines.</p>',
               line_of_time(story, looks)]  # fmt: skip
@@ -49,36 +56,44 @@ def page(title, about, story, looks, pictures):
         pieces += deck_pieces(life)
         pieces += file_pieces(story.files, name)
     for name, picture in pictures:
-        pieces.append(f'<h2 id="{place(name)}">{html.escape(name)}</h2><div class=picture>{picture}</div>')
+        pieces.append(
+            f'<h2 id="{place(name)}">{html.escape(name)}</h2><div class=picture>{picture}</div>'
+        )
     return "\n".join(pieces)
 
 
-def place(title):
+def place(title: object) -> object:
     return html.escape(title.replace(" ", "-"))
 
 
-def index(users, titles):
+def index(users: list, titles: object) -> object:
     """Where on the page each user and each picture is."""
-    return "<p>" + " · ".join(f'<a href="#{place(it)}">{html.escape(it)}</a>' for it in [*users, *titles])
+    return "<p>" + " · ".join(
+        f'<a href="#{place(item)}">{html.escape(item)}</a>' for item in [*users, *titles]
+    )
 
 
-def connections(life):
+def connections(life: object) -> str:
     """When somebody was at a user's terminal, and from where."""
     rows = "".join(f"<tr><td>{begun} UTC<td>{ended + ' UTC' if ended else 'until the end'}<td>{html.escape(address)}"
                    for begun, ended, address in life.connections)  # fmt: skip
-    return f"<details><summary>{len(life.connections)} connections</summary><table>{rows}</table></details>" if rows else ""
+    return (
+        f"<details><summary>{len(life.connections)} connections</summary><table>{rows}</table></details>"
+        if rows
+        else ""
+    )
 
 
-def row(name, value):
+def row(name: str, value: object) -> str:
     return f"<tr><td class=note>{html.escape(name)}<td>{html.escape(value)}"
 
 
-def line_of_time(story, looks):
+def line_of_time(story: object, looks: object) -> str:
     """A lane for each user, and one of page-ins."""
     time = story.time
     moments = max(1, time.now)
     people = story.are_people()
-    shown = [it for it, life in story.lives.items() if life.lines and it in people]
+    shown = [item for item, life in story.lives.items() if life.lines and item in people]
     parts = []
     for place, name in enumerate(shown):
         parts += lane(name, place * LANE + 8, time.lanes[name], time.width, moments)
@@ -91,11 +106,11 @@ def line_of_time(story, looks):
     return f'<svg class=time width="{WIDTH}" height="{height}" viewBox="0 0 {WIDTH} {height}">{"".join(parts)}</svg>'
 
 
-def x_of(moment, moments):
+def x_of(moment: object, moments: object) -> object:
     return LEFT + min(1, moment / moments) * (WIDTH - LEFT - 10)
 
 
-def lane(name, top, counts, width, moments):
+def lane(name: str, top: object, counts: object, width: object, moments: object) -> Iterator:
     yield f'<text x="6" y="{top + 22}" font-size="13" font-family="monospace">{name}</text>'
     yield f'<path d="M{LEFT} {top + 26.5}H{WIDTH - 10}" stroke="#ddd5c0"/>'
     wide = max(1.0, width / moments * (WIDTH - LEFT - 10))
@@ -103,17 +118,30 @@ def lane(name, top, counts, width, moments):
         height = max(2, min(1, units / width) * 20)
         x = x_of(place * width, moments)
         yield rectangle(x, top + 26 - height, wide, height, "#5b8c5a", f"{units} units")
-    for kind, y, height, color in (("serves", 0, 5, "#c0392b"), ("lacks", 27, 4, "#8e44ad"), ("lines", 32, 3, "#23408e")):
+    for kind, y, height, color in (
+        ("serves", 0, 5, "#c0392b"),
+        ("lacks", 27, 4, "#8e44ad"),
+        ("lines", 32, 3, "#23408e"),
+    ):
         for place, count in sorted(counts[kind].items()):
-            yield rectangle(x_of(place * width, moments), top + y, max(1.5, wide), height, color, f"{count} {kind}")
+            yield rectangle(
+                x_of(place * width, moments),
+                top + y,
+                max(1.5, wide),
+                height,
+                color,
+                f"{count} {kind}",
+            )
 
 
-def rectangle(x, y, width, height, color, title):
+def rectangle(
+    x: object, y: object, width: object, height: object, color: object, title: object
+) -> str:
     size = f'x="{x:.1f}" y="{y:.1f}" width="{width:.1f}" height="{height:.1f}"'
     return f'<rect {size} fill="{color}"><title>{html.escape(title)}</title></rect>'
 
 
-def page_ins(looks, top, moments):
+def page_ins(looks: object, top: object, moments: object) -> Iterator:
     """How many pages came in each stretch between looks."""
     yield f'<text x="6" y="{top + 22}" font-size="13" font-family="monospace">page-ins</text>'
     most = max((after[1] - before[1] for before, after in zip(looks, looks[1:])), default=0)
@@ -121,10 +149,12 @@ def page_ins(looks, top, moments):
         count = after[1] - before[1]
         height = max(0.5, 22 * count / max(1, most))
         x, end = x_of(before[0], moments), x_of(after[0], moments)
-        yield rectangle(x, top + 26 - height, max(1, end - x - 1), height, "#8a8575", f"{count} pages")
+        yield rectangle(
+            x, top + 26 - height, max(1, end - x - 1), height, "#8a8575", f"{count} pages"
+        )
 
 
-def clock(times, y, moments):
+def clock(times: object, y: object, moments: object) -> Iterator:
     free = 0
     for moment, text in times:
         x = x_of(moment, moments)
@@ -133,7 +163,7 @@ def clock(times, y, moments):
             free = x + 70
 
 
-def console(life):
+def console(life: object) -> str:
     """The console; where many lines are stored one after another they can be unfolded."""
     pieces, stores, shown = [], [], ""
     for kind, text, when in [*life.console, ("", "", "")]:
@@ -154,45 +184,59 @@ def console(life):
     return f'{more}<div class="console">{"".join(pieces)}</div>'
 
 
-def folded(stores):
+def folded(stores: object) -> object:
     if len(stores) <= 2 * FEW_STORES:
         return stores
-    return [f"<details><summary>{(len(stores) + 1) // 2} times STORE</summary>{''.join(stores)}</details>"]
+    return [
+        f"<details><summary>{(len(stores) + 1) // 2} times STORE</summary>{''.join(stores)}</details>"
+    ]
 
 
-def deck_pieces(life):
+def deck_pieces(life: object) -> Iterator:
     for deck in life.decks:
         yield f"<p class=note>a deck from the operator, {len(deck)} cards</p>{cards(deck)}"
 
 
-def file_pieces(files, user):
+def file_pieces(files: list, user: Account) -> Iterator:
     """The files that a user printed and punched for the operator."""
-    own = [(heading, entries) for heading, entries in files if HEADING.fullmatch(heading)[3] == user]
+    own = [
+        (heading, entries) for heading, entries in files if HEADING.fullmatch(heading)[3] == user
+    ]
     for heading, entries in own[:MOST_FILES]:
         kind = HEADING.fullmatch(heading)[1]
         yield f"<p class=note>{'printed' if kind == 'PRT' else 'punched'}: {html.escape(heading.removeprefix('== '))}</p>"
         if kind == "PRT":
             text = page_text(kind, entries, PAGE_LENGTH)
-            yield "".join(f'<div class="paper">{html.escape(it)}</div>' for it in text.split("\f"))
+            yield "".join(
+                f'<div class="paper">{html.escape(part)}</div>' for part in text.split("\f")
+            )
         else:
             yield cards(entries)
     if len(own) > MOST_FILES:
         yield f"<p class=note>and {len(own) - MOST_FILES} more files</p>"
 
 
-def cards(lines):
-    more = f'<p class="note">and {len(lines) - MOST_CARDS} more cards</p>' if len(lines) > MOST_CARDS else ""
+def cards(lines: list) -> object:
+    more = (
+        f'<p class="note">and {len(lines) - MOST_CARDS} more cards</p>'
+        if len(lines) > MOST_CARDS
+        else ""
+    )
     return "".join(map(card, lines[:MOST_CARDS])) + more
 
 
-def card(text):
+def card(text: str) -> str:
     """A card with its holes and what they say above."""
     parts = []
     for column, character in enumerate(text.ljust(80)[:80]):
         x = 14 + column * 8
         if character != " ":
-            parts.append(f'<text x="{x}" y="12" font-size="9" font-family="monospace">{html.escape(character)}</text>')
+            parts.append(
+                f'<text x="{x}" y="12" font-size="9" font-family="monospace">{html.escape(character)}</text>'
+            )
         for hole in PUNCHES.get(character, ()):
-            parts.append(f'<rect x="{x + 1}" y="{17 + hole * 9}" width="4" height="7" fill="#3b3120"/>')
+            parts.append(
+                f'<rect x="{x + 1}" y="{17 + hole * 9}" width="4" height="7" fill="#3b3120"/>'
+            )
     edge = '<path d="M14 .5H667.5V129.5H.5V16Z" fill="#f3e6c0" stroke="#cdbb87"/>'
     return f'<svg class="card" width="668" height="130">{edge}{"".join(parts)}</svg>'

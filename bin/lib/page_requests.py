@@ -1,4 +1,6 @@
 """What a browser may ask for: the files of the folder web, and WebSockets from pages of the same origin."""
+from __future__ import annotations
+
 import http
 import ipaddress
 import os
@@ -7,7 +9,11 @@ import socket
 from people import ROOT
 
 FOLDER = os.path.join(ROOT, "web")
-HTML, SCRIPT, SHEET = "text/html; charset=utf-8", "text/javascript; charset=utf-8", "text/css; charset=utf-8"
+HTML, SCRIPT, SHEET = (
+    "text/html; charset=utf-8",
+    "text/javascript; charset=utf-8",
+    "text/css; charset=utf-8",
+)
 FILES = {"/": ("user.html", HTML), "/operator": ("operator.html", HTML), "/style.css": ("style.css", SHEET),
          "/icon.svg": ("icon.svg", "image/svg+xml"),
          **{f"/{name}": (name, SCRIPT) for name in ("connection.js", "paper.js", "user.js", "operator.js")}}  # fmt: skip
@@ -18,10 +24,12 @@ HEADERS = {"Content-Security-Policy": POLICY, "X-Content-Type-Options": "nosniff
            "Cross-Origin-Opener-Policy": "same-origin", "Cross-Origin-Resource-Policy": "same-origin", "Cache-Control": "no-store"}  # fmt: skip
 
 
-def is_own_host(host):
+def is_own_host(host: object) -> bool:
     """Whether a page may be asked for by this name: an address, or a name of this host. By any other name another site could have a
     browser take it for its own."""
-    name, _, port = host.rpartition(":") if not host.endswith("]") and ":" in host else (host, "", "")
+    name, _, port = (
+        host.rpartition(":") if not host.endswith("]") and ":" in host else (host, "", "")
+    )
     name = name.lower()
     try:
         ipaddress.ip_address(name.strip("[]"))
@@ -30,7 +38,7 @@ def is_own_host(host):
         return name in ("localhost", socket.gethostname().lower(), socket.getfqdn().lower())
 
 
-def answer_to(path, host, origin, is_secure, files):
+def answer_to(path: str, host: object, origin: str, is_secure: object, files: list) -> tuple | None:
     """What a request gets: the status, the type and the bytes of an answer, or None where it is a WebSocket that may be opened."""
     path = path.partition("?")[0]
     if not is_own_host(host):
@@ -44,7 +52,7 @@ def answer_to(path, host, origin, is_secure, files):
     return http.HTTPStatus.OK, *files[path]
 
 
-def read_files():
+def read_files() -> object:
     """The types and the bytes of the files, by the paths under which they are asked for."""
     found = {}
     for path, (name, kind) in FILES.items():

@@ -2,6 +2,9 @@
 
 A page logs on at a connection of its own to the desk, as a terminal does: it sees what the user sees who is logged on there, and
 nothing once he is not. If the browser's connection drops, the page keeps the desk's for a while, with the lines that were not seen."""
+from __future__ import annotations
+
+from typing import TYPE_CHECKING
 import asyncio
 import base64
 import collections
@@ -14,6 +17,9 @@ import time
 
 from operating import plain
 from page_line import PageLine, serve, users_at
+
+if TYPE_CHECKING:
+    from desk import Account, Place
 
 # a page that is not connected is given up after so many seconds
 SECONDS_TO_COME_BACK = 120
@@ -36,20 +42,20 @@ class Refused(Exception):
 class Outbox:
     """The messages that wait to be sent to a browser."""
 
-    def __init__(self):
+    def __init__(self) -> None:
         self.messages = []
         self.changed = asyncio.Event()
         self.emptied = asyncio.Event()
         self.is_closed = False
 
-    def put(self, message):
+    def put(self, message: str) -> None:
         if message["is"] == "lines" and self.messages and self.messages[-1]["is"] == "lines":
             self.messages[-1]["lines"] += message["lines"]
         else:
             self.messages.append(message)
         self.changed.set()
 
-    async def taken(self):
+    async def taken(self) -> object:
         """All that waits, once something does."""
         await self.changed.wait()
         self.changed.clear()
@@ -57,13 +63,13 @@ class Outbox:
         self.emptied.set()
         return messages
 
-    async def room(self):
+    async def room(self) -> None:
         """Waits until what is there is being sent, so that who asks and does not read has two answers kept for him at most."""
         if self.messages and not self.is_closed:
             self.emptied.clear()
             await self.emptied.wait()
 
-    def close(self):
+    def close(self) -> None:
         self.is_closed = True
         self.emptied.set()
 
@@ -71,11 +77,11 @@ class Outbox:
 class Rate:
     """How many messages of a page are obeyed: some at once, as when a deck comes, and then so many a second."""
 
-    def __init__(self):
+    def __init__(self) -> None:
         self.left = float(MESSAGES_AT_ONCE)
         self.when = time.monotonic()
 
-    def wait(self):
+    def wait(self) -> object:
         """Counts a message; how many seconds it waits."""
         now = time.monotonic()
         self.left = min(MESSAGES_AT_ONCE, self.left + (now - self.when) * MESSAGES_A_SECOND) - 1
@@ -86,7 +92,7 @@ class Rate:
 class UserPage:
     """A user's page: one connection to the desk, and the browser's connection while there is one."""
 
-    def __init__(self, pages, address):
+    def __init__(self, pages: object, address: int) -> None:
         self.pages = pages
         self.address = address
         self.name = secrets.token_urlsafe(12)
@@ -108,56 +114,58 @@ class UserPage:
 
     # --- the browser's connection ---
 
-    def attach(self, outbox):
+    def attach(self, outbox: object) -> None:
         self.outbox = outbox
         self.told = None
         if self.lines:
             outbox.put({"is": "lines", "lines": list(self.lines)})
         self.look(self.user())
 
-    def detach(self):
+    def detach(self) -> None:
         self.outbox = None
         self.left_at = time.monotonic()
         if not self.line:
             self.pages.forget(self)
 
-    def put(self, message):
+    def put(self, message: str) -> None:
         if self.outbox:
             self.outbox.put(message)
 
     # --- what the desk shows ---
 
-    def show(self, text):
+    def show(self, text: str) -> None:
         self.number += 1
         self.size += len(text) + LINE_COST
         entry = (self.number, round(time.time() * 1000), text)
         self.lines.append(entry)
         self.put({"is": "lines", "lines": [entry]})
 
-    def unread(self):
+    def unread(self) -> object:
         return self.size
 
-    def seen(self, number):
+    def seen(self, number: int) -> None:
         while self.lines and self.lines[0][0] <= number:
             self.size -= len(self.lines.popleft()[2]) + LINE_COST
 
-    def user(self):
+    def user(self) -> object:
         """The user who is logged on at this page's connection to the desk."""
         return self.pages.users_at().get(self.line) if self.line else None
 
-    def is_somebody(self):
+    def is_somebody(self) -> bool:
         """Whether somebody was on here when that was last looked at."""
         return bool(self.told) and self.told["is"] == "on"
 
-    def look(self, user):
+    def look(self, user: Account) -> None:
         """Sends the browser who is on, and whether his machine runs, if that has changed."""
-        found = {"is": "on", "user": user.name, "running": user.is_running} if user else {"is": "off"}
+        found = (
+            {"is": "on", "user": user.name, "running": user.is_running} if user else {"is": "off"}
+        )
         self.was_used = self.was_used or bool(user)
         if found != self.told:
             self.told = found
             self.put(found)
 
-    async def converse(self):
+    async def converse(self) -> None:
         """Has the desk serve the page until one of them ends that."""
         line = self.line
         try:
@@ -166,18 +174,24 @@ class UserPage:
             self.line = None
             self.deck = None
             if not self.was_used:
-                self.put({"is": "refused", "what": "logon", "why": "the desk has closed the connection: log on again"})
+                self.put(
+                    {
+                        "is": "refused",
+                        "what": "logon",
+                        "why": "the desk has closed the connection: log on again",
+                    }
+                )
             self.look(None)
             if not self.outbox:
                 self.pages.forget(self)
 
-    def close(self):
+    def close(self) -> None:
         if self.line:
             self.line.close()
 
     # --- what the browser sends ---
 
-    async def take(self, message):
+    async def take(self, message: str) -> None:
         """Obeys a message."""
         kind = str(message.get("is"))
         try:
@@ -189,8 +203,10 @@ class UserPage:
         except Refused as reason:
             self.put({"is": "refused", "what": plain(kind)[:20], "why": str(reason)})
 
-    async def log_on(self, message):
-        name, password = (text_in(message, field).encode("latin-1", "replace") for field in ("name", "password"))
+    async def log_on(self, message: str) -> None:
+        name, password = (
+            text_in(message, field).encode("latin-1", "replace") for field in ("name", "password")
+        )
         if not re.fullmatch(b"[!-~]+", name) or not re.fullmatch(b"[ -~]+", password):
             raise Refused("a name is a word, and a password a line")
         if self.user():
@@ -202,27 +218,27 @@ class UserPage:
         await self.line.type(b"LOGON " + name)
         await self.line.type(password)
 
-    async def type(self, message):
+    async def type(self, message: str) -> None:
         await self.type_line(text_in(message, "text").encode("latin-1", "replace"))
 
-    async def press(self, message):
+    async def press(self, message: str) -> None:
         key = text_in(message, "key")
         if key not in KEYS:
             raise Refused("there is no such key")
         await self.type_line(KEYS[key])
 
-    async def type_line(self, line):
+    async def type_line(self, line: bytes) -> None:
         self.logged_on()
         await self.line.type(line)
 
-    def logged_on(self):
+    def logged_on(self) -> object:
         """The user who is on, without whom nothing is done."""
         user = self.user()
         if not user:
             raise Refused(NO_LINE)
         return user
 
-    async def put_cards(self, message):
+    async def put_cards(self, message: str) -> None:
         """Takes a piece of a deck, and after the last one reads it in for the user who is on."""
         user, name = self.logged_on(), plain(text_in(message, "name"))[:80]
         try:
@@ -241,16 +257,24 @@ class UserPage:
             told = await self.pages.read_in(name, bytes(data), user.name)
             self.put({"is": "deck", "name": name, "told": told})
 
-    async def list_files(self, message):
+    async def list_files(self, message: str) -> None:
         user = self.logged_on()
-        files = [printout for printout in self.pages.printouts.all if printout.user == user.name][-MOST_FILES:]
-        told = [{"name": printout.name, "lines": printout.lines, "state": printout.state} for printout in files]
+        files = [printout for printout in self.pages.printouts.all if printout.user == user.name][
+            -MOST_FILES:
+        ]
+        told = [
+            {"name": printout.name, "lines": printout.lines, "state": printout.state}
+            for printout in files
+        ]
         self.put({"is": "files", "files": told, "kept": bool(self.pages.printouts.folder)})
 
-    async def show_file(self, message):
+    async def show_file(self, message: str) -> None:
         """Sends a piece of one of the user's own files."""
         user, name, place = self.logged_on(), text_in(message, "name"), number_in(message, "at")
-        if not any(printout.name == name and printout.user == user.name for printout in self.pages.printouts.all):
+        if not any(
+            printout.name == name and printout.user == user.name
+            for printout in self.pages.printouts.all
+        ):
             raise Refused("you have no such file")
         if not self.pages.printouts.folder:
             raise Refused("the operator keeps no printouts")
@@ -263,9 +287,18 @@ class UserPage:
         if self.user() is not user:
             raise Refused(NO_LINE)
         text = data.decode("utf-8", "replace")
-        self.put({"is": "piece", "name": name, "at": place, "next": place + len(data), "size": size, "text": text})
+        self.put(
+            {
+                "is": "piece",
+                "name": name,
+                "at": place,
+                "next": place + len(data),
+                "size": size,
+                "text": text,
+            }
+        )
 
-    async def show_disks(self, message):
+    async def show_disks(self, message: str) -> None:
         user = self.logged_on()
         try:
             disks = await in_thread(self.pages.minidisks.of, user.name)
@@ -275,10 +308,10 @@ class UserPage:
             raise Refused(NO_LINE)
         self.put({"is": "disks", "disks": disks})
 
-    async def note_seen(self, message):
+    async def note_seen(self, message: str) -> None:
         self.seen(number_in(message, "number"))
 
-    async def leave(self, message):
+    async def leave(self, message: str) -> None:
         self.close()
 
 
@@ -291,7 +324,7 @@ CHANGING = {"logon", "line", "key", "deck", "leave"}
 class Pages:
     """All users' pages, and what they need of the installation."""
 
-    def __init__(self, installation, minidisks):
+    def __init__(self, installation: object, minidisks: object) -> None:
         self.desk = installation.desk
         self.engine = installation.engine
         self.folders = installation.folders
@@ -301,11 +334,11 @@ class Pages:
         self.all = {}
         self.opened = asyncio.Event()
 
-    def users_at(self):
+    def users_at(self) -> object:
         """Each connection to the desk at which a user is logged on, with that user."""
         return users_at(self.engine.users.values())
 
-    def open(self, message, address):
+    def open(self, message: str, address: int) -> tuple:
         """The page that a browser's first message asks for, and the answer."""
         if message.get("is") == "resume":
             page = self.all.get(str(message.get("page")))
@@ -320,10 +353,10 @@ class Pages:
         self.opened.set()
         return page, {"is": "new", "page": page.name, "token": page.token}
 
-    def forget(self, page):
+    def forget(self, page: object) -> None:
         self.all.pop(page.name, None)
 
-    async def watch(self):
+    async def watch(self) -> None:
         """Tells pages what has become of their machines, and gives up those to which no browser comes back."""
         while True:
             if not self.all:
@@ -339,32 +372,34 @@ class Pages:
                     page.close()
                     self.forget(page)
 
-    async def read_in(self, name, data, user):
+    async def read_in(self, name: str, data: bytes, user: Account) -> object:
         """Reads in a deck for a user; how that went."""
         reason = await self.folders.read_in(name, data, user)
         self.tell(f"deck {name} for {user}, from a page: {reason or 'read in'}")
         return reason or "read in"
 
 
-def is_token(found, token):
-    return isinstance(found, str) and hmac.compare_digest(found.encode(errors="replace"), token.encode())
+def is_token(found: object, token: object) -> object:
+    return isinstance(found, str) and hmac.compare_digest(
+        found.encode(errors="replace"), token.encode()
+    )
 
 
-def text_in(message, name):
+def text_in(message: str, name: str) -> object:
     text = message.get(name)
     if not isinstance(text, str):
         raise Refused(f"{name} is a text")
     return text
 
 
-def number_in(message, name):
+def number_in(message: str, name: str) -> object:
     number = message.get(name)
     if type(number) is not int or not 0 <= number < 1 << 53:
         raise Refused(f"{name} is a number")
     return number
 
 
-def piece_of(path, place):
+def piece_of(path: str, place: Place) -> tuple:
     """The bytes of a file from a place on, whole lines if a line ends in them, and the size of the file."""
     with open(path, "rb") as file:
         size = os.fstat(file.fileno()).st_size
@@ -374,5 +409,5 @@ def piece_of(path, place):
     return data[: end or len(data)], size
 
 
-async def in_thread(work, *given):
+async def in_thread(work: str, *given: object) -> object:
     return await asyncio.get_running_loop().run_in_executor(None, work, *given)

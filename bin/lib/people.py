@@ -1,4 +1,7 @@
 """What the commands in Python share: their words, how they end, and the programs that they run (docs/COMMAND_LINE.md)."""
+from __future__ import annotations
+
+from collections.abc import Callable
 import os
 import re
 import subprocess
@@ -28,7 +31,7 @@ BUILDS = """ 70   the program was not built; standard error has the log
 class Failure(Exception):
     """An end with a status, and what standard error tells."""
 
-    def __init__(self, status, *lines):
+    def __init__(self, status: object, *lines: object) -> None:
         super().__init__(*lines)
         self.status = status
         self.lines = lines
@@ -46,36 +49,40 @@ class Version(Exception):
     """The version is asked for."""
 
 
-def name():
+def name() -> object:
     return os.path.basename(sys.argv[0])
 
 
-def say(text):
+def say(text: str) -> None:
     sys.stdout.flush()
     print(f"{name()}: {text}", file=sys.stderr, flush=True)
 
 
-def version():
+def version() -> str:
     with open(os.path.join(ROOT, "VERSION")) as file:
         return file.read().strip()
 
 
-def ask_build(word, crate):
+def ask_build(word: str, crate: str) -> object:
     """What bin/lib/built tells of the program of a crate."""
-    done = subprocess.run([os.path.join(ROOT, "bin", "lib", "built"), name(), word, crate], stdin=subprocess.DEVNULL, stdout=subprocess.PIPE)
+    done = subprocess.run(
+        [os.path.join(ROOT, "bin", "lib", "built"), name(), word, crate],
+        stdin=subprocess.DEVNULL,
+        stdout=subprocess.PIPE,
+    )
     if done.returncode:
         raise Failure(done.returncode)
     return done.stdout.decode(errors="surrogateescape").removesuffix("\n")
 
 
-def tell_version(crate):
+def tell_version(crate: str) -> None:
     """The version, and of a command that runs a program what that program is."""
     print(f"{name()} (Gathjumli) {version()}")
     if crate:
         print(ask_build("tell", crate))
 
 
-def perform(command, usage, crate):
+def perform(command: str, usage: object, crate: str) -> None:
     """What the words of a command ask for."""
     try:
         command(sys.argv[1:])
@@ -85,7 +92,7 @@ def perform(command, usage, crate):
         tell_version(crate)
 
 
-def run(command, usage, crate=None):
+def run(command: str, usage: object, crate: str = None) -> None:
     """Runs a command on its words, and ends with its status; crate is that of the program which it runs, if it runs one."""
     for stream in (sys.stdin, sys.stdout, sys.stderr):
         stream.reconfigure(errors="surrogateescape")
@@ -93,21 +100,21 @@ def run(command, usage, crate=None):
         perform(command, usage, crate)
         sys.stdout.flush()
         status = 0
-    except WrongUse as it:
+    except WrongUse as item:
         told = usage.format(command=sys.argv[0])
-        if str(it):
-            say(it)
+        if str(item):
+            say(item)
             told = told.partition("\n\n")[0] + f"\n{name()} --help tells more\n"
         print(told, end="", file=sys.stderr)
         status = WRONG_USE
-    except Failure as it:
-        for line in it.lines:
+    except Failure as item:
+        for line in item.lines:
             print(line if line.startswith("fault: ") else f"{name()}: {line}", file=sys.stderr)
-        status = it.status
+        status = item.status
     except BrokenPipeError:
         status = FILE_FAILED
-    except OSError as it:
-        say(f"{it.filename}: {it.strerror}" if it.filename else it.strerror)
+    except OSError as item:
+        say(f"{item.filename}: {item.strerror}" if item.filename else item.strerror)
         status = FILE_FAILED
     except MemoryError:
         say("the host has no more memory")
@@ -123,10 +130,10 @@ def run(command, usage, crate=None):
     sys.exit(status)
 
 
-def read_words(words, options, least, most):
+def read_words(words: list[str], options: object, least: int, most: int) -> tuple:
     """The options, each to a list of its values, and the other words; options maps a name to how its value is read, or to None
     where it has none."""
-    found = {it: [] for it in options}
+    found = {option: [] for option in options}
     paths = []
     words = list(words)
     while words:
@@ -152,7 +159,9 @@ def read_words(words, options, least, most):
             if not words:
                 raise WrongUse(f"nothing stands behind {option}")
             value = words.pop(0)
-        found[option].append(value if options[option] is None else read_value(option, value, options[option]))
+        found[option].append(
+            value if options[option] is None else read_value(option, value, options[option])
+        )
     if len(paths) < least:
         raise WrongUse("a word is missing" if paths else "")
     if len(paths) > most:
@@ -160,26 +169,30 @@ def read_words(words, options, least, most):
     return found, paths
 
 
-def read_value(option, value, read):
+def read_value(option: object, value: object, read: object) -> object:
     try:
         return read(value)
-    except ValueError as it:
+    except ValueError as item:
         # what a value is, where its reader says so
-        text = f"{option} is {it}, and not {value}" if str(it) else f"{value} is no value of {option}"
+        text = (
+            f"{option} is {item}, and not {value}"
+            if str(item)
+            else f"{value} is no value of {option}"
+        )
         raise WrongUse(text) from None
 
 
-def last(values, otherwise):
+def last(values: object, otherwise: object) -> object:
     """The value of an option that is given at most once."""
     if len(values) > 1:
         raise WrongUse("an option is given twice")
     return values[0] if values else otherwise
 
 
-def number(least, most):
+def number(least: int, most: int) -> Callable:
     """Reads a decimal number within these bounds."""
 
-    def read(text):
+    def read(text: str) -> int:
         if not re.fullmatch("[0-9]{1,7}", text) or not least <= int(text) <= most:
             raise ValueError(f"a number from {least} to {most}")
         return int(text)
@@ -187,45 +200,45 @@ def number(least, most):
     return read
 
 
-def user_name(text):
+def user_name(text: str) -> object:
     """A user's name, as a directory may state it."""
     if not re.fullmatch("[A-Z][A-Z0-9]{0,7}", text):
         raise ValueError("1 to 8 of A-Z and 0-9, a letter first")
     return text
 
 
-def serial(text):
+def serial(text: str) -> object:
     """The serial number of a volume."""
     if not re.fullmatch("[A-Z0-9]{1,6}", text):
         raise ValueError("1 to 6 of A-Z and 0-9")
     return text
 
 
-def device(text):
+def device(text: str) -> object:
     """The address of a device: three hexadecimal digits, 000 to 5FF."""
     if not re.fullmatch("[0-5][0-9A-F]{2}", text):
         raise ValueError("000 to 5FF, three digits 0-9 A-F")
     return text
 
 
-def address(text):
+def address(text: str) -> int:
     """An address of storage: one to six hexadecimal digits."""
     if not re.fullmatch("[0-9A-F]{1,6}", text):
         raise ValueError("an address, 1 to 6 digits 0-9 A-F")
     return int(text, 16)
 
 
-def read_file(path):
+def read_file(path: str) -> object:
     with open(path, "rb") as file:
         return file.read()
 
 
-def read_input(path):
+def read_input(path: str) -> object:
     """The bytes of a file, or of standard input where no path or - is given."""
     return sys.stdin.buffer.read() if path in (None, "-") else read_file(path)
 
 
-def write_whole(path, data, is_settled=False):
+def write_whole(path: str, data: bytes, is_settled: bool = False) -> None:
     """Writes a file that is there whole or not at all, and where that is asked for also after the host has crashed; what is no
     plain file is written to as it is."""
     if os.path.exists(path) and not os.path.isfile(path):

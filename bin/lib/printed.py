@@ -1,4 +1,6 @@
 """Files for the operator as pages and cards: what bin/printouts makes of a transcript."""
+from __future__ import annotations
+
 import re
 
 from people import Failure, REFUSED
@@ -14,46 +16,51 @@ SKIPS = {0x89, 0x8B}
 class Paper:
     """Pages of lines, each line the texts that were printed over each other."""
 
-    def __init__(self, length):
+    def __init__(self, length: int) -> None:
         self.length = length
         self.pages = [{}]
         self.line = 0
 
-    def print(self, text):
+    def print(self, text: str) -> None:
         self.pages[-1].setdefault(self.line, []).append(text)
 
-    def space(self, lines):
+    def space(self, lines: list) -> None:
         self.line += lines
         while self.line >= self.length:
             self.line -= self.length
             self.pages.append({})
 
-    def skip(self):
+    def skip(self) -> None:
         """To the first line of the next page; paper that stands there and is blank stays."""
         if self.line or self.pages[-1]:
             self.pages.append({})
             self.line = 0
 
-    def text(self):
+    def text(self) -> str:
         pages = self.pages if len(self.pages) == 1 or self.pages[-1] else self.pages[:-1]
-        return "\f".join("".join(f"{struck(page.get(it, []))}\n" for it in range(max(page, default=-1) + 1)) for page in pages)
+        return "\f".join(
+            "".join(
+                f"{struck(page.get(number, []))}\n" for number in range(max(page, default=-1) + 1)
+            )
+            for page in pages
+        )
 
 
-def struck(texts):
+def struck(texts: object) -> object:
     """Texts that were printed over each other as one, or with carriage returns where two characters meet."""
-    texts = [text for text in (it.rstrip(" ") for it in texts) if text]
+    texts = [text for text in (text.rstrip(" ") for text in texts) if text]
     if len(texts) < 2:
         return texts[0] if texts else ""
     merged = ""
     for column in range(max(map(len, texts), default=0)):
-        met = {it[column : column + 1] for it in texts} - {"", " "}
+        met = {text[column : column + 1] for text in texts} - {"", " "}
         if len(met) > 1:
             return "\r".join(texts)
         merged += met.pop() if met else " "
     return merged
 
 
-def printed(lines, length):
+def printed(lines: list, length: int) -> object:
     """The pages of a printer's entries."""
     paper = Paper(length)
     for line in lines:
@@ -69,7 +76,7 @@ def printed(lines, length):
     return paper.text()
 
 
-def files_of(lines):
+def files_of(lines: list) -> object:
     """Each file's kind, number and user, and its lines."""
     found = []
     for line in lines:
@@ -83,11 +90,11 @@ def files_of(lines):
     return found
 
 
-def page_text(kind, entries, length):
+def page_text(kind: str, entries: object, length: int) -> object:
     """A file's entries as they are printed on pages, or a line a card."""
-    return printed(entries, length) if kind == "PRT" else "".join(f"{it}\n" for it in entries)
+    return printed(entries, length) if kind == "PRT" else "".join(f"{entry}\n" for entry in entries)
 
 
-def entries_in(body):
+def entries_in(body: object) -> list:
     """The entries of a file as a program's answer has them."""
     return [line[3:] for line in body.decode(errors="surrogateescape").split("\n")[:-1]]

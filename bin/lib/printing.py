@@ -1,4 +1,6 @@
 """Makes the pages of printouts in a process of its own, as fast as the host has time left: Printing is the other side of it."""
+from __future__ import annotations
+
 import json
 import os
 import subprocess
@@ -14,15 +16,17 @@ from printed import HEADING, PAGE_LENGTH, entries_in, page_text
 class Printing:
     """The process that makes pages. It is started when it is needed, and again if it has died."""
 
-    def __init__(self):
+    def __init__(self) -> None:
         self.process = None
 
-    def write(self, path, heading, body):
+    def write(self, path: str, heading: object, body: object) -> None:
         """Has a file written whole. An OSError says why that failed."""
         if not self.process or self.process.poll() is not None:
             streams = {"stdin": subprocess.PIPE, "stdout": subprocess.PIPE}
             # an interrupt at the terminal is for the command only
-            self.process = subprocess.Popen([sys.executable, os.path.realpath(__file__)], start_new_session=True, **streams)
+            self.process = subprocess.Popen(
+                [sys.executable, os.path.realpath(__file__)], start_new_session=True, **streams
+            )
         try:
             head = json.dumps([path, heading, len(body)]).encode()
             self.process.stdin.write(head + b"\n" + body)
@@ -37,7 +41,7 @@ class Printing:
         if reason:
             raise OSError(0, reason)
 
-    def close(self):
+    def close(self) -> None:
         if self.process:
             self.process.kill()
             self.process.wait()
@@ -49,7 +53,7 @@ class Printing:
             self.process = None
 
 
-def write_pages(path, heading, body):
+def write_pages(path: str, heading: object, body: object) -> object:
     """Writes the pages of a file; why that failed, or nothing."""
     try:
         text = page_text(HEADING.fullmatch(heading)[1], entries_in(body), PAGE_LENGTH)
@@ -61,7 +65,7 @@ def write_pages(path, heading, body):
         return "the host has no more memory"
 
 
-def serve():
+def serve() -> None:
     # whoever types comes first
     os.nice(10)
     while line := sys.stdin.buffer.readline():

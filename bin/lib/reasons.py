@@ -5,6 +5,9 @@ themselves report one fixed line.
 
 FAULT is that line; a file that the command does not have is empty, and STORAGE is given only of one machine of its own. What cannot
 be found out is left out."""
+from __future__ import annotations
+
+from collections.abc import Iterator
 import os
 import re
 import sys
@@ -14,7 +17,14 @@ from volumes import HEADS, MOST_CYLINDERS, ROOM, is_serial, read_volume
 
 MOST = {"RUN": 1000000, "AUTO": 100000, "DECK": 1000}
 # the operands of each line of a script, and how each is called
-OPERANDS = {"RUN": ["user", "units"], "LINE": ["user", "text"], "TICK": ["user"], "SERVE": ["user", "device"], "AUTO": ["turns"], "DECK": ["user", "cards"]}
+OPERANDS = {
+    "RUN": ["user", "units"],
+    "LINE": ["user", "text"],
+    "TICK": ["user"],
+    "SERVE": ["user", "device"],
+    "AUTO": ["turns"],
+    "DECK": ["user", "cards"],
+}
 STATEMENTS = {
     "USER": "USER name password storage", "CONSOLE": "CONSOLE address 3215", "SPOOL": "SPOOL address READER, PUNCH or PRINTER",
     "MDISK": "MDISK address 3330 start count volser mode",
@@ -25,13 +35,13 @@ LAST_CYLINDER = 807
 MOST_CHARACTERS = 400
 
 
-def lines_of(data):
+def lines_of(data: bytes) -> object:
     """The lines of a text; each byte is a character."""
     lines = data.decode("latin-1").split("\n")
     return lines if lines[-1] else lines[:-1]
 
 
-def invisible(line):
+def invisible(line: bytes) -> str | None:
     """What of a line a reader does not see, or None."""
     if line.startswith("\xef\xbb\xbf"):
         return "a byte order mark stands before the line: save the file without it"
@@ -42,7 +52,7 @@ def invisible(line):
     return None
 
 
-def is_number(text, least, most):
+def is_number(text: str, least: int, most: int) -> bool:
     return re.fullmatch("[0-9]{1,7}", text) is not None and least <= int(text) <= most
 
 
@@ -52,26 +62,28 @@ def is_number(text, least, most):
 class Users:
     """Who may be named in a script, and the addresses of each one's devices."""
 
-    def __init__(self, devices, whose):
+    def __init__(self, devices: object, whose: object) -> None:
         self.devices = devices
         self.whose = whose
 
-    def unknown(self, name):
+    def unknown(self, name: str) -> str:
         if name.upper() in self.devices:
             return f"names of users are in upper case: {name.upper()}, and not {name}"
         return f"there is no user {name or '(no name)'}: {self.whose} {', '.join(self.devices)}"
 
-    def no_device(self, name, address):
+    def no_device(self, name: str, address: int) -> object:
         found = self.devices[name]
         if address.upper() in found:
             return f"addresses are in upper case: {address.upper()}, and not {address}"
-        return f"{name} has no device at {address or '(no address)'}: " + (f"there are {', '.join(found)}" if found else "there is none")
+        return f"{name} has no device at {address or '(no address)'}: " + (
+            f"there are {', '.join(found)}" if found else "there is none"
+        )
 
 
-def users_of(directory):
+def users_of(directory: str) -> object:
     """The users of a directory."""
     devices = {}
-    for words in (it.split() for it in lines_of(directory) if not it.startswith("*")):
+    for words in (item.split() for item in lines_of(directory) if not item.startswith("*")):
         if words[:1] == ["USER"] and len(words) > 1:
             devices[words[1]] = []
         elif devices and len(words) > 1:
@@ -79,12 +91,23 @@ def users_of(directory):
     return Users(devices, "the directory has")
 
 
-def bare_user(disks):
+def bare_user(disks: object) -> object:
     """The user of one machine of its own with so many disks."""
-    return Users({"BARE": ["009", "00C", "00D", "00E", *(f"{0x190 + it:03X}" for it in range(disks))]}, "the machine is that of")
+    return Users(
+        {
+            "BARE": [
+                "009",
+                "00C",
+                "00D",
+                "00E",
+                *(f"{0x190 + number:03X}" for number in range(disks)),
+            ]
+        },
+        "the machine is that of",
+    )
 
 
-def cards_before(lines, number):
+def cards_before(lines: list, number: int) -> bool:
     """Whether a line, counted from 1, is a card of a deck."""
     cards = 0
     for line in lines[: number - 1]:
@@ -95,7 +118,7 @@ def cards_before(lines, number):
     return cards > 0
 
 
-def script_reason(lines, number, users):
+def script_reason(lines: list, number: int, users: list) -> object:
     """Why a line of a script is refused."""
     line = lines[number - 1]
     if cards_before(lines, number):
@@ -106,28 +129,39 @@ def script_reason(lines, number, users):
     if first == "LINE":
         # the rest of the line is any text
         line, words = " ".join(words[:1]), words[:1]
-    return invisible(line) or wrong_blanks(first, words) or wrong_operands(first, words, users, len(lines) - number)
+    return (
+        invisible(line)
+        or wrong_blanks(first, words)
+        or wrong_operands(first, words, users, len(lines) - number)
+    )
 
 
-def wrong_verb(line, first):
+def wrong_verb(line: bytes, first: int) -> object:
     if line.lstrip().startswith("*") or line.startswith(("#", ";", "//")):
         return "a comment begins with * in the first column"
     if line.startswith((" ", "\t")):
         return "a line begins with its first word: no blank stands before it"
     if first.upper().strip() in OPERANDS and first != first.upper():
         return f"first words are in upper case: {first.upper()}, and not {first}"
-    return invisible(line) or "a line begins with RUN, LINE, TICK, SERVE, AUTO or DECK, and not with " + first
+    return (
+        invisible(line)
+        or "a line begins with RUN, LINE, TICK, SERVE, AUTO or DECK, and not with " + first
+    )
 
 
-def wrong_blanks(first, words):
+def wrong_blanks(first: int, words: list[str]) -> str | None:
     if "" not in words:
         return None
     if first == "LINE":
         return "LINE, one blank and the name of a user begin the line"
-    return "a blank stands at the end of the line" if not words[-1] else "one blank stands between words, and not two"
+    return (
+        "a blank stands at the end of the line"
+        if not words[-1]
+        else "one blank stands between words, and not two"
+    )
 
 
-def wrong_operands(first, words, users, lines_after):
+def wrong_operands(first: int, words: list[str], users: list, lines_after: object) -> object:
     wanted = OPERANDS[first]
     if len(words) != len(wanted) and first != "LINE" or not words:
         return f"{first} is written: {first} {' '.join(wanted)}"
@@ -147,32 +181,32 @@ def wrong_operands(first, words, users, lines_after):
 # --- directories ---
 
 
-def directory_reason(lines, fault, numbers):
+def directory_reason(lines: list, fault: object, numbers: object) -> object:
     """Why a line of a directory is refused."""
     number = numbers[-1]
-    words = [it for it in lines[number - 1].split(" ") if it]
+    words = [part for part in lines[number - 1].split(" ") if part]
     if hidden := invisible(lines[number - 1]):
         return hidden
     if fault == "UnknownStatement":
         return unknown_statement(lines[number - 1], words[0])
     if fault == "Syntax":
-        return wrong_statement(words, any(it.startswith("USER ") for it in lines[: number - 1]))
+        return wrong_statement(words, any(line.startswith("USER ") for line in lines[: number - 1]))
     if fault == "BadStorage":
         return f"{STORAGE}, and not {words[3]}"
     if fault == "BadExtent":
         return f"{extent_text(words)}: a minidisk has at least one cylinder, and ends at {LAST_CYLINDER}"
     if fault == "Overlap":
-        other = [it for it in lines[numbers[0] - 1].split(" ") if it]
+        other = [part for part in lines[numbers[0] - 1].split(" ") if part]
         return f"{extent_text(other)} and {extent_text(words)} of {words[5]} meet, and not both have the mode R"
     return repeated(lines, fault, number, words)
 
 
-def extent_text(words):
+def extent_text(words: list[str]) -> str:
     start, count = int(words[3]), int(words[4])
     return f"cylinders {start} to {start + count - 1}" if count else f"no cylinder from {start} on"
 
 
-def unknown_statement(line, first):
+def unknown_statement(line: bytes, first: int) -> str:
     if line.lstrip().startswith("*") or line.startswith(("#", ";", "//")):
         return "a comment begins with * in the first column"
     if first.upper() in STATEMENTS:
@@ -180,7 +214,7 @@ def unknown_statement(line, first):
     return f"a statement is USER, CONSOLE, SPOOL or MDISK, and not {first}"
 
 
-def wrong_statement(words, has_user):
+def wrong_statement(words: list[str], has_user: object) -> object:
     verb = words[0]
     if len(words) != len(STATEMENTS[verb].split(" READER")[0].split()) + (verb == "SPOOL"):
         return f"it is written: {STATEMENTS[verb]}"
@@ -193,7 +227,7 @@ def wrong_statement(words, has_user):
     return wrong_device(words)
 
 
-def wrong_user(words):
+def wrong_user(words: list[str]) -> str:
     if words[1] == "SYSTEM":
         return "SYSTEM is the operator's name: a user has another one"
     if not re.fullmatch("[A-Z][A-Z0-9]{0,7}", words[1]):
@@ -203,8 +237,10 @@ def wrong_user(words):
     return f"{STORAGE}, and not {words[3]}"
 
 
-def wrong_device(words):
-    kinds = {"CONSOLE": ["3215"], "SPOOL": ["READER", "PUNCH", "PRINTER"], "MDISK": ["3330"]}[words[0]]
+def wrong_device(words: list[str]) -> str:
+    kinds = {"CONSOLE": ["3215"], "SPOOL": ["READER", "PUNCH", "PRINTER"], "MDISK": ["3330"]}[
+        words[0]
+    ]
     if words[2] not in kinds:
         return f"after the address of {words[0]} stands {' or '.join(kinds)}, and not {words[2]}"
     for name, word in zip(("start", "count"), words[3:5]):
@@ -215,14 +251,16 @@ def wrong_device(words):
     return f"the mode is R or W, and not {words[6]}"
 
 
-def repeated(lines, fault, number, words):
+def repeated(lines: list, fault: object, number: int, words: list[str]) -> str:
     """Returns the reason of a statement that an earlier one excludes."""
     place, of_user = user_before(lines, number)
     if fault == "DuplicateUser":
-        earlier = next(at for at, it in enumerate(lines, 1) if it.split()[:2] == ["USER", words[1]])
+        earlier = next(
+            at for at, item in enumerate(lines, 1) if item.split()[:2] == ["USER", words[1]]
+        )
         return f"the user {words[1]} is stated in line {earlier} already"
     if fault == "DuplicateDevice":
-        earlier = next(at for at, it in of_user if it[1] == words[1])
+        earlier = next(at for at, item in of_user if item[1] == words[1])
         return f"the user {place} has a device at {words[1]} already, by line {earlier}"
     if fault == "TooMany" and words[0] == "USER":
         return "a directory has at most 64 users, and this is the 65th"
@@ -232,10 +270,10 @@ def repeated(lines, fault, number, words):
     return f"a user has one {kind}, and this is the second of {place}"
 
 
-def user_before(lines, number):
+def user_before(lines: list, number: int) -> tuple:
     """The user to whom a line belongs, and the lines with his devices before it, each with its number."""
     name, found = "", []
-    for at, words in enumerate((it.split() for it in lines[: number - 1]), 1):
+    for at, words in enumerate((line.split() for line in lines[: number - 1]), 1):
         if words[:1] == ["USER"]:
             name, found = words[1], []
         elif len(words) > 1 and words[0] in STATEMENTS:
@@ -246,7 +284,7 @@ def user_before(lines, number):
 # --- texts of volumes ---
 
 
-def text_reason(lines, number):
+def text_reason(lines: list, number: int) -> object:
     """Why a line of the text of a volume is refused."""
     line = lines[number - 1] if number <= len(lines) else ""
     words = line.split(" ")
@@ -263,7 +301,7 @@ def text_reason(lines, number):
     return wrong_track(words, int(lines[0].split(" ")[2])) or wrong_record(words)
 
 
-def wrong_volume(words):
+def wrong_volume(words: list[str]) -> str:
     if words[0] != "VOLUME":
         return "the first line is: VOLUME serial cylinders"
     if "" in words:
@@ -275,7 +313,7 @@ def wrong_volume(words):
     return f"a volume has 1 to {MOST_CYLINDERS} cylinders, a number of at most 7 digits, and not {words[2]}"
 
 
-def wrong_text_verb(line, first):
+def wrong_text_verb(line: bytes, first: int) -> str:
     if not line:
         return "the text of a volume has no empty lines"
     if line.startswith(("*", "#", ";")):
@@ -285,9 +323,15 @@ def wrong_text_verb(line, first):
     return f"a line begins with HOME or REC, and not with {first}"
 
 
-def wrong_track(words, cylinders):
+def wrong_track(words: list[str], cylinders: int) -> object:
     if len(words) != {"HOME": 4, "REC": 6}[words[0]]:
-        return "it is written: " + {"HOME": "HOME cylinder head address", "REC": "REC cylinder head id key data, with - for no key or no data"}[words[0]]
+        return (
+            "it is written: "
+            + {
+                "HOME": "HOME cylinder head address",
+                "REC": "REC cylinder head id key data, with - for no key or no data",
+            }[words[0]]
+        )
     if not is_number(words[1], 0, cylinders - 1):
         return f"the volume has cylinders 0 to {cylinders - 1}, and not {words[1]}"
     if not is_number(words[2], 0, HEADS - 1):
@@ -298,7 +342,7 @@ def wrong_track(words, cylinders):
     return None
 
 
-def wrong_record(words):
+def wrong_record(words: list[str]) -> str:
     for name, field in zip(("the key", "the data"), words[4:]):
         if field != "-" and (len(field) % 2 or not re.fullmatch("[0-9A-F]+", field)):
             return f"{name} is an even number of digits 0-9 A-F, or - for none"
@@ -310,19 +354,19 @@ def wrong_record(words):
 # --- images and boots ---
 
 
-def image_reason(paths, fault):
+def image_reason(paths: object, fault: object) -> str | None:
     """Which image is refused, and why."""
     for path in paths:
         data = read(path)
         try:
             read_volume(data)
-        except Failure as it:
-            if it.lines[0] == f"fault: image {fault}":
+        except Failure as item:
+            if item.lines[0] == f"fault: image {fault}":
                 return f"{path}: {image_text(data, fault.split())}"
     return None
 
 
-def image_text(data, fault):
+def image_text(data: bytes, fault: object) -> str:
     if data[:8] in (b"CKD_P370", b"CKD_C370"):
         return "it is an image of Hercules: bin/img2vol makes a volume of it"
     if data[:7] == b"VOLUME ":
@@ -340,36 +384,47 @@ def image_text(data, fault):
     return f"it ends after {len(data)} bytes, and the volume does not: was it copied whole?"
 
 
-def shown(data):
+def shown(data: bytes) -> str:
     return repr(data.decode("latin-1"))
 
 
-def serial_of(path):
+def serial_of(path: str) -> str:
     return read(path)[4:10].decode("latin-1").rstrip(" ")
 
 
-def boot_reason(fault, directory, paths):
+def boot_reason(fault: object, directory: str, paths: object) -> str:
     """Which serial number, which user."""
     kind, *rest = fault.split()
     if kind == "TooFewFrames":
         return "a system has at least 16 frames: --frames 16 or more"
     serials = {path: serial_of(path) for path in paths}
     if kind == "DuplicateVolume":
-        one, other = next((it, that) for at, it in enumerate(paths) for that in paths[:at] if serials[it] == serials[that])
+        one, other = next(
+            (item, that)
+            for at, item in enumerate(paths)
+            for that in paths[:at]
+            if serials[item] == serials[that]
+        )
         return f"{other} and {one} both have the serial number {serials[one]}"
-    disks = [(at, user_before(lines_of(directory), at)[0], words) for at, words in minidisks(directory)]
+    disks = [
+        (at, user_before(lines_of(directory), at)[0], words) for at, words in minidisks(directory)
+    ]
     if kind == "NoVolume":
-        at, user, words = next(it for it in disks if it[2][5] == rest[0])
-        there = f"the images are those of {', '.join(serials.values())}" if paths else "no image is given"
+        at, user, words = next(disk for disk in disks if disk[2][5] == rest[0])
+        there = (
+            f"the images are those of {', '.join(serials.values())}"
+            if paths
+            else "no image is given"
+        )
         return f"line {at} gives {user} a minidisk at {words[1]} on {rest[0]}, and {there}"
-    at, _, words = next(it for it in disks if it[1] == rest[0] and it[2][1] == rest[1])
-    path = next(it for it in paths if serials[it] == words[5])
+    at, _, words = next(disk for disk in disks if disk[1] == rest[0] and disk[2][1] == rest[1])
+    path = next(path for path in paths if serials[path] == words[5])
     cylinders = int.from_bytes(read(path)[10:12], "big")
     return f"line {at} gives {rest[0]} {extent_text(words)} of {words[5]}, and {path} has cylinders 0 to {cylinders - 1}"
 
 
-def minidisks(directory):
-    for at, words in enumerate((it.split() for it in lines_of(directory)), 1):
+def minidisks(directory: str) -> Iterator:
+    for at, words in enumerate((item.split() for item in lines_of(directory)), 1):
         if words[:1] == ["MDISK"] and len(words) == 7:
             yield at, words
 
@@ -377,7 +432,7 @@ def minidisks(directory):
 # --- all faults ---
 
 
-def read(path):
+def read(path: str) -> object:
     """The bytes of a file; of what can be read only once there are none."""
     if not os.path.isfile(path):
         return b""
@@ -385,13 +440,25 @@ def read(path):
         return file.read()
 
 
-def reason(fault, directory=b"", script=b"", text=b"", is_bare=False, images=()):
+def reason(
+    fault: object,
+    directory: bytes = b"",
+    script: bytes = b"",
+    text: bytes = b"",
+    is_bare: bool = False,
+    images: tuple = (),
+) -> object:
     """Why, in words, or None where it cannot be found out; the texts are given as bytes."""
     found = find_reason(fault, directory, script, text, is_bare, images)
-    return found and "".join(it if it.isprintable() or "\udc80" <= it <= "\udcff" else "?" for it in found[:MOST_CHARACTERS])
+    return found and "".join(
+        item if item.isprintable() or "\udc80" <= item <= "\udcff" else "?"
+        for item in found[:MOST_CHARACTERS]
+    )
 
 
-def find_reason(fault, directory, script, text, is_bare, images):
+def find_reason(
+    fault: object, directory: str, script: str, text: str, is_bare: object, images: object
+) -> object:
     found = re.fullmatch("fault: (script|text) Line ([0-9]+)", fault)
     try:
         if found and found[1] == "script":
@@ -411,7 +478,9 @@ def find_reason(fault, directory, script, text, is_bare, images):
         return None
 
 
-def main(fault, directory, script, text, storage, *images):
+def main(
+    fault: object, directory: str, script: str, text: str, storage: object, *images: object
+) -> None:
     sys.stdout.reconfigure(encoding="utf-8", errors="surrogateescape")
     found = reason(fault, read(directory), read(script), read(text), bool(storage), images)
     if found:

@@ -1,4 +1,7 @@
 """The files for the operator: each comes into a folder once, whole, when its user closes it."""
+from __future__ import annotations
+
+from collections.abc import Callable
 import collections
 import os
 import threading
@@ -16,7 +19,7 @@ WRITTEN, WAITS, WAITS_FOR_START, TOLD = "written", "waits", "waits for the next 
 class Printout:
     """A file for the operator, how many lines it has, and what has become of it."""
 
-    def __init__(self, heading, body):
+    def __init__(self, heading: object, body: object) -> None:
         kind, number, user = HEADING.fullmatch(heading).groups()
         self.name = f"{kind}{number}-{user}.txt"
         self.heading = heading
@@ -30,7 +33,7 @@ class Printouts:
     """Writes printouts one after another in a thread, and notes in the recording which are written. One that cannot be written
     waits, and those after it. Without a folder printouts are only reported."""
 
-    def __init__(self, folder, tell, noted):
+    def __init__(self, folder: str, tell: Callable, noted: object) -> None:
         self.folder = folder
         self.tell = tell
         # how to note that a file is written, and the names of those that are noted
@@ -50,7 +53,7 @@ class Printouts:
             self.thread = threading.Thread(target=self.write_all, daemon=True)
             self.thread.start()
 
-    def put(self, files, is_replay=False):
+    def put(self, files: list, is_replay: bool = False) -> None:
         """Takes closed files, each with its heading and entries. In a replay it waits while too much waits to be written."""
         for heading, body in files:
             printout = Printout(heading, body)
@@ -60,7 +63,7 @@ class Printouts:
                 while is_replay and self.size > MOST_WAITING // 2 and not self.trouble:
                     self.changed.wait(1)
 
-    def decide(self, printout, is_replay):
+    def decide(self, printout: object, is_replay: object) -> None:
         """Whether a printout is to be written."""
         if not self.folder:
             printout.state = TOLD
@@ -78,7 +81,7 @@ class Printouts:
             return
         printout.body = b""
 
-    def write_all(self):
+    def write_all(self) -> None:
         """Writes what waits, until it is closed."""
         printing = Printing()
         while printout := self.first():
@@ -102,14 +105,14 @@ class Printouts:
                 self.tell(f"closed: {path}")
         printing.close()
 
-    def first(self):
+    def first(self) -> object:
         """The printout that is to be written next, or None at the end."""
         with self.changed:
             while not self.waiting and not self.is_closing:
                 self.changed.wait()
             return None if not self.waiting or self.is_closing and self.trouble else self.waiting[0]
 
-    def wait_after(self, printout, reason):
+    def wait_after(self, printout: object, reason: object) -> None:
         """Waits a while after a failure, which is reported once."""
         if reason != self.trouble:
             self.tell(f"{printout.name} cannot be written, and waits: {reason}")
@@ -119,16 +122,16 @@ class Printouts:
             if not self.is_closing:
                 self.changed.wait(SECONDS_TO_TRY_AGAIN)
 
-    def unwritten(self):
+    def unwritten(self) -> list:
         """The names of the files that are not written."""
-        return [it.name for it in self.all if it.state in (WAITS, WAITS_FOR_START)]
+        return [item.name for item in self.all if item.state in (WAITS, WAITS_FOR_START)]
 
-    def settle(self, seconds=SECONDS_TO_FINISH):
+    def settle(self, seconds: object = SECONDS_TO_FINISH) -> None:
         """Waits until all is written, unless something cannot be."""
         with self.changed:
             self.changed.wait_for(lambda: not self.waiting or self.trouble, seconds)
 
-    def close(self):
+    def close(self) -> None:
         """Ends the thread; what still waits is written by the next start."""
         with self.changed:
             self.is_closing = True

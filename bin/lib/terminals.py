@@ -5,6 +5,10 @@ brings people, by telnet or otherwise, makes a Connection: `Desk.come` opens it,
 MOST_BYTES and only while `may_send` is set, and `Desk.leave` reports that it has ended. The desk gives it bytes by `send`, and ends it by
 `close`.
 """
+from __future__ import annotations
+
+from collections.abc import Callable
+from typing import TYPE_CHECKING
 import asyncio
 import collections
 import concurrent.futures
@@ -17,6 +21,9 @@ import time
 
 from engine import typed_line
 from people import FILE_FAILED, Failure
+
+if TYPE_CHECKING:
+    from desk import Account
 
 # those who are about to log on, as the desk counts them, and one more
 MOST_STRANGERS = 80
@@ -43,7 +50,7 @@ CLOSED = b"LOGON IS CLOSED\r\n"
 class Connection:
     """Somebody who comes from an address; the number of its place, while the desk has one for it."""
 
-    def __init__(self, address):
+    def __init__(self, address: int) -> None:
         self.address = address
         self.place = None
         self.user = None
@@ -51,17 +58,17 @@ class Connection:
         self.minute = ""
         self.may_send = asyncio.Event()
 
-    def send(self, data):
+    def send(self, data: bytes) -> None:
         """Gives it bytes."""
 
-    def close(self):
+    def close(self) -> None:
         """Ends it, when it has read what waits."""
 
 
 class SocketConnection(Connection):
     """A connection by telnet or plain."""
 
-    def __init__(self, writer, tell):
+    def __init__(self, writer: object, tell: Callable) -> None:
         peer = writer.get_extra_info("peername")
         super().__init__(peer[0] if isinstance(peer, tuple) else "")
         self.writer = writer
@@ -74,7 +81,7 @@ class SocketConnection(Connection):
                 # one that goes without a word is found out some time
                 connection.setsockopt(socket.SOL_SOCKET, socket.SO_KEEPALIVE, 1)
 
-    def send(self, data):
+    def send(self, data: bytes) -> None:
         if self.writer.is_closing():
             return
         self.writer.write(data)
@@ -82,10 +89,10 @@ class SocketConnection(Connection):
             self.tell(f"{self.user.name if self.user else 'a stranger'} does not read: closed")
             self.writer.transport.abort()
 
-    def unread(self):
+    def unread(self) -> object:
         return self.writer.transport.get_write_buffer_size()
 
-    def close(self):
+    def close(self) -> None:
         if self.writer.is_closing():
             return
         if self.unread() > LITTLE_UNREAD:
@@ -98,27 +105,27 @@ class SocketConnection(Connection):
 class Terminal:
     """The terminal of a user, who logs on at the desk."""
 
-    def __init__(self, desk, number):
+    def __init__(self, desk: object, number: int) -> None:
         self.desk = desk
         self.number = number
         self.connection = None
 
     @property
-    def is_there(self):
+    def is_there(self) -> bool:
         return self.connection is not None
 
-    def keep(self, text, minute):
+    def keep(self, text: str, minute: str) -> None:
         """Keeps a line for when he comes back."""
         self.desk.tell_soon("KEEP", self.number, encoded(minute), encoded(text))
 
-    def show(self, text):
+    def show(self, text: str) -> None:
         """Shows him a line, which is on the disk, if he is there."""
         self.desk.tell_soon("SHOW", self.number, encoded(text))
 
-    def turn(self, is_on, is_running):
+    def turn(self, is_on: object, is_running: bool) -> None:
         self.desk.ask("TURN", self.number, (1 + is_running) * is_on)
 
-    def close(self):
+    def close(self) -> None:
         if self.connection:
             self.desk.leave(self.connection)
 
@@ -126,16 +133,16 @@ class Terminal:
 class WrongPasswords:
     """Sums the wrong passwords, so that the journal has a line for many."""
 
-    def __init__(self, tell):
+    def __init__(self, tell: Callable) -> None:
         self.tell = tell
         self.counts = collections.Counter()
 
-    def add(self, name, address):
+    def add(self, name: str, address: int) -> None:
         if not self.counts:
             asyncio.get_running_loop().call_later(SECONDS_TO_SUM, self.tell_all)
         self.counts[name, address] += 1
 
-    def tell_all(self):
+    def tell_all(self) -> None:
         for (name, address), count in self.counts.items():
             passwords = "a wrong password" if count == 1 else f"{count} wrong passwords"
             self.tell(f"{passwords} for {name or 'nobody here'}{' from ' * bool(address)}{address}")
@@ -145,7 +152,7 @@ class WrongPasswords:
 class Desk:
     """The program that is the desk, the connections at its places, and the people who log on."""
 
-    def __init__(self, engine, passwords, tell, program):
+    def __init__(self, engine: object, passwords: object, tell: Callable, program: str) -> None:
         self.engine = engine
         self.passwords = passwords
         self.tell = tell
@@ -169,9 +176,11 @@ class Desk:
         self.path = program
         self.program = None
 
-    def open(self):
+    def open(self) -> None:
         """Begins the program, and gives it the users, and what is known of them since a replay."""
-        self.program = subprocess.Popen([self.path], stdin=subprocess.PIPE, stdout=subprocess.PIPE, start_new_session=True)
+        self.program = subprocess.Popen(
+            [self.path], stdin=subprocess.PIPE, stdout=subprocess.PIPE, start_new_session=True
+        )
         for user in self.people:
             self.ask("USER", encoded(user.name))
         self.room = MOST_STRANGERS + 1 + len(self.people)
@@ -185,12 +194,12 @@ class Desk:
 
     # --- the lines that pass (crates/logon_desk_cli/src: frame.rt, printing.rt) ---
 
-    def ask(self, word, *words):
+    def ask(self, word: str, *words: object) -> None:
         """Tells the desk what has happened, and does what it says then."""
         self.pending.append(self.line(word, *words))
         self.flush()
 
-    def tell_soon(self, word, *words):
+    def tell_soon(self, word: str, *words: object) -> None:
         """Gives the desk something with what comes next, at the end of this turn at the latest."""
         self.pending.append(self.line(word, *words))
         if len(self.pending) == MOST_PENDING:
@@ -198,10 +207,15 @@ class Desk:
         elif len(self.pending) == 1:
             asyncio.get_running_loop().call_soon(self.flush)
 
-    def line(self, word, *words):
-        return " ".join([word, f"{int(1000 * (time.monotonic() - self.begun)):X}", *map(written, words)]) + "\n"
+    def line(self, word: str, *words: object) -> object:
+        return (
+            " ".join(
+                [word, f"{int(1000 * (time.monotonic() - self.begun)):X}", *map(written, words)]
+            )
+            + "\n"
+        )
 
-    def flush(self):
+    def flush(self) -> None:
         """Tells the desk what waits for that, and does what it says to each line."""
         pending, self.pending = self.pending, []
         try:
@@ -216,7 +230,7 @@ class Desk:
         if self.strangers:
             self.is_asked.set()
 
-    def obey_all(self):
+    def obey_all(self) -> None:
         """Does what the desk says to a line."""
         while True:
             word, *words = self.program.stdout.readline().decode().split()
@@ -225,30 +239,30 @@ class Desk:
                 return
             self.obey(word, *words)
 
-    def obey(self, word, number, *words):
+    def obey(self, word: str, number: int, *words: object) -> None:
         number = int(number, 16)
         if word == "TYPE":
             self.start(self.give(self.people[number], number, read_bytes(words[0])))
         elif connection := self.places.get(number):
             getattr(self, f"obey_{word.lower()}")(connection, *words)
 
-    def obey_give(self, connection, data):
+    def obey_give(self, connection: object, data: bytes) -> None:
         connection.send(read_bytes(data))
 
-    def obey_back(self, connection, minute, text):
+    def obey_back(self, connection: object, minute: str, text: str) -> None:
         """A line that he has seen before, and its minute where that is another one."""
         if minute != connection.minute:
             connection.send(b"-- %s UTC\r\n" % read_bytes(minute))
         connection.minute = minute
         connection.send(read_bytes(text) + b"\r\n")
 
-    def obey_read(self, connection):
+    def obey_read(self, connection: object) -> None:
         connection.may_send.set()
 
-    def obey_asks(self, connection, name, password):
+    def obey_asks(self, connection: object, name: str, password: str) -> None:
         self.start(self.judge(connection, name, password))
 
-    def obey_ends(self, connection):
+    def obey_ends(self, connection: object) -> None:
         del self.places[connection.place]
         connection.place = None
         connection.may_send.set()
@@ -259,7 +273,7 @@ class Desk:
             self.engine.note(b"* DISCONNECTED %s\n" % user.name.encode())
             self.tell(f"{user.name} {'leaves his terminal' if user.is_on else 'is logged off'}")
 
-    def obey_note(self, connection, word, number):
+    def obey_note(self, connection: object, word: str, number: int) -> None:
         user = None if number == "-" else self.people[int(number, 16)]
         if word == "FAIL":
             self.wrong.add(user and user.name, connection.address)
@@ -271,11 +285,11 @@ class Desk:
 
     # --- what takes time ---
 
-    def start(self, work):
+    def start(self, work: str) -> None:
         self.tasks.add(task := asyncio.get_running_loop().create_task(work))
         task.add_done_callback(self.tasks.discard)
 
-    async def give(self, user, number, text):
+    async def give(self, user: Account, number: int, text: str) -> None:
         """Has a line done that is typed for a user."""
         was_on = user.is_on
         with contextlib.suppress(asyncio.CancelledError):
@@ -284,10 +298,12 @@ class Desk:
                 user.terminal.show(self.log_message)
             self.ask("DONE", number)
 
-    async def judge(self, connection, name, password):
+    async def judge(self, connection: object, name: str, password: str) -> None:
         """Answers whether a name and a password are right."""
         given = [word.decode("latin-1") for word in map(read_bytes, (name, password))]
-        is_right = await asyncio.get_running_loop().run_in_executor(self.judging, self.passwords.are_right, *given)
+        is_right = await asyncio.get_running_loop().run_in_executor(
+            self.judging, self.passwords.are_right, *given
+        )
         if connection.place is None:
             return
         if is_right and self.is_closed and not self.engine.users[given[0]].is_on:
@@ -296,7 +312,7 @@ class Desk:
             return
         self.ask("SAYS", connection.place, int(is_right), name, password)
 
-    async def work(self):
+    async def work(self) -> None:
         """Tells the desk the time while somebody waits for it; fails where the desk does."""
         while not self.has_failed.is_set():
             if not self.strangers:
@@ -308,9 +324,11 @@ class Desk:
 
     # --- connections ---
 
-    def come(self, connection):
+    def come(self, connection: object) -> bool:
         """A connection has come; whether there is a place for it."""
-        connection.place = next((it for it in range(self.room) if it not in self.places), None)
+        connection.place = next(
+            (number for number in range(self.room) if number not in self.places), None
+        )
         if connection.place is None:
             return False
         self.places[connection.place] = connection
@@ -318,24 +336,26 @@ class Desk:
         self.ask("OPEN", connection.place, self.origin(connection.address))
         return connection.place is not None
 
-    def origin(self, address):
+    def origin(self, address: int) -> object:
         """A number for an address, which nobody outside can know; neighbours in a network of IPv6 have the same one."""
         parts = address.split(":")
         network = ":".join(parts[:4]) if len(parts) > 1 else address
-        return int.from_bytes(hashlib.blake2b(network.encode(), key=self.key, digest_size=7).digest(), "big")
+        return int.from_bytes(
+            hashlib.blake2b(network.encode(), key=self.key, digest_size=7).digest(), "big"
+        )
 
-    def receive(self, connection, data):
+    def receive(self, connection: object, data: bytes) -> None:
         """Bytes have come at a connection."""
         if connection.place is not None:
             connection.may_send.clear()
             self.ask("CAME", connection.place, data.hex().upper())
 
-    def leave(self, connection):
+    def leave(self, connection: object) -> None:
         """A connection has ended."""
         if connection.place is not None:
             self.ask("GONE", connection.place)
 
-    async def serve(self, reader, writer):
+    async def serve(self, reader: int, writer: object) -> None:
         """Serves a socket until it ends."""
         connection = SocketConnection(writer, self.tell)
         self.serving.add(asyncio.current_task())
@@ -354,7 +374,7 @@ class Desk:
             connection.close()
             self.serving.discard(asyncio.current_task())
 
-    async def shut(self):
+    async def shut(self) -> None:
         """Tells all connections that it ends, and closes them."""
         for connection in list(self.places.values()):
             connection.send(GOES_DOWN)
@@ -373,9 +393,9 @@ class Desk:
             self.program.stdout.close()
 
 
-async def first_of(*events):
+async def first_of(*events: object) -> None:
     """Waits until one of these happens."""
-    tasks = [asyncio.ensure_future(it.wait()) for it in events]
+    tasks = [asyncio.ensure_future(event.wait()) for event in events]
     try:
         await asyncio.wait(tasks, return_when=asyncio.FIRST_COMPLETED)
     finally:
@@ -383,14 +403,14 @@ async def first_of(*events):
             task.cancel()
 
 
-def encoded(text):
+def encoded(text: str) -> str:
     """A text as the desk reads bytes."""
     return text.encode(errors="surrogateescape").hex().upper() or "-"
 
 
-def written(word):
+def written(word: str) -> object:
     return f"{word:X}" if isinstance(word, int) else word
 
 
-def read_bytes(word):
+def read_bytes(word: str) -> object:
     return b"" if word == "-" else bytes.fromhex(word)

@@ -1,4 +1,6 @@
 """Encryption of what passes between people and the installation, by Python's own library."""
+from __future__ import annotations
+
 import ssl
 
 from people import FILE_FAILED, Failure, WrongUse
@@ -7,12 +9,12 @@ from people import FILE_FAILED, Failure, WrongUse
 SECONDS_FOR_A_HANDSHAKE = 10
 
 
-def how(context):
+def how(context: object) -> dict:
     """The words of a server for its encryption."""
     return {"ssl": context, "ssl_handshake_timeout": SECONDS_FOR_A_HANDSHAKE} if context else {}
 
 
-def tls_of(certificate, key):
+def tls_of(certificate: object, key: str) -> object:
     """The context of connections that are encrypted, or None."""
     if bool(certificate) != bool(key):
         raise WrongUse("--certificate and --key go together")
@@ -23,5 +25,7 @@ def tls_of(certificate, key):
     try:
         context.load_cert_chain(certificate, key)
     except (OSError, ssl.SSLError) as error:
-        raise Failure(FILE_FAILED, f"{certificate}, {key}: {error.strerror or error.reason}") from None
+        raise Failure(
+            FILE_FAILED, f"{certificate}, {key}: {error.strerror or error.reason}"
+        ) from None
     return context

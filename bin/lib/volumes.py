@@ -1,4 +1,7 @@
 """Volumes: images as docs/FORMATS.md tells them ("Volume images"), and images that the emulator Hercules has (CKD_P370)."""
+from __future__ import annotations
+
+from collections.abc import Iterator
 from typing import NamedTuple
 
 from people import Failure, REFUSED
@@ -25,12 +28,18 @@ class Record(NamedTuple):
     key: bytes
     data: bytes
 
-    def cost(self):
+    def cost(self) -> object:
         """What it takes of its track."""
         return 191 + len(self.key) + len(self.data) if self.key else 135 + len(self.data)
 
-    def whole(self):
-        return self.id + bytes([len(self.key)]) + len(self.data).to_bytes(2, "big") + self.key + self.data
+    def whole(self) -> object:
+        return (
+            self.id
+            + bytes([len(self.key)])
+            + len(self.data).to_bytes(2, "big")
+            + self.key
+            + self.data
+        )
 
 
 class Track(NamedTuple):
@@ -46,51 +55,53 @@ class Volume(NamedTuple):
     serial: str
     tracks: list
 
-    def cylinders(self):
+    def cylinders(self) -> object:
         return len(self.tracks) // HEADS
 
 
-def own_home(cylinder, head):
+def own_home(cylinder: int, head: int) -> object:
     """The home address of a track that was never given another."""
     return bytes([0]) + cylinder.to_bytes(2, "big") + head.to_bytes(2, "big")
 
 
-def record_zero(cylinder, head):
+def record_zero(cylinder: int, head: int) -> object:
     """Record zero of a track as it is formatted."""
     return Record(own_home(cylinder, head)[1:] + b"\0", b"", bytes(8))
 
 
-def places(tracks):
+def places(tracks: list[Track]) -> object:
     """Each track with its cylinder and head."""
     return ((place // HEADS, place % HEADS, track) for place, track in enumerate(tracks))
 
 
-def is_serial(text):
-    return 1 <= len(text) <= 6 and all(it in "ABCDEFGHIJKLMNOPQRSTUVWXYZ0123456789" for it in text)
+def is_serial(text: str) -> bool:
+    return 1 <= len(text) <= 6 and all(
+        item in "ABCDEFGHIJKLMNOPQRSTUVWXYZ0123456789" for item in text
+    )
 
 
-def refused(fault):
+def refused(fault: object) -> object:
     return Failure(REFUSED, f"fault: image {fault}")
 
 
 class Reader:
     """Bytes that are read one part after another."""
 
-    def __init__(self, data):
+    def __init__(self, data: bytes) -> None:
         self.data = data
         self.at = 0
 
-    def take(self, count):
+    def take(self, count: int) -> object:
         if self.at + count > len(self.data):
             raise refused("Truncated")
         self.at += count
         return self.data[self.at - count : self.at]
 
-    def number(self, count):
+    def number(self, count: int) -> object:
         return int.from_bytes(self.take(count), "big")
 
 
-def read_volume(data):
+def read_volume(data: bytes) -> object:
     """The volume of an image, which is judged as the programs judge it."""
     reader = Reader(data)
     magic, serial, cylinders = reader.take(4), reader.take(6), reader.number(2)
@@ -103,32 +114,34 @@ def read_volume(data):
     for cylinder in range(cylinders):
         for head in range(HEADS):
             track = Track(reader.take(5), [read_record(reader) for _ in range(reader.number(1))])
-            if sum(it.cost() for it in track.records) > ROOM:
+            if sum(record.cost() for record in track.records) > ROOM:
                 raise refused(f"BadTrack {cylinder} {head}")
             tracks.append(track)
-    if version == 2 and reader.number(4) != sum(len(it.records) for it in tracks):
+    if version == 2 and reader.number(4) != sum(len(track.records) for track in tracks):
         raise refused("BadTotal")
     if reader.at < len(data):
         raise refused("Trailing")
     return Volume(serial, tracks)
 
 
-def read_record(reader):
+def read_record(reader: int) -> object:
     id, key, length = reader.take(5), reader.number(1), reader.number(2)
     return Record(id, reader.take(key), reader.take(length))
 
 
-def image_of(volume):
+def image_of(volume: object) -> bytes:
     """The image of a volume, version 2."""
-    image = bytearray(b"CKD2" + volume.serial.encode().ljust(6) + volume.cylinders().to_bytes(2, "big"))
+    image = bytearray(
+        b"CKD2" + volume.serial.encode().ljust(6) + volume.cylinders().to_bytes(2, "big")
+    )
     for track in volume.tracks:
         image += track.home + bytes([len(track.records)])
         for record in track.records:
             image += record.whole()
-    return bytes(image + sum(len(it.records) for it in volume.tracks).to_bytes(4, "big"))
+    return bytes(image + sum(len(track.records) for track in volume.tracks).to_bytes(4, "big"))
 
 
-def text_of(volume):
+def text_of(volume: object) -> Iterator:
     """The lines of a text that states a volume, as bin/mkvol takes it."""
     yield f"VOLUME {volume.serial} {volume.cylinders()}"
     for cylinder, head, track in places(volume.tracks):
@@ -142,13 +155,13 @@ def text_of(volume):
 class Faults:
     """What the one format cannot hold of the other, told by track."""
 
-    def __init__(self):
+    def __init__(self) -> None:
         self.lines = []
 
-    def add(self, cylinder, head, text):
+    def add(self, cylinder: int, head: int, text: str) -> None:
         self.lines.append(f"cylinder {cylinder} head {head}: {text}")
 
-    def end(self):
+    def end(self) -> None:
         """Refuses where there was one."""
         if len(self.lines) > 20:
             self.lines[20:] = [f"and {len(self.lines) - 20} more"]
@@ -156,7 +169,7 @@ class Faults:
             raise Failure(REFUSED, *self.lines)
 
 
-def read_emulated(data, serial):
+def read_emulated(data: bytes, serial: str) -> object:
     """The volume of an image CKD_P370; serial is its serial number, or None where its label tells."""
     tracks = emulated_tracks(data)
     faults = Faults()
@@ -165,40 +178,52 @@ def read_emulated(data, serial):
     for cylinder, head, track in places(tracks):
         try:
             records = parsed_track(track, cylinder, head)
-        except ValueError as it:
-            faults.add(cylinder, head, it)
+        except ValueError as item:
+            faults.add(cylinder, head, item)
             continue
         if len(found) < kept:
             found.append(Track(track[:5], records))
         elif records or track[:5] != own_home(cylinder, head):
             faults.add(cylinder, head, "an alternate track is used")
     if kept > MOST_CYLINDERS * HEADS:
-        raise Failure(REFUSED, f"there are {kept // HEADS} cylinders, and a volume has at most {MOST_CYLINDERS}")
+        raise Failure(
+            REFUSED,
+            f"there are {kept // HEADS} cylinders, and a volume has at most {MOST_CYLINDERS}",
+        )
     faults.end()
     serial = serial or labelled(found)
     if serial is None:
-        raise Failure(REFUSED, "the volume has no label that tells its serial number: give --serial")
+        raise Failure(
+            REFUSED, "the volume has no label that tells its serial number: give --serial"
+        )
     return Volume(serial, found)
 
 
-def emulated_tracks(data):
+def emulated_tracks(data: bytes) -> list:
     """The tracks of an image CKD_P370, as bytes."""
     kind = data[:8]
     if kind in OTHER_KINDS:
-        raise Failure(REFUSED, f"the image is {OTHER_KINDS[kind]}: copy it with dasdcopy to one that is not")
+        raise Failure(
+            REFUSED, f"the image is {OTHER_KINDS[kind]}: copy it with dasdcopy to one that is not"
+        )
     if kind != KIND or len(data) < HEADER:
         raise Failure(REFUSED, "the file is no image CKD_P370")
-    heads, size = (int.from_bytes(data[it : it + 4], "little") for it in (8, 12))
+    heads, size = (int.from_bytes(data[item : item + 4], "little") for item in (8, 12))
     if heads != HEADS or data[16] != DEVICE_TYPE:
-        raise Failure(REFUSED, f"the image is of a 33{data[16]:02X} with {heads} heads, and not of a 3330 with {HEADS}")
+        raise Failure(
+            REFUSED,
+            f"the image is of a 33{data[16]:02X} with {heads} heads, and not of a 3330 with {HEADS}",
+        )
     if data[17] or data[18:20] != b"\0\0":
         raise Failure(REFUSED, "the image is one of several files of a volume")
     if not 21 <= size <= 65536 or (len(data) - HEADER) % (size * HEADS) or len(data) == HEADER:
-        raise Failure(REFUSED, f"the image has not whole cylinders of {HEADS} tracks of {size} bytes")
-    return [data[it : it + size] for it in range(HEADER, len(data), size)]
+        raise Failure(
+            REFUSED, f"the image has not whole cylinders of {HEADS} tracks of {size} bytes"
+        )
+    return [data[number : number + size] for number in range(HEADER, len(data), size)]
 
 
-def parsed_track(track, cylinder, head):
+def parsed_track(track: object, cylinder: int, head: int) -> object:
     """The records of a track but its record zero; ValueError says what cannot be held."""
     records, at = [], 5
     while track[at : at + 8] != END:
@@ -213,13 +238,13 @@ def parsed_track(track, cylinder, head):
         raise ValueError("it has no record zero")
     if records[0] != record_zero(cylinder, head):
         raise ValueError("its record zero is not as it was formatted")
-    full = sum(it.cost() for it in records[1:])
+    full = sum(record.cost() for record in records[1:])
     if full > ROOM:
         raise ValueError(f"its records take {full} bytes of {ROOM}")
     return records[1:]
 
 
-def labelled(tracks):
+def labelled(tracks: list[Track]) -> str | None:
     """The serial number that the label of a volume tells, or None."""
     for record in tracks[0].records:
         text = record.data[:10].decode("cp037")
@@ -228,16 +253,21 @@ def labelled(tracks):
     return None
 
 
-def emulated(volume, has_alternates):
+def emulated(volume: object, has_alternates: object) -> Iterator:
     """The image CKD_P370 of a volume, as its parts; with alternate cylinders where that is asked for."""
     faults = Faults()
-    yield KIND + HEADS.to_bytes(4, "little") + TRACK_SIZE.to_bytes(4, "little") + bytes([DEVICE_TYPE]) + bytes(HEADER - 17)
+    yield KIND + HEADS.to_bytes(4, "little") + TRACK_SIZE.to_bytes(4, "little") + bytes(
+        [DEVICE_TYPE]
+    ) + bytes(HEADER - 17)
     tracks = list(volume.tracks)
     if has_alternates:
-        tracks += [Track(own_home(len(tracks) // HEADS + it // HEADS, it % HEADS), []) for it in range(ALTERNATES * HEADS)]
+        tracks += [
+            Track(own_home(len(tracks) // HEADS + number // HEADS, number % HEADS), [])
+            for number in range(ALTERNATES * HEADS)
+        ]
     for cylinder, head, track in places(tracks):
-        if any(it.id[4] == 0 for it in track.records):
+        if any(record.id[4] == 0 for record in track.records):
             faults.add(cylinder, head, "a record has the number zero, which is record zero's")
-        whole = b"".join(it.whole() for it in [record_zero(cylinder, head), *track.records])
+        whole = b"".join(item.whole() for item in [record_zero(cylinder, head), *track.records])
         yield (track.home + whole + END).ljust(TRACK_SIZE, b"\0")
     faults.end()

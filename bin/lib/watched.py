@@ -2,6 +2,8 @@
 
 What the program prints is passed on as it comes. After two seconds a line at the terminal, which is file descriptor 3, says how many
 of the script's events are done: a turn counts as one. Whatever ends the program, all that it had printed is passed on."""
+from __future__ import annotations
+
 import os
 import re
 import selectors
@@ -19,7 +21,7 @@ ERASE = b"\r\x1b[K"
 ENDED = re.compile(rb"^= (?:IDLE$|\S+ (?:(\d)|(?:(S|I|F)[A-Z]+)))", re.M)
 
 
-def turns_in(script):
+def turns_in(script: str) -> int:
     """How many runs, serves and turns a script has, or 0 if it cannot be read before the program reads it."""
     if not os.path.isfile(script):
         return 0
@@ -38,7 +40,7 @@ def turns_in(script):
     return count
 
 
-def number_at_end(text):
+def number_at_end(text: str) -> int:
     found = re.search(rb"[0-9]{1,7}\s*$", text)
     return int(found[0]) if found else 0
 
@@ -46,12 +48,12 @@ def number_at_end(text):
 class Count:
     """Counts the events that a transcript has the ends of. A serve that follows a slice is of the same turn."""
 
-    def __init__(self):
+    def __init__(self) -> None:
         self.done = 0
         self.left = b""
         self.was_slice = False
 
-    def take(self, data):
+    def take(self, data: bytes) -> None:
         data = self.left + data
         end = data.rfind(b"\n") + 1
         self.left = data[end:]
@@ -64,30 +66,30 @@ class Count:
 class Progress:
     """The line that says how far the run is."""
 
-    def __init__(self, name, script):
+    def __init__(self, name: str, script: str) -> None:
         self.name = name
         self.count = Count()
         self.all = turns_in(script)
         self.is_shown = False
         self.next = time.monotonic() + SECONDS_UNTIL_SHOWN
 
-    def wait(self):
+    def wait(self) -> float:
         """The seconds until the line is to be shown again."""
         return max(0.0, self.next - time.monotonic())
 
-    def show(self):
+    def show(self) -> None:
         self.next = time.monotonic() + SECONDS_BETWEEN
         of_all = f" of {self.all:,}" if self.all else ""
         done = min(self.count.done, self.all or self.count.done)
         self.write(ERASE + f"{self.name}: events done: {done:,}{of_all}".encode())
         self.is_shown = True
 
-    def hide(self):
+    def hide(self) -> None:
         if self.is_shown:
             self.write(ERASE)
             self.is_shown = False
 
-    def write(self, data):
+    def write(self, data: bytes) -> None:
         try:
             os.write(TERMINAL, data)
         except OSError:
@@ -95,7 +97,7 @@ class Progress:
             self.next = float("inf")
 
 
-def opened():
+def opened() -> tuple[int, int]:
     """What the program writes to, and where that is read: a terminal if standard output is one, so that each event's lines come when
     it is done."""
     if not os.isatty(1):
@@ -106,7 +108,7 @@ def opened():
     return reader, writer
 
 
-def read(reader):
+def read(reader: int) -> bytes:
     """What has come, and nothing at the end."""
     try:
         return os.read(reader, CHUNK)
@@ -115,12 +117,12 @@ def read(reader):
         return b""
 
 
-def pass_on(data):
+def pass_on(data: bytes) -> None:
     while data:
         data = data[os.write(1, data) :]
 
 
-def watch(reader, progress):
+def watch(reader: int, progress: Progress) -> None:
     """Passes on what the program prints, until it has ended."""
     with selectors.DefaultSelector() as selector:
         selector.register(reader, selectors.EVENT_READ)
@@ -140,7 +142,7 @@ def watch(reader, progress):
     progress.hide()
 
 
-def main(name, script, *words):
+def main(name: str, script: str, *words: str) -> int:
     reader, writer = opened()
     process = subprocess.Popen(words, stdout=writer)
     os.close(writer)

@@ -1,5 +1,7 @@
 """Pages in browsers: files of the folder web, and a WebSocket for each page (docs/OPERATING.md, "Pages"). Debian's python3-websockets does
 the protocol; what the messages mean is in bin/lib/pages.py and bin/lib/operator_pages.py."""
+from __future__ import annotations
+
 import asyncio
 import collections
 import json
@@ -33,34 +35,34 @@ class Connection(WebSocketServerProtocol):
     crowd = None
     page = None
 
-    def connection_made(self, transport):
+    def connection_made(self, transport: object) -> None:
         super().connection_made(transport)
         self.crowd.add(self)
         self.loop.call_later(SECONDS_TO_ASK, self.give_up)
 
-    def connection_lost(self, error):
+    def connection_lost(self, error: object) -> None:
         super().connection_lost(error)
         self.crowd.discard(self)
 
-    def give_up(self):
+    def give_up(self) -> None:
         if self.state.name == "CONNECTING":
             self.transport.abort()
 
-    def is_stranger(self):
+    def is_stranger(self) -> bool:
         """Whether nobody is logged on here."""
         return not (self.page and self.page.is_somebody())
 
-    def address(self):
+    def address(self) -> object:
         return (self.remote_address or [""])[0]
 
 
 class Crowd:
     """All connections, the oldest first. Of too many the oldest stranger goes of the address that has most strangers."""
 
-    def __init__(self):
+    def __init__(self) -> None:
         self.all = {}
 
-    def add(self, connection):
+    def add(self, connection: object) -> None:
         self.all[connection] = None
         if len(self.all) > MOST_CONNECTIONS:
             strangers = [other for other in self.all if other.is_stranger()]
@@ -70,14 +72,14 @@ class Crowd:
             self.discard(gone)
             gone.transport.abort()
 
-    def discard(self, connection):
+    def discard(self, connection: object) -> None:
         self.all.pop(connection, None)
 
 
 class Web:
     """The server of pages."""
 
-    def __init__(self, installation, tls):
+    def __init__(self, installation: object, tls: object) -> None:
         self.installation = installation
         self.tls = tls
         self.files = read_files()
@@ -87,34 +89,59 @@ class Web:
         self.crowd = Crowd()
         self.tasks = [loop.create_task(pages.watch()) for pages in (self.pages, self.operators)]
 
-    async def listen(self, where):
+    async def listen(self, where: object) -> None:
         address, _, port = where.rpartition(":")
         logger = logging.Logger("web", logging.CRITICAL + 1)
         kind = type("OwnConnection", (Connection,), {"crowd": self.crowd})
-        more = {"create_protocol": kind, "process_request": self.answer, "logger": logger, "backlog": 512, **LIMITS, **how(self.tls)}
+        more = {
+            "create_protocol": kind,
+            "process_request": self.answer,
+            "logger": logger,
+            "backlog": 512,
+            **LIMITS,
+            **how(self.tls),
+        }
         allow_more_files()
         try:
             self.server = await serve(self.serve, address.strip("[]"), int(port), **more)
         except OSError as error:
             raise Failure(FILE_FAILED, f"{where}: {error.strerror}") from None
         scheme = "https" if self.tls else "http"
-        self.installation.tell(f"pages are at {scheme}://{where}/, the operator's at /operator with the token in {self.operators.path}")
+        self.installation.tell(
+            f"pages are at {scheme}://{where}/, the operator's at /operator with the token in {self.operators.path}"
+        )
 
-    async def answer(self, path, headers):
+    async def answer(self, path: str, headers: object) -> tuple | None:
         # of a header that is there twice none is taken
-        host, origin = (found[0] if len(found := headers.get_all(name)) == 1 else "" for name in ("Host", "Origin"))
+        host, origin = (
+            found[0] if len(found := headers.get_all(name)) == 1 else ""
+            for name in ("Host", "Origin")
+        )
         found = answer_to(path, host, origin, bool(self.tls), self.files)
         if found is None:
             return None
         status, kind, body = found
-        return status, {**HEADERS, "Content-Type": kind, "Content-Length": str(len(body)), "Connection": "close"}.items(), body
+        return (
+            status,
+            {
+                **HEADERS,
+                "Content-Type": kind,
+                "Content-Length": str(len(body)),
+                "Connection": "close",
+            }.items(),
+            body,
+        )
 
-    async def serve(self, connection):
+    async def serve(self, connection: object) -> None:
         """Serves the page of a connection until that ends."""
         outbox = Outbox()
         sender = asyncio.create_task(send_all(connection, outbox))
         try:
-            page = self.page_of(connection, outbox, await received(connection)) if connection.path.startswith(USER_SOCKET) else None
+            page = (
+                self.page_of(connection, outbox, await received(connection))
+                if connection.path.startswith(USER_SOCKET)
+                else None
+            )
             if page:
                 await self.converse_with_user(connection, page, outbox)
             else:
@@ -126,7 +153,7 @@ class Web:
         finally:
             sender.cancel()
 
-    def page_of(self, connection, outbox, message):
+    def page_of(self, connection: object, outbox: object, message: str) -> object:
         page, answer = self.pages.open(message, connection.address())
         connection.page = page
         if page.connection:
@@ -137,7 +164,7 @@ class Web:
         page.attach(outbox)
         return page
 
-    async def converse_with_user(self, connection, page, outbox):
+    async def converse_with_user(self, connection: object, page: object, outbox: object) -> None:
         rate = Rate()
         try:
             while True:
@@ -149,7 +176,7 @@ class Web:
                 page.connection = None
                 page.detach()
 
-    async def converse_with_operator(self, connection, outbox):
+    async def converse_with_operator(self, connection: object, outbox: object) -> None:
         page = connection.page = OperatorPage(self.operators, connection.address(), outbox)
         try:
             while True:
@@ -160,14 +187,14 @@ class Web:
         finally:
             page.close()
 
-    async def close(self):
+    async def close(self) -> None:
         for task in self.tasks:
             task.cancel()
         self.server.close()
         await self.server.wait_closed()
 
 
-def allow_more_files():
+def allow_more_files() -> None:
     """Has the host allow so many files that a flood of connections leaves some for others."""
     soft, hard = resource.getrlimit(resource.RLIMIT_NOFILE)
     most = MOST_OPEN if hard == resource.RLIM_INFINITY else min(MOST_OPEN, hard)
@@ -175,7 +202,7 @@ def allow_more_files():
         resource.setrlimit(resource.RLIMIT_NOFILE, (most, hard))
 
 
-async def received(connection):
+async def received(connection: object) -> object:
     """The next message of a page, an object. What is none is a ValueError."""
     text = await connection.recv()
     if isinstance(text, bytes):
@@ -186,7 +213,7 @@ async def received(connection):
     return found
 
 
-async def send_all(connection, outbox):
+async def send_all(connection: object, outbox: object) -> None:
     """Sends a page its messages, as fast as the browser takes them."""
     try:
         while True:
