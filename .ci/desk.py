@@ -1,4 +1,4 @@
-"""The logon desk once more, in Python: it stands in for the program where nothing is built, and .ci/test-people compares the two.
+"""The logon desk once more, in Python: it stands in for the program where nothing is built, and .ci/test-people.py compares the two.
 
 It takes and gives the lines of crates/logon_desk_cli (frame.rt, printing.rt).
 """
@@ -101,7 +101,7 @@ def meaning(line: bytes) -> tuple:
     return ("name", words[1]) if len(words) == 2 else ("both", words[1], words[2])
 
 
-def behind(line: bytes) -> bytes:
+def trailing(line: bytes) -> bytes:
     """What stands behind the first word of a line and a blank."""
     return line.lstrip(b" ").partition(b" ")[2]
 
@@ -113,8 +113,8 @@ def script_line(line: bytes, is_running: bool) -> bytes:
     asks = begins(line, b"#CP")
     if is_running and not asks:
         return line
-    command = behind(line) if asks else line
-    message = behind(behind(command)) if begins(command, b"MSG") else b""
+    command = trailing(line) if asks else line
+    message = trailing(trailing(command)) if begins(command, b"MSG") else b""
     return line[: len(line) - len(message)].upper() + message
 
 
@@ -134,7 +134,7 @@ class Account:
         self.is_on = self.is_running = self.is_busy = False
 
 
-class Desk:
+class LogonServer:
     """The places, the users and the queues of guesses."""
 
     def __init__(self, names: list[bytes], room: int) -> None:
@@ -348,7 +348,7 @@ class Desk:
             f"NOTE {number:04X} {word} " + (f"{self.accounts.index(user):04X}" if user else "-")
         )
 
-    def told(self) -> list[str]:
+    def findings(self) -> list[str]:
         """All that is to be done, and at which places more may come."""
         read = [
             item for item in self.reading if not (self.places[item] and self.places[item].waiting)
@@ -378,17 +378,17 @@ def answers(lines: TextIO) -> Iterator[list[str]]:
         if word == "USER":
             names.append(read_bytes(words[0]))
         elif word == "ROOM":
-            desk = Desk(names, int(words[0], 16))
+            desk = LogonServer(names, int(words[0], 16))
             yield ["THAT 0000"]
         else:
             desk.apply(word, int(now, 16), words)
-            yield desk.told()
+            yield desk.findings()
 
 
 def stand_in() -> None:
     """Plays the program."""
-    for told in answers(sys.stdin):
-        sys.stdout.write("\n".join(told) + "\n")
+    for findings in answers(sys.stdin):
+        sys.stdout.write("\n".join(findings) + "\n")
         sys.stdout.flush()
 
 
@@ -427,10 +427,10 @@ def some_lines(seed: object, count: int) -> Iterator:
                         f"KEEP {now + 4000:X} {user} {written(b'12:01')} {written(data)}", f"DONE {now + 4000:X} {user}")  # fmt: skip
 
 
-def told_by(program: str) -> object:
+def reported_by(program: str) -> object:
     """What a program says to each line, as `answers` has it."""
 
-    def told(lines: list) -> list[str]:
+    def findings(lines: list) -> list[str]:
         done = subprocess.run(
             [program], input="".join(f"{line}\n" for line in lines), capture_output=True, text=True
         )
@@ -441,14 +441,14 @@ def told_by(program: str) -> object:
                 parts.append([])
         return parts[:-1]
 
-    return told
+    return findings
 
 
 def try_program(check: Callable, program: str, seeds: int = 4, count: int = 4000) -> None:
     """The program answers lines at random as the one here does."""
     for seed in range(seeds):
         lines = list(some_lines(seed, count))
-        wanted = [line for told in answers(lines) for line in told]
+        wanted = [line for findings in answers(lines) for line in findings]
         done = subprocess.run(
             [program], input="".join(f"{line}\n" for line in lines), capture_output=True, text=True
         )
@@ -482,7 +482,7 @@ class Talk:
         )
         self.answers = answers(iter(lambda: self.lines.pop(0), None))
 
-    def told(self, line: bytes) -> list[str]:
+    def findings(self, line: bytes) -> list[str]:
         if not self.process:
             self.lines.append(line)
             return next(self.answers)
@@ -503,12 +503,12 @@ class Talk:
             else:
                 self.lines.append(line)
         self.room = room
-        self.told(f"ROOM 0 {room:X}")
+        self.findings(f"ROOM 0 {room:X}")
 
     def say(self, line: bytes) -> None:
         """Says a line, and notes what comes of it."""
-        for told in self.told(line):
-            word, number, *words = told.split()
+        for findings in self.findings(line):
+            word, number, *words = findings.split()
             if word == "ENDS":
                 self.places.pop(int(number, 16), None)
             elif word == "TYPE":

@@ -1,5 +1,5 @@
 """Each first halfword of an instruction, in supervisor and in problem state, by a user of vm370 beside a neighbour and by a machine
-of bare370 that is given the same events: a part of .ci/test-transcripts."""
+of bare370 that is given the same events: a part of .ci/test-transcripts.py."""
 from __future__ import annotations
 
 from collections.abc import Iterator
@@ -121,20 +121,20 @@ class Halfwords:
     def difference(self, player: object) -> object:
         """What differs first between the user and the machine, or of the neighbour and his."""
         own = self.script()
-        ended, told = player.told(
+        ended, findings = player.findings(
             "vm370_cli",
             {"script": NEIGHBOUR + own + NEIGHBOUR_ENDED, "directory": DIRECTORY},
             ["--frames", "16", "--slots", "0", "directory", "script"],
         )
-        bare, wanted = player.told("bare370_cli", {"script": own}, ["8K", "script"])
+        bare, wanted = player.findings("bare370_cli", {"script": own}, ["8K", "script"])
         script = (NEIGHBOUR + NEIGHBOUR_ENDED).replace("NEIGHBOR", "BARE")
-        other, stays = player.told("bare370_cli", {"script": script}, ["8K", "script"])
+        other, stays = player.findings("bare370_cli", {"script": script}, ["8K", "script"])
         if ended or bare or other:
             return f"statuses {ended}, {bare}, {other}"
         stays = stays.replace("BARE: ", "NEIGHBOR: ")
-        if wanted in told and told.replace(wanted, "", 1) == stays:
+        if wanted in findings and findings.replace(wanted, "", 1) == stays:
             return None
-        lines = [line for line in told.splitlines() if "NEIGHBOR" not in line]
+        lines = [line for line in findings.splitlines() if "NEIGHBOR" not in line]
         pairs = enumerate(itertools.zip_longest(lines, wanted.splitlines()), 1)
         others = (f"line {at}: {one!r}, and bare {two!r}" for at, (one, two) in pairs if one != two)
         return next(others, "the neighbour's machine")

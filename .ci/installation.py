@@ -1,4 +1,4 @@
-"""People at an installation, as programs: what .ci/test-people and .ci/try-installation share."""
+"""People at an installation, as programs: what .ci/test-people.py and .ci/try-installation.py share."""
 from __future__ import annotations
 
 from collections.abc import Callable, Iterator
@@ -33,7 +33,7 @@ class Site:
         self.words = ["--record", self.record, "--listen", f"{folder}/socket", *words]
         self.paths = [directory]
         self.process = None
-        self.told = []
+        self.findings = []
 
     def start(self, *more: object, most_bytes: object = None) -> object:
         """Starts it; most_bytes: how long a file may become, as on a disk that is full."""
@@ -45,18 +45,18 @@ class Site:
         self.process = subprocess.Popen(
             words, start_new_session=True, text=True, bufsize=1, preexec_fn=before, **streams
         )
-        self.told.append("")
+        self.findings.append("")
         # whatever ends this, it does not stay
         atexit.register(self.process.kill)
         return self
 
     def online(self, *more: object, most_bytes: object = None) -> object:
         self.start(*more, most_bytes=most_bytes)
-        if not self.await_told("online at"):
-            raise AssertionError("\n".join(self.told))
+        if not self.await_message("online at"):
+            raise AssertionError("\n".join(self.findings))
         return self
 
-    def await_told(self, text: str, seconds: object = PATIENCE) -> bool:
+    def await_message(self, text: str, seconds: object = PATIENCE) -> bool:
         """Waits until the operator is told a text since the last start; whether that came. Told progress makes it patient."""
         until = time.monotonic() + seconds
         output = self.process.stdout
@@ -65,15 +65,15 @@ class Site:
                 return False
             if not (data := os.read(output.fileno(), 65536)):
                 return text in self.since_start()
-            self.told.append(data.decode(errors="replace"))
-            if "% done" in self.told[-1]:
+            self.findings.append(data.decode(errors="replace"))
+            if "% done" in self.findings[-1]:
                 # it goes on from a recording, and tells that it comes on
                 until = time.monotonic() + seconds
         return True
 
     def since_start(self) -> str:
-        last = max(place for place, item in enumerate(self.told) if not item)
-        return "".join(self.told[last:])
+        last = max(place for place, item in enumerate(self.findings) if not item)
+        return "".join(self.findings[last:])
 
     def operate(self, line: bytes) -> None:
         self.process.stdin.write(f"{line}\n")
@@ -81,7 +81,7 @@ class Site:
 
     def ended(self) -> object:
         """Waits until it has ended; its status."""
-        self.told.append(self.process.communicate(timeout=PATIENCE)[0] or "-")
+        self.findings.append(self.process.communicate(timeout=PATIENCE)[0] or "-")
         return self.process.returncode
 
     def stop(self) -> object:
@@ -191,7 +191,7 @@ def replayed(program: str, directory: str, record: object, volumes: tuple = ()) 
     with tempfile.TemporaryFile() as errors, subprocess.Popen(
         words, stdout=subprocess.PIPE, stderr=errors
     ) as run_again:
-        for line in told_lines(run_again.stdout):
+        for line in reported_lines(run_again.stdout):
             is_over = is_over or line.startswith(b"== ")
             name, colon, text = line.decode("latin-1").partition(": ")
             if colon and not is_over:
@@ -202,7 +202,7 @@ def replayed(program: str, directory: str, record: object, volumes: tuple = ()) 
     return done, shown
 
 
-def told_lines(stream: object) -> Iterator:
+def reported_lines(stream: object) -> Iterator:
     """The lines of a transcript but for those that say how turns ended, of which minutes of computing have a billion."""
     left = b""
     while data := stream.read1(1 << 16):
@@ -231,15 +231,15 @@ class StandIn:
                 if item.startswith("USER ")
             }
         self.files = []
-        self.told = []
+        self.findings = []
 
     def say(self, name: str, text: str) -> None:
-        self.told.append(f"{name}: {text}")
+        self.findings.append(f"{name}: {text}")
 
     def part(self, script: bytes) -> list[str]:
         """What is told of a part, with or without the lines of slices."""
         before = {name: item["mode"] for name, item in self.users.items()}
-        self.told, self.closed, self.is_idle = [], [], False
+        self.findings, self.closed, self.is_idle = [], [], False
         lines = script.decode("latin-1").split("\n")[:-1]
         while lines:
             word, _, rest = lines.pop(0).partition(" ")
@@ -253,17 +253,17 @@ class StandIn:
                 self.auto(int(rest))
             elif word not in ("", "TICK", "RUN", "SERVE") and not word.startswith("*"):
                 return None
-        self.told += self.closed
+        self.findings += self.closed
         for name, entry in self.users.items():
-            self.told += [f"> {state} {name}" for state in became(before[name], entry["mode"])]
-        return self.told + ["> IDLE"] * self.is_idle
+            self.findings += [f"> {state} {name}" for state in became(before[name], entry["mode"])]
+        return self.findings + ["> IDLE"] * self.is_idle
 
     def auto(self, turns: int) -> None:
         running = [name for name, item in self.users.items() if item["mode"] == "RUNS"]
         for entry in running:
             self.users[entry]["G1"] += turns
         if self.has_slices:
-            self.told += [f"= {item} {100 * turns} COUNT" for item in running]
+            self.findings += [f"= {item} {100 * turns} COUNT" for item in running]
         self.is_idle = not running
 
     def line(self, name: str, user: dict[str, object], text: str) -> None:
@@ -307,10 +307,10 @@ class StandIn:
 
 def became(before: str, now: str) -> list[str]:
     """The states that are told of a user."""
-    told = ["STOPS"] if before == "RUNS" != now else []
-    told += ["ON"] if before == "OFF" != now else []
-    told += ["RUNS"] if now == "RUNS" != before else []
-    return told + (["OFF"] if now == "OFF" != before else [])
+    findings = ["STOPS"] if before == "RUNS" != now else []
+    findings += ["ON"] if before == "OFF" != now else []
+    findings += ["RUNS"] if now == "RUNS" != before else []
+    return findings + (["OFF"] if now == "OFF" != before else [])
 
 
 def stand_in(words: list[str]) -> None:
@@ -319,15 +319,15 @@ def stand_in(words: list[str]) -> None:
     program = StandIn(paths[0], "--terminals" not in words)
     if "--follow" not in words:
         with open(paths[1], "rb") as file:
-            told = program.part(file.read())
-        lines = [item for item in told if not item.startswith("> ")] + program.last_lines()
+            findings = program.part(file.read())
+        lines = [item for item in findings if not item.startswith("> ")] + program.last_lines()
         sys.stdout.write("".join(f"{line}\n" for line in lines))
         return
     while (size := sys.stdin.buffer.readline()) not in (b"", b"END\n"):
         time.sleep(float(os.environ.get("PEOPLE_SLOW", "0")))
-        told = program.part(sys.stdin.buffer.read(int(size)))
-        told = ["> REFUSED 1"] if told is None else [*told, "> DONE"]
-        sys.stdout.write("\n".join(told) + "\n")
+        findings = program.part(sys.stdin.buffer.read(int(size)))
+        findings = ["> REFUSED 1"] if findings is None else [*findings, "> DONE"]
+        sys.stdout.write("\n".join(findings) + "\n")
         sys.stdout.flush()
     sys.stdout.write("".join(f"{line}\n" for line in program.last_lines()))
     sys.stdout.flush()
@@ -378,7 +378,7 @@ def try_tables(check: Callable, folder: str) -> None:
 
 def try_passwords(check: Callable) -> None:
     """Passwords are right for their names alone, and are not kept."""
-    from logon import Passwords
+    from gathjumli.logon import Passwords
 
     passwords = Passwords({"A": "SECRET", "B": "OTHER"})
     cases = {
@@ -396,24 +396,24 @@ def try_passwords(check: Callable) -> None:
 
 def try_wrong_passwords(check: Callable) -> None:
     """Many wrong passwords are a line of the journal, with the name and the address."""
-    from terminals import WrongPasswords
+    from gathjumli.logon_server import WrongPasswords
 
     async def summed() -> tuple:
-        told = []
-        wrong = WrongPasswords(told.append)
+        findings = []
+        wrong = WrongPasswords(findings.append)
         for name, address in [("A", "10.0.0.5")] * 7 + [("B", "")] + [(None, "10.0.0.5")] * 2:
             wrong.add(name, address)
-        before = list(told)
-        wrong.tell_all()
-        return before, told, dict(wrong.counts)
+        before = list(findings)
+        wrong.notify_all()
+        return before, findings, dict(wrong.counts)
 
-    before, told, left = run(summed())
+    before, findings, left = run(summed())
     wanted = [
         "7 wrong passwords for A from 10.0.0.5",
         "a wrong password for B",
         "2 wrong passwords for nobody here from 10.0.0.5",
     ]
-    check("wrong passwords are summed", (before, told, left) == ([], wanted, {}), *told)
+    check("wrong passwords are summed", (before, findings, left) == ([], wanted, {}), *findings)
 
 
 def try_typed(check: Callable, answers: object) -> None:
@@ -435,15 +435,15 @@ def try_typed(check: Callable, answers: object) -> None:
                 *(f"CAME 2 0 {piece}" for piece in pieces),
                 *["DONE 3 0"] * len(wanted),
             ]
-            told = [
+            findings = [
                 line.split() for answer in list(answers(lines))[len(begin) - 1 :] for line in answer
             ]
             found = [
                 bytes.fromhex(item[2].replace("-", "")).decode()
-                for item in told
+                for item in findings
                 if item[0] == "TYPE"
             ]
-            given_back = b"".join(bytes.fromhex(item[2]) for item in told if item[0] == "GIVE")
+            given_back = b"".join(bytes.fromhex(item[2]) for item in findings if item[0] == "GIVE")
             check(
                 f"{what}, {size} bytes at once",
                 (found, given_back) == (wanted, replies),
@@ -477,23 +477,23 @@ class Unread:
 
 def try_terminal(check: Callable) -> None:
     """One who does not read is closed, and takes no more memory then."""
-    from terminals import MOST_UNREAD, SocketConnection
+    from gathjumli.logon_server import MOST_UNREAD, SocketConnection
 
-    told, writer = [], Unread()
-    connection = SocketConnection(writer, told.append)
+    findings, writer = [], Unread()
+    connection = SocketConnection(writer, findings.append)
     for _ in range(10000):
         connection.send(b"X" * 130)
     check(
         "one who does not read is closed",
-        writer.is_gone and writer.size <= MOST_UNREAD + 200 and len(told) == 1,
-        *told,
+        writer.is_gone and writer.size <= MOST_UNREAD + 200 and len(findings) == 1,
+        *findings,
     )
 
 
 def try_recordings(check: Callable, folder: str) -> None:
     """What of a recording is whole, what is none, and what another one is of."""
-    from people import Failure
-    from recording import Recording, differing, without_passwords
+    from gathjumli.cli import Failure
+    from gathjumli.recording import Recording, differing, without_passwords
 
     path = f"{folder}/some"
     for what, (text, wanted) in ENTRIES.items():
@@ -525,36 +525,38 @@ def try_recordings(check: Callable, folder: str) -> None:
         check(f"{text} was never begun", read(path) == b"")
     one = [b"* T", b"* PROGRAM 1", b"* DIRECTORY a /x", b"* SIZES 1 2", b"* VOLUME b /y"]
     check("paths may differ", differing(one, [*one[:2], b"* DIRECTORY a /z", *one[3:]]) is None)
-    told = [
+    findings = [
         differing(one, [*one[:place], b"* VOLUME c d", *one[place + 1 :]]) for place in range(1, 5)
     ]
     names = ["version of the program", "directory", "numbers of --frames and --slots", "volume 1"]
-    check("what differs is told", all(name in item for name, item in zip(names, told)), *told)
+    check(
+        "what differs is told", all(name in item for name, item in zip(names, findings)), *findings
+    )
     hidden = without_passwords(b"* A\nUSER A SECRET 64K\n CONSOLE 009  3215\n")
     check("passwords are no part of it", hidden == b"USER A X 64K\nCONSOLE 009 3215\n", hidden)
 
 
 def try_pace(check: Callable) -> None:
     """A part takes about the same time, however long a turn is."""
-    from engine import FEW_TURNS, Pace, STUCK_TURNS
-    from following import Came
+    from gathjumli.engine import FEW_TURNS, Pace, STUCK_TURNS
+    from gathjumli.following import PartResult
 
     for seconds_a_turn in (1e-7, 1e-6, 1e-3, 0.02):
         pace = Pace(0.01)
         for _ in range(30):
             turns = pace.turns
-            pace.took(turns, turns * seconds_a_turn, Came([], [], [], False))
+            pace.took(turns, turns * seconds_a_turn, PartResult([], [], [], False))
         took = turns * seconds_a_turn
         holds = took <= max(0.011, seconds_a_turn) and (took >= 0.005 or turns == 100000)
         check(f"a turn of {seconds_a_turn} s", holds, f"{turns}")
     pace.turns = 1000
-    pace.took(1000, 0.001, Came([], [], [], True))
+    pace.took(1000, 0.001, PartResult([], [], [], True))
     check("few turns where all wait", not pace.is_busy and pace.turns <= FEW_TURNS)
     pace.wake()
     done = 0
     while pace.is_busy and done < 10 * STUCK_TURNS:
         done += pace.turns
-        pace.took(pace.turns, 0.001, Came(["= A 0 FRAMES"] * pace.turns, [], [], False))
+        pace.took(pace.turns, 0.001, PartResult(["= A 0 FRAMES"] * pace.turns, [], [], False))
     check("who lack frames wait too", not pace.is_busy and done >= STUCK_TURNS, f"{done}")
 
 
@@ -665,7 +667,7 @@ def try_logging_on(check: Callable, site: object) -> None:
     check(
         "an end where nobody is on",
         status == 0 and "the session has ended" in site.since_start(),
-        *site.told,
+        *site.findings,
     )
     written = "".join(read_all(site.folder))
     secrets = [name for name in ("WONDER", "BUILDER", "SECRET") if name in written]
@@ -690,9 +692,9 @@ def try_passwords_file(check: Callable, repository: str, site: object) -> None:
 
     async def answer(*words: object) -> object:
         one = await person(f"{site.folder}/socket")
-        told = await one.logon(*words)
+        findings = await one.logon(*words)
         one.go()
-        return told
+        return findings
 
     done = set_password("ALICE", given="Looking\nGLASS\n")
     check("a password is set", done.returncode == 0 and not done.stdout, done.stderr)
@@ -713,13 +715,13 @@ def try_passwords_file(check: Callable, repository: str, site: object) -> None:
     check("also one that is set meanwhile", run(answer("BOB", "NEW")) == "LOGON OK")
     set_password("ALICE", "--remove")
     check("and one that is removed is none", run(answer("ALICE", "LOOKING")) == "LOGON REFUSED")
-    check("it is suspended", site.stop() == 0, *site.told)
+    check("it is suspended", site.stop() == 0, *site.findings)
     write(path, b"ALICE 12 34\n")
     site.start("--passwords", path)
     check(
         "another file is refused",
         site.ended() == 1 and "line 1 is no name with a salt and a sum" in site.since_start(),
-        *site.told,
+        *site.findings,
     )
 
 
@@ -772,7 +774,7 @@ def try_recovery(check: Callable, site: object, program: str) -> None:
         other.stderr,
     )
     run(on_and_count(range(6, 7)))
-    check("a suspension ends well", site.stop() == 0, *site.told)
+    check("a suspension ends well", site.stop() == 0, *site.findings)
     done, shown = replayed(program, site.paths[0], site.record)
     wanted = [item for count in range(1, 7) for item in ("STORED", f"GPR 1 = {count:08X}")]
     check(
@@ -796,10 +798,10 @@ def fill_disk(check: Callable, site: object, program: str) -> None:
 
     site.online(most_bytes=os.path.getsize(site.record) + 2000)
     lines = run(type_on())
-    check("it ends where the disk is full", site.ended() == 3, *site.told)
+    check("it ends where the disk is full", site.ended() == 3, *site.findings)
     count = lines.count("STORED")
     site.online()
-    check("and goes on when it is not", site.stop() == 0, *site.told)
+    check("and goes on when it is not", site.stop() == 0, *site.findings)
     _, shown = replayed(program, site.paths[0], site.record)
     check("with all that was shown", 0 < count <= shown["ALICE"].count("STORED"), f"{count}")
 
@@ -812,16 +814,16 @@ def refuse_other(check: Callable, site: object) -> None:
         "other numbers of --frames": (before, ["--frames", "99"]),
         "another directory": (before + "USER MORE PW 64K\n", []),
     }
-    for told, (directory, more) in cases.items():
+    for findings, (directory, more) in cases.items():
         with open(site.paths[0], "w") as file:
             file.write(directory)
         words = [site.command, *site.words, *site.paths, *more]
         done = subprocess.run(words, capture_output=True, text=True, stdin=subprocess.DEVNULL)
-        check(f"{told} is told", done.returncode == 1 and told in done.stderr, done.stderr)
+        check(f"{findings} is told", done.returncode == 1 and findings in done.stderr, done.stderr)
     with open(site.paths[0], "w") as file:
         file.write(before.replace("WONDER", "LOOKING"))
     site.online()
-    check("a changed password is no other directory", site.stop() == 0, *site.told)
+    check("a changed password is no other directory", site.stop() == 0, *site.findings)
 
 
 def try_silence(check: Callable, site: object) -> None:
@@ -880,14 +882,14 @@ def try_computing(check: Callable, site: object) -> None:
     site.operate("status")
     check(
         "the operator is told",
-        site.await_told("2 on, 0 about to log on") and "all wait" in site.since_start(),
-        *site.told,
+        site.await_message("2 on, 0 about to log on") and "all wait" in site.since_start(),
+        *site.findings,
     )
     site.operate("message GOOD NIGHT")
     site.operate("end")
-    check("no end while somebody is on", site.await_told("still on: ALICE BOB"), *site.told)
+    check("no end while somebody is on", site.await_message("still on: ALICE BOB"), *site.findings)
     site.operate("end now")
-    check("unless it is asked for", site.ended() == 0, *site.told)
+    check("unless it is asked for", site.ended() == 0, *site.findings)
 
 
 def processor_ticks(site: object) -> object:
@@ -975,13 +977,15 @@ def try_files(check: Callable, site: object, prints: object) -> object:
         *names_in(f"{folder}/done"),
     )
     refused = names_in(f"{folder}/refused")
-    told = [open(f"{folder}/refused/{item}").read() for item in refused if item.endswith(".reason")]
+    findings = [
+        open(f"{folder}/refused/{item}").read() for item in refused if item.endswith(".reason")
+    ]
     wanted = [
         "it has no card\n",
         "a deck has cards of 80 bytes, and this one has 79 bytes\n",
         "card 1 is longer than 80\n",
     ]
-    check("or refused with a reason", told == wanted and len(refused) == 6, *refused, *told)
+    check("or refused with a reason", findings == wanted and len(refused) == 6, *refused, *findings)
     site.kill()
     os.replace(f"{folder}/done/text", f"{folder}/text")
     site.online(
@@ -994,8 +998,8 @@ def try_files(check: Callable, site: object, prints: object) -> object:
     )
     check(
         "a deck that was read in before a crash is only moved",
-        site.await_told("deck text for BOB: read in"),
-        *site.told,
+        site.await_message("deck text for BOB: read in"),
+        *site.findings,
     )
     check("they are suspended", site.stop() == 0)
     os.unlink(name)
@@ -1011,7 +1015,7 @@ def try_files(check: Callable, site: object, prints: object) -> object:
     site.online("--printouts", f"{site.folder}/prints")
     check(
         "one that a crash kept from being written is",
-        site.await_told(f"closed: {name}") and read(name) == b"HELLO\n",
+        site.await_message(f"closed: {name}") and read(name) == b"HELLO\n",
     )
     check("they are suspended again", site.stop() == 0)
     with open(site.record, "rb") as file:
@@ -1029,8 +1033,8 @@ def try_report(check: Callable, repository: str, site: object, looks: object) ->
     page = read(out).decode() if os.path.exists(out) else ""
     wanted = [">LOGON</span>", ">LOGON OK</span>", "HELLO", 'class="card"', 'class="paper"', "units</title>", '<a href="#ALICE">',
               '<h2 id="ALICE">', "1 connections", " UTC<td>", '<time class="when">']  # fmt: skip
-    lacking = [item for item in wanted if item not in page]
-    check("a page of a recording", done.returncode == 0 and not lacking, done.stderr, *lacking)
+    absent = [item for item in wanted if item not in page]
+    check("a page of a recording", done.returncode == 0 and not absent, done.stderr, *absent)
     outside = re.findall(r"src=|href=(?!\"#)|url\(|https?:|<script|<link|@import", page)
     check("has no outside parts", not outside, *outside)
     os.rename(site.paths[0], f"{site.folder}/moved")
@@ -1078,7 +1082,7 @@ def try_ending(check: Callable, site: object) -> None:
     os.chmod(volumes[0], 0o640)
     site.online()
     run(logged_on(site, "ALICE", "WONDER"))
-    check("a suspension saves nothing", site.stop() == 0 and has(old), *site.told)
+    check("a suspension saves nothing", site.stop() == 0 and has(old), *site.findings)
     site.online()
     site.kill()
     check("and neither does a kill", has(old))
@@ -1090,7 +1094,7 @@ def try_ending(check: Callable, site: object) -> None:
     holds = (
         status == 0 and new != old and old[0] not in new and old[1] not in new and is_kept(first)
     )
-    check("an end saves all, and keeps what was there", holds, f"status {status}", *site.told)
+    check("an end saves all, and keeps what was there", holds, f"status {status}", *site.findings)
     check("for the same people", os.stat(volumes[0]).st_mode & 0o777 == 0o640)
     check(
         "and the recording goes with it",
@@ -1108,7 +1112,7 @@ def try_ending(check: Callable, site: object) -> None:
     check(
         "a start finishes saving",
         has(new) and is_kept(first) and "the session has ended" in site.since_start(),
-        *site.told,
+        *site.findings,
     )
     run(logged_on(site, "ALICE", "WONDER"))
     site.kill()
@@ -1123,11 +1127,11 @@ def try_ending(check: Callable, site: object) -> None:
     check(
         "and an end that was begun",
         has(new) and len(done) == 2 and is_kept(done[1]),
-        *site.told,
+        *site.findings,
         *done,
     )
     site.operate("end now")
-    check("then it is online again, and takes commands", site.ended() == 0, *site.told)
+    check("then it is online again, and takes commands", site.ended() == 0, *site.findings)
 
 
 def without_sums(recording: object) -> object:

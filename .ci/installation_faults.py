@@ -1,4 +1,4 @@
-"""What an installation meets in months: users' files, faulty files, edits, failing programs. Called by .ci/test-people."""
+"""What an installation meets in months: users' files, faulty files, edits, failing programs. Called by .ci/test-people.py."""
 from __future__ import annotations
 
 from collections.abc import Callable
@@ -50,9 +50,9 @@ def try_decks(check: Callable, site: object) -> None:
     os.mkfifo(f"{bob}/pipe")
     os.symlink(f"{site.folder}/others", f"{decks}/OPER/done")
     write(f"{decks}/OPER/card", "C CARD\n")
-    is_told = all(site.await_told(f"deck {told}") for told in ("card for ALICE: Not a directory", "card for BOB: read in",
+    is_reported = all(site.await_message(f"deck {findings}") for findings in ("card for ALICE: Not a directory", "card for BOB: read in",
                   "name for BOB: the file has another name", "card for OPER: "))  # fmt: skip
-    check("files that cannot be moved are reported", is_told, *site.told)
+    check("files that cannot be moved are reported", is_reported, *site.findings)
     check(
         "a name that is taken gets a number",
         names_in(f"{bob}/done") == ["card", "card.2"],
@@ -62,18 +62,22 @@ def try_decks(check: Callable, site: object) -> None:
     write(f"{bob}/later", "B LATER\n")
     check(
         "others' files are read in meanwhile",
-        site.await_told("deck later for BOB: read in"),
-        *site.told,
+        site.await_message("deck later for BOB: read in"),
+        *site.findings,
     )
-    told = site.since_start()
+    findings = site.since_start()
     holds = all(
-        told.count(f" deck {name}") == 1
+        findings.count(f" deck {name}") == 1
         for name in ("card for ALICE", "name for BOB", "card for OPER")
     )
-    check("each file is reported once", holds, told)
+    check("each file is reported once", holds, findings)
     os.unlink(f"{alice}/done")
-    check("and moved when it can be", site.await_told("deck card for ALICE: read in"), *site.told)
-    check("it is suspended", site.stop() == 0, *site.told)
+    check(
+        "and moved when it can be",
+        site.await_message("deck card for ALICE: read in"),
+        *site.findings,
+    )
+    check("it is suspended", site.stop() == 0, *site.findings)
     recording = read(site.record)
     given = [recording.count(f"\n{item} CARD\n".encode()) for item in "ABC"]
     check("each deck was given once", given == [1, 1, 1], *map(str, given))
@@ -84,7 +88,7 @@ def try_decks(check: Callable, site: object) -> None:
     ]
     check("no link was followed", not any(reached), *map(str, reached))
     site.online("--decks", decks)
-    check("a start takes the same folders", site.stop() == 0, *site.told)
+    check("a start takes the same folders", site.stop() == 0, *site.findings)
 
 
 class GivenParts:
@@ -106,26 +110,26 @@ class GivenParts:
 
 def try_removed_deck(check: Callable, folder: str) -> None:
     """A user removes his file while it is read in: only this file is reported."""
-    from decks import Folders
+    from gathjumli.decks import Folders
 
     async def remove() -> None:
         os.unlink(f"{folder}/decks/A/card")
 
     async def watched() -> tuple:
-        engine, told = GivenParts({"A": None}, remove), []
-        folders = Folders(f"{folder}/decks", engine, {"A"}, None, told.append)
+        engine, findings = GivenParts({"A": None}, remove), []
+        folders = Folders(f"{folder}/decks", engine, {"A"}, None, findings.append)
         folders.make()
         write(f"{folder}/decks/A/card", "A CARD\n")
         watching = asyncio.create_task(folders.watch())
-        await until_so(lambda: told)
+        await until_so(lambda: findings)
         watching.cancel()
-        return told, engine.parts, watching
+        return findings, engine.parts, watching
 
-    told, parts, watching = run(watched())
-    holds = len(parts) == 1 and told == [
+    findings, parts, watching = run(watched())
+    holds = len(parts) == 1 and findings == [
         "deck card for A: No such file or directory; the file is skipped until it changes"
     ]
-    check("a file that is removed while it is read in", holds, *told)
+    check("a file that is removed while it is read in", holds, *findings)
 
 
 # --- connections ---
@@ -171,18 +175,18 @@ def desk_program(program: str) -> str:
 
 
 def desk_of(engine: object, program: str) -> tuple:
-    from logon import Passwords
-    from terminals import Desk
+    from gathjumli.logon import Passwords
+    from gathjumli.logon_server import LogonServer
 
-    told = []
-    desk = Desk(engine, Passwords({"A": "SECRET"}), told.append, program)
+    findings = []
+    desk = LogonServer(engine, Passwords({"A": "SECRET"}), findings.append, program)
     desk.open()
-    return desk, told
+    return desk, findings
 
 
 def try_lost_connection(check: Callable, program: str) -> None:
     """A connection that the network gives up leaves its user at no terminal, whatever the fault is."""
-    from engine import User
+    from gathjumli.engine import User
 
     async def served(fault: object) -> object:
         user = User("A")
@@ -190,12 +194,12 @@ def try_lost_connection(check: Callable, program: str) -> None:
         streams = Streams(
             b"LOGON A SECRET\n", lambda: until_so(lambda: b"RECONNECTED" in streams.written), fault
         )
-        desk, told = desk_of(GivenParts({"A": user}), program)
+        desk, findings = desk_of(GivenParts({"A": user}), program)
         await desk.serve(streams, streams)
-        is_told = told == ["A is back from 10.0.0.5", "A leaves his terminal"]
+        is_reported = findings == ["A is back from 10.0.0.5", "A leaves his terminal"]
         is_gone = not user.terminal.is_there and not desk.places and not desk.serving
         await desk.shut()
-        return is_told and is_gone
+        return is_reported and is_gone
 
     for fault in (
         TimeoutError(110, "Connection timed out"),
@@ -208,7 +212,7 @@ def try_lost_connection(check: Callable, program: str) -> None:
 
 def try_two_logons(check: Callable, program: str) -> None:
     """A user who logs on at two terminals while LOGON is under way is logged on once, and the second terminal takes over."""
-    from engine import User
+    from gathjumli.engine import User
 
     async def served() -> tuple:
         user, goes_on = User("A"), asyncio.Event()
@@ -218,7 +222,7 @@ def try_two_logons(check: Callable, program: str) -> None:
             user.become("ON")
 
         engine = GivenParts({"A": user}, slowly)
-        desk, told = desk_of(engine, program)
+        desk, findings = desk_of(engine, program)
         ends = asyncio.Event()
         one, other = (Streams(b"LOGON A SECRET\n", ends.wait) for _ in range(2))
         serving = [asyncio.create_task(desk.serve(one, one))]
@@ -230,11 +234,11 @@ def try_two_logons(check: Callable, program: str) -> None:
         ends.set()
         await asyncio.wait(serving, timeout=10)
         await desk.shut()
-        return engine.parts, told, one.written, other.written
+        return engine.parts, findings, one.written, other.written
 
-    parts, told, one, other = run(served())
+    parts, findings, one, other = run(served())
     holds = parts == [b"LINE A LOGON\n"] and b"TAKES OVER" in one and b"RECONNECTED" in other
-    check("two logons at the same time", holds, *parts, *told, one, other)
+    check("two logons at the same time", holds, *parts, *findings, one, other)
 
 
 # --- long listings ---
@@ -259,13 +263,13 @@ A: LAST
 
 def try_answers(check: Callable) -> None:
     """What a program answers is understood wherever it is cut."""
-    from following import Answers, Came, Refused
+    from gathjumli.following import Answers, PartResult, Refused
 
     wanted = [
-        Came(["A: STORED", "= A 12 WAIT"], [("== PRT 0001 A", b"> |09 HELLO\n> |09 > == PRT 0002 A\n"), ("== PUN 0002 B", b"")],
+        PartResult(["A: STORED", "= A 12 WAIT"], [("== PRT 0001 A", b"> |09 HELLO\n> |09 > == PRT 0002 A\n"), ("== PUN 0002 B", b"")],
              [("ON", "A")], True),
         Refused(3),
-        Came(["A: LAST"], [("== PRT 0003 A", b"> |01\n")], [], False),
+        PartResult(["A: LAST"], [("== PRT 0003 A", b"> |01\n")], [], False),
     ]  # fmt: skip
     for size in (1, 2, 3, 7, 20, 50, len(ANSWERS)):
         answers = Answers()
@@ -309,16 +313,16 @@ def try_listing(check: Callable, site: object) -> None:
 
     site.online("--printouts", f"{site.folder}/prints")
     before, meanwhile, lines = run(tried())
-    told = f"before {1000 * before:.0f} ms, meanwhile {1000 * meanwhile:.0f} ms"
+    findings = f"before {1000 * before:.0f} ms, meanwhile {1000 * meanwhile:.0f} ms"
     # on a host that is busy with others everybody waits for that; lines that are struck in the engine took 50 s
     bound = 0.1 if os.getloadavg()[0] < os.cpu_count() else 1
     check(
         f"a listing of {LINES} lines keeps nobody waiting",
         meanwhile < max(bound, 3 * before) and lines == LINES,
-        told,
+        findings,
         f"{lines}",
     )
-    check("it is suspended", site.stop() == 0, *site.told)
+    check("it is suspended", site.stop() == 0, *site.findings)
 
 
 # --- recordings and volumes that were changed ---
@@ -406,8 +410,8 @@ EDITS = {
 
 def try_edits(check: Callable, folder: str) -> None:
     """Each edit of a recording is reported by its line, with what can be done, and nothing of the file is lost."""
-    from people import Failure
-    from recording import Recording
+    from gathjumli.cli import Failure
+    from gathjumli.recording import Recording
 
     path = f"{folder}/edited"
     recording = Recording(path)
@@ -422,20 +426,20 @@ def try_edits(check: Callable, folder: str) -> None:
         before = read(path)
         try:
             Recording(path).close()
-            told = ["taken"]
+            findings = ["taken"]
         except Failure as failure:
-            told = failure.lines
-        holds = wanted in told[0] and "put back a copy" in told[-1] and read(path) == before
-        check(f"an edit of a recording: {what}", holds, *told)
+            findings = failure.lines
+        holds = wanted in findings[0] and "put back a copy" in findings[-1] and read(path) == before
+        check(f"an edit of a recording: {what}", holds, *findings)
     with open(path, "wb") as file:
         file.writelines(whole)
     recording = Recording(path)
-    told = recording.begin(SomeBase())
+    findings = recording.begin(SomeBase())
     recording.close()
     check(
         "and that it goes on",
-        re.fullmatch(f"goes on from 22 lines of {path}, until [0-9: -]{{19}} UTC", told),
-        told,
+        re.fullmatch(f"goes on from 22 lines of {path}, until [0-9: -]{{19}} UTC", findings),
+        findings,
     )
 
 
@@ -459,12 +463,12 @@ def try_volumes(check: Callable, site: object) -> None:
     write(volume, "CHANGED\n")
     session = site.session()
     site.operate("end now")
-    check("it ends", site.ended() == 0, *site.told)
+    check("it ends", site.ended() == 0, *site.findings)
     holds = read(volume) == b"CHANGED\n" and read(f"{volume}.{session}") == b"SAVED\n"
     check(
         "a volume that somebody else changed",
         holds and "was changed by somebody else" in site.since_start(),
-        *site.told,
+        *site.findings,
     )
     check(
         "is not kept as what it was",
@@ -477,7 +481,7 @@ def try_volumes(check: Callable, site: object) -> None:
         and read(volume) == b"SAVED\n"
         and read(f"{site.folder}/{kept_of(site)}/volume-1") == b"CHANGED\n"
     )
-    check("the next session goes on from it", holds, *site.told)
+    check("the next session goes on from it", holds, *site.findings)
 
 
 # --- programs that die ---
@@ -504,12 +508,12 @@ def try_killed_program(check: Callable, site: object, program: str) -> None:
         "a program that dies is started again",
         lines[1:] == ["LOGON OK", *wanted, "LOGOFF OK"],
         *lines,
-        *site.told,
+        *site.findings,
     )
     check(
         "the operator is told",
-        site.await_told("ended by signal 9: it is started again"),
-        *site.told,
+        site.await_message("ended by signal 9: it is started again"),
+        *site.findings,
     )
     check("it is suspended", site.stop() == 0)
     done, shown = replayed(program, site.paths[0], site.record)
@@ -535,7 +539,7 @@ def try_end_in_restart(check: Callable, site: object) -> None:
             await alice.until("STORED")
         os.kill(site.program(), signal.SIGKILL)
         alice.type("DISPLAY G1")
-        site.await_told("it is started again")
+        site.await_message("it is started again")
         site.operate("end now")
         await alice.rest()
 
@@ -548,11 +552,11 @@ def try_end_in_restart(check: Callable, site: object) -> None:
         "an end while the program is started again saves nothing",
         holds,
         f"status {ended}",
-        *site.told,
+        *site.findings,
     )
     site.online()
     site.operate("end now")
-    check("the next one does", site.ended() == 0 and read(volume) == b"SAVED\n", *site.told)
+    check("the next one does", site.ended() == 0 and read(volume) == b"SAVED\n", *site.findings)
 
 
 def try_deadly_line(check: Callable, site: object) -> None:
@@ -566,9 +570,11 @@ def try_deadly_line(check: Callable, site: object) -> None:
     site.online()
     run(die())
     holds = site.ended() == 3 and "ended by signal 9" in site.since_start()
-    check("what kills a program twice ends the installation", holds, *site.told)
+    check("what kills a program twice ends the installation", holds, *site.findings)
     site.online()
-    check("which goes on then", site.stop() == 0 and b"DIE" not in read(site.record), *site.told)
+    check(
+        "which goes on then", site.stop() == 0 and b"DIE" not in read(site.record), *site.findings
+    )
 
 
 def try_faults(check: Callable, command: str, program: str, folder: str) -> None:

@@ -1,4 +1,4 @@
-"""Operators of an installation: where they come from, what they do, and what they are told. Called by .ci/test-people."""
+"""Operators of an installation: where they come from, what they do, and what they are told. Called by .ci/test-people.py."""
 from __future__ import annotations
 
 from collections.abc import Callable
@@ -162,8 +162,8 @@ def try_limits(check: Callable, site: object) -> None:
     )
     check(
         "the operator is told why",
-        site.await_told("ALICE is logged off: 1 MB are written"),
-        *site.told,
+        site.await_message("ALICE is logged off: 1 MB are written"),
+        *site.findings,
     )
     check("and he may come back", again == "LOGON OK", again)
     check("it is suspended", site.stop() == 0)
@@ -191,8 +191,8 @@ def try_waiting_printout(check: Callable, site: object) -> None:
         return await alice.rest()
 
     run(tried())
-    is_told = site.await_told("PRT0001-ALICE.txt cannot be written, and waits: File exists")
-    check("a printout that cannot be written", is_told, *site.told)
+    is_reported = site.await_message("PRT0001-ALICE.txt cannot be written, and waits: File exists")
+    check("a printout that cannot be written", is_reported, *site.findings)
     status, spool, end = (operator(site, word).stdout for word in ("status", "spool", "end"))
     holds = (
         "1 closed, 1 not written: File exists" in status
@@ -203,12 +203,14 @@ def try_waiting_printout(check: Callable, site: object) -> None:
     os.unlink(folder)
     check(
         "and is written when it can be",
-        site.await_told(f"closed: {folder}/PRT0001-ALICE.txt"),
-        *site.told,
+        site.await_message(f"closed: {folder}/PRT0001-ALICE.txt"),
+        *site.findings,
     )
     spool = operator(site, "spool").stdout
     check("which is seen too", "PRT0001-ALICE.txt 1 lines, written" in spool, spool)
-    check("then it ends", operator(site, "end").returncode == 0 and site.ended() == 0, *site.told)
+    check(
+        "then it ends", operator(site, "end").returncode == 0 and site.ended() == 0, *site.findings
+    )
 
 
 def try_commands(check: Callable, site: object) -> None:
@@ -230,8 +232,8 @@ def try_commands(check: Callable, site: object) -> None:
         check("small letters of commands are capitals", True)
         alice.type("#cp", "msg oper Help me")
         await alice.until("SENT")
-        told = site.await_told("OPER: MSG FROM ALICE: Help me")
-        check("a message to the operator", told, *site.told)
+        findings = site.await_message("OPER: MSG FROM ALICE: Help me")
+        check("a message to the operator", findings, *site.findings)
         commands = ["message BOB For you", "message For all", "force BOB", "force BOB", "message BOB x", "force NOBODY",
                     "logmsg Closed on Sunday", "end at 03:00", "end cancel", "end at 24:00", "force OPER"]  # fmt: skip
         answers = [operator(site, *words.split()).returncode for words in commands]
@@ -283,7 +285,10 @@ def try_commands(check: Callable, site: object) -> None:
     answer = operator(site, "logmsg").stdout
     check("the log message outlives a start", "Closed on Sunday" in answer, answer)
     check(
-        "so does a planned end", planned and planned[9:] in site.since_start(), planned, *site.told
+        "so does a planned end",
+        planned and planned[9:] in site.since_start(),
+        planned,
+        *site.findings,
     )
     holds = operator(site, "end", "cancel").returncode == 0 and not os.path.exists(
         f"{site.record}.end-at"
@@ -293,16 +298,16 @@ def try_commands(check: Callable, site: object) -> None:
     site.stop()
     write(f"{site.record}.end-at", "2026-01-02 03:00\n")
     site.online(*more)
-    told = "the session was to end at 2026-01-02 03:00, which is past: it goes on"
+    findings = "the session was to end at 2026-01-02 03:00, which is past: it goes on"
     check(
         "one that is past is told",
-        told in site.since_start() and not os.path.exists(f"{site.record}.end-at"),
-        *site.told,
+        findings in site.since_start() and not os.path.exists(f"{site.record}.end-at"),
+        *site.findings,
     )
     check(
         "the operator's user is nobody who is on",
         operator(site, "end").returncode == 0 and site.ended() == 0,
-        *site.told,
+        *site.findings,
     )
 
 
@@ -316,9 +321,9 @@ async def try_closed(check: Callable, site: object) -> None:
     refused = await other.logon("BOB", "BUILDER")
     opened = operator(site, "logon", "open").stdout
     bob = await on(site, "BOB", "BUILDER")
-    told = (closed[9:], back.lines[1], refused, opened[9:], bob.lines[1])
+    findings = (closed[9:], back.lines[1], refused, opened[9:], bob.lines[1])
     wanted = ("logon is closed\n", "RECONNECTED", "LOGON IS CLOSED", "logon is open\n", "LOGON OK")
-    check("logon is closed, and opened", told == wanted, *told)
+    check("logon is closed, and opened", findings == wanted, *findings)
     for one in (back, bob):
         one.type("LOGOFF")
         await one.rest()
@@ -326,8 +331,8 @@ async def try_closed(check: Callable, site: object) -> None:
 
 def try_small_faults(check: Callable, site: object) -> None:
     """Faults that are told at once, by the place where they are."""
-    from keeping import copy_whole
-    from people import Failure
+    from gathjumli.checkpoints import copy_whole
+    from gathjumli.cli import Failure
 
     streams = {"capture_output": True, "text": True, "stdin": subprocess.DEVNULL}
     wrong = subprocess.run(
@@ -371,7 +376,7 @@ def try_small_faults(check: Callable, site: object) -> None:
         and f"installation: {site.record}: " in site.since_start()
         and "online" not in site.since_start()
     )
-    check("a full disk is found before anybody is served", holds, *site.told)
+    check("a full disk is found before anybody is served", holds, *site.findings)
     os.unlink(site.record)
     os.makedirs(f"{site.folder}/real")
     os.symlink("real/recording", site.record)
@@ -380,10 +385,10 @@ def try_small_faults(check: Callable, site: object) -> None:
     check(
         "passwords that others may read are reported",
         "others may read it: chmod 600" in site.since_start(),
-        *site.told,
+        *site.findings,
     )
     site.operate("end")
-    check("it ends", site.ended() == 0, *site.told)
+    check("it ends", site.ended() == 0, *site.findings)
     kept = [name for name in names_in(f"{site.folder}/real") if name.startswith("recording.2")]
     holds = len(kept) == 1 and "recording" in names_in(f"{site.folder}/real/{kept[0]}")
     check("a recording that is a link is set aside where it is", holds, *kept)

@@ -38,7 +38,7 @@ class Users:
             one.line("#CP CLOSE 00D", f"FILE {self.closes():04} CLOSED", user=name)
             one.line("#CP CLOSE 00E", f"FILE {self.closes(name):04} CLOSED", user=name)
             one.line(f"#CP MSG {following} {TEXT}", "SENT", user=name)
-            one.told.append(f"{following}: MSG FROM {name}: {TEXT}")
+            one.findings.append(f"{following}: MSG FROM {name}: {TEXT}")
         for number, name in enumerate(NAMES):
             sender = (number - 1) % len(NAMES)
             decks = [f"FILE {2 * sender + 1:04} FROM {NAMES[sender]} CARDS 1"]
@@ -51,7 +51,7 @@ class Users:
             one.line("#CP LOGOFF", "LOGOFF OK", user=name)
             self.closes()
             self.closes(name)
-        one.told += [line for heading in self.printed for line in (heading, f"09 {TEXT}")]
+        one.findings += [line for heading in self.printed for line in (heading, f"09 {TEXT}")]
         return one
 
     def write(self, name: str) -> None:

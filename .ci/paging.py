@@ -117,10 +117,10 @@ class Large:
         """What the user is shown otherwise than the machine."""
         shown = []
         for one in (self.user, self.bare):
-            status, told, errors, volumes = player.play(one, one.size)
+            status, findings, errors, volumes = player.play(one, one.size)
             if status or volumes != one.volumes:
                 return f"{one.user}: status {status}: {errors}"
-            shown.append(re.sub(r"\bBARE\b", "LARGE", told).splitlines())
+            shown.append(re.sub(r"\bBARE\b", "LARGE", findings).splitlines())
         for number, (line, wanted) in enumerate(itertools.zip_longest(*shown), 1):
             if line != wanted:
                 return f"line {number}: {line!r}, and a machine of its own shows {wanted!r}"
@@ -379,8 +379,8 @@ class Short:
         """Whether there is no room: `there` has the pages of A that stand somewhere, `taken` says how many places are taken."""
         frames, slots = self.places
         wanted = walk.pages if self.together is None else self.together
-        lacks = len(wanted - there) > frames + slots - taken
-        return lacks or self.together is not None and len(wanted) > frames
+        is_short = len(wanted - there) > frames + slots - taken
+        return is_short or self.together is not None and len(wanted) > frames
 
     # what is seen
 
@@ -388,10 +388,10 @@ class Short:
         """Which pages stand somewhere of each user, as a map tells it; and how many."""
         with tempfile.TemporaryDirectory() as room:
             one = self.of(self.script)
-            told = player.map(one, self.places, room)
+            findings = player.map(one, self.places, room)
         there = {"A": set(), "B": set()}
         for user, first, last in re.findall(
-            r"^(?:FRAME|SLOT)S? [0-9-]+ (\S+) ([0-9A-F]+)(?:-([0-9A-F]+))?$", told, re.M
+            r"^(?:FRAME|SLOT)S? [0-9-]+ (\S+) ([0-9A-F]+)(?:-([0-9A-F]+))?$", findings, re.M
         ):
             there[user] |= set(range(int(first, 16) // PAGE, int(last or first, 16) // PAGE + 1))
         return there
@@ -436,25 +436,25 @@ class Short:
         later = ["LINE B LOGOFF", *self.event(), *([] if self.kind == "cards" else ["RUN A 1"])]
         later += self.shows({"A": set(range(16)), "B": set()})
         shows = self.shows(there)
-        told = self.told(player, self.script + self.event() + shows + later)
-        at = len(self.told(player, self.script))
-        if (told[at : at + 1] == ["= A FRAMES"]) != is_out:
-            return f"{told[at:at + 1]}, and frames are out: {is_out}; {self.places}, {sorted(walk.pages - there['A'])}"
+        findings = self.findings(player, self.script + self.event() + shows + later)
+        at = len(self.findings(player, self.script))
+        if (findings[at : at + 1] == ["= A FRAMES"]) != is_out:
+            return f"{findings[at:at + 1]}, and frames are out: {is_out}; {self.places}, {sorted(walk.pages - there['A'])}"
         if not is_out:
             return None
-        wanted = self.told(player, self.script + shows + later)
+        wanted = self.findings(player, self.script + shows + later)
         for number, (line, other) in enumerate(
-            itertools.zip_longest(told[at + 1 :], wanted[at:]), 1
+            itertools.zip_longest(findings[at + 1 :], wanted[at:]), 1
         ):
             if line != other:
                 return f"line {number} behind: {line!r}, and without the event {other!r}"
         return None
 
-    def told(self, player: object, script: str) -> list:
-        status, told, errors, _ = player.play(self.of(script), self.places)
+    def findings(self, player: object, script: str) -> list:
+        status, findings, errors, _ = player.play(self.of(script), self.places)
         if status:
             raise ValueError(f"status {status}: {errors}")
-        return told.splitlines()
+        return findings.splitlines()
 
 
 def touched(session: object, count: int) -> Iterator:

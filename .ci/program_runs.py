@@ -59,7 +59,7 @@ class Run:
     """A run, with the changes of files before it and what is wanted of it."""
 
     def __init__(self) -> None:
-        self.place, self.changes, self.words, self.told = "", [], [], []
+        self.place, self.changes, self.words, self.findings = "", [], [], []
         self.status, self.error, self.has, self.lines, self.files = 0, "", None, {}, []
         self.beginnings, self.pages, self.fails_writes = [], None, False
 
@@ -78,7 +78,7 @@ class Run:
             self.lines[int(number)] = line
         elif mark == "*":
             count, _, line = text.partition(" ")
-            self.told += int(count) * [line]
+            self.findings += int(count) * [line]
         elif mark == "^":
             self.beginnings.append(text.split(" ", 3))
         elif mark == "%":
@@ -113,7 +113,7 @@ def runs_of(path: str) -> object:
             run.place, run.words = f"{name}:{number}", text.split()
             runs.append(run)
         elif line[1:2] not in (" ", "") or not run.expect(mark, text):
-            run.told.append(line)
+            run.findings.append(line)
     return paragraphs + ([runs] if runs else [])
 
 
@@ -190,7 +190,7 @@ def otherwise_in_map(lines: list, wanted: object) -> object:
 
 def difference(run: object, programs: str, room: int) -> object:
     """What differs first from what a run has to be."""
-    status, told, errors = ended(programs, run.words, room)
+    status, findings, errors = ended(programs, run.words, room)
     if (
         status != run.status
         or run.error is not None
@@ -199,15 +199,15 @@ def difference(run: object, programs: str, room: int) -> object:
         return f"status {status}, {errors!r}, and wanted is status {run.status}, {run.error!r}"
     if run.has and run.has not in errors:
         return f"{errors!r} has not {run.has!r}"
-    lines = told.decode("latin-1").splitlines()
+    lines = findings.decode("latin-1").splitlines()
     if run.pages is not None:
         return otherwise_in_map(lines, run.pages)
-    wanted = "".join(f"{item}\n" for item in run.told).encode("latin-1")
+    wanted = "".join(f"{item}\n" for item in run.findings).encode("latin-1")
     for number, line in run.lines.items():
         if lines[number : number + 1] != [line]:
             return f"line {number}: {lines[number:number + 1]}, and wanted is {line!r}"
-    if not run.lines and told != wanted:
-        return f"{told[:2000]!r}, and wanted is {wanted[:2000]!r}"
+    if not run.lines and findings != wanted:
+        return f"{findings[:2000]!r}, and wanted is {wanted[:2000]!r}"
     for name, place, data in run.files:
         there = read(f"{room}/{name}")[place:]
         if there != data:

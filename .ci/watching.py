@@ -1,4 +1,4 @@
-"""Tests how a long run is watched at a terminal (bin/lib/watched.py), over programs that print what they are told."""
+"""Tests how a long run is watched at a terminal (bin/lib/gathjumli/watched.py), over programs that print what they are told."""
 from __future__ import annotations
 
 from collections.abc import Callable
@@ -15,7 +15,7 @@ import time
 TOP = os.path.dirname(os.path.dirname(os.path.realpath(__file__)))
 sys.path.insert(0, f"{TOP}/bin/lib")
 
-from watched import Count, turns_in
+from gathjumli.watched import Count, turns_in
 
 # a script, how many runs, serves and turns it has, a transcript of it, and how many of them it has the ends of
 COUNTED = {
@@ -44,7 +44,16 @@ class Shown:
         self, program: str, script: str, is_piped: bool = False, interrupted_after: object = None
     ) -> None:
         outer, inner = pty.openpty()
-        words = [sys.executable, f"{TOP}/bin/lib/watched.py", "name", script, "sh", "-c", program]
+        words = [
+            sys.executable,
+            f"{TOP}/bin/lib/run.py",
+            "watched",
+            "name",
+            script,
+            "sh",
+            "-c",
+            program,
+        ]
         output = tempfile.TemporaryFile() if is_piped else inner
         process = subprocess.Popen(
             words,
@@ -92,12 +101,12 @@ def try_watching(check: Callable, folder: str) -> None:
     check("events of a script that is not there", turns_in(f"{folder}/none") == 0)
     with open(script, "w") as file:
         file.write("RUN A 5\nRUN A 6\n")
-    told = b"name: events done: 1 of 2"
+    findings = b"name: events done: 1 of 2"
     slow = "echo '= A 5 COUNT'; sleep 2.6; echo '= A 6 COUNT'; exit 4"
     shown = Shown(slow, script)
     check(
         "a long run is told",
-        told in shown.bytes and shown.status == 4,
+        findings in shown.bytes and shown.status == 4,
         f"{shown.status}",
         shown.bytes,
     )
@@ -106,7 +115,7 @@ def try_watching(check: Callable, folder: str) -> None:
     piped = Shown(slow, script, is_piped=True)
     check(
         "nothing of it is in standard output",
-        piped.output == b"= A 5 COUNT\n= A 6 COUNT\n" and told in piped.bytes,
+        piped.output == b"= A 5 COUNT\n= A 6 COUNT\n" and findings in piped.bytes,
         piped.output,
         piped.bytes,
     )

@@ -113,12 +113,12 @@ read_unproved() {
     without_proof=${GATHJUMLI_UNPROVED-}
     case $without_proof in
     '' | 1) ;;
-    *) wrong_use "GATHJUMLI_UNPROVED is 1 or empty, and not $without_proof" ;;
+    *) usage_error "GATHJUMLI_UNPROVED is 1 or empty, and not $without_proof" ;;
     esac
 }
 
-# tell_program CRATE: what the program is made of, and whether it is proved
-tell_program() {
+# describe_program CRATE: what the program is made of, and whether it is proved
+describe_program() {
     find_program "$1"
     if [ -n "$installed" ]; then
         cat -- "$installed"
@@ -162,11 +162,11 @@ build() {
     began=$(date +%s)
     progress=$folder/out/building.$$
     places=$(places)
-    tell_prospects
+    print_prospects
     say "without proof it runs in about two minutes, with --unproved or GATHJUMLI_UNPROVED=1 in the environment"
     say "the logs are in $logs"
     prove_all
-    tell_progress "building $program_crate, $count of $count"
+    print_progress "building $program_crate, $count of $count"
     (unset CDPATH && cd -- "$folder" && run_once) > "$logs/$program_crate.log" 2>&1 < /dev/null || refuse_build "$program_crate"
     # of what the sources were when it began: an edit that was made meanwhile is seen the next time
     printf '%s\n%s\n' "$now_sources" "$now_kit" > "$mark.$$"
@@ -232,7 +232,7 @@ begin() {
     number=$((number + 1))
     running=$((running + 1))
     begun="$begun$1 "
-    tell_progress "proving $1, $number of $count"
+    print_progress "proving $1, $number of $count"
     apart=$(command -v setsid) || apart=
     (
         unset CDPATH
@@ -326,7 +326,7 @@ lines_of() {
 }
 
 # what is to be done, how long that may take, and which other build is under way
-tell_prospects() {
+print_prospects() {
     unproved=' '
     for crate in $crates; do
         [ -e "$root/crates/$crate/out/rlib" ] || [ "$crate" = "$program_crate" ] || unproved="$unproved$crate "
@@ -356,16 +356,16 @@ tell_prospects() {
 }
 
 # tells a step, here and to other builds: how long it has taken, and how long the rest takes if it goes on so
-tell_progress() {
+print_progress() {
     gone=$(minutes_gone)
     told=$1
-    [ "$gone" -eq 0 ] || told="$told, after $gone minutes$(tell_left)"
+    [ "$gone" -eq 0 ] || told="$told, after $gone minutes$(minutes_left_text)"
     say "$told"
     echo "$program_crate is $1, after $gone minutes" > "$progress"
 }
 
 # the minutes that are left, by the lines that were proved so far
-tell_left() {
+minutes_left_text() {
     done=
     for crate in $unproved; do
         case $proved in
