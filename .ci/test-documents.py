@@ -18,7 +18,7 @@ MOST_WORDS = 16800
 # words between backticks that stand in no source: of the kit, of other programs, and placeholders
 OTHER_WORDS = set(
     """
-rt ci man memmove hercules telnet valgrind PATH ulimit expand awk sed sh python3 tr S4 Gn Xn Kaddress
+rt ci man black pyflakes3 python3-pyflakes memmove hercules telnet valgrind PATH ulimit expand awk sed sh python3 tr S4 Gn Xn Kaddress
 """.split()
 )
 

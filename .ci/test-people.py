@@ -259,7 +259,7 @@ def test_words(repository: str, work: str) -> None:
         for words in cases:
             done = Done(repository, command, *words)
             findings = (
-                ("usage: ", "--help tells more") if words else ("usage: ", "example: ", "statuses")
+                ("usage: ", "--help says more") if words else ("usage: ", "example: ", "statuses")
             )
             is_reported = all(item in done.err for item in findings) and (
                 "statuses" in findings or "statuses" not in done.err

@@ -51,7 +51,7 @@ usage_error() {
     say "$@"
     {
         usage | sed '/^$/,$d'
-        echo "$name --help tells more"
+        echo "$name --help says more"
     } >&2
     exit 2
 }
@@ -96,7 +96,7 @@ read_arguments() {
             ;;
         esac
     done
-    [ -z "$awaited" ] || usage_error "nothing stands behind --$awaited"
+    [ -z "$awaited" ] || usage_error "no value follows --$awaited"
 }
 
 # set_option NAME VALUE: of an option that is known
@@ -115,7 +115,7 @@ need_paths() {
     done
     [ "$count" -le "$wanted" ] || {
         eval "surplus=\$path$((wanted + 1))"
-        usage_error "one word too many: $surplus"
+        usage_error "one argument too many: $surplus"
     }
 }
 

@@ -117,7 +117,7 @@ build_statuses() {
     cat <<END_OF_STATUSES
   0   it ended well
   1   $1 is refused; standard error says where
-  2   a wrong use
+  2   usage error
   3   a file failed
   4   the host had no memory
  70   the program was not built; standard error has the log

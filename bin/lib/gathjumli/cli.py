@@ -19,7 +19,7 @@ REFUSED, WRONG_USE, FILE_FAILED, NO_MEMORY = 1, 2, 3, 4
 STATUSES = """statuses:
   0   it ended well
   1   {refused} is refused; standard error says where
-  2   a wrong use
+  2   usage error
   3   a file failed
   4   the host had no memory
 """
@@ -106,7 +106,7 @@ def run(command: str, usage: object, crate: str = None) -> None:
         findings = usage.format(command=sys.argv[0])
         if str(item):
             say(item)
-            findings = findings.partition("\n\n")[0] + f"\n{name()} --help tells more\n"
+            findings = findings.partition("\n\n")[0] + f"\n{name()} --help says more\n"
         print(findings, end="", file=sys.stderr)
         status = WRONG_USE
     except Failure as item:
@@ -167,7 +167,7 @@ def read_arguments(words: list[str], options: object, least: int, most: int) -> 
     if len(paths) < least:
         raise UsageError("a word is missing" if paths else "")
     if len(paths) > most:
-        raise UsageError(f"one word too many: {paths[most]}")
+        raise UsageError(f"one argument too many: {paths[most]}")
     return found, paths
 
 
