@@ -1,4 +1,4 @@
-"""The logon desk once more, in Python: it stands in for the program where nothing is built, and .ci/test-people.py compares the two.
+"""The logon desk once more, in Python: it is in for the program where nothing is built, and .ci/test-people.py compares the two.
 
 It takes and gives the lines of crates/logon_desk_cli (frame.rt, printing.rt).
 """
@@ -36,7 +36,7 @@ class Decoder:
         self.line, self.expects, self.is_after_return = b"", "text", False
 
     def take(self, byte: int) -> bool | tuple[str, bytes] | None:
-        """What comes of a byte: a line, bytes to be answered, or None."""
+        """What appears of a byte: a line, bytes to be answered, or None."""
         if self.expects == "text":
             return self.take_text(byte)
         if self.expects == "command":
@@ -102,7 +102,7 @@ def meaning(line: bytes) -> tuple:
 
 
 def trailing(line: bytes) -> bytes:
-    """What stands behind the first word of a line and a blank."""
+    """What is after the first word of a line and a blank."""
     return line.lstrip(b" ").partition(b" ")[2]
 
 
@@ -145,7 +145,7 @@ class LogonServer:
         )
         self.out, self.reading = [], []
 
-    # --- what comes ---
+    # --- what appears ---
 
     def apply(self, word: str, now: int, words: list[str]) -> None:
         if word in ("OPEN", "CAME", "GONE", "SAYS"):
@@ -213,7 +213,7 @@ class LogonServer:
         if not user.is_on:
             user.terminal = None
 
-    # --- what comes of that ---
+    # --- the effect of that ---
 
     def user_at(self, number: int) -> Account | None:
         place = self.places[number]
@@ -473,7 +473,7 @@ def try_program(check: Callable, program: str, seeds: int = 4, count: int = 4000
 
 
 class Talk:
-    """Somebody who tells the stand-in, or a program, lines one after another, and does as a host does."""
+    """Somebody who says the stand-in, or a program, lines one after another, and does as a host does."""
 
     def __init__(self, program: str = None) -> None:
         self.lines, self.places, self.typed, self.asked = [], {}, [], []
@@ -506,7 +506,7 @@ class Talk:
         self.findings(f"ROOM 0 {room:X}")
 
     def say(self, line: bytes) -> None:
-        """Says a line, and notes what comes of it."""
+        """Says a line, and notes the effect of it."""
         for findings in self.findings(line):
             word, number, *words = findings.split()
             if word == "ENDS":

@@ -1,4 +1,4 @@
-"""Each first halfword of an instruction, in supervisor and in problem state, by a user of vm370 beside a neighbour and by a machine
+"""Each first halfword of an instruction, in supervisor and in problem state, by a user of vm370 next to a neighbour and by a machine
 of bare370 that is given the same events: a part of .ci/test-transcripts.py."""
 from __future__ import annotations
 

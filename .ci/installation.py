@@ -16,7 +16,7 @@ import sys
 import tempfile
 import time
 
-# what somebody is told who has come
+# what somebody is reported who has come
 BANNER = "GATHJUMLI ONLINE: TYPE LOGON NAME"
 TELLS = re.compile("([0-9:]{8}) (.*)")
 # how long anything that has to come may take
@@ -24,7 +24,7 @@ PATIENCE = 60
 
 
 class Site:
-    """An installation that can be started, ended and killed; what its operator was told."""
+    """An installation that can be started, ended and killed; what its operator was reported."""
 
     def __init__(self, command: str, folder: str, directory: str, *words: object) -> None:
         self.command = command
@@ -57,7 +57,7 @@ class Site:
         return self
 
     def await_message(self, text: str, seconds: object = PATIENCE) -> bool:
-        """Waits until the operator is told a text since the last start; whether that came. Told progress makes it patient."""
+        """Waits until the operator is reported a text since the last start; whether that came. Told progress makes it patient."""
         until = time.monotonic() + seconds
         output = self.process.stdout
         while text not in self.since_start():
@@ -67,7 +67,7 @@ class Site:
                 return text in self.since_start()
             self.findings.append(data.decode(errors="replace"))
             if "% done" in self.findings[-1]:
-                # it goes on from a recording, and tells that it comes on
+                # it goes on from a recording, and says that it appears on
                 until = time.monotonic() + seconds
         return True
 
@@ -237,7 +237,7 @@ class StandIn:
         self.findings.append(f"{name}: {text}")
 
     def part(self, script: bytes) -> list[str]:
-        """What is told of a part, with or without the lines of slices."""
+        """What is reported of a part, with or without the lines of slices."""
         before = {name: item["mode"] for name, item in self.users.items()}
         self.findings, self.closed, self.is_idle = [], [], False
         lines = script.decode("latin-1").split("\n")[:-1]
@@ -306,7 +306,7 @@ class StandIn:
 
 
 def became(before: str, now: str) -> list[str]:
-    """The states that are told of a user."""
+    """The states that are reported of a user."""
     findings = ["STOPS"] if before == "RUNS" != now else []
     findings += ["ON"] if before == "OFF" != now else []
     findings += ["RUNS"] if now == "RUNS" != before else []

@@ -1,4 +1,4 @@
-"""Operators of an installation: where they come from, what they do, and what they are told. Called by .ci/test-people.py."""
+"""Operators of an installation: where they come from, what they do, and what is reported to them. Called by .ci/test-people.py."""
 from __future__ import annotations
 
 from collections.abc import Callable
@@ -137,7 +137,7 @@ def try_unit(check: Callable, folder: str) -> None:
 
 
 def try_limits(check: Callable, site: object) -> None:
-    """Who takes too much is logged off and told why, and that is an event of the recording; others stay."""
+    """Who takes too much is logged off and reported why, and that is an event of the recording; others stay."""
 
     async def written() -> tuple:
         alice, bob = await on(site), await on(site, "BOB", "BUILDER")
@@ -330,7 +330,7 @@ async def try_closed(check: Callable, site: object) -> None:
 
 
 def try_small_faults(check: Callable, site: object) -> None:
-    """Faults that are told at once, by the place where they are."""
+    """Faults that are reported at once, by the place where they are."""
     from gathjumli.checkpoints import copy_whole
     from gathjumli.cli import Failure
 

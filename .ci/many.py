@@ -1,5 +1,5 @@
 """Long sessions, for test-transcripts: 64 users on 16 frames, each of whom uses his devices, and a script of a million bytes.
-What comes of them is reckoned here from docs/COMMANDS.md and docs/FORMATS.md."""
+What appears of them is reckoned here from docs/COMMANDS.md and docs/FORMATS.md."""
 from __future__ import annotations
 
 from collections.abc import Iterator

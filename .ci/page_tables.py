@@ -153,7 +153,7 @@ async def closing(work: str) -> None:
 
 
 class Browser:
-    """A page and what its browser is told."""
+    """A page and what its browser is reported."""
 
     def __init__(self, house: object, message: str = None) -> None:
         self.house = house
@@ -163,7 +163,7 @@ class Browser:
         self.page.attach(self.outbox)
 
     async def send(self, message: str, token: bool = True) -> object:
-        """Sends a message; all that the browser is told soon after it, as JSON has it."""
+        """Sends a message; all that the browser gets soon after it, as JSON has it."""
         await self.page.take({**message, "token": self.page.token} if token else message)
         return await self.findings()
 
@@ -175,7 +175,7 @@ class Browser:
         return json.loads(json.dumps(messages))
 
     async def log_on(self, name: str = "ALICE", password: str = "WONDER") -> object:
-        """Logs on; all that the browser is told until that is done or refused."""
+        """Logs on; all that the browser is reported until that is done or refused."""
         findings, until = (
             await self.send({"is": "logon", "name": name, "password": password}),
             time.monotonic() + 5,
@@ -204,7 +204,7 @@ def refusals(findings: object) -> list:
     return [message["why"] for message in findings if message["is"] == "refused"]
 
 
-# each message of a page at which ALICE is logged on, and what is told
+# each message of a page at which ALICE is logged on, and what is reported
 OBEYED = {
     "a line": ({"is": "line", "text": "display psw"}, [("lines", ["DISPLAY PSW?"])]),
     "a line of any characters": ({"is": "line", "text": "msg bob \u20ac\r\nlogoff\xff"}, [("lines", ["MSG BOB ?  logoff ?"])]),
@@ -373,7 +373,7 @@ async def try_logons(check: Callable, folder: str) -> None:
 
 
 async def try_coming_back(check: Callable, folder: str) -> None:
-    """A browser that comes back misses nothing, and nobody comes back in its place."""
+    """A browser that appears back misses nothing, and nobody appears back in its place."""
     house = House(folder)
     browser = Browser(house)
     await browser.log_on()

@@ -35,7 +35,7 @@ def ccw(code: int, address: int, flags: int = 0, count: int = 1) -> object:
 
 def walker(step: object, high: object) -> object:
     """A program for 200: it stores the address at each step below a high one, looks at all of them, writes the line whose
-    command word stands at the high address on the console, and stops."""
+    command word is at the high address on the console, and stops."""
     code = (
         f"41200001 892000{step:02X} 58500244 1815 1B12 47C0021C 50110000 47F0020E 1815 1B12 47C00230 59110000 4780021E"
         f" 47F0022C 50500048 9C000009 9D000009 47200238 82000248 {high:08X} 00020000 0000600D"
@@ -44,7 +44,7 @@ def walker(step: object, high: object) -> object:
 
 
 def written(high: object) -> object:
-    """What stands at the high address: the command word of the line, and its text."""
+    """What is at the high address: the command word of the line, and its text."""
     text = ebcdic(WALKED)
     return (ccw(9, high + 8, 0x20, len(text)) + text).ljust(80, b"\0")
 
@@ -76,7 +76,7 @@ class Large:
             ]
 
     def records(self, step: object) -> object:
-        """Behind a PSW the first record has a word that reads the second record to where the next words are."""
+        """After a PSW the first record has a word that reads the second record to where the next words are."""
         first = words(0, 0x200) + ccw(6, 0x100, 0x60, 16) + ccw(8, 0x100)
         parts = (
             first,
@@ -204,7 +204,7 @@ class Walk:
 
 
 class Short:
-    """Two users, of whom B's pages stand where A's program may want to come: whether it is told that frames are out, and what is
+    """Two users, of whom B's pages stand where A's program may want to come: whether it is reported that frames are out, and what is
     seen then, and when B has gone."""
 
     number = 1
@@ -385,7 +385,7 @@ class Short:
     # what is seen
 
     def map(self, player: object) -> object:
-        """Which pages stand somewhere of each user, as a map tells it; and how many."""
+        """Which pages are somewhere for each user, as a map says it; and how many."""
         with tempfile.TemporaryDirectory() as room:
             one = self.of(self.script)
             findings = player.map(one, self.places, room)
@@ -409,7 +409,7 @@ class Short:
         return ["LINE A #CP IPL 00C"] if self.kind == "cards" else [f"SERVE A {self.unit}"]
 
     def shows(self, there: object) -> object:
-        """All that is seen of both, of their storage what stands in these pages."""
+        """All that is seen of both, of their storage what is in these pages."""
         script = [
             f"LINE A #CP {item}"
             for item in (

@@ -4,10 +4,10 @@ A paragraph ends with an empty line, and has one folder, in which its files stay
     < NAME TEXT          the file NAME has this text: \\n is LF, \\ and two digits any other byte
     > LINE               a line more of the file 'script', whose last line has no LF
     x NAME DIGITS ..     the file has these bytes; C1*80 is eighty bytes C1. A blank NAME stands for no bytes
-    + NAME DIGITS ..     such bytes behind its last
+    + NAME DIGITS ..     such bytes after its last
     @ NAME PLACE DIGITS  bytes of it are changed, from a decimal place on
     / NAME LENGTH        it is cut to so many bytes
-    $ PROGRAM WORD ..    a run; the lines behind it say what comes of it, where it is not status 0 and nothing told:
+    $ PROGRAM WORD ..    a run; the lines after it say the effect of it, where it is not status 0 and nothing reported:
     ! STATUS LINE        its exit status, and the line of standard error, of which nothing is compared where it is left out
     ~ TEXT               standard error has this text in it
     ; NAME PLACE DIGITS  from this place on the file has these bytes, and ends
@@ -15,7 +15,7 @@ A paragraph ends with an empty line, and has one folder, in which its files stay
     * COUNT LINE         so many such lines of standard output
     ^ FROM TO STATUS LINE   over each beginning of its file (its directory, or the last) of FROM to TO - 1 bytes it ends so
     % PAGES | PAGES | PAGES | N    of a map of one user: pages that have frames, that have slots, that have neither, and PAGE INS
-    &                    a write that fails at any byte of standard output is told, behind all bytes before it
+    &                    a write that fails at any byte of standard output is reported, after all bytes before it
     # ..                 a comment
 Any other line is one of standard output."""
 from __future__ import annotations
@@ -64,7 +64,7 @@ class Run:
         self.beginnings, self.pages, self.fails_writes = [], None, False
 
     def expect(self, mark: object, text: str) -> bool:
-        """A line behind the run; whether it is one that says what comes of it."""
+        """A line after the run; whether it is one that says the effect of it."""
         if mark == "!":
             status, _, line = text.partition(" ")
             self.status, self.error = int(status), line or None
@@ -246,7 +246,7 @@ def otherwise_written(run: object, programs: str, room: int, wanted: object) -> 
         def limit() -> None:
             resource.setrlimit(resource.RLIMIT_FSIZE, (size, size))
 
-        # (that a file may not grow is told by the call, since the signal that tells it too is ignored)
+        # (that a file may not grow is reported by the call, since the signal that says it too is ignored)
         with open(path, "wb") as file:
             done = subprocess.run(
                 [*programs[run.words[0]], *run.words[1:]],

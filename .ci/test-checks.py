@@ -4,8 +4,8 @@ them with all that they call, and stops at an index out of bounds, an overflow, 
 has to print what its `stdout` has.
 
 Of a check with a file `refused` each word is also run alone, and each of its allocations refused once: the run has to end with
-status 1 and a line of that file, or to do without it. The last line of the file tells how many all the words do without. The last
-allocation of a run is one that is needed, and that tells END: so each before it is tried, needed or not.
+status 1 and a line of that file, or to do without it. The last line of the file says how many all the words do without. The last
+allocation of a run is one that is needed, and that says END: so each before it is tried, needed or not.
 
     .ci/test-checks.py [NAME]..
 
@@ -34,10 +34,10 @@ LEFT_OUT = {"out", "data", "must-fail", "planted"}
 # what one takes at most
 SECONDS = 900
 # rt try --fail-alloc takes one number, which it compiles into the program, and a build takes a minute. So there is one build, for a
-# number that no run reaches, and each run is given its own in that place. It stands where memory is given, and where more of it is
+# number that no run reaches, and each run is given its own in that place. It is where memory is given, and where more of it is
 NUMBER = 0x6B3F91D258A704EC
 PLACES = 2
-# what a run tells whose last allocation is refused, and a number that no allocation of a run has
+# what a run says whose last allocation is refused, and a number that no allocation of a run has
 END = "Error: this was the last allocation\n"
 MOST = 4096
 
@@ -52,7 +52,7 @@ def read(path: str) -> object:
 
 
 def repository(folder: str, checks: object) -> None:
-    """A repository of copies, in which the checks stand beside the crates."""
+    """A repository of copies, in which the checks stand next to the crates."""
     for name in os.listdir(f"{TOP}/crates"):
         shutil.copytree(
             f"{TOP}/crates/{name}",
@@ -154,7 +154,7 @@ def see_format(crate: str) -> None:
 
 def see_printed(crate: str, words: list[str], program: str, options: object) -> None:
     """rt try prints what it has to print, and the program stays under this name."""
-    # one step of the interpreter that rt runs beside the compiled program
+    # one step of the interpreter that rt runs next to the compiled program
     command = ["rt", "try", "--steps", "1", "--seconds", str(SECONDS), *options, "--", *words]
     ended = keeping(command, program, cwd=crate, capture_output=True, text=True, timeout=SECONDS)
     if ended.returncode:

@@ -163,7 +163,7 @@ def prose(text: str) -> str:
 def faults_of(path: str) -> Iterator:
     text = prose(path.read_text())
     for number, line in enumerate(text.split("\n"), 1):
-        # where people come from is no name of ours: what stands here is the last column
+        # if people come from is no name of ours: what is here is the last column
         ours = line.rsplit(" | ", 1)[-1] if path.name == "COMING_FROM.md" else line
         names = re.findall(r"`([^`]+)`", ours)
         if line.count("`") % 2:
@@ -227,7 +227,7 @@ def crates_in_no_table() -> list:
 
 
 def lost_example() -> Iterator:
-    """How the first screen of README.md differs from the example that it shows: the script, and what comes of it."""
+    """How the first screen of README.md differs from the example that it shows: the script, and the effect of it."""
     rows = [
         line[4:].split(" |  ")
         for line in (TOP / "README.md").read_text().splitlines()
@@ -244,7 +244,7 @@ def lost_example() -> Iterator:
 
 
 def lost_bodies() -> Iterator:
-    """The wrong bodies (docs/PLANTED.md) of which a text stands nowhere, or more than once."""
+    """The wrong bodies (docs/PLANTED.md) of which a text is nowhere, or more than once."""
     for edit in sorted(TOP.glob("crates/*/planted/*.edit")) + sorted(
         TOP.glob("crates/*/must-fail/*.edit")
     ):

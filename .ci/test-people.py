@@ -49,14 +49,14 @@ WORDS = {"installation": ["--record", "r"], "report": ["none"]} | {
     item: ["--bare", "8K"] for item in BUILDING
 }
 WORDS |= {name: ["o"] for name in ("img2vol", "vol2img", "printouts")}
-# of a file for the operator; a card that looks like one has blanks behind it
+# of a file for the operator; a card that looks like one has blanks after it
 HEADING = re.compile(b"^== P(?:RT|UN) [0-9]{4} [A-Z0-9]+\n", re.M)
 
 passed = failed = 0
 
 
 def check(what: str, holds: object, *findings: object) -> None:
-    """Counts a test, and tells what is wrong where it does not hold."""
+    """Counts a test, and says what is wrong where it does not hold."""
     global passed, failed
     if holds:
         passed += 1
@@ -136,7 +136,7 @@ def play(crate: str, words: list[str]) -> None:
 
 def follow(crate: str, words: list[str]) -> tuple[int, bytes]:
     """Does part after part, each by a run of the script until then, and notes each in a file; gives the status at the end, and what
-    is told then. By PEOPLE_FOLLOW a program refuses to, or fails at the line that it names."""
+    is reported then. By PEOPLE_FOLLOW a program refuses to, or fails at the line that it names."""
     how = os.environ.get("PEOPLE_FOLLOW", "")
     if how == "never":
         return 2, b"usage: no such option\n"
@@ -738,7 +738,7 @@ def test_volumes(repository: str, work: str) -> None:
 
 
 def refuse_images(repository: str, work: str, image: object) -> None:
-    """What a volume cannot hold is told, and nothing is written."""
+    """What a volume cannot hold is reported, and nothing is written."""
     size = 13312
     second = 512 + size
 
@@ -944,7 +944,7 @@ def test_installation(repository: str, work: str) -> None:
 
 
 def test_pages(repository: str, work: str) -> None:
-    """What pages are told and may do, and how an installation is asked for them."""
+    """What pages are reported and may do, and how an installation is asked for them."""
     write(f"{work}/directory", "USER A PW 16K\n")
     words = {("--web", "8370"): "--web is ADDRESS:PORT, and not 8370", ("--web", "127.0.0.1:99999"): "--web is ADDRESS:PORT",
              ("--web", "./pages"): "--web is ADDRESS:PORT, and no path", ("--key", "k"): "--certificate and --key go together"}  # fmt: skip
@@ -969,7 +969,7 @@ def test_pages(repository: str, work: str) -> None:
 
 
 def compare_parts(program: str, one_machine: object) -> None:
-    """Each example of users is given to the program event by event, and as a whole: what it writes is the transcript, and behind
+    """Each example of users is given to the program event by event, and as a whole: what it writes is the transcript, and after
     each part the files that it closed, who has logged on or off, and that it was done."""
     examples = f"{TOP}/examples/users"
     for name in sorted(os.listdir(examples)):
@@ -1034,7 +1034,7 @@ def who_goes(findings: object) -> list:
 
 
 def who_is_notified(transcript: object) -> list:
-    """Who logs on and off by what is told to them, where no guest prints that."""
+    """Who logs on and off by what is reported to them, where no guest prints that."""
     words = {b"LOGON": b"ON", b"LOGOFF": b"OFF"}
     found = re.findall(rb"^(\S+): (LOGON|LOGOFF) OK$", transcript, re.M)
     return [b"%s %s\n" % (words[word], user) for user, word in found]
@@ -1109,7 +1109,7 @@ def follow_one_machine(program: str) -> None:
 
 
 def answer_each_part(words: list[str], folder: str) -> None:
-    """Each part is answered before the next is given: nothing is held back until more comes."""
+    """Each part is answered before the next is given: nothing is held back until more appears."""
     with subprocess.Popen(words, stdin=subprocess.PIPE, stdout=subprocess.PIPE) as run:
         late = threading.Timer(60, run.kill)
         late.start()
@@ -1135,7 +1135,7 @@ def answer_each_part(words: list[str], folder: str) -> None:
 
 
 def save_after_parts(what: str, user: Account) -> None:
-    """Images are saved where the end is asked for, as version 2, for the same people, also where no file can be made beside them,
+    """Images are saved where the end is asked for, as version 2, for the same people, also where no file can be made next to them,
     and through a link, which stays; where the input just ends they are not."""
     whole = (
         b"CKD%d"
@@ -1212,7 +1212,7 @@ def part_of(text: str) -> object:
 
 
 def events_of(script: str) -> Iterator:
-    """The events of a script, each with the cards behind it, and the lines between."""
+    """The events of a script, each with the cards after it, and the lines between."""
     lines = script.splitlines(True)
     while lines:
         deck = re.fullmatch(rb"DECK \S+ ([0-9]+)\n", lines[0])

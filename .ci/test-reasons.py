@@ -107,7 +107,7 @@ def difference(run: object, folder: str) -> str | None:
         capture_output=True,
     )
     lines = done.stderr.decode(errors="replace").splitlines()
-    # a command that drives a program has it told by the program's own command
+    # a command that drives a program has it reported by the program's own command
     notifier = {"terminal": "vm370"}.get(run.words[0], run.words[0]) if run.fault else run.words[0]
     wanted = f"{notifier}: {run.reason}"
     is_right = (

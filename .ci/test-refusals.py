@@ -1,10 +1,10 @@
 #!/usr/bin/env python3
 """Tests what the built programs do where the host refuses them memory, fails a call of a file, or gives them a file that is cut.
-Each allocation and each call of a file is refused once; of the first 100 allocations and each seventh behind them also all that
+Each allocation and each call of a file is refused once; of the first 100 allocations and each seventh after them also all that
 follow. A program has to end as docs/FORMATS.md says: with its ordinary answer, or with the fault, its status, a beginning of its
 transcript, and images each of which is whole.
 
-It needs the programs that rt ci or the commands of bin/ built, and gcc on Linux with glibc; where one lacks, it says what and
+It needs the programs that rt ci or the commands of bin/ built, and gcc on Linux with glibc; where one is missing, it says what and
 fails. --programs FOLDER takes them from FOLDER/NAME/out/NAME. The last line is 'N passed, M failed'."""
 from __future__ import annotations
 
@@ -32,7 +32,7 @@ counts = {}
 
 
 def check(what: str, holds: object, *findings: object) -> None:
-    """Counts a test, and tells what is wrong where it does not hold."""
+    """Counts a test, and says what is wrong where it does not hold."""
     global passed, failed
     if holds:
         passed += 1
@@ -42,7 +42,7 @@ def check(what: str, holds: object, *findings: object) -> None:
 
 
 def count(what: str, number: int) -> None:
-    """Adds to what is told at the end."""
+    """Adds to what is reported at the end."""
     counts[what] = counts.get(what, 0) + number
 
 
@@ -138,7 +138,7 @@ def example(name: str) -> object:
 
 
 def session_after(comment: object, *more: object) -> object:
-    """The session of the table that stands behind this comment, with more volumes that nobody has."""
+    """The session of the table that is after this comment, with more volumes that nobody has."""
     blocks = read(f"{SESSIONS}/sessions.txt").decode().split("\n\n")
     [lines] = [block.split("\n") for block in blocks if f"# {comment}\n" in f"{block}\n"]
     of = lambda mark: [line[2:] for line in lines if line.startswith(f"{mark} ")]
@@ -171,7 +171,7 @@ def bare_example(name: str) -> object:
 
 
 def in_the_way(case: object) -> object:
-    """The case where a file stands in the way of the new images, so that the old ones are written over."""
+    """The case where a file is in the way of the new images, so that the old ones are written over."""
     case.name = "written over: " + case.name
     case.files |= {f"{item}.new": b"in the way" for item in case.ended}
     return case
@@ -203,7 +203,7 @@ def map_case() -> object:
 
 
 def cases() -> list:
-    """Those in which a disk is saved have two, so that one fails before or behind the other."""
+    """Those in which a disk is saved have two, so that one fails before or after the other."""
     spare = b"VOLUME SPARE 1\nREC 0 3 0000000001 - C1\n"
     return [
         example("supervisor-call"),
@@ -341,7 +341,7 @@ def judged(
 def refuse_each(
     host: object, pool: object, case: object, kind: str, numbers: object, verdict: object
 ) -> int:
-    """Runs a case once for each number and tells the first ends that are wrong; how many of the ends were ordinary."""
+    """Runs a case once for each number and says the first ends that are wrong; how many of the ends were ordinary."""
     runs = list(pool.map(lambda item: host.run(case, f"{kind}:{item[0]}:{item[1]}"), numbers))
     wrong = [(at, ended, why) for at, ended in zip(numbers, runs) if (why := verdict(at, ended))]
     for at, ended, why in wrong[:3]:
@@ -359,7 +359,7 @@ def once(total: object) -> list:
 
 
 def onwards(total: object) -> list:
-    """Each call with all that follow it: of the first hundred, and of each seventh behind them."""
+    """Each call with all that follow it: of the first hundred, and of each seventh after them."""
     return [(n, 10**9) for n in range(1, total + 1) if n <= 100 or n % 7 == 0]
 
 
@@ -397,7 +397,7 @@ def refuse_memory(host: object, pool: object, case: object, allocations: object)
 
 def fail_files(host: object, pool: object, case: object, letters: object) -> None:
     """Each call of a file once, which the letters tell; and each read and write moves less than it was asked for."""
-    # a failed read, write, sync or rename is told; of the other calls a program may do without one
+    # a failed read, write, sync or rename is reported; of the other calls a program may do without one
     needed = lambda at: letters[at[0] - 1] in "rwsn"
     files = lambda at, ended: judged(case, ended, FILE, 3, not needed(at))
     ordinary = refuse_each(host, pool, case, "file", once(len(letters)), files)

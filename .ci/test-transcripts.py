@@ -6,8 +6,8 @@ given the same events.
     .ci/test-transcripts.py [--built] [--programs FOLDER] [--jobs N] [--first N] [PART]..
 
 Without a part all are played; --parts names them. Programs are those of the first compiler, of bin/ or of a gate, as
-FOLDER/NAME/out/NAME, where FOLDER is crates if it is not told. With --built, as the gate calls it, those of both compilers have
-to be there, and each plays all parts. A session that is otherwise is told by its place in its table, with the first line that
+FOLDER/NAME/out/NAME, where FOLDER is crates if it is not reported. With --built, as the gate calls it, those of both compilers have
+to be there, and each plays all parts. A session that is otherwise is reported by its place in its table, with the first line that
 differs. The last line is 'N passed, M failed'."""
 from __future__ import annotations
 
@@ -148,7 +148,7 @@ def stated(name: str) -> object:
 
 
 def between(cylinders: int, tracks: list[Track]) -> object:
-    """A volume with a disk behind a cylinder of a neighbour, and before one."""
+    """A volume with a disk after a cylinder of a neighbour, and before one."""
     volume = Volume("TEST01", cylinders + 2).write(1, tracks)
     for head in range(HEADS):
         for own in range(cylinders):
@@ -162,7 +162,7 @@ def between(cylinders: int, tracks: list[Track]) -> object:
 
 
 class Session:
-    """A script with what comes of it: a transcript, and volumes at the end; on so many frames and slots."""
+    """A script with the effect of it: a transcript, and volumes at the end; on so many frames and slots."""
 
     number = 1
 
@@ -179,7 +179,7 @@ class Session:
         self.user = user if directory else "BARE"
         self.volumes = [volume.image() for volume in volumes]
         self.ended, self.script, self.findings = self.volumes, [], []
-        # what stands in standard error, with which it ends with status 1
+        # what is in standard error, with which it ends with status 1
         self.errors = []
 
     def line(self, text: str, *findings: object, user: Account = None) -> None:
@@ -208,7 +208,7 @@ class Session:
         self.run(user=user)
 
     def channel_program(self, caw: object, device: str, user: Account = None) -> None:
-        """SIO at 100, the serve, and TIO behind it."""
+        """SIO at 100, the serve, and TIO after it."""
         self.store(0x48, caw, user)
         self.start(user=user)
         self.serve(device, user)
@@ -288,7 +288,7 @@ class Player:
             return done.returncode, done.stdout.decode("latin-1")
 
     def map(self, session: object, size: object, room: int) -> str:
-        """The map of the frames behind a session."""
+        """The map of the frames after a session."""
         words, _ = self.words(session, size, room)
         words = [self.path("frame_map"), *(word for word in words[1:] if word != "--save")]
         return subprocess.run(
@@ -362,7 +362,7 @@ def runs_of(items: object) -> list:
 
 
 def sessions(table: object) -> Iterator:
-    """Scripts by hand, whose notation the head of sessions.txt tells."""
+    """Scripts by hand, whose notation the head of sessions.txt says."""
     number = 0
     for block in read(f"{TABLES}/{table}.txt").split("\n\n"):
         place, number = f"{table}.txt:{number + 1}", number + block.count("\n") + 2
@@ -590,7 +590,7 @@ def load(session: object, device: str, is_loaded: object, after: object) -> None
 
 
 def unit_record() -> Iterator:
-    """units.txt and moved.txt: programs of a reader, a punch and a printer, of a user beside a neighbour who pages, and of a bare
+    """units.txt and moved.txt: programs of a reader, a punch and a printer, of a user next to a neighbour who pages, and of a bare
     machine."""
     for place, line in itertools.chain(lines_of("units.txt"), lines_of("moved.txt")):
         fields = line.split(" ")
@@ -1006,7 +1006,7 @@ STORAGE, EACH = 0x8000, 10
 
 
 class Plan:
-    """Where a program stands, for which device, and whether it reads over its own words."""
+    """Where a program is, for which device, and whether it reads over its own words."""
 
     def __init__(self, sequence: object, is_changing: object) -> None:
         self.next, self.is_changing = sequence, is_changing
@@ -1036,7 +1036,7 @@ class Plan:
         return self.next.of(places + 4 * places[-1:] + (own if self.is_changing else []))()
 
     def change(self, index: object) -> object:
-        """A word that reads over words behind it, or over what a seek or a list has there."""
+        """A word that reads over words after it, or over what a seek or a list has there."""
         code = {"009": [0x0A], "190": [0x06, 0x06, 0x0E, 0x1E]}.get(self.unit, [0x02])
         ahead = self.base + 8 * (index + 1 + self.next.below(3)) + self.next.of([0, 0, 0, 4, 4, 2])
         address = self.next.of(6 * [ahead] + [0x700 + self.next.below(0x40), self.list])
@@ -1108,7 +1108,7 @@ class Plan:
         return word(code, self.address(), flags, count)
 
     def words(self, kind: str) -> str:
-        """The words of a program, a random one before it and two behind."""
+        """The words of a program, a random one before it and two after."""
         below = self.next.below
         if kind == "random":
             codes = lambda: self.next.of([below(256), *UNITS[self.unit]])
@@ -1137,7 +1137,7 @@ class Plan:
         return "".join([self.next.digits(8), *some, self.next.digits(16)])
 
     def card(self) -> str:
-        """A card with words of a program; where it is loaded, the second reads over those behind it."""
+        """A card with words of a program; where it is loaded, the second reads over those after it."""
         return "".join(
             self.change(number) if self.base == 0 and number == 1 else self.command(number)
             for number in range(10)
@@ -1256,7 +1256,7 @@ class Twins:
         self.look(plan.unit, self.next.below(8))
 
     def start(self, device: str, caw: object, mask: str = "00") -> None:
-        """TIO, SIO, TIO, and a branch to itself, behind the code that sets the keys."""
+        """TIO, SIO, TIO, and a branch to itself, after the code that sets the keys."""
         self.store(0x220, f"9D000{device}9C000{device}9D000{device}47F0022C")
         self.store(0x40, f"{0:016}{caw}{0:08}")
         self.type(
@@ -1416,7 +1416,7 @@ class ByHand(Twins):
         self.event("RUN", "GUEST", "1")
 
     def nearest(self, code: int) -> object:
-        """The command that comes nearest to one that the device of the cases knows."""
+        """The command that appears nearest to one that the device of the cases knows."""
         low = int(code, 16) % 16
         takes = (
             {"00D": "01", "009": "09"}

@@ -34,14 +34,14 @@ def bodies_of(path: str) -> list:
 
 
 def dependencies() -> dict:
-    """Of each crate those on which it stands, as crates.txt says; what it does not list is the kit's."""
+    """Of each crate those on which it is, as crates.txt says; what it does not list is the kit's."""
     with open(f"{TOP}/crates.txt", encoding="utf-8") as file:
         lines = [line.partition(":") for line in file if line.strip() and not line.startswith("#")]
     return {name.strip(): rest.split() for name, _, rest in lines}
 
 
 def below(crate: str, known: object) -> object:
-    """All crates of the repository below one, each after those on which it stands."""
+    """All crates of the repository below one, each after those on which it is."""
     found = []
     for dep in (item for item in known[crate] if item in known):
         found += [item for item in [*below(dep, known), dep] if item not in found]
@@ -176,7 +176,7 @@ def main() -> int:
     parser.add_argument("--list", default=LIST)
     parser.add_argument("crates", nargs="*", metavar="CRATE")
     words = parser.parse_args()
-    # the page to read first stands in the kit's folder
+    # the page to read first is in the kit's folder
     kit = os.path.dirname(
         subprocess.run(["rt", "doc"], check=True, capture_output=True, text=True).stdout.strip()
     )

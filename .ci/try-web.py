@@ -69,7 +69,7 @@ passed = failed = 0
 
 
 def check(what: str, holds: object, *findings: object) -> None:
-    """Counts a test, and tells what is wrong where it does not hold."""
+    """Counts a test, and says what is wrong where it does not hold."""
     global passed, failed
     passed, failed = (passed + 1, failed) if holds else (passed, failed + 1)
     if not holds:
@@ -420,7 +420,7 @@ def send_cards(alice: object, bob: object) -> None:
 
 
 def drop_the_line(wire: object, alice: object, bob: object) -> None:
-    """ALICE's line is cut, and comes back; what BOB sent meanwhile is there once."""
+    """ALICE's line is cut, and appears back; what BOB sent meanwhile is there once."""
     wire.cut()
     alice.await_(
         "the page tells that the line is cut", lambda: "no connection" in alice.find("link").text
@@ -543,7 +543,7 @@ def part_encrypted(folder: str, options: object) -> None:
 
 
 class Page:
-    """A page as a program: what a browser would send, and what it is told."""
+    """A page as a program: what a browser would send, and what it is reported."""
 
     def __init__(self, port: object, tls: object = None, host: object = ADDRESS) -> None:
         self.port = port
@@ -598,7 +598,7 @@ class Page:
         while not any(findings["is"] == "on" for findings in self.findings):
             await self.receive()
             if any(findings["is"] == "refused" for findings in self.findings):
-                # of too many who are about to log on one goes, and comes again
+                # of too many who are about to log on one goes, and appears again
                 self.findings = []
                 await self.change(message)
         await self.next("on")

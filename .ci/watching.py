@@ -1,4 +1,4 @@
-"""Tests how a long run is watched at a terminal (bin/lib/gathjumli/watched.py), over programs that print what they are told."""
+"""Tests how a long run is watched at a terminal (bin/lib/gathjumli/watched.py), over programs that print what is reported to them."""
 from __future__ import annotations
 
 from collections.abc import Callable

@@ -1,7 +1,7 @@
 # How a program of the repository is built: proved, or without any proof where --unproved is given or GATHJUMLI_UNPROVED is 1. Sourced
 # by bin/lib/program.sh. What bin/install has put somewhere has its programs, and is never built.
 
-# the crates that a program stands on, lowest first and the program last
+# the crates that a program uses, lowest first and the program last
 crates_of() {
     awk -v wanted="$1" '
         { sub(/#.*/, "") }
@@ -144,8 +144,8 @@ state_of_program() {
 
 # --- with proofs ---
 
-# Proves each crate that the program stands on, side by side those that do not need each other, and then builds and runs the program
-# on what lies beside its sources. What is proved is kept: a build that was broken off goes on from there. Two builds at once wait for
+# Proves each crate that the program uses, side by side those that do not need each other, and then builds and runs the program
+# on what lies next to its sources. What is proved is kept: a build that was broken off goes on from there. Two builds at once wait for
 # each other, crate by crate; each has logs of its own.
 build() {
     need_kit
@@ -188,7 +188,7 @@ places() {
     echo "$most"
 }
 
-# proves each crate but the program's, once those below it are proved; the end of each comes through a pipe
+# proves each crate but the program's, once those below it are proved; the end of each goes through a pipe
 prove_all() {
     mkfifo -- "$aside/ended"
     exec 3<> "$aside/ended"
@@ -226,7 +226,7 @@ ready() {
     ' "$root/crates.txt"
 }
 
-# begin CRATE: it is proved beside the others, in a group of its own that stop_build can end. Whoever else works in its folder is
+# begin CRATE: it is proved next to the others, in a group of its own that stop_build can end. Whoever else works in its folder is
 # waited for.
 begin() {
     number=$((number + 1))
@@ -355,7 +355,7 @@ print_prospects() {
     done
 }
 
-# tells a step, here and to other builds: how long it has taken, and how long the rest takes if it goes on so
+# says a step, here and to other builds: how long it has taken, and how long the rest takes if it goes on so
 print_progress() {
     gone=$(minutes_gone)
     told=$1
@@ -377,7 +377,7 @@ minutes_left_text() {
     [ "$lines_done" -eq 0 ] || echo "; by what is proved so far about $(((lines - lines_done) * gone / lines_done + 1)) are left"
 }
 
-# builds the program of the current folder, by a run on the words that lie beside its sources; files that they name are in data
+# builds the program of the current folder, by a run on the words that lie next to its sources; files that they name are in data
 run_once() {
     set --
     if [ -f args ]; then
@@ -391,7 +391,7 @@ run_once() {
 
 # --- without proof ---
 
-# Where the program is that is compiled of the sources as they are, which stops at what a proof would exclude: nothing is proved. It
+# If the program is that is compiled of the sources as they are, which stops at what a proof would exclude: nothing is proved. It
 # lies in a folder of its own, under a name that has the numbers of its sources and of the kit, and has no mark: no command takes it
 # for a proved one. Without a kit it is that of these sources.
 find_compiled() {

@@ -3,7 +3,7 @@
 #     . "$(dirname -- "$(readlink -f -- "$0")")/lib/common.sh"
 #
 # so that it is found through symbolic links and whatever CDPATH says. Nothing here changes the current folder.
-# docs/COMMAND_LINE.md tells the statuses; bin/lib/program.sh has what the commands share that build and run a program.
+# docs/COMMAND_LINE.md says the statuses; bin/lib/program.sh has what the commands share that build and run a program.
 
 # the repository, or the folder of an installation by bin/install, which is laid out alike
 root=$(dirname -- "$(dirname -- "$(readlink -f -- "$0")")")
@@ -105,7 +105,7 @@ set_option() {
     eval "option_$1=\$2"
 }
 
-# need_paths NAME..: whether so many words are there beside the options; a last NAME [..] may be any number of them
+# need_paths NAME..: whether so many words are there next to the options; a last NAME [..] may be any number of them
 need_paths() {
     wanted=0
     for path_name in "$@"; do

@@ -1,4 +1,4 @@
-# What bin/install and bin/package share: which files an installation has, and where. Sourced behind bin/lib/building.sh.
+# What bin/install and bin/package share: which files an installation has, and where. Sourced after bin/lib/building.sh.
 
 # the status for a file that cannot be written
 file_failed=3

@@ -1,5 +1,5 @@
-# What the commands share that run a program of the repository: the judging of their words and files, the run, and what is told of a
-# fault. Sourced behind bin/lib/common.sh.
+# What the commands share that run a program of the repository: the judging of their words and files, the run, and what is reported of a
+# fault. Sourced after bin/lib/common.sh.
 
 # shellcheck source=bin/lib/building.sh
 . "$root/bin/lib/building.sh"
@@ -128,7 +128,7 @@ END_OF_STATUSES
 
 # --- running ---
 
-# Runs the program on these words but --unproved, with standard input for a path -, and ends as it does. Where it names a line of a text that is refused, that line is
+# Runs the program on these words but --unproved, with standard input for a path -, and ends as it does. If it names a line of a text that is refused, that line is
 # shown: of the file in $script, $directory or $text. A signal ends the program too. If $watches is set, somebody at a terminal sees how many events are done.
 run_program() {
     is_option=true
@@ -140,7 +140,7 @@ run_program() {
     done
     errors=$(mktemp 2> /dev/null) || exec "$program" "$@"
     trap 'rm -f -- "$errors"' EXIT
-    # what runs beside a shell has no standard input, unless it is given it
+    # what runs next to a shell has no standard input, unless it is given it
     exec 4<&0
     running=
     trap 'stop_program 129' HUP

@@ -5,7 +5,7 @@
     asm370.py begin USER SOURCE      the same after a LOGON, and one that starts it where END says
     asm370.py deck SOURCE            cards for initial program loading
     asm370.py volume NAME SOURCE     the text of a volume for initial program loading
-    asm370.py listing SOURCE         addresses and bytes beside the statements, and all names
+    asm370.py listing SOURCE         addresses and bytes next to the statements, and all names
 
 A source goes through three rooms. Expander makes statements of its lines: macros, conditional assembly and COPY end here.
 Assembler goes over the statements until each name keeps its address, and then makes bytes of them. A form prints the bytes.
@@ -272,7 +272,7 @@ def goes_on(text: str) -> bool:
 
 
 def sequence_symbols(lines: list) -> object:
-    """Where each line stands that has a name with a point before it, but for those of macros that are stated here."""
+    """Where each line is that has a name with a point before it, but for those of macros that are stated here."""
     places, depth = {}, 0
     for at, line in enumerate(lines):
         if is_comment(line):
@@ -742,7 +742,7 @@ LENGTHS = {0: 2, 1: 4, 2: 4, 3: 6}
 
 # --- constants ---
 
-# of each type the length where none is given (0: that of the value), and the alignment
+# of each type the length by default (0: that of the value), and the alignment
 TYPES = {
     "C": (0, 1), "X": (0, 1), "B": (0, 1), "P": (0, 1), "Z": (0, 1), "H": (2, 2), "Y": (2, 2), "S": (2, 2), "F": (4, 4),
     "A": (4, 4), "D": (8, 8),
@@ -1090,7 +1090,7 @@ class Assembler:
         return f"the address {place} needs a base: no USING reaches it, and it lies past FFF"
 
     def place(self, reader: int) -> tuple:
-        """An address as it is written: its value, its length, and what stands in parentheses behind it."""
+        """An address as it is written: its value, its length, and what is in parentheses after it."""
         if reader.is_done():
             raise Fault(f"{self.statement.operation} lacks an operand here", reader.at)
         value, length = self.literal(reader) if reader.peek() == "=" else self.expression(reader)
@@ -1424,7 +1424,7 @@ class Assembler:
     # literals
 
     def literal(self, reader: int) -> object:
-        """The place of a literal, which stands behind the next LTORG or at the end."""
+        """The place of a literal, which is after the next LTORG or at the end."""
         start = reader.at
         reader.need("=")
         constant = self.constant(reader, False)
@@ -1600,7 +1600,7 @@ class Assembler:
     instruction_length = None
 
 
-# --- what comes out ---
+# --- what appears out ---
 
 
 def assembled(path: str) -> object:
@@ -1645,7 +1645,7 @@ def print_script(program: str, user: str, has_begin: object) -> None:
         print(f"LINE {user} BEGIN {entry_of(program):06X}")
 
 
-# the loader of a deck: where it stands unless the program has that place, and how many bytes it and its card take
+# the loader of a deck: where it is unless the program has that place, and how many bytes it and its card take
 LOADER, LOADER_SIZE = 0x80, 0xE0
 
 

@@ -59,7 +59,7 @@ CHANNELS = {
 }
 
 
-# the crates whose parts of a serve are told
+# the crates whose parts of a serve are reported
 PARTS = ["cp_core", "cp_needs", "cp_ccw", "cp_volumes", "s370_channel", "ckd_volume", "unit_record"]
 
 
@@ -145,7 +145,7 @@ class Bench:
         return {line[2]: int(line[1].replace(",", "")) for line in lines if line}
 
     def each(self, first: int, ready: object, again: object, count: int, *more: object) -> object:
-        """Microseconds of what is done again, by three times as much of it; never none, so that a rate can be told."""
+        """Microseconds of what is done again, by three times as much of it; never none, so that a rate can be reported."""
         less, most = (self.seconds(first, ready + again * (count * item), *more) for item in (1, 3))
         return max((most - less) / (2 * count) * 1e6, 1e-6)
 
@@ -362,7 +362,7 @@ def measure_deck(bench: object, cards: list) -> None:
 
 
 def measure_files(bench: object, others: object) -> None:
-    """What a user's own commands and reads take beside so many files of others."""
+    """What a user's own commands and reads take next to so many files of others."""
     users, own, times = [f"U{number}" for number in range(64)], 10, 200
     # each card is the line after its own
     decks = [f"DECK {users[1 + number % 63]} 1\nA" for number in range(others)] + [

@@ -69,7 +69,7 @@ def status_text(word: str) -> str:
 
 def chained(start: int, word_at: object) -> list:
     """The places of a program's words and the words, in the order in which chaining and transfers lead to them; of a transfer
-    back what a status modifier leads to behind it. word_at gives a word, or None where there is none.
+    back what a status modifier leads to after it. word_at gives a word, or None where there is none.
     """
     found = {}
     place, before = start, None

@@ -65,7 +65,7 @@ class Checkpoint:
             shutil.rmtree(path, ignore_errors=True)
 
     def make_room(self) -> None:
-        """What the program saves from now on comes into the folder, and not to the volumes themselves."""
+        """What the program saves from now on goes into the folder, and not to the volumes themselves."""
         for path in self.paths():
             os.unlink(path)
             with open(path, "xb"):
@@ -77,7 +77,7 @@ class Checkpoint:
         )
 
     def saved_mark(self) -> object:
-        """The line of the recording that tells that all is saved, once it is on the disk: in which folder, and the sums."""
+        """The line of the recording that says that all is saved, once it is on the disk: in which folder, and the sums."""
         for path in self.paths():
             sync_file(path)
         sync_folder(os.path.join(self.folder, DIRECTORY))
@@ -109,7 +109,7 @@ class Checkpoint:
         self, path: str, volume: object, known: object, name: str, aside: object, notify: Callable
     ) -> None:
         """Puts a saved image in the place of a volume whose sum is still as it is known, and keeps the old one aside. A volume
-        that somebody else has changed stays as it is: the image comes next to it."""
+        that somebody else has changed stays as it is: the image follows to it."""
         now = sum_of_file(volume) if os.path.exists(volume) else ""
         if now == known:
             keep(volume, aside)
@@ -123,7 +123,7 @@ class Checkpoint:
         )
 
     def find(self, mark: object) -> None:
-        """Finds the images that were saved, as the recording tells."""
+        """Finds the images that were saved, as the recording says."""
         words = (
             mark.removeprefix(SAVED)
             .decode(errors="surrogateescape")
@@ -158,7 +158,7 @@ def put(path: str, volume: object) -> None:
 
 
 def copy_whole(path: str, to: object, owned: object = None) -> None:
-    """A copy that is there whole or not at all, also after the host has crashed; whose it is, is told by a file's state."""
+    """A copy that is there whole or not at all, also after the host has crashed; whose it is, is reported by a file's state."""
     copied = f"{to}.new-{os.getpid()}"
     try:
         shutil.copyfile(path, copied)

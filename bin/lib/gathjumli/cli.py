@@ -31,7 +31,7 @@ BUILDS = """ 70   the program was not built; standard error has the log
 
 
 class Failure(Exception):
-    """An end with a status, and what standard error tells."""
+    """An end with a status, and what standard error says."""
 
     def __init__(self, status: object, *lines: object) -> None:
         super().__init__(*lines)
@@ -66,7 +66,7 @@ def version() -> str:
 
 
 def ask_build(word: str, crate: str) -> object:
-    """What bin/lib/built tells of the program of a crate."""
+    """What bin/lib/built says of the program of a crate."""
     done = subprocess.run(
         [os.path.join(ROOT, "bin", "lib", "built"), name(), word, crate],
         stdin=subprocess.DEVNULL,

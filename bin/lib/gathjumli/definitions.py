@@ -38,7 +38,7 @@ def imports(text: str) -> tuple:
 
 
 class Definition:
-    """A definition, with the comment above it; `within` is the line of the module with parameters in which it stands."""
+    """A definition, with the comment above it; `within` is the line of the module with parameters in which it is."""
 
     def __init__(self, place: object, name: str, text: str, within: object = None) -> None:
         self.place, self.name, self.text, self.within = place, name, text, within
@@ -57,7 +57,7 @@ class Module:
         self._take(text.split("\n"), 0, None)
 
     def _take(self, lines: list, indent: object, within: object) -> None:
-        """Cuts lines into definitions: each begins at a line of this indent that no other of its name comes before."""
+        """Cuts lines into definitions: each begins at a line of this indent that no other of its name appears before."""
         comment, current, at = [], None, 0
         while at < len(lines):
             line = lines[at]
@@ -176,7 +176,7 @@ class House:
         return types
 
     def type_in(self, crate: str, name: str) -> object:
-        """The declaration of a type of a crate, wherever it stands there."""
+        """The declaration of a type of a crate, wherever it is there."""
         key = (crate, "type", name)
         if key not in self.read:
             self.read[key] = None
@@ -213,7 +213,7 @@ class House:
         return found
 
     def cited(self, tops: object) -> object:
-        """All that these definitions stand on, a file of definitions or a type at a time, each behind those that it names; those of a
+        """All that these definitions stand on, a file of definitions or a type at a time, each after those that it names; those of a
         file stand as they stand there."""
         below, units, waiting = {}, {}, list(tops)
         while waiting:

@@ -121,7 +121,7 @@ class Program:
         answers = Answers()
         with self.process.stdout as output:
             while data := os.read(output.fileno(), CHUNK):
-                # behind the end of the session come all its files once more
+                # after the end of the session come all its files once more
                 for answer in () if self.is_ending else answers.feed(data):
                     self.answers.put(answer)
         self.answers.put(None)
@@ -140,7 +140,7 @@ class Program:
             pass
 
     def do(self, part: bytes) -> object:
-        """What comes of a part. Where it is refused, nothing has happened."""
+        """What appears of a part. If it is refused, nothing has happened."""
         self.send(part)
         while self.awaited > 1:
             self.answer()
@@ -157,7 +157,7 @@ class Program:
         return answer
 
     def finish(self) -> None:
-        """Ends the session, which saves volumes if the program was told to."""
+        """Ends the session, which saves volumes if the program was reported to."""
         self.is_ending = True
         self.write(b"END\n")
         if self.process.wait():

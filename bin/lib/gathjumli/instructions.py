@@ -2,7 +2,7 @@
 from __future__ import annotations
 
 
-# operands of a form: what stands where in the bytes
+# operands of a form: what is where in the bytes
 RR = "{r1},{r2}"
 R1 = "{r1}"
 SVC = "{i}"

@@ -57,7 +57,7 @@ class Outlet:
 
 
 class Journal:
-    """Tells all outlets what happens: standard output, the operators, and a file with dates where one is asked for."""
+    """Says all outlets what happens: standard output, the operators, and a file with dates where one is asked for."""
 
     def __init__(self, path: str = None) -> None:
         self.outlets = [Outlet(1)]

@@ -145,7 +145,7 @@ KINDS = {
     "STCTL": ("B60060C0", 1),
     "SVC and LPSW": ("0A00", 2),
 }
-# Drawn programs: how often each kind stands among so many.
+# Drawn programs: how often each kind is among so many.
 COMPILED = {
     "L": 16,
     "ST": 9,
@@ -269,7 +269,7 @@ class Loop:
 
 
 def copies_of(kind: str) -> object:
-    """What stands in the loop of a kind, kind by kind."""
+    """What is in the loop of a kind, kind by kind."""
     if kind in KINDS:
         return [kind] * COPIES
     weights, seed = DRAWN[kind]

@@ -1,4 +1,4 @@
-"""What a recording tells of each user: his console, his cards, his files, and what his machine did at which moment."""
+"""What a recording says of each user: his console, his cards, his files, and what his machine did at which moment."""
 from __future__ import annotations
 
 import collections
@@ -87,7 +87,7 @@ class Life:
 
 
 class Story:
-    """What a recording tells, entry by entry."""
+    """What a recording says, entry by entry."""
 
     def __init__(self, users: list) -> None:
         self.lives = {user: Life() for user in users}
@@ -111,7 +111,7 @@ class Story:
                 self.read_event(event, typed)
 
     def read_comment(self, words: list[str]) -> None:
-        """Notes who comes to a terminal, and who leaves it."""
+        """Notes who reaches a terminal, and who leaves it."""
         if words[1:2] == ["CONNECTED"] and len(words) == 4 and words[2] in self.lives:
             self.lives[words[2]].connect(self.when, words[3])
         elif words[1:2] == ["DISCONNECTED"] and words[2:] and words[2] in self.lives:

@@ -45,7 +45,7 @@ CLOSED = b"LOGON IS CLOSED\r\n"
 
 
 class Connection:
-    """Somebody who comes from an address; the number of its place, while the desk has one for it."""
+    """Somebody who appears from an address; the number of its place, while the desk has one for it."""
 
     def __init__(self, address: int) -> None:
         self.address = address
@@ -112,7 +112,7 @@ class Terminal:
         return self.connection is not None
 
     def keep(self, text: str, minute: str) -> None:
-        """Keeps a line for when he comes back."""
+        """Keeps a line for when he appears back."""
         self.desk.notify_soon("KEEP", self.number, encoded(minute), encoded(text))
 
     def show(self, text: str) -> None:
@@ -194,12 +194,12 @@ class LogonServer:
     # --- the lines that pass (crates/logon_desk_cli/src: frame.rt, printing.rt) ---
 
     def ask(self, word: str, *words: object) -> None:
-        """Tells the desk what has happened, and does what it says then."""
+        """Says the desk what has happened, and does what it says then."""
         self.pending.append(self.line(word, *words))
         self.flush()
 
     def notify_soon(self, word: str, *words: object) -> None:
-        """Gives the desk something with what comes next, at the end of this turn at the latest."""
+        """Gives the desk something with what follows, at the end of this turn at the latest."""
         self.pending.append(self.line(word, *words))
         if len(self.pending) == MOST_PENDING:
             self.flush()
@@ -215,7 +215,7 @@ class LogonServer:
         )
 
     def flush(self) -> None:
-        """Tells the desk what waits for that, and does what it says to each line."""
+        """Says the desk what waits for that, and does what it says to each line."""
         pending, self.pending = self.pending, []
         try:
             self.program.stdin.write("".join(pending).encode())
@@ -312,7 +312,7 @@ class LogonServer:
         self.ask("SAYS", connection.place, int(is_right), name, password)
 
     async def work(self) -> None:
-        """Tells the desk the time while somebody waits for it; fails where the desk does."""
+        """Says the desk the time while somebody waits for it; fails where the desk does."""
         while not self.has_failed.is_set():
             if not self.strangers:
                 self.is_asked.clear()
@@ -374,7 +374,7 @@ class LogonServer:
             self.serving.discard(asyncio.current_task())
 
     async def shut(self) -> None:
-        """Tells all connections that it ends, and closes them."""
+        """Says all connections that it ends, and closes them."""
         for connection in list(self.places.values()):
             connection.send(GOES_DOWN)
             connection.close()

@@ -53,7 +53,7 @@ class Machines:
         self.folder.cleanup()
 
     def words(self, script: str) -> list:
-        """The words behind the program's name, for a script that is written for them."""
+        """The words after the program's name, for a script that is written for them."""
         path = os.path.join(self.folder.name, "script")
         with open(path, "wb") as file:
             file.write(script)
@@ -80,7 +80,7 @@ class Machines:
         return self.path
 
     def made_of(self) -> str:
-        """What tells one version of the program from another: the sum of its sources, and the version of Gathjumli."""
+        """What says one version of the program from another: the sum of its sources, and the version of Gathjumli."""
         return f"{ask_build('tell', self.crate()).split()[1]} {version()}"
 
     def build(self) -> None:
@@ -118,7 +118,7 @@ class Machines:
 
 
 def failure(status: object, findings: object) -> object:
-    """The failure that a program's end with this status is, and what it told."""
+    """The failure that a program's end with this status is, and what it reported."""
     if status < 0:
         return Failure(FILE_FAILED, f"the program was ended by signal {-status}")
     return Failure(status, *(item for item in findings if item))
@@ -150,7 +150,7 @@ def statements(directory: str) -> Iterator:
 
 
 def stated(directory: str) -> tuple:
-    """The users of a directory with their pages, and what is at each of their addresses; what is wrong the program tells."""
+    """The users of a directory with their pages, and what is at each of their addresses; what is wrong the program says."""
     users, devices = {}, {}
     for words in statements(directory):
         if words[0] == "USER" and len(words) == 4:
@@ -198,7 +198,7 @@ def use_unproved(found: object) -> None:
 
 
 def read_machines(words: list[str], options: object, paths_after: object) -> tuple:
-    """The machines that the words name, the other options and the paths that stand behind the first one."""
+    """The machines that the words name, the other options and the paths that stand after the first one."""
     found, paths = read_arguments(
         words, {"--bare": None} | UNPROVED_OPTION | SIZE_OPTIONS | options, 1 + paths_after, 1000
     )
@@ -219,7 +219,7 @@ def read_machines(words: list[str], options: object, paths_after: object) -> tup
 
 
 def room_for_all(machines: object) -> None:
-    """Frames and slots in which every page of every user has room, so that no event is ever told that none is free."""
+    """Frames and slots in which every page of every user has room, so that no event is ever reported that none is free."""
     pages = sum(machines.users.values())
     frames = min(4096, max(16, pages))
     machines.before = [
@@ -232,7 +232,7 @@ def room_for_all(machines: object) -> None:
 
 
 def choose_user(machines: object, name: str) -> object:
-    """The user of this name, or the first where none is given."""
+    """The user of this name, or the first by default."""
     if name is None:
         return next(iter(machines.users))
     if name not in machines.users:
@@ -250,7 +250,7 @@ def parts(transcript: object) -> tuple:
 
 
 def headings_of(files: list) -> list:
-    """The headings of the files for the operator. A card that looks like one has blanks behind it."""
+    """The headings of the files for the operator. A card that looks like one has blanks after it."""
     return [file for file in files if re.fullmatch("== (PRT|PUN) [0-9]{4,} [A-Z0-9]+", file)]
 
 

@@ -49,7 +49,7 @@ class Operator:
         self.notify = installation.notify
         self.mapping = None
         self.ending = []
-        # where the time of the end is written down, so that the next start knows it
+        # if the time of the end is written down, so that the next start knows it
         self.ending_path = f"{installation.options['record']}.end-at"
         self.commands = {"status": self.status, "users": self.users, "spool": self.spool, "message": self.message,
                          "logmsg": self.set_log_message, "logon": self.set_logon, "force": self.force, "suspend": self.suspend, "end": self.end,
@@ -61,7 +61,7 @@ class Operator:
             loop.call_soon_threadsafe(self.do, line.strip(), self.notify)
 
     def do(self, line: bytes, reply: object, end: object = lambda how: None) -> None:
-        """Does a command. How it ended is told when its answer is whole."""
+        """Does a command. How it ended is reported when its answer is whole."""
         word, _, rest = line.partition(" ")
         if not word:
             return

@@ -68,7 +68,7 @@ def write_pages(path: str, heading: object, body: object) -> object:
 
 
 def serve() -> None:
-    # whoever types comes first
+    # whoever types appears first
     os.nice(10)
     while line := sys.stdin.buffer.readline():
         path, heading, size = json.loads(line)

@@ -8,7 +8,7 @@ from gathjumli.cli import Failure, REFUSED
 HEADING = re.compile("== (PRT|PUN) ([0-9]+) ([A-Z][A-Z0-9]{0,7})")
 CARD = 80
 PAGE_LENGTH = 66
-# how far the paper moves behind what is printed: lines, or the next page
+# how far the paper moves after what is printed: lines, or the next page
 SPACES = {0x01: 0, 0x09: 1, 0x11: 2, 0x19: 3, 0x0B: 1, 0x13: 2, 0x1B: 3}
 SKIPS = {0x89, 0x8B}
 
@@ -31,7 +31,7 @@ class Paper:
             self.pages.append({})
 
     def skip(self) -> None:
-        """To the first line of the next page; paper that stands there and is blank stays."""
+        """To the first line of the next page; paper that is there and is blank stays."""
         if self.line or self.pages[-1]:
             self.pages.append({})
             self.line = 0

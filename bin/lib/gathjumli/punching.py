@@ -5,7 +5,7 @@ from collections.abc import Iterator
 
 
 CARD = 80
-# where the machine punches from: a batch of cards, and behind it a command word a card
+# if the machine punches from: a batch of cards, and after it a command word a card
 CARDS_AT = 0x1000
 BATCH = 40
 COMMANDS_AT = CARDS_AT + BATCH * CARD

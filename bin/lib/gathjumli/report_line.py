@@ -1,4 +1,4 @@
-"""A page's connection to the desk: all that pages know of the desk is here. A page comes by the same door as a telnet: its connection is
+"""A page's connection to the desk: all that pages know of the desk is here. A page appears by the same door as a telnet: its connection is
 opened with an address, gives bytes that are typed, gets bytes that are shown, and is closed."""
 from __future__ import annotations
 
@@ -23,7 +23,7 @@ class NoSocket:
 
 
 class PageLine:
-    """A connection in the form of a stream's reader and writer: what is typed comes as bytes, and what is shown goes as lines."""
+    """A connection in the form of a stream's reader and writer: what is typed appears as bytes, and what is shown goes as lines."""
 
     def __init__(self, address: int, shown: object, unread: object) -> None:
         self.address = address

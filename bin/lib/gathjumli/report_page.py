@@ -1,4 +1,4 @@
-"""A page of what a recording tells, one file without outside parts."""
+"""A page of what a recording says, one file without outside parts."""
 from __future__ import annotations
 
 from collections.abc import Iterator

@@ -1,4 +1,4 @@
-"""The files for the operator: each comes into a folder once, whole, when its user closes it."""
+"""The files for the operator: each goes into a folder once, whole, when its user closes it."""
 from __future__ import annotations
 
 from collections.abc import Callable

@@ -14,7 +14,7 @@ from gathjumli.cli import Failure, REFUSED
 
 
 SLICE = 100
-# where an interruption stores the old PSW, and where its new PSW stands
+# if an interruption stores the old PSW, and where its new PSW is
 INTERRUPTIONS = {
     "external": (0x18, 0x58),
     "svc": (0x20, 0x60),
@@ -101,7 +101,7 @@ class Expansion:
         if self.ends[0][2] != "SERVED":
             self.run(self.ends[0][1], SLICE)
         # A device is served in the turn of the slice before it, or in a turn without a slice: where a turn with a slice
-        # serves none, no program stands in the line, and none is served in the next one.
+        # serves none, no program is in the line, and none is served in the next one.
         if self.ends and not self.is_cut and self.ends[0][2:3] == ["SERVED"]:
             self.serve()
 
@@ -158,7 +158,7 @@ class Machine:
                 self.trailing[place + 1] = ends.pop(0)
 
     def lines_after(self, place: object) -> object:
-        """How many lines the transcript has after so many steps; of a typed line a run of the script up to it tells."""
+        """How many lines the transcript has after so many steps; of a typed line a run of the script up to it says."""
         if place not in self.trailing:
             findings, _ = parts(
                 self.machines.run(b"".join(step.text for step in self.steps[:place]))
@@ -483,6 +483,6 @@ def interruption(
         ):
             continue
         found.append((stored == old_low[old - 0x10 : old - 8], kind, stored))
-    # one whose old PSW is new comes before one whose old PSW was there
+    # one whose old PSW is new appears before one whose old PSW was there
     found.sort(key=lambda item: (item[0], item[1] != "svc"))
     return found[0][1:] if found else (None, None)

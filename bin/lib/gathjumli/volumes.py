@@ -1,4 +1,4 @@
-"""Volumes: images as docs/FORMATS.md tells them ("Volume images"), and images that the emulator Hercules has (CKD_P370)."""
+"""Volumes: images as docs/FORMATS.md says them ("Volume images"), and images that the emulator Hercules has (CKD_P370)."""
 from __future__ import annotations
 
 from collections.abc import Iterator
@@ -153,7 +153,7 @@ def text_of(volume: object) -> Iterator:
 
 
 class Faults:
-    """What the one format cannot hold of the other, told by track."""
+    """What the one format cannot hold of the other, reported by track."""
 
     def __init__(self) -> None:
         self.lines = []
@@ -170,7 +170,7 @@ class Faults:
 
 
 def read_emulated(data: bytes, serial: str) -> object:
-    """The volume of an image CKD_P370; serial is its serial number, or None where its label tells."""
+    """The volume of an image CKD_P370; serial is its serial number, or None where its label says."""
     tracks = emulated_tracks(data)
     faults = Faults()
     kept = MODELS.get(len(tracks) // HEADS, len(tracks) // HEADS) * HEADS
@@ -245,7 +245,7 @@ def parsed_track(track: object, cylinder: int, head: int) -> object:
 
 
 def labelled(tracks: list[Track]) -> str | None:
-    """The serial number that the label of a volume tells, or None."""
+    """The serial number that the label of a volume says, or None."""
     for record in tracks[0].records:
         text = record.data[:10].decode("cp037")
         if record.id[4] == 3 and text.startswith("VOL1") and is_serial(text[4:].rstrip(" ")):

@@ -96,7 +96,7 @@ class OperatorPage:
             self.put({"is": "refused", "what": plain(kind)[:20], "why": str(reason)})
 
     def command(self, text: str, number: int) -> None:
-        """Has a command done; its answer comes in lines, and how it ended last."""
+        """Has a command done; its answer appears in lines, and how it ended last."""
         self.pages.operator.do(
             text,
             self.sender("answer", number),
@@ -173,7 +173,7 @@ class OperatorPages:
         }
 
     async def watch(self) -> None:
-        """Tells all pages how things are, each second."""
+        """Says all pages how things are, each second."""
         while True:
             await self.opened.wait()
             await asyncio.sleep(SECONDS_BETWEEN_STATES)

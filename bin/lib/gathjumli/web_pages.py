@@ -72,7 +72,7 @@ class Outbox:
 
 
 class Rate:
-    """How many messages of a page are obeyed: some at once, as when a deck comes, and then so many a second."""
+    """How many messages of a page are obeyed: some at once, as when a deck appears, and then so many a second."""
 
     def __init__(self) -> None:
         self.left = float(MESSAGES_AT_ONCE)
@@ -354,7 +354,7 @@ class Pages:
         self.all.pop(page.name, None)
 
     async def watch(self) -> None:
-        """Tells pages what has become of their machines, and gives up those to which no browser comes back."""
+        """Says pages what has become of their machines, and gives up those to which no browser appears back."""
         while True:
             if not self.all:
                 # nobody is there for whom to look
