@@ -1119,7 +1119,7 @@ class Plan:
                 for _ in range(8)
             ]
         else:
-            first, some = 0, []
+            some = []
             if self.unit == "190" and below(4):
                 seek, search = 0x700 + 8 * below(6), self.next.of([0x31, 0x31, 0xB1, 0x39, 0x71])
                 argument = (

@@ -4,7 +4,7 @@ from __future__ import annotations
 from collections.abc import Iterator
 import html
 
-from gathjumli.lives import STRETCHES
+
 from gathjumli.printout_lines import HEADING, PAGE_LENGTH, page_text
 
 

@@ -7,8 +7,8 @@ from collections.abc import Iterator
 import re
 from typing import NamedTuple
 
-from gathjumli.channels import chained, command_text, is_jump, status_text
-from gathjumli.instructions import INSTRUCTIONS, S, length, place_of, text_of, under_execute
+from gathjumli.channels import chained, command_text, status_text
+from gathjumli.instructions import length, place_of, text_of, under_execute
 from gathjumli.machines import parts
 from gathjumli.cli import Failure, REFUSED
 

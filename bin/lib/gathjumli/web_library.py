@@ -1,6 +1,7 @@
 """The library that carries pages, Debian's python3-websockets: where it is not there the system's Python may have it."""
 from __future__ import annotations
 
+import importlib
 import os
 import subprocess
 import sys
@@ -17,8 +18,7 @@ TRIAL = "import sys, websockets.legacy.server, websockets.version as found; sys.
 def need_library() -> None:
     """Goes on under the system's Python if this one has no such library; fails if neither has."""
     try:
-        import websockets.legacy.server  # noqa: F401
-
+        importlib.import_module("websockets.legacy.server")
         return
     except ImportError:
         pass
