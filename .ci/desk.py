@@ -1,7 +1,11 @@
-"""The logon desk once more, in Python: it stands in for the program where nothing is built, and .ci/test-people compares the two.
+"""The logon desk once more, in Python: it is in for the program where nothing is built, and .ci/test-people.py compares the two.
 
 It takes and gives the lines of crates/logon_desk_cli (frame.rt, printing.rt).
 """
+from __future__ import annotations
+
+from collections.abc import Callable, Iterator
+from typing import TextIO
 import random
 import subprocess
 import sys
@@ -28,11 +32,11 @@ WAITS = ((5000, 0), (15000, 250), (25000, 500), (35000, 1000), (45000, 2000))
 class Decoder:
     """The bytes of a terminal as lines."""
 
-    def __init__(self):
+    def __init__(self) -> None:
         self.line, self.expects, self.is_after_return = b"", "text", False
 
-    def take(self, byte):
-        """What comes of a byte: a line, bytes to be answered, or None."""
+    def take(self, byte: int) -> bool | tuple[str, bytes] | None:
+        """What appears of a byte: a line, bytes to be answered, or None."""
         if self.expects == "text":
             return self.take_text(byte)
         if self.expects == "command":
@@ -48,7 +52,7 @@ class Decoder:
             return ("answer", bytes([255, 254 if command == 251 else 252, byte]))
         return None
 
-    def take_text(self, byte):
+    def take_text(self, byte: int) -> tuple[str, bytes] | None:
         if byte == 255:
             self.expects = "command"
             return None
@@ -62,10 +66,10 @@ class Decoder:
         self.line = self.line[:-1] if byte in (8, 127) else self.added(byte)
         return None
 
-    def added(self, byte):
+    def added(self, byte: int) -> bytes:
         return (self.line + printable(bytes([byte])))[:LINE]
 
-    def take_command(self, byte):
+    def take_command(self, byte: int) -> object:
         self.expects = byte if 251 <= byte <= 254 else "parameter" if byte == 250 else "text"
         if byte == 255:
             self.is_after_return = False
@@ -79,15 +83,15 @@ class Decoder:
         return ("answer", NOTICES["is there"]) if byte == 246 else None
 
 
-def printable(text):
-    return bytes(it if 32 <= it < 127 else 32 for it in text)
+def printable(text: bytes) -> bytes:
+    return bytes(item if 32 <= item < 127 else 32 for item in text)
 
 
-def words_of(line):
-    return [it for it in line.split(b" ") if it]
+def words_of(line: bytes) -> list[bytes]:
+    return [part for part in line.split(b" ") if part]
 
 
-def meaning(line):
+def meaning(line: bytes) -> tuple:
     """What a line of somebody who is about to log on says."""
     words = words_of(line.upper())
     if len(words) == 1:
@@ -97,27 +101,27 @@ def meaning(line):
     return ("name", words[1]) if len(words) == 2 else ("both", words[1], words[2])
 
 
-def behind(line):
-    """What stands behind the first word of a line and a blank."""
+def trailing(line: bytes) -> bytes:
+    """What is after the first word of a line and a blank."""
     return line.lstrip(b" ").partition(b" ")[2]
 
 
-def script_line(line, is_running):
-    def begins(text, word):
+def script_line(line: bytes, is_running: bool) -> bytes:
+    def begins(text: bytes, word: bytes) -> bool:
         return text.lstrip(b" ").partition(b" ")[0].upper() == word
 
     asks = begins(line, b"#CP")
     if is_running and not asks:
         return line
-    command = behind(line) if asks else line
-    message = behind(behind(command)) if begins(command, b"MSG") else b""
+    command = trailing(line) if asks else line
+    message = trailing(trailing(command)) if begins(command, b"MSG") else b""
     return line[: len(line) - len(message)].upper() + message
 
 
 class Place:
     """A connection."""
 
-    def __init__(self, address, now):
+    def __init__(self, address: int, now: int) -> None:
         self.stage, self.decoder, self.waiting, self.address = ("naming",), Decoder(), b"", address
         self.deadline, self.left, self.due, self.tries = now + TIME_TO_LOG_ON, 0, 0, 0
 
@@ -125,21 +129,25 @@ class Place:
 class Account:
     """A user."""
 
-    def __init__(self, name):
+    def __init__(self, name: bytes) -> None:
         self.name, self.terminal, self.kept = name, None, []
         self.is_on = self.is_running = self.is_busy = False
 
 
-class Desk:
+class LogonServer:
     """The places, the users and the queues of guesses."""
 
-    def __init__(self, names, room):
-        self.accounts, self.places, self.until = [Account(it) for it in names], [None] * room, [0] * 1024
+    def __init__(self, names: list[bytes], room: int) -> None:
+        self.accounts, self.places, self.until = (
+            [Account(name) for name in names],
+            [None] * room,
+            [0] * 1024,
+        )
         self.out, self.reading = [], []
 
-    # --- what comes ---
+    # --- what appears ---
 
-    def apply(self, word, now, words):
+    def apply(self, word: str, now: int, words: list[str]) -> None:
         if word in ("OPEN", "CAME", "GONE", "SAYS"):
             getattr(self, word.lower())(int(words[0], 16), now, *words[1:])
         elif word != "TIME":
@@ -149,13 +157,13 @@ class Desk:
                 pass
             self.wake(number, now)
 
-    def open(self, number, now, address):
+    def open(self, number: int, now: int, address: str) -> None:
         if self.strangers() >= MOST_STRANGERS:
             self.gone(self.busiest(), now)
         self.places[number] = Place(int(address, 16), now)
         self.say(number, "online")
 
-    def came(self, number, _, data):
+    def came(self, number: int, _: int, data: str) -> None:
         data, place = read_bytes(data), self.places[number]
         if not place:
             return
@@ -165,16 +173,18 @@ class Desk:
         else:
             place.waiting += data
 
-    def gone(self, number, _):
+    def gone(self, number: int, _: int) -> None:
         user = self.user_at(number)
         if user and user.terminal == number:
             self.note(number, "LEFT", user)
         self.end(number)
 
-    def says(self, number, now, answer, name, password):
+    def says(self, number: int, now: int, answer: str, name: str, password: str) -> None:
         place = self.places[number]
         if place and place.stage == ("judged", read_bytes(name), read_bytes(password)):
-            user = next((it for it in self.accounts if it.name == read_bytes(name)), None)
+            user = next(
+                (account for account in self.accounts if account.name == read_bytes(name)), None
+            )
             if user and int(answer, 16) == 1:
                 self.log_on(number, place, user, now)
             else:
@@ -182,37 +192,40 @@ class Desk:
                 place.due, place.tries = now + PAUSES[min(place.tries, 2)], place.tries + 1
                 self.note(number, "FAIL", user)
 
-    def show(self, user, text):
+    def show(self, user: Account, text: str) -> None:
         place = self.places[user.terminal] if user.terminal is not None else None
         if place and place.stage == ("on", user):
             self.give(user.terminal, printable(read_bytes(text)[:SHOWN]) + b"\r\n")
 
-    def keep(self, user, minute, text):
-        user.kept = [*user.kept, (printable(read_bytes(minute)[:SHOWN]), printable(read_bytes(text)[:SHOWN]))][-KEPT:]
+    def keep(self, user: Account, minute: str, text: str) -> None:
+        user.kept = [
+            *user.kept,
+            (printable(read_bytes(minute)[:SHOWN]), printable(read_bytes(text)[:SHOWN])),
+        ][-KEPT:]
 
-    def turn(self, user, state):
+    def turn(self, user: Account, state: str) -> None:
         user.is_on, user.is_running = int(state, 16) > 0, int(state, 16) == 2
         if not user.is_on:
             user.terminal, user.kept = None, []
 
-    def done(self, user):
+    def done(self, user: Account) -> None:
         user.is_busy = False
         if not user.is_on:
             user.terminal = None
 
-    # --- what comes of that ---
+    # --- the effect of that ---
 
-    def user_at(self, number):
+    def user_at(self, number: int) -> Account | None:
         place = self.places[number]
         return place.stage[1] if place and place.stage[0] == "on" else None
 
-    def is_taking(self, number):
+    def is_taking(self, number: int) -> bool:
         user, place = self.user_at(number), self.places[number]
         if user:
             return user.terminal == number and not user.is_busy
         return place is not None and place.stage[0] in ("naming", "asking")
 
-    def take(self, number, now):
+    def take(self, number: int, now: int) -> bool | tuple[str, bytes] | None:
         """Takes a byte; whether there was one to take."""
         place = self.places[number]
         if not place or not place.waiting or not self.is_taking(number):
@@ -228,7 +241,7 @@ class Desk:
             self.log_on_by(number, place, meaning(came[1]), now)
         return True
 
-    def log_on_by(self, number, place, said, now):
+    def log_on_by(self, number: int, place: Place, said: tuple, now: int) -> None:
         if place.stage[0] == "asking":
             if said[0] != "word":
                 place.stage = ("naming",)
@@ -241,23 +254,25 @@ class Desk:
             self.say(number, "enter password")
         elif said[0] == "both":
             place.stage = ("waiting", said[1], said[2])
-            place.left, place.due = max(0, place.deadline - now), now + self.begin(said[1], place.address, now)
+            place.left, place.due = max(0, place.deadline - now), now + self.begin(
+                said[1], place.address, now
+            )
         else:
             self.say(number, "type logon")
 
-    def queue(self, name, address):
+    def queue(self, name: bytes, address: int) -> int:
         number = address
         for c in name:
             number = (number * 257 + c) % 2**64
         return number >> 54
 
-    def begin(self, name, address, now):
+    def begin(self, name: bytes, address: int, now: int) -> int:
         queue = self.queue(name, address)
         owed = max(0, self.until[queue] - now)
         self.until[queue] = now + min(owed, 190000) + 10000
         return next((wait for most, wait in WAITS if owed < most), 4000)
 
-    def wake(self, number, now):
+    def wake(self, number: int, now: int) -> None:
         place = self.places[number]
         if not place:
             return
@@ -266,7 +281,9 @@ class Desk:
             self.end(number, "too late")
         elif kind == "waiting" and place.due <= now:
             place.stage = ("judged", *place.stage[1:])
-            self.out.append(f"ASKS {number:04X} {written(place.stage[1])} {written(place.stage[2])}")
+            self.out.append(
+                f"ASKS {number:04X} {written(place.stage[1])} {written(place.stage[2])}"
+            )
         elif kind == "refused" and place.due <= now:
             if place.tries >= MOST_TRIES:
                 self.end(number, "refused")
@@ -276,7 +293,7 @@ class Desk:
         elif kind == "on" and place.stage[1].terminal != number:
             self.end(number, *(["takes over"] if place.stage[1].terminal is not None else []))
 
-    def log_on(self, number, place, user, now):
+    def log_on(self, number: int, place: Place, user: Account, now: int) -> None:
         queue = self.queue(user.name, place.address)
         owed = max(0, self.until[queue] - now)
         self.until[queue] = now + max(0, min(owed - 10000, 200000))
@@ -288,53 +305,72 @@ class Desk:
             return
         self.note(number, "BACK", user)
         self.say(number, "reconnected")
-        self.out += [f"BACK {number:04X} {written(minute)} {written(text)}" for minute, text in user.kept]
+        self.out += [
+            f"BACK {number:04X} {written(minute)} {written(text)}" for minute, text in user.kept
+        ]
 
-    def strangers(self):
-        return sum(1 for it in self.places if it and it.stage[0] != "on")
+    def strangers(self) -> int:
+        return sum(1 for place in self.places if place and place.stage[0] != "on")
 
-    def busiest(self):
-        strangers = [(number, it) for number, it in enumerate(self.places) if it and it.stage[0] != "on"]
-        counts = [sum(1 for _, other in strangers if other.address == it.address) for _, it in strangers]
-        return max((count, it.deadline, number) for count, (number, it) in zip(counts, strangers))[2]
+    def busiest(self) -> object:
+        strangers = [
+            (number, item)
+            for number, item in enumerate(self.places)
+            if item and item.stage[0] != "on"
+        ]
+        counts = [
+            sum(1 for _, other in strangers if other.address == item.address)
+            for _, item in strangers
+        ]
+        return max(
+            (count, item.deadline, number) for count, (number, item) in zip(counts, strangers)
+        )[2]
 
     # --- what is to be done ---
 
-    def give(self, number, data):
+    def give(self, number: int, data: bytes) -> None:
         self.out.append(f"GIVE {number:04X} {written(data)}")
 
-    def say(self, number, notice):
+    def say(self, number: int, notice: str) -> None:
         self.give(number, NOTICES[notice])
 
-    def end(self, number, *notices):
+    def end(self, number: int, *notices: str) -> None:
         for notice in notices:
             self.say(number, notice)
         self.places[number] = None
         self.out.append(f"ENDS {number:04X}")
 
-    def type(self, user, line):
+    def type(self, user: Account, line: bytes) -> None:
         self.out.append(f"TYPE {self.accounts.index(user):04X} {written(line)}")
 
-    def note(self, number, word, user):
-        self.out.append(f"NOTE {number:04X} {word} " + (f"{self.accounts.index(user):04X}" if user else "-"))
+    def note(self, number: int, word: str, user: Account | None) -> None:
+        self.out.append(
+            f"NOTE {number:04X} {word} " + (f"{self.accounts.index(user):04X}" if user else "-")
+        )
 
-    def told(self):
+    def findings(self) -> list[str]:
         """All that is to be done, and at which places more may come."""
-        read = [it for it in self.reading if not (self.places[it] and self.places[it].waiting)]
-        lines = [*self.out, *(f"READ {it:04X}" for it in read if self.places[it]), f"THAT {self.strangers():04X}"]
-        self.reading, self.out = [it for it in self.reading if it not in read], []
+        read = [
+            item for item in self.reading if not (self.places[item] and self.places[item].waiting)
+        ]
+        lines = [
+            *self.out,
+            *(f"READ {item:04X}" for item in read if self.places[item]),
+            f"THAT {self.strangers():04X}",
+        ]
+        self.reading, self.out = [item for item in self.reading if item not in read], []
         return lines
 
 
-def read_bytes(word):
+def read_bytes(word: str) -> bytes:
     return b"" if word == "-" else bytes.fromhex(word)
 
 
-def written(data):
+def written(data: bytes) -> str:
     return data.hex().upper() or "-"
 
 
-def answers(lines):
+def answers(lines: TextIO) -> Iterator[list[str]]:
     """What the desk says to each line."""
     names, desk = [], None
     for line in lines:
@@ -342,38 +378,41 @@ def answers(lines):
         if word == "USER":
             names.append(read_bytes(words[0]))
         elif word == "ROOM":
-            desk = Desk(names, int(words[0], 16))
+            desk = LogonServer(names, int(words[0], 16))
             yield ["THAT 0000"]
         else:
             desk.apply(word, int(now, 16), words)
-            yield desk.told()
+            yield desk.findings()
 
 
-def stand_in():
+def stand_in() -> None:
     """Plays the program."""
-    for told in answers(sys.stdin):
-        sys.stdout.write("\n".join(told) + "\n")
+    for findings in answers(sys.stdin):
+        sys.stdout.write("\n".join(findings) + "\n")
         sys.stdout.flush()
 
 
 # --- the program against this ---
 
 
-def some_lines(seed, count):
+def some_lines(seed: object, count: int) -> Iterator:
     """Lines of a few people and strangers, at random: mostly sensible, and noise."""
     dice, now, room = random.Random(seed), 0, 6
     names = [b"ALICE", b"BOB", b"OPER"]
-    asked = [(it, password) for it in (*names, b"NOBODY") for password in (b"GOOD", b"BAD")]
+    asked = [(item, password) for item in (*names, b"NOBODY") for password in (b"GOOD", b"BAD")]
     texts = [b"logon ", b"LOGON alice", b"LOGON bob GOOD", b"GOOD", b"BAD", b"", b"MSG bob hi", b"#cp q x", b"  #Cp msg a b c",
              b"\xff\xf4", b"\xff\xfa\x18x\xff\xff\xf0\xff\xf0", b"\xff\xfd\x03", b"\xff\xfb\x1f", b"\xff\xf6", b"ab\x08c\x7f",
              b"\xff\xf7\xff\xf8", b"x" * 140, bytes(dice.randrange(256) for _ in range(40))]  # fmt: skip
-    yield from (f"USER 0 {written(it)}" for it in names)
+    yield from (f"USER 0 {written(name)}" for name in names)
     yield f"ROOM 0 {room:X}"
     for _ in range(count):
         now += dice.choice((0, 0, 1, 1, 30, 300, 3000, 30000))
         place, user = f"{dice.randrange(room):X}", f"{dice.randrange(3):X}"
         name, password = dice.choice(asked)
-        data = b"".join(dice.choice(texts) + dice.choice((b"\r\n", b"\r", b"\n", b"\r\0", b"", b"\r\xff\xf1\n")) for _ in range(dice.randrange(4)))
+        data = b"".join(
+            dice.choice(texts) + dice.choice((b"\r\n", b"\r", b"\n", b"\r\0", b"", b"\r\xff\xf1\n"))
+            for _ in range(dice.randrange(4))
+        )
         yield dice.choice((
             f"OPEN {now:X} {place} {dice.randrange(3):X}", f"CAME {now:X} {place} {written(data)}",
             f"CAME {now:X} {place} {written(b'LOGON ' + name + b' ' + password + dice.choice((b'', data)))}0D",
@@ -388,11 +427,13 @@ def some_lines(seed, count):
                         f"KEEP {now + 4000:X} {user} {written(b'12:01')} {written(data)}", f"DONE {now + 4000:X} {user}")  # fmt: skip
 
 
-def told_by(program):
+def reported_by(program: str) -> object:
     """What a program says to each line, as `answers` has it."""
 
-    def told(lines):
-        done = subprocess.run([program], input="".join(f"{it}\n" for it in lines), capture_output=True, text=True)
+    def findings(lines: list) -> list[str]:
+        done = subprocess.run(
+            [program], input="".join(f"{line}\n" for line in lines), capture_output=True, text=True
+        )
         parts = [[]]
         for line in done.stdout.splitlines():
             parts[-1].append(line)
@@ -400,32 +441,48 @@ def told_by(program):
                 parts.append([])
         return parts[:-1]
 
-    return told
+    return findings
 
 
-def try_program(check, program, seeds=4, count=4000):
+def try_program(check: Callable, program: str, seeds: int = 4, count: int = 4000) -> None:
     """The program answers lines at random as the one here does."""
     for seed in range(seeds):
         lines = list(some_lines(seed, count))
-        wanted = [line for told in answers(lines) for line in told]
-        done = subprocess.run([program], input="".join(f"{it}\n" for it in lines), capture_output=True, text=True)
+        wanted = [line for findings in answers(lines) for line in findings]
+        done = subprocess.run(
+            [program], input="".join(f"{line}\n" for line in lines), capture_output=True, text=True
+        )
         found = done.stdout.splitlines()
-        first = next((place for place, (a, b) in enumerate(zip(found, wanted)) if a != b), min(len(found), len(wanted)))
+        first = next(
+            (place for place, (a, b) in enumerate(zip(found, wanted)) if a != b),
+            min(len(found), len(wanted)),
+        )
         holds = done.returncode == 0 and found == wanted
-        check(f"the desk on {count} lines at random, {seed}", holds, f"answer {first} of {len(wanted)}", *found[first : first + 3], *wanted[first : first + 3])
-        is_full = sum(it.startswith("TYPE") for it in wanted) > 100 and sum(it.startswith("BACK") for it in wanted) > 20
+        check(
+            f"the desk on {count} lines at random, {seed}",
+            holds,
+            f"answer {first} of {len(wanted)}",
+            *found[first : first + 3],
+            *wanted[first : first + 3],
+        )
+        is_full = (
+            sum(item.startswith("TYPE") for item in wanted) > 100
+            and sum(item.startswith("BACK") for item in wanted) > 20
+        )
         check("which have much of all", is_full)
 
 
 class Talk:
-    """Somebody who tells the stand-in, or a program, lines one after another, and does as a host does."""
+    """Somebody who says the stand-in, or a program, lines one after another, and does as a host does."""
 
-    def __init__(self, program=None):
+    def __init__(self, program: str = None) -> None:
         self.lines, self.places, self.typed, self.asked = [], {}, [], []
-        self.process = program and subprocess.Popen([program], stdin=subprocess.PIPE, stdout=subprocess.PIPE, text=True)
+        self.process = program and subprocess.Popen(
+            [program], stdin=subprocess.PIPE, stdout=subprocess.PIPE, text=True
+        )
         self.answers = answers(iter(lambda: self.lines.pop(0), None))
 
-    def told(self, line):
+    def findings(self, line: bytes) -> list[str]:
         if not self.process:
             self.lines.append(line)
             return next(self.answers)
@@ -433,25 +490,25 @@ class Talk:
         self.process.stdin.flush()
         return self.until_that()
 
-    def until_that(self):
+    def until_that(self) -> object:
         lines = [self.process.stdout.readline().strip()]
         while not lines[-1].startswith("THAT"):
             lines.append(self.process.stdout.readline().strip())
         return lines
 
-    def begin(self, names, room):
-        for line in (f"USER 0 {written(it)}" for it in names):
+    def begin(self, names: list[bytes], room: int) -> None:
+        for line in (f"USER 0 {written(name)}" for name in names):
             if self.process:
                 self.process.stdin.write(line + "\n")
             else:
                 self.lines.append(line)
         self.room = room
-        self.told(f"ROOM 0 {room:X}")
+        self.findings(f"ROOM 0 {room:X}")
 
-    def say(self, line):
-        """Says a line, and notes what comes of it."""
-        for told in self.told(line):
-            word, number, *words = told.split()
+    def say(self, line: bytes) -> None:
+        """Says a line, and notes the effect of it."""
+        for findings in self.findings(line):
+            word, number, *words = findings.split()
             if word == "ENDS":
                 self.places.pop(int(number, 16), None)
             elif word == "TYPE":
@@ -459,37 +516,37 @@ class Talk:
             elif word == "ASKS":
                 self.asked.append((number, *words))
 
-    def come(self, now, address):
-        place = next(it for it in range(self.room) if it not in self.places)
+    def come(self, now: int, address: int) -> tuple:
+        place = next(number for number in range(self.room) if number not in self.places)
         self.places[place] = token = object()
         # as the sum that a host makes of an address
         self.say(f"OPEN {now:X} {place:X} {address * 0x9E3779B97F4A7C15 % 2**56:X}")
         return place, token
 
-    def is_there(self, place, token):
+    def is_there(self, place: Place, token: object) -> bool:
         return self.places.get(place) is token
 
-    def type(self, now, place, text):
+    def type(self, now: int, place: Place, text: str) -> None:
         self.say(f"CAME {now:X} {place:X} {written(text)}")
 
-    def judge(self, now, password):
+    def judge(self, now: int, password: str) -> None:
         for number, name, given in self.asked:
             self.say(f"SAYS {now:X} {number} {int(read_bytes(given) == password):X} {name} {given}")
         self.asked.clear()
 
-    def close(self):
+    def close(self) -> None:
         if self.process:
             self.process.communicate()
 
 
-def try_honest(check, program=None):
+def try_honest(check: Callable, program: str = None) -> None:
     """Among 67 strangers a second and 20 who guess at his name, somebody who types a step each five seconds is on each time, also where
     they come from his own address."""
     for what, origin in (("elsewhere", 2), ("his address", 1)):
         for tries in range(5):
             talk = Talk(program)
             talk.begin([b"ALICE", b"BOB"], MOST_STRANGERS + 3)
-            guessers = [talk.come(0, 100 + it if origin != 1 else 1) for it in range(20)]
+            guessers = [talk.come(0, 100 + number if origin != 1 else 1) for number in range(20)]
             mine = talk.come(10 * tries, 1)
             was_on = None
             for now in range(15, 30000, 15):
@@ -506,4 +563,8 @@ def try_honest(check, program=None):
             talk.close()
             # guesses from elsewhere do not delay him
             most = 9990 + (4100 if origin == 1 else 100)
-            check(f"he is on among strangers of {what}, {tries}", was_on is not None and was_on <= most, f"{was_on}")
+            check(
+                f"he is on among strangers of {what}, {tries}",
+                was_on is not None and was_on <= most,
+                f"{was_on}",
+            )

@@ -1,6 +1,13 @@
-"""Each first halfword of an instruction, in supervisor and in problem state, by a user of vm370 beside a neighbour and by a machine
-of bare370 that is given the same events: a part of .ci/test-transcripts."""
+"""Each first halfword of an instruction, in supervisor and in problem state, by a user of vm370 next to a neighbour and by a machine
+of bare370 that is given the same events: a part of .ci/test-transcripts.py."""
+from __future__ import annotations
+
+from collections.abc import Iterator
+from typing import TYPE_CHECKING
 import itertools
+
+if TYPE_CHECKING:
+    from desk import Account
 
 # The user has the name that bare370 gives its machine. The neighbour's machine is running, and is never let run.
 DIRECTORY = """USER NEIGHBOR PW 8K
@@ -31,9 +38,16 @@ FLOATING = "340 60000360602003686040037060600378"
 # What an instruction finds: the first bytes of storage, the PSWs that a supervisor call and a program interruption load, the
 # channel address word of a program that reads a card over the end of a page and a sense that is refused; at 400 what the
 # registers are loaded from.
-SETTING = ["0 000000000012345C8142C3D4F1F2F3F4", "48 00000C40", "60 00000000000007000004000000000780",
-           "400 00000800000001230000100040000100", "410 00001FF00000001000001FFE7FFFFFFF",
-           "420 80000000FFFFFFFF00000A0400000001", "430 00000C00000000030000180000000306", FLOATING]
+SETTING = [
+    "0 000000000012345C8142C3D4F1F2F3F4",
+    "48 00000C40",
+    "60 00000000000007000004000000000780",
+    "400 00000800000001230000100040000100",
+    "410 00001FF00000001000001FFE7FFFFFFF",
+    "420 80000000FFFFFFFF00000A0400000001",
+    "430 00000C00000000030000180000000306",
+    FLOATING,
+]
 # supervisor and problem state, with a program mask of ones, at LM 0,15,400
 STATES = {"supervisor": "00000000 0F0002FC", "problem": "00010000 0F0002FC"}
 # its LCTL shows the control registers each time
@@ -42,24 +56,42 @@ LOADS_CONTROL = 0xB7
 EACH = 32
 
 
-def typed(user, lines):
+def typed(user: Account, lines: list) -> str:
     """Lines that are typed while the machine may run."""
-    return "".join(f"LINE {user} #CP {it}\n" for it in lines)
+    return "".join(f"LINE {user} #CP {line}\n" for line in lines)
 
 
-def shown(user, lines):
-    return typed(user, (f"DISPLAY {it}" for it in lines))
+def shown(user: Account, lines: list) -> object:
+    return typed(user, (f"DISPLAY {line}" for line in lines))
 
 
-GENERAL = [f"G{it}" for it in range(16)]
-CONTROL = [f"X{it}" for it in range(16)]
-ALL = [*GENERAL, *CONTROL, *(f"K{it:X}" for it in range(0, 0x2000, 2048)), *(f"{it:X}" for it in range(0, 0x2000, 16))]
+GENERAL = [f"G{number}" for number in range(16)]
+CONTROL = [f"X{number}" for number in range(16)]
+ALL = [
+    *GENERAL,
+    *CONTROL,
+    *(f"K{number:X}" for number in range(0, 0x2000, 2048)),
+    *(f"{number:X}" for number in range(0, 0x2000, 16)),
+]
 # What is seen of each instruction, registers for floating point by storing them; a reader that it started is served.
-LOOK = shown("BARE", ["PSW", *GENERAL, *(f"{it:X}" for it in range(0, 0x50, 16))]) + "SERVE BARE 00C\n"
-LOOK += typed("BARE", ["STORE PSW 00000000 00000340", "BEGIN"]) + "RUN BARE 4\n" + shown("BARE", ["360", "370"])
-BEFORE = typed("BARE", (f"STORE {it}" for it in SETTING))
-BEGUN = "".join(f"LINE BARE {it}\n" for it in ["LOGON", *FILLING]) + "DECK BARE 3\n" + "".join(80 * it + "\n" for it in "ABC")
-NEIGHBOUR = "".join(f"LINE NEIGHBOR {it}\n" for it in ["LOGON", *FILLING, "STORE G7 00ABCDEF", "BEGIN 700"])
+LOOK = (
+    shown("BARE", ["PSW", *GENERAL, *(f"{number:X}" for number in range(0, 0x50, 16))])
+    + "SERVE BARE 00C\n"
+)
+LOOK += (
+    typed("BARE", ["STORE PSW 00000000 00000340", "BEGIN"])
+    + "RUN BARE 4\n"
+    + shown("BARE", ["360", "370"])
+)
+BEFORE = typed("BARE", (f"STORE {item}" for item in SETTING))
+BEGUN = (
+    "".join(f"LINE BARE {item}\n" for item in ["LOGON", *FILLING])
+    + "DECK BARE 3\n"
+    + "".join(80 * item + "\n" for item in "ABC")
+)
+NEIGHBOUR = "".join(
+    f"LINE NEIGHBOR {item}\n" for item in ["LOGON", *FILLING, "STORE G7 00ABCDEF", "BEGIN 700"]
+)
 NEIGHBOUR_ENDED = shown("NEIGHBOR", ["PSW", *ALL])
 
 
@@ -68,39 +100,46 @@ class Halfwords:
 
     number = 256
 
-    def __init__(self, state, code):
+    def __init__(self, state: str, code: int) -> None:
         self.place, self.state, self.code = f"{state} state, {code:02X}", state, code
 
-    def script(self):
+    def script(self) -> str:
         """What the user is given."""
         some = [BEGUN]
         look = LOOK + shown("BARE", CONTROL) * (self.code == LOADS_CONTROL)
         for second in range(256):
-            some += [BEFORE, f"LINE BARE #CP STORE 2FC 980F0400{self.code:02X}{second:02X}000C0000\n",
-                     f"LINE BARE #CP STORE PSW {STATES[self.state]}\nLINE BARE #CP BEGIN\nRUN BARE 2\n", look]
+            some += [
+                BEFORE,
+                f"LINE BARE #CP STORE 2FC 980F0400{self.code:02X}{second:02X}000C0000\n",
+                f"LINE BARE #CP STORE PSW {STATES[self.state]}\nLINE BARE #CP BEGIN\nRUN BARE 2\n",
+                look,
+            ]
             if (second + 1) % EACH == 0:
                 some.append(shown("BARE", ALL))
         return "".join(some)
 
-    def difference(self, player):
+    def difference(self, player: object) -> object:
         """What differs first between the user and the machine, or of the neighbour and his."""
         own = self.script()
-        ended, told = player.told("vm370_cli", {"script": NEIGHBOUR + own + NEIGHBOUR_ENDED, "directory": DIRECTORY},
-                                  ["--frames", "16", "--slots", "0", "directory", "script"])
-        bare, wanted = player.told("bare370_cli", {"script": own}, ["8K", "script"])
+        ended, findings = player.findings(
+            "vm370_cli",
+            {"script": NEIGHBOUR + own + NEIGHBOUR_ENDED, "directory": DIRECTORY},
+            ["--frames", "16", "--slots", "0", "directory", "script"],
+        )
+        bare, wanted = player.findings("bare370_cli", {"script": own}, ["8K", "script"])
         script = (NEIGHBOUR + NEIGHBOUR_ENDED).replace("NEIGHBOR", "BARE")
-        other, stays = player.told("bare370_cli", {"script": script}, ["8K", "script"])
+        other, stays = player.findings("bare370_cli", {"script": script}, ["8K", "script"])
         if ended or bare or other:
             return f"statuses {ended}, {bare}, {other}"
         stays = stays.replace("BARE: ", "NEIGHBOR: ")
-        if wanted in told and told.replace(wanted, "", 1) == stays:
+        if wanted in findings and findings.replace(wanted, "", 1) == stays:
             return None
-        lines = [it for it in told.splitlines() if "NEIGHBOR" not in it]
+        lines = [line for line in findings.splitlines() if "NEIGHBOR" not in line]
         pairs = enumerate(itertools.zip_longest(lines, wanted.splitlines()), 1)
         others = (f"line {at}: {one!r}, and bare {two!r}" for at, (one, two) in pairs if one != two)
         return next(others, "the neighbour's machine")
 
 
-def halfwords():
+def halfwords() -> Iterator:
     """All of them, a session for each operation code and state."""
     yield from (Halfwords(state, code) for state in STATES for code in range(256))

@@ -1,4 +1,7 @@
-"""People at an installation, as programs: what .ci/test-people and .ci/try-installation share."""
+"""People at an installation, as programs: what .ci/test-people.py and .ci/try-installation.py share."""
+from __future__ import annotations
+
+from collections.abc import Callable, Iterator
 import asyncio
 import atexit
 import contextlib
@@ -13,7 +16,7 @@ import sys
 import tempfile
 import time
 
-# what somebody is told who has come
+# what somebody is reported who has come
 BANNER = "GATHJUMLI ONLINE: TYPE LOGON NAME"
 TELLS = re.compile("([0-9:]{8}) (.*)")
 # how long anything that has to come may take
@@ -21,36 +24,40 @@ PATIENCE = 60
 
 
 class Site:
-    """An installation that can be started, ended and killed; what its operator was told."""
+    """An installation that can be started, ended and killed; what its operator was reported."""
 
-    def __init__(self, command, folder, directory, *words):
+    def __init__(self, command: str, folder: str, directory: str, *words: object) -> None:
         self.command = command
         self.folder = folder
         self.record = f"{folder}/recording"
         self.words = ["--record", self.record, "--listen", f"{folder}/socket", *words]
         self.paths = [directory]
         self.process = None
-        self.told = []
+        self.findings = []
 
-    def start(self, *more, most_bytes=None):
+    def start(self, *more: object, most_bytes: object = None) -> object:
         """Starts it; most_bytes: how long a file may become, as on a disk that is full."""
-        before = most_bytes and (lambda: resource.setrlimit(resource.RLIMIT_FSIZE, (most_bytes, most_bytes)))
+        before = most_bytes and (
+            lambda: resource.setrlimit(resource.RLIMIT_FSIZE, (most_bytes, most_bytes))
+        )
         streams = {"stdin": subprocess.PIPE, "stdout": subprocess.PIPE, "stderr": subprocess.STDOUT}
         words = [self.command, *self.words, *more, *self.paths]
-        self.process = subprocess.Popen(words, start_new_session=True, text=True, bufsize=1, preexec_fn=before, **streams)
-        self.told.append("")
+        self.process = subprocess.Popen(
+            words, start_new_session=True, text=True, bufsize=1, preexec_fn=before, **streams
+        )
+        self.findings.append("")
         # whatever ends this, it does not stay
         atexit.register(self.process.kill)
         return self
 
-    def online(self, *more, most_bytes=None):
+    def online(self, *more: object, most_bytes: object = None) -> object:
         self.start(*more, most_bytes=most_bytes)
-        if not self.await_told("online at"):
-            raise AssertionError("\n".join(self.told))
+        if not self.await_message("online at"):
+            raise AssertionError("\n".join(self.findings))
         return self
 
-    def await_told(self, text, seconds=PATIENCE):
-        """Waits until the operator is told a text since the last start; whether that came. Told progress makes it patient."""
+    def await_message(self, text: str, seconds: object = PATIENCE) -> bool:
+        """Waits until the operator is reported a text since the last start; whether that came. Told progress makes it patient."""
         until = time.monotonic() + seconds
         output = self.process.stdout
         while text not in self.since_start():
@@ -58,35 +65,39 @@ class Site:
                 return False
             if not (data := os.read(output.fileno(), 65536)):
                 return text in self.since_start()
-            self.told.append(data.decode(errors="replace"))
-            if "% done" in self.told[-1]:
-                # it goes on from a recording, and tells that it comes on
+            self.findings.append(data.decode(errors="replace"))
+            if "% done" in self.findings[-1]:
+                # it goes on from a recording, and says that it appears on
                 until = time.monotonic() + seconds
         return True
 
-    def since_start(self):
-        last = max(place for place, it in enumerate(self.told) if not it)
-        return "".join(self.told[last:])
+    def since_start(self) -> str:
+        last = max(place for place, item in enumerate(self.findings) if not item)
+        return "".join(self.findings[last:])
 
-    def operate(self, line):
+    def operate(self, line: bytes) -> None:
         self.process.stdin.write(f"{line}\n")
         self.process.stdin.flush()
 
-    def ended(self):
+    def ended(self) -> object:
         """Waits until it has ended; its status."""
-        self.told.append(self.process.communicate(timeout=PATIENCE)[0] or "-")
+        self.findings.append(self.process.communicate(timeout=PATIENCE)[0] or "-")
         return self.process.returncode
 
-    def stop(self):
+    def stop(self) -> object:
         self.process.send_signal(signal.SIGTERM)
         return self.ended()
 
-    def program(self):
+    def program(self) -> object:
         """The id of the program that it runs, or None."""
-        found = subprocess.run(["pgrep", "-P", str(self.process.pid), "-f", "vm370_cli"], capture_output=True, text=True).stdout.split()
+        found = subprocess.run(
+            ["pgrep", "-P", str(self.process.pid), "-f", "vm370_cli"],
+            capture_output=True,
+            text=True,
+        ).stdout.split()
         return int(found[0]) if found else None
 
-    def kill(self, is_all=False):
+    def kill(self, is_all: bool = False) -> None:
         """Kills it as a host does that fails, and with it the program."""
         child = self.program() if is_all else None
         self.process.kill()
@@ -95,7 +106,7 @@ class Site:
                 os.kill(child, signal.SIGKILL)
         self.process.communicate()
 
-    def session(self):
+    def session(self) -> str:
         """The name of the session that is under way."""
         with open(self.record) as file:
             begun = re.search(r"^\* BEGUN (\S+) (\S+) UTC$", file.read(), re.M)
@@ -105,18 +116,18 @@ class Site:
 class Person:
     """Somebody at a terminal, by a socket or an address."""
 
-    def __init__(self, where):
+    def __init__(self, where: object) -> None:
         self.where = where
         self.lines = []
 
-    async def come(self):
+    async def come(self) -> object:
         if isinstance(self.where, tuple):
             self.reader, self.writer = await asyncio.open_connection(*self.where)
         else:
             self.reader, self.writer = await asyncio.open_unix_connection(self.where)
         return self
 
-    async def line(self):
+    async def line(self) -> None:
         """The next line that is shown, or None at the end."""
         data = await asyncio.wait_for(self.reader.readline(), PATIENCE)
         if not data:
@@ -124,57 +135,63 @@ class Person:
         self.lines.append(data.decode("latin-1").rstrip("\r\n"))
         return self.lines[-1]
 
-    async def until(self, *texts):
+    async def until(self, *texts: object) -> object:
         """The next line that is one of these; all that came until then are kept."""
         while (line := await self.line()) not in texts:
             if line is None:
                 raise ConnectionError(f"ended before {texts}: {self.lines[-5:]}")
         return line
 
-    def type(self, *lines):
-        self.writer.write("".join(f"{it}\r\n" for it in lines).encode("latin-1"))
+    def type(self, *lines: object) -> None:
+        self.writer.write("".join(f"{line}\r\n" for line in lines).encode("latin-1"))
 
-    async def logon(self, name, password):
+    async def logon(self, name: str, password: str) -> object:
         """Logs on; what is answered."""
         self.type(f"LOGON {name} {password}")
         await self.until(BANNER)
         return await self.line()
 
-    async def rest(self):
+    async def rest(self) -> object:
         """All lines until the connection ends."""
         with contextlib.suppress(ConnectionError):
             while await self.line() is not None:
                 pass
         return self.lines
 
-    def go(self):
+    def go(self) -> None:
         """Goes without a word."""
         self.writer.transport.abort()
 
 
-async def until_so(holds):
+async def until_so(holds: object) -> None:
     """Waits until something holds, with patience."""
     until = time.monotonic() + PATIENCE
     while not holds() and time.monotonic() < until:
         await asyncio.sleep(0.05)
 
 
-async def person(where):
+async def person(where: object) -> object:
     return await Person(where).come()
 
 
-def sizes_of(record):
+def sizes_of(record: object) -> list:
     """The words for the frames and slots of a recording."""
     with open(record) as file:
-        return re.search(r"^\* SIZES (\d+) (\d+)$", file.read(), re.M).expand(r"--frames \1 --slots \2").split()
+        return (
+            re.search(r"^\* SIZES (\d+) (\d+)$", file.read(), re.M)
+            .expand(r"--frames \1 --slots \2")
+            .split()
+        )
 
 
-def replayed(program, directory, record, volumes=()):
+def replayed(program: str, directory: str, record: object, volumes: tuple = ()) -> tuple:
     """What the program itself makes of a recording: what each user was shown, and all of it."""
     words = [program, *sizes_of(record), "--", directory, record, *volumes]
     shown, is_over = {}, False
-    with tempfile.TemporaryFile() as errors, subprocess.Popen(words, stdout=subprocess.PIPE, stderr=errors) as run_again:
-        for line in told_lines(run_again.stdout):
+    with tempfile.TemporaryFile() as errors, subprocess.Popen(
+        words, stdout=subprocess.PIPE, stderr=errors
+    ) as run_again:
+        for line in reported_lines(run_again.stdout):
             is_over = is_over or line.startswith(b"== ")
             name, colon, text = line.decode("latin-1").partition(": ")
             if colon and not is_over:
@@ -185,13 +202,13 @@ def replayed(program, directory, record, volumes=()):
     return done, shown
 
 
-def told_lines(stream):
+def reported_lines(stream: object) -> Iterator:
     """The lines of a transcript but for those that say how turns ended, of which minutes of computing have a billion."""
     left = b""
     while data := stream.read1(1 << 16):
         whole, _, left = (left + data).rpartition(b"\n")
         if b": " in whole or b"== " in whole:
-            yield from (it for it in whole.split(b"\n") if not it.startswith(b"= "))
+            yield from (part for part in whole.split(b"\n") if not part.startswith(b"= "))
 
 
 run = asyncio.run
@@ -202,22 +219,27 @@ run = asyncio.run
 
 class StandIn:
     """Takes parts of a script as the program does, for users who type LOGON, LOGOFF, #CP, BEGIN, STORE, DISPLAY of a register,
-    MSG, and three that no program has: PRINT prints a file of a line, LIST one of so many, and DIE kills the program."""
+    MSG, and three that no program has: PRINT prints a file of a line, LIST one of so many, and DIE kills the program.
+    """
 
-    def __init__(self, directory, has_slices):
+    def __init__(self, directory: str, has_slices: bool) -> None:
         self.has_slices = has_slices
         with open(directory) as file:
-            self.users = {it.split()[1]: {"mode": "OFF", "G1": 0} for it in file if it.startswith("USER ")}
+            self.users = {
+                item.split()[1]: {"mode": "OFF", "G1": 0}
+                for item in file
+                if item.startswith("USER ")
+            }
         self.files = []
-        self.told = []
+        self.findings = []
 
-    def say(self, name, text):
-        self.told.append(f"{name}: {text}")
+    def say(self, name: str, text: str) -> None:
+        self.findings.append(f"{name}: {text}")
 
-    def part(self, script):
-        """What is told of a part, with or without the lines of slices."""
-        before = {name: it["mode"] for name, it in self.users.items()}
-        self.told, self.closed, self.is_idle = [], [], False
+    def part(self, script: bytes) -> list[str]:
+        """What is reported of a part, with or without the lines of slices."""
+        before = {name: item["mode"] for name, item in self.users.items()}
+        self.findings, self.closed, self.is_idle = [], [], False
         lines = script.decode("latin-1").split("\n")[:-1]
         while lines:
             word, _, rest = lines.pop(0).partition(" ")
@@ -231,20 +253,20 @@ class StandIn:
                 self.auto(int(rest))
             elif word not in ("", "TICK", "RUN", "SERVE") and not word.startswith("*"):
                 return None
-        self.told += self.closed
-        for name, it in self.users.items():
-            self.told += [f"> {state} {name}" for state in became(before[name], it["mode"])]
-        return self.told + ["> IDLE"] * self.is_idle
+        self.findings += self.closed
+        for name, entry in self.users.items():
+            self.findings += [f"> {state} {name}" for state in became(before[name], entry["mode"])]
+        return self.findings + ["> IDLE"] * self.is_idle
 
-    def auto(self, turns):
-        running = [name for name, it in self.users.items() if it["mode"] == "RUNS"]
-        for it in running:
-            self.users[it]["G1"] += turns
+    def auto(self, turns: int) -> None:
+        running = [name for name, item in self.users.items() if item["mode"] == "RUNS"]
+        for entry in running:
+            self.users[entry]["G1"] += turns
         if self.has_slices:
-            self.told += [f"= {it} {100 * turns} COUNT" for it in running]
+            self.findings += [f"= {item} {100 * turns} COUNT" for item in running]
         self.is_idle = not running
 
-    def line(self, name, user, text):
+    def line(self, name: str, user: dict[str, object], text: str) -> None:
         words = text.split()
         if text == "#CP":
             user["mode"] = "ON" if user["mode"] == "RUNS" else user["mode"]
@@ -267,7 +289,9 @@ class StandIn:
             self.say(name, "SENT")
             self.say(words[1], f"MSG FROM {name}: {text.split(words[1] + ' ')[1]}")
         elif words[:1] == ["PRINT"]:
-            self.files.append([f"== PRT {len(self.files) + 1:04} {name}", f"09 {' '.join(words[1:])}"])
+            self.files.append(
+                [f"== PRT {len(self.files) + 1:04} {name}", f"09 {' '.join(words[1:])}"]
+            )
             self.closed += [f"> {self.files[-1][0]}", f"> |{self.files[-1][1]}"]
         elif words == ["DIE"]:
             os.kill(os.getpid(), signal.SIGKILL)
@@ -277,35 +301,35 @@ class StandIn:
         elif words:
             self.say(name, "UNKNOWN COMMAND")
 
-    def last_lines(self):
+    def last_lines(self) -> list[str]:
         return [line for file in self.files for line in file]
 
 
-def became(before, now):
-    """The states that are told of a user."""
-    told = ["STOPS"] if before == "RUNS" != now else []
-    told += ["ON"] if before == "OFF" != now else []
-    told += ["RUNS"] if now == "RUNS" != before else []
-    return told + (["OFF"] if now == "OFF" != before else [])
+def became(before: str, now: str) -> list[str]:
+    """The states that are reported of a user."""
+    findings = ["STOPS"] if before == "RUNS" != now else []
+    findings += ["ON"] if before == "OFF" != now else []
+    findings += ["RUNS"] if now == "RUNS" != before else []
+    return findings + (["OFF"] if now == "OFF" != before else [])
 
 
-def stand_in(words):
+def stand_in(words: list[str]) -> None:
     """Plays the program: part by part with --follow, else a whole script."""
     paths = words[words.index("--") + 1 :]
     program = StandIn(paths[0], "--terminals" not in words)
     if "--follow" not in words:
         with open(paths[1], "rb") as file:
-            told = program.part(file.read())
-        lines = [it for it in told if not it.startswith("> ")] + program.last_lines()
-        sys.stdout.write("".join(f"{it}\n" for it in lines))
+            findings = program.part(file.read())
+        lines = [item for item in findings if not item.startswith("> ")] + program.last_lines()
+        sys.stdout.write("".join(f"{line}\n" for line in lines))
         return
     while (size := sys.stdin.buffer.readline()) not in (b"", b"END\n"):
         time.sleep(float(os.environ.get("PEOPLE_SLOW", "0")))
-        told = program.part(sys.stdin.buffer.read(int(size)))
-        told = ["> REFUSED 1"] if told is None else [*told, "> DONE"]
-        sys.stdout.write("\n".join(told) + "\n")
+        findings = program.part(sys.stdin.buffer.read(int(size)))
+        findings = ["> REFUSED 1"] if findings is None else [*findings, "> DONE"]
+        sys.stdout.write("\n".join(findings) + "\n")
         sys.stdout.flush()
-    sys.stdout.write("".join(f"{it}\n" for it in program.last_lines()))
+    sys.stdout.write("".join(f"{line}\n" for line in program.last_lines()))
     sys.stdout.flush()
     if size == b"END\n" and "--save" in words:
         for path in paths[1:]:
@@ -344,7 +368,7 @@ ENTRIES = {
 }
 
 
-def try_tables(check, folder):
+def try_tables(check: Callable, folder: str) -> None:
     try_passwords(check)
     try_wrong_passwords(check)
     try_terminal(check)
@@ -352,87 +376,124 @@ def try_tables(check, folder):
     try_pace(check)
 
 
-def try_passwords(check):
+def try_passwords(check: Callable) -> None:
     """Passwords are right for their names alone, and are not kept."""
-    from logon import Passwords
+    from gathjumli.logon import Passwords
 
     passwords = Passwords({"A": "SECRET", "B": "OTHER"})
-    cases = {("A", "SECRET"): True, ("A", "OTHER"): False, ("B", "OTHER"): True, ("C", "SECRET"): False, ("", ""): False}
+    cases = {
+        ("A", "SECRET"): True,
+        ("A", "OTHER"): False,
+        ("B", "OTHER"): True,
+        ("C", "SECRET"): False,
+        ("", ""): False,
+    }
     for (name, password), wanted in cases.items():
         check(f"{name} {password}", passwords.are_right(name, password) == wanted)
     kept = repr(vars(passwords))
     check("no password is kept", "SECRET" not in kept and "OTHER" not in kept)
 
 
-def try_wrong_passwords(check):
+def try_wrong_passwords(check: Callable) -> None:
     """Many wrong passwords are a line of the journal, with the name and the address."""
-    from terminals import WrongPasswords
+    from gathjumli.logon_server import WrongPasswords
 
-    async def summed():
-        told = []
-        wrong = WrongPasswords(told.append)
+    async def summed() -> tuple:
+        findings = []
+        wrong = WrongPasswords(findings.append)
         for name, address in [("A", "10.0.0.5")] * 7 + [("B", "")] + [(None, "10.0.0.5")] * 2:
             wrong.add(name, address)
-        before = list(told)
-        wrong.tell_all()
-        return before, told, dict(wrong.counts)
+        before = list(findings)
+        wrong.notify_all()
+        return before, findings, dict(wrong.counts)
 
-    before, told, left = run(summed())
-    wanted = ["7 wrong passwords for A from 10.0.0.5", "a wrong password for B", "2 wrong passwords for nobody here from 10.0.0.5"]
-    check("wrong passwords are summed", (before, told, left) == ([], wanted, {}), *told)
+    before, findings, left = run(summed())
+    wanted = [
+        "7 wrong passwords for A from 10.0.0.5",
+        "a wrong password for B",
+        "2 wrong passwords for nobody here from 10.0.0.5",
+    ]
+    check("wrong passwords are summed", (before, findings, left) == ([], wanted, {}), *findings)
 
 
-def try_typed(check, answers):
+def try_typed(check: Callable, answers: object) -> None:
     """The lines that bytes of a terminal make, in pieces; answers: what the desk says to each line."""
-    begin = ["USER 0 41", "ROOM 0 1", "OPEN 0 0 0", f"CAME 0 0 {b'LOGON A B'.hex().upper()}0A", "SAYS 1 0 1 41 42", "TURN 1 0 1", "DONE 1 0"]
+    begin = [
+        "USER 0 41",
+        "ROOM 0 1",
+        "OPEN 0 0 0",
+        f"CAME 0 0 {b'LOGON A B'.hex().upper()}0A",
+        "SAYS 1 0 1 41 42",
+        "TURN 1 0 1",
+        "DONE 1 0",
+    ]
     for what, (given, wanted, replies) in TYPED.items():
         for size in (1, 3, len(given)):
             pieces = [given[at : at + size].hex().upper() for at in range(0, len(given), size)]
-            lines = [*begin, *(f"CAME 2 0 {it}" for it in pieces), *["DONE 3 0"] * len(wanted)]
-            told = [line.split() for it in list(answers(lines))[len(begin) - 1 :] for line in it]
-            found = [bytes.fromhex(it[2].replace("-", "")).decode() for it in told if it[0] == "TYPE"]
-            given_back = b"".join(bytes.fromhex(it[2]) for it in told if it[0] == "GIVE")
-            check(f"{what}, {size} bytes at once", (found, given_back) == (wanted, replies), *found, given_back)
+            lines = [
+                *begin,
+                *(f"CAME 2 0 {piece}" for piece in pieces),
+                *["DONE 3 0"] * len(wanted),
+            ]
+            findings = [
+                line.split() for answer in list(answers(lines))[len(begin) - 1 :] for line in answer
+            ]
+            found = [
+                bytes.fromhex(item[2].replace("-", "")).decode()
+                for item in findings
+                if item[0] == "TYPE"
+            ]
+            given_back = b"".join(bytes.fromhex(item[2]) for item in findings if item[0] == "GIVE")
+            check(
+                f"{what}, {size} bytes at once",
+                (found, given_back) == (wanted, replies),
+                *found,
+                given_back,
+            )
 
 
 class Unread:
     """A connection of which nobody reads."""
 
-    def __init__(self):
+    def __init__(self) -> None:
         self.transport = self
         self.size, self.is_gone = 0, False
 
-    def write(self, data):
+    def write(self, data: bytes) -> None:
         self.size += len(data)
 
-    def get_write_buffer_size(self):
+    def get_write_buffer_size(self) -> object:
         return self.size
 
-    def get_extra_info(self, _):
+    def get_extra_info(self, _: int) -> object:
         return socket.socket()
 
-    def is_closing(self):
+    def is_closing(self) -> object:
         return self.is_gone
 
-    def abort(self):
+    def abort(self) -> None:
         self.is_gone = True
 
 
-def try_terminal(check):
+def try_terminal(check: Callable) -> None:
     """One who does not read is closed, and takes no more memory then."""
-    from terminals import MOST_UNREAD, SocketConnection
+    from gathjumli.logon_server import MOST_UNREAD, SocketConnection
 
-    told, writer = [], Unread()
-    connection = SocketConnection(writer, told.append)
+    findings, writer = [], Unread()
+    connection = SocketConnection(writer, findings.append)
     for _ in range(10000):
         connection.send(b"X" * 130)
-    check("one who does not read is closed", writer.is_gone and writer.size <= MOST_UNREAD + 200 and len(told) == 1, *told)
+    check(
+        "one who does not read is closed",
+        writer.is_gone and writer.size <= MOST_UNREAD + 200 and len(findings) == 1,
+        *findings,
+    )
 
 
-def try_recordings(check, folder):
+def try_recordings(check: Callable, folder: str) -> None:
     """What of a recording is whole, what is none, and what another one is of."""
-    from people import Failure
-    from recording import Recording, differing, without_passwords
+    from gathjumli.cli import Failure
+    from gathjumli.recording import Recording, differing, without_passwords
 
     path = f"{folder}/some"
     for what, (text, wanted) in ENTRIES.items():
@@ -441,8 +502,17 @@ def try_recordings(check, folder):
         found = [entry for _, _, entry in recording.entries()]
         recording.close()
         whole = b"".join(wanted)
-        check(f"{what} of a recording", found == wanted and read(path) in (BEGINS + text, BEGINS + whole), *found)
-    for text in (b"LINE A LOGON\n", b"x", b"* GATHJUMLI RECORDING 2\n", b"* GATHJUMLI RECORDING 1 \n"):
+        check(
+            f"{what} of a recording",
+            found == wanted and read(path) in (BEGINS + text, BEGINS + whole),
+            *found,
+        )
+    for text in (
+        b"LINE A LOGON\n",
+        b"x",
+        b"* GATHJUMLI RECORDING 2\n",
+        b"* GATHJUMLI RECORDING 1 \n",
+    ):
         write(path, text)
         try:
             Recording(path).close()
@@ -455,34 +525,38 @@ def try_recordings(check, folder):
         check(f"{text} was never begun", read(path) == b"")
     one = [b"* T", b"* PROGRAM 1", b"* DIRECTORY a /x", b"* SIZES 1 2", b"* VOLUME b /y"]
     check("paths may differ", differing(one, [*one[:2], b"* DIRECTORY a /z", *one[3:]]) is None)
-    told = [differing(one, [*one[:place], b"* VOLUME c d", *one[place + 1 :]]) for place in range(1, 5)]
+    findings = [
+        differing(one, [*one[:place], b"* VOLUME c d", *one[place + 1 :]]) for place in range(1, 5)
+    ]
     names = ["version of the program", "directory", "numbers of --frames and --slots", "volume 1"]
-    check("what differs is told", all(name in it for name, it in zip(names, told)), *told)
+    check(
+        "what differs is told", all(name in item for name, item in zip(names, findings)), *findings
+    )
     hidden = without_passwords(b"* A\nUSER A SECRET 64K\n CONSOLE 009  3215\n")
     check("passwords are no part of it", hidden == b"USER A X 64K\nCONSOLE 009 3215\n", hidden)
 
 
-def try_pace(check):
+def try_pace(check: Callable) -> None:
     """A part takes about the same time, however long a turn is."""
-    from engine import FEW_TURNS, Pace, STUCK_TURNS
-    from following import Came
+    from gathjumli.engine import FEW_TURNS, Pace, STUCK_TURNS
+    from gathjumli.following import PartResult
 
     for seconds_a_turn in (1e-7, 1e-6, 1e-3, 0.02):
         pace = Pace(0.01)
         for _ in range(30):
             turns = pace.turns
-            pace.took(turns, turns * seconds_a_turn, Came([], [], [], False))
+            pace.took(turns, turns * seconds_a_turn, PartResult([], [], [], False))
         took = turns * seconds_a_turn
         holds = took <= max(0.011, seconds_a_turn) and (took >= 0.005 or turns == 100000)
         check(f"a turn of {seconds_a_turn} s", holds, f"{turns}")
     pace.turns = 1000
-    pace.took(1000, 0.001, Came([], [], [], True))
+    pace.took(1000, 0.001, PartResult([], [], [], True))
     check("few turns where all wait", not pace.is_busy and pace.turns <= FEW_TURNS)
-    pace.woke(Came([], [], [], False))
+    pace.woke(PartResult([], [], [], False))
     done = 0
     while pace.is_busy and done < 10 * STUCK_TURNS:
         done += pace.turns
-        pace.took(pace.turns, 0.001, Came(["= A 0 FRAMES"] * pace.turns, [], [], False))
+        pace.took(pace.turns, 0.001, PartResult(["= A 0 FRAMES"] * pace.turns, [], [], False))
     check("who lack frames wait too", not pace.is_busy and done >= STUCK_TURNS, f"{done}")
 
 
@@ -494,17 +568,17 @@ DIRECTORY = "".join(
 )
 
 
-def make_site(command, folder, *words):
+def make_site(command: str, folder: str, *words: object) -> object:
     os.makedirs(folder)
     with open(f"{folder}/directory", "w") as file:
         file.write(DIRECTORY)
     return Site(command, folder, f"{folder}/directory", *words)
 
 
-def try_logging_on(check, site):
+def try_logging_on(check: Callable, site: object) -> None:
     """Logging on, refusals, another terminal, leaving and coming back."""
 
-    async def tried():
+    async def tried() -> None:
         where = f"{site.folder}/socket"
         for given in ("LOGON ALICE BUILDER", "LOGON NOBODY WONDER", "LOGON OPER SECRET"):
             stranger = await person(where)
@@ -512,27 +586,56 @@ def try_logging_on(check, site):
             stranger.type(given)
             answers = [await stranger.line(), await stranger.line()]
             took = time.monotonic() - begun
-            check(f"{given} is refused", answers == [BANNER, "LOGON REFUSED"] and took >= 0.5, f"{took:.2f} s", *answers)
+            check(
+                f"{given} is refused",
+                answers == [BANNER, "LOGON REFUSED"] and took >= 0.5,
+                f"{took:.2f} s",
+                *answers,
+            )
             stranger.go()
         stranger = await person(where)
-        stranger.type("HELLO", "", "LOGON ALICE WONDER X", "LOGON", "LOGON ALICE", "TWO WORDS", "logon alice wonder")
+        stranger.type(
+            "HELLO",
+            "",
+            "LOGON ALICE WONDER X",
+            "LOGON",
+            "LOGON ALICE",
+            "TWO WORDS",
+            "logon alice wonder",
+        )
         await stranger.until("LOGON OK")
-        hints = [it for it in stranger.lines if it == "TYPE LOGON NAME, AND THEN THE PASSWORD"]
+        hints = [
+            line for line in stranger.lines if line == "TYPE LOGON NAME, AND THEN THE PASSWORD"
+        ]
         check("what is no name and password is no guess", len(hints) == 4, *stranger.lines)
         stranger.type("LOGOFF")
         await stranger.rest()
         alice = await person(where)
-        check("a name and a password", await alice.logon("alice", "wonder") == "LOGON OK", *alice.lines)
+        check(
+            "a name and a password",
+            await alice.logon("alice", "wonder") == "LOGON OK",
+            *alice.lines,
+        )
         alice.type("STORE G1 0000002A", "DISPLAY G1", "", "MSG BOB HELLO")
         await alice.until("UNKNOWN COMMAND", "USER NOT LOGGED ON", "SENT")
         shown = ["LOGON OK", "STORED", "GPR 1 = 0000002A"]
         check("a terminal shows what comes of its lines", alice.lines[1:4] == shown, *alice.lines)
         other = await person(where)
-        check("another terminal", await other.logon("ALICE", "WONDER") == "RECONNECTED", *other.lines)
+        check(
+            "another terminal", await other.logon("ALICE", "WONDER") == "RECONNECTED", *other.lines
+        )
         await other.until(alice.lines[-1])
-        seen = [it for it in other.lines if it in shown]
-        check("is shown what was typed and answered", seen == shown and "STORE G1 0000002A" in other.lines, *other.lines)
-        check("and the first one is told", (await alice.rest())[-1] == "ANOTHER TERMINAL TAKES OVER", *alice.lines)
+        seen = [line for line in other.lines if line in shown]
+        check(
+            "is shown what was typed and answered",
+            seen == shown and "STORE G1 0000002A" in other.lines,
+            *other.lines,
+        )
+        check(
+            "and the first one is told",
+            (await alice.rest())[-1] == "ANOTHER TERMINAL TAKES OVER",
+            *alice.lines,
+        )
         other.go()
         bob = await person(where)
         await bob.logon("BOB", "BUILDER")
@@ -545,7 +648,11 @@ def try_logging_on(check, site):
         back.type("LOGOFF")
         check("LOGOFF closes", (await back.rest())[-1] == "LOGOFF OK", *back.lines)
         again = await person(where)
-        check("and the machine was off", await again.logon("ALICE", "WONDER") == "LOGON OK", *again.lines)
+        check(
+            "and the machine was off",
+            await again.logon("ALICE", "WONDER") == "LOGON OK",
+            *again.lines,
+        )
         again.type("DISPLAY G1")
         await again.until("GPR 1 = 00000000")
         check("with fresh registers", True)
@@ -557,30 +664,45 @@ def try_logging_on(check, site):
     run(tried())
     site.operate("end")
     status = site.ended()
-    check("an end where nobody is on", status == 0 and "the session has ended" in site.since_start(), *site.told)
+    check(
+        "an end where nobody is on",
+        status == 0 and "the session has ended" in site.since_start(),
+        *site.findings,
+    )
     written = "".join(read_all(site.folder))
-    secrets = [it for it in ("WONDER", "BUILDER", "SECRET") if it in written]
+    secrets = [name for name in ("WONDER", "BUILDER", "SECRET") if name in written]
     check("no password is recorded", not secrets, *secrets)
-    check("the recording is for its owner alone", os.stat(f"{site.folder}/{kept_of(site)}/recording").st_mode & 0o777 == 0o600)
+    check(
+        "the recording is for its owner alone",
+        os.stat(f"{site.folder}/{kept_of(site)}/recording").st_mode & 0o777 == 0o600,
+    )
 
 
-def try_passwords_file(check, repository, site):
+def try_passwords_file(check: Callable, repository: str, site: object) -> None:
     """People log on with the passwords of a file, which change while the installation runs."""
     path = f"{site.folder}/passwords"
 
-    def set_password(name, *words, given=""):
-        return subprocess.run([f"{repository}/bin/passwords", *words, path, name], input=given, capture_output=True, text=True)
+    def set_password(name: str, *words: object, given: str = "") -> object:
+        return subprocess.run(
+            [f"{repository}/bin/passwords", *words, path, name],
+            input=given,
+            capture_output=True,
+            text=True,
+        )
 
-    async def answer(*words):
+    async def answer(*words: object) -> object:
         one = await person(f"{site.folder}/socket")
-        told = await one.logon(*words)
+        findings = await one.logon(*words)
         one.go()
-        return told
+        return findings
 
     done = set_password("ALICE", given="Looking\nGLASS\n")
     check("a password is set", done.returncode == 0 and not done.stdout, done.stderr)
     kept = read(path)
-    check("its file is for its owner alone, and has it not", b"LOOKING" not in kept.upper() and os.stat(path).st_mode & 0o777 == 0o600)
+    check(
+        "its file is for its owner alone, and has it not",
+        b"LOOKING" not in kept.upper() and os.stat(path).st_mode & 0o777 == 0o600,
+    )
     for name, given in (("BOB", "TWO WORDS\n"), ("BOB", "\n"), ("BOB", "\xe9\n")):
         done = set_password(name, given=given)
         check(f"{given!r} is no password", done.returncode == 1 and read(path) == kept, done.stderr)
@@ -593,18 +715,22 @@ def try_passwords_file(check, repository, site):
     check("also one that is set meanwhile", run(answer("BOB", "NEW")) == "LOGON OK")
     set_password("ALICE", "--remove")
     check("and one that is removed is none", run(answer("ALICE", "LOOKING")) == "LOGON REFUSED")
-    check("it is suspended", site.stop() == 0, *site.told)
+    check("it is suspended", site.stop() == 0, *site.findings)
     write(path, b"ALICE 12 34\n")
     site.start("--passwords", path)
-    check("another file is refused", site.ended() == 1 and "line 1 is no name with a salt and a sum" in site.since_start(), *site.told)
+    check(
+        "another file is refused",
+        site.ended() == 1 and "line 1 is no name with a salt and a sum" in site.since_start(),
+        *site.findings,
+    )
 
 
-def kept_of(site):
+def kept_of(site: object) -> object:
     """The folder of the session that was ended."""
-    return max(it for it in os.listdir(site.folder) if it.startswith("recording.2"))
+    return max(item for item in os.listdir(site.folder) if item.startswith("recording.2"))
 
 
-def read_all(folder):
+def read_all(folder: str) -> Iterator:
     """What the files of a folder have, but for its directory."""
     for path, _, names in os.walk(folder):
         for name in names:
@@ -613,10 +739,10 @@ def read_all(folder):
                     yield file.read()
 
 
-def try_recovery(check, site, program):
+def try_recovery(check: Callable, site: object, program: str) -> None:
     """Kills, a torn end, and one who goes on with what he was shown."""
 
-    async def on_and_count(rounds):
+    async def on_and_count(rounds: object) -> tuple:
         alice = await person(f"{site.folder}/socket")
         first = await alice.logon("ALICE", "WONDER")
         for count in rounds:
@@ -636,37 +762,51 @@ def try_recovery(check, site, program):
     check("a start goes on where a kill was, and cuts a torn end", holds, *lines)
     site.kill(is_all=True)
     site.online()
-    other = subprocess.run([site.command, *site.words, *site.paths], capture_output=True, text=True, stdin=subprocess.DEVNULL)
-    check("a second one is refused", other.returncode == 1 and "another installation goes on" in other.stderr, other.stderr)
+    other = subprocess.run(
+        [site.command, *site.words, *site.paths],
+        capture_output=True,
+        text=True,
+        stdin=subprocess.DEVNULL,
+    )
+    check(
+        "a second one is refused",
+        other.returncode == 1 and "another installation goes on" in other.stderr,
+        other.stderr,
+    )
     run(on_and_count(range(6, 7)))
-    check("a suspension ends well", site.stop() == 0, *site.told)
+    check("a suspension ends well", site.stop() == 0, *site.findings)
     done, shown = replayed(program, site.paths[0], site.record)
-    wanted = [it for count in range(1, 7) for it in ("STORED", f"GPR 1 = {count:08X}")]
-    check("the recording is a script that shows the same", shown.get("ALICE") == ["LOGON OK", *wanted], done.stderr, *shown)
+    wanted = [item for count in range(1, 7) for item in ("STORED", f"GPR 1 = {count:08X}")]
+    check(
+        "the recording is a script that shows the same",
+        shown.get("ALICE") == ["LOGON OK", *wanted],
+        done.stderr,
+        *shown,
+    )
     fill_disk(check, site, program)
     refuse_other(check, site)
 
 
-def fill_disk(check, site, program):
+def fill_disk(check: Callable, site: object, program: str) -> None:
     """Where the disk is full it ends, and nothing was shown that is not in the recording."""
 
-    async def type_on():
+    async def type_on() -> object:
         alice = await person(f"{site.folder}/socket")
         await alice.logon("ALICE", "WONDER")
-        alice.type(*(f"STORE G1 {it:08X}" for it in range(1000)))
+        alice.type(*(f"STORE G1 {number:08X}" for number in range(1000)))
         return await alice.rest()
 
     site.online(most_bytes=os.path.getsize(site.record) + 2000)
     lines = run(type_on())
-    check("it ends where the disk is full", site.ended() == 3, *site.told)
+    check("it ends where the disk is full", site.ended() == 3, *site.findings)
     count = lines.count("STORED")
     site.online()
-    check("and goes on when it is not", site.stop() == 0, *site.told)
+    check("and goes on when it is not", site.stop() == 0, *site.findings)
     _, shown = replayed(program, site.paths[0], site.record)
     check("with all that was shown", 0 < count <= shown["ALICE"].count("STORED"), f"{count}")
 
 
-def refuse_other(check, site):
+def refuse_other(check: Callable, site: object) -> None:
     """A recording is of one directory, whatever its passwords, and of one number of frames."""
     with open(site.paths[0]) as file:
         before = file.read()
@@ -674,29 +814,29 @@ def refuse_other(check, site):
         "other numbers of --frames": (before, ["--frames", "99"]),
         "another directory": (before + "USER MORE PW 64K\n", []),
     }
-    for told, (directory, more) in cases.items():
+    for findings, (directory, more) in cases.items():
         with open(site.paths[0], "w") as file:
             file.write(directory)
         words = [site.command, *site.words, *site.paths, *more]
         done = subprocess.run(words, capture_output=True, text=True, stdin=subprocess.DEVNULL)
-        check(f"{told} is told", done.returncode == 1 and told in done.stderr, done.stderr)
+        check(f"{findings} is told", done.returncode == 1 and findings in done.stderr, done.stderr)
     with open(site.paths[0], "w") as file:
         file.write(before.replace("WONDER", "LOOKING"))
     site.online()
-    check("a changed password is no other directory", site.stop() == 0, *site.told)
+    check("a changed password is no other directory", site.stop() == 0, *site.findings)
 
 
-def try_silence(check, site):
+def try_silence(check: Callable, site: object) -> None:
     """An operator who does not read keeps nobody waiting."""
 
-    async def come_and_go():
+    async def come_and_go() -> None:
         for _ in range(2):
             people = [await person(f"{site.folder}/socket") for _ in range(20)]
-            for it in people:
-                it.type("LOGON ALICE WONDER")
-            for it in people:
-                await it.until("LOGON OK", "RECONNECTED", "ANOTHER TERMINAL TAKES OVER")
-                it.go()
+            for item in people:
+                item.type("LOGON ALICE WONDER")
+            for item in people:
+                await item.until("LOGON OK", "RECONNECTED", "ANOTHER TERMINAL TAKES OVER")
+                item.go()
 
     site.online()
     for _ in range(300):
@@ -709,10 +849,10 @@ def try_silence(check, site):
     site.process.communicate()
 
 
-def try_computing(check, site):
+def try_computing(check: Callable, site: object) -> None:
     """A guest that computes is dealt turns while others type; where all wait no time is taken."""
 
-    async def tried():
+    async def tried() -> None:
         alice, bob = await person(f"{site.folder}/socket"), await person(f"{site.folder}/socket")
         await alice.logon("ALICE", "WONDER")
         await bob.logon("BOB", "BUILDER")
@@ -725,7 +865,11 @@ def try_computing(check, site):
         alice.type("#CP", "DISPLAY G1")
         while not (await alice.line()).startswith("GPR 1 = "):
             pass
-        check("turns are dealt to who computes", int(alice.lines[-1].split()[-1], 16) > 0, *alice.lines)
+        check(
+            "turns are dealt to who computes",
+            int(alice.lines[-1].split()[-1], 16) > 0,
+            *alice.lines,
+        )
         took = await idle_ticks(site)
         check("no processor time where all wait", took <= 1, f"{took} ticks of the host")
         alice.go()
@@ -736,15 +880,19 @@ def try_computing(check, site):
     recording = read(site.record)
     check("who runs has ticks", b"\nTICK ALICE\n" in recording and b"TICK BOB" not in recording)
     site.operate("status")
-    check("the operator is told", site.await_told("2 on, 0 about to log on") and "all wait" in site.since_start(), *site.told)
+    check(
+        "the operator is told",
+        site.await_message("2 on, 0 about to log on") and "all wait" in site.since_start(),
+        *site.findings,
+    )
     site.operate("message GOOD NIGHT")
     site.operate("end")
-    check("no end while somebody is on", site.await_told("still on: ALICE BOB"), *site.told)
+    check("no end while somebody is on", site.await_message("still on: ALICE BOB"), *site.findings)
     site.operate("end now")
-    check("unless it is asked for", site.ended() == 0, *site.told)
+    check("unless it is asked for", site.ended() == 0, *site.findings)
 
 
-def processor_ticks(site):
+def processor_ticks(site: object) -> object:
     """The processor time that the command and its program took until now, in ticks of the host."""
     total = 0
     for process in (site.process.pid, site.program()):
@@ -754,7 +902,7 @@ def processor_ticks(site):
     return total
 
 
-async def idle_ticks(site):
+async def idle_ticks(site: object) -> object:
     """The processor time that they take in 1.5 seconds; a loaded host may need another try until all that was typed is done."""
     for _ in range(3):
         await asyncio.sleep(0.5)
@@ -766,7 +914,7 @@ async def idle_ticks(site):
     return took
 
 
-def memory_of(process):
+def memory_of(process: object) -> int:
     """The most memory that a process had, in kilobytes."""
     with open(f"/proc/{process}/status") as file:
         return int(re.search(r"VmHWM:\s+(\d+)", file.read())[1])
@@ -777,16 +925,16 @@ PRINTS = ("STORE 48 00000800", "STORE 800 0900084020000005", "STORE 840 C8C5D3D3
           "STORE 100 9C00000E9D00000E4770010482000200", "BEGIN 100")  # fmt: skip
 
 
-def try_files(check, site, prints):
+def try_files(check: Callable, site: object, prints: object) -> object:
     """Decks from folders, and printouts when they are closed; prints: what is typed to have HELLO printed, and what closes."""
     folder = f"{site.folder}/decks/BOB"
 
-    def put(name, data):
+    def put(name: str, data: bytes) -> None:
         os.makedirs(folder, exist_ok=True)
         with open(f"{folder}/{name}", "wb") as file:
             file.write(data)
 
-    async def tried():
+    async def tried() -> object:
         alice, bob = await person(f"{site.folder}/socket"), await person(f"{site.folder}/socket")
         await alice.logon("ALICE", "WONDER")
         await bob.logon("BOB", "BUILDER")
@@ -811,37 +959,73 @@ def try_files(check, site, prints):
         bob.go()
         return bob.lines
 
-    site.online("--decks", f"{site.folder}/decks", "--printouts", f"{site.folder}/prints", "--sender", "OPER")
+    site.online(
+        "--decks",
+        f"{site.folder}/decks",
+        "--printouts",
+        f"{site.folder}/prints",
+        "--sender",
+        "OPER",
+    )
     shown = run(tried())
     name = f"{site.folder}/prints/{site.session()}/PRT0001-ALICE.txt"
     holds = os.path.exists(name) and read(name) == b"HELLO\n"
     check("a printout is there when it is closed", holds, *names_in(site.folder))
-    check("decks are read in", names_in(f"{folder}/done") == ["bytes.deck", "many.deck", "text"], *names_in(f"{folder}/done"))
+    check(
+        "decks are read in",
+        names_in(f"{folder}/done") == ["bytes.deck", "many.deck", "text"],
+        *names_in(f"{folder}/done"),
+    )
     refused = names_in(f"{folder}/refused")
-    told = [open(f"{folder}/refused/{it}").read() for it in refused if it.endswith(".reason")]
-    wanted = ["it has no card\n", "a deck has cards of 80 bytes, and this one has 79 bytes\n", "card 1 is longer than 80\n"]
-    check("or refused with a reason", told == wanted and len(refused) == 6, *refused, *told)
+    findings = [
+        open(f"{folder}/refused/{item}").read() for item in refused if item.endswith(".reason")
+    ]
+    wanted = [
+        "it has no card\n",
+        "a deck has cards of 80 bytes, and this one has 79 bytes\n",
+        "card 1 is longer than 80\n",
+    ]
+    check("or refused with a reason", findings == wanted and len(refused) == 6, *refused, *findings)
     site.kill()
     os.replace(f"{folder}/done/text", f"{folder}/text")
-    site.online("--decks", f"{site.folder}/decks", "--printouts", f"{site.folder}/prints", "--sender", "OPER")
-    check("a deck that was read in before a crash is only moved", site.await_told("deck text for BOB: read in"), *site.told)
+    site.online(
+        "--decks",
+        f"{site.folder}/decks",
+        "--printouts",
+        f"{site.folder}/prints",
+        "--sender",
+        "OPER",
+    )
+    check(
+        "a deck that was read in before a crash is only moved",
+        site.await_message("deck text for BOB: read in"),
+        *site.findings,
+    )
     check("they are suspended", site.stop() == 0)
     os.unlink(name)
     site.online("--printouts", f"{site.folder}/prints")
-    check("and a printout that was taken away does not come back", site.stop() == 0 and not os.path.exists(name))
+    check(
+        "and a printout that was taken away does not come back",
+        site.stop() == 0 and not os.path.exists(name),
+    )
     with open(site.record, "rb") as file:
         before = file.read()
     check("what is written is noted", before.count(b"* PRINTED PRT0001-ALICE.txt\n") == 1)
     write(site.record, without_sums(before).replace(b"* PRINTED PRT0001-ALICE.txt\n", b""))
     site.online("--printouts", f"{site.folder}/prints")
-    check("one that a crash kept from being written is", site.await_told(f"closed: {name}") and read(name) == b"HELLO\n")
+    check(
+        "one that a crash kept from being written is",
+        site.await_message(f"closed: {name}") and read(name) == b"HELLO\n",
+    )
     check("they are suspended again", site.stop() == 0)
     with open(site.record, "rb") as file:
-        check("one deck was given once", file.read().count(b"DECK BOB 2\nFIRST CARD\nSECOND\n") == 1)
+        check(
+            "one deck was given once", file.read().count(b"DECK BOB 2\nFIRST CARD\nSECOND\n") == 1
+        )
     return shown
 
 
-def try_report(check, repository, site, looks):
+def try_report(check: Callable, repository: str, site: object, looks: object) -> None:
     """A page of a recording, without outside parts."""
     out = f"{site.folder}/page.html"
     words = [f"{repository}/bin/report", "--looks", str(looks), site.record, out]
@@ -849,57 +1033,73 @@ def try_report(check, repository, site, looks):
     page = read(out).decode() if os.path.exists(out) else ""
     wanted = [">LOGON</span>", ">LOGON OK</span>", "HELLO", 'class="card"', 'class="paper"', "units</title>", '<a href="#ALICE">',
               '<h2 id="ALICE">', "1 connections", " UTC<td>", '<time class="when">']  # fmt: skip
-    lacking = [it for it in wanted if it not in page]
-    check("a page of a recording", done.returncode == 0 and not lacking, done.stderr, *lacking)
+    absent = [item for item in wanted if item not in page]
+    check("a page of a recording", done.returncode == 0 and not absent, done.stderr, *absent)
     outside = re.findall(r"src=|href=(?!\"#)|url\(|https?:|<script|<link|@import", page)
     check("has no outside parts", not outside, *outside)
     os.rename(site.paths[0], f"{site.folder}/moved")
     done = subprocess.run(words, capture_output=True, text=True)
-    check("a directory that is gone", done.returncode == 1 and "the directory is not there as it was" in done.stderr, done.stderr)
-    done = subprocess.run([*words, "--directory", f"{site.folder}/moved"], capture_output=True, text=True)
+    check(
+        "a directory that is gone",
+        done.returncode == 1 and "the directory is not there as it was" in done.stderr,
+        done.stderr,
+    )
+    done = subprocess.run(
+        [*words, "--directory", f"{site.folder}/moved"], capture_output=True, text=True
+    )
     check("or was moved", done.returncode == 0, done.stderr)
 
 
-def names_in(folder):
+def names_in(folder: str) -> list:
     return sorted(os.listdir(folder)) if os.path.exists(folder) else []
 
 
-def image_of(serial, version):
+def image_of(serial: str, version: object) -> object:
     """A volume of one cylinder without a record."""
-    whole = b"CKD%d" % version + serial.ljust(6).encode() + b"\0\1" + b"".join(bytes([0, 0, 0, 0, head, 0]) for head in range(19))
+    whole = (
+        b"CKD%d" % version
+        + serial.ljust(6).encode()
+        + b"\0\1"
+        + b"".join(bytes([0, 0, 0, 0, head, 0]) for head in range(19))
+    )
     return whole + (bytes(4) if version == 2 else b"")
 
 
-def try_ending(check, site):
+def try_ending(check: Callable, site: object) -> None:
     """What becomes of volumes: a suspension saves none, an end saves all, and so does a start after a crash in an end's midst."""
-    old = [image_of(it, 1) for it in ("V1", "V2")]
-    volumes = [f"{site.folder}/{it}" for it in ("one", "two")]
+    old = [image_of(name, 1) for name in ("V1", "V2")]
+    volumes = [f"{site.folder}/{name}" for name in ("one", "two")]
     site.paths += volumes
 
-    def has(images):
-        return [read(it) for it in volumes] == images
+    def has(images: object) -> bool:
+        return [read(volume) for volume in volumes] == images
 
-    def is_kept(folder):
-        return [read(f"{site.folder}/{folder}/volume-{it}") for it in (1, 2)] == old
+    def is_kept(folder: str) -> bool:
+        return [read(f"{site.folder}/{folder}/volume-{item}") for item in (1, 2)] == old
 
     for path, data in zip(volumes, old):
         write(path, data)
     os.chmod(volumes[0], 0o640)
     site.online()
     run(logged_on(site, "ALICE", "WONDER"))
-    check("a suspension saves nothing", site.stop() == 0 and has(old), *site.told)
+    check("a suspension saves nothing", site.stop() == 0 and has(old), *site.findings)
     site.online()
     site.kill()
     check("and neither does a kill", has(old))
     site.online()
     site.operate("end now")
     status = site.ended()
-    new = [read(it) for it in volumes]
+    new = [read(volume) for volume in volumes]
     first = kept_of(site)
-    holds = status == 0 and new != old and old[0] not in new and old[1] not in new and is_kept(first)
-    check("an end saves all, and keeps what was there", holds, f"status {status}", *site.told)
+    holds = (
+        status == 0 and new != old and old[0] not in new and old[1] not in new and is_kept(first)
+    )
+    check("an end saves all, and keeps what was there", holds, f"status {status}", *site.findings)
     check("for the same people", os.stat(volumes[0]).st_mode & 0o777 == 0o640)
-    check("and the recording goes with it", "directory" in names_in(f"{site.folder}/{first}") and not os.path.exists(site.record))
+    check(
+        "and the recording goes with it",
+        "directory" in names_in(f"{site.folder}/{first}") and not os.path.exists(site.record),
+    )
     # a crash between the two volumes, and one before any was saved
     os.replace(f"{site.folder}/{first}/recording", site.record)
     folder = re.search(r"^\* SAVED (\S+)", read(site.record).decode(), re.M)[1]
@@ -909,7 +1109,11 @@ def try_ending(check, site):
     write(f"{site.folder}/{folder}/directory", read(f"{site.folder}/{first}/directory"))
     write(volumes[1], old[1])
     site.online()
-    check("a start finishes saving", has(new) and is_kept(first) and "the session has ended" in site.since_start(), *site.told)
+    check(
+        "a start finishes saving",
+        has(new) and is_kept(first) and "the session has ended" in site.since_start(),
+        *site.findings,
+    )
     run(logged_on(site, "ALICE", "WONDER"))
     site.kill()
     for path, data in zip(volumes, old):
@@ -919,18 +1123,23 @@ def try_ending(check, site):
     base = read(f"{site.folder}/{first}/recording").split(b"* BEGUN")[0]
     write(site.record, without_sums(base + b"* BEGUN" + whole.split(b"* BEGUN")[1]) + b"* END\n")
     site.online()
-    done = [it for it in names_in(site.folder) if it.startswith("recording.2")]
-    check("and an end that was begun", has(new) and len(done) == 2 and is_kept(done[1]), *site.told, *done)
+    done = [item for item in names_in(site.folder) if item.startswith("recording.2")]
+    check(
+        "and an end that was begun",
+        has(new) and len(done) == 2 and is_kept(done[1]),
+        *site.findings,
+        *done,
+    )
     site.operate("end now")
-    check("then it is online again, and takes commands", site.ended() == 0, *site.told)
+    check("then it is online again, and takes commands", site.ended() == 0, *site.findings)
 
 
-def without_sums(recording):
+def without_sums(recording: object) -> object:
     """A recording as it was made before stamps had sums."""
     return re.sub(rb"(?m)^(\* [0-9: -]{19} UTC) [0-9a-f]{8}$", rb"\1", recording)
 
 
-async def logged_on(site, name, password):
+async def logged_on(site: object, name: str, password: str) -> object:
     """Logs on, and leaves."""
     one = await person(f"{site.folder}/socket")
     answer = await one.logon(name, password)
@@ -938,28 +1147,28 @@ async def logged_on(site, name, password):
     return answer
 
 
-def read(path):
+def read(path: str) -> object:
     with open(path, "rb") as file:
         return file.read()
 
 
-def write(path, data):
+def write(path: str, data: bytes) -> None:
     with open(path, "wb") as file:
         file.write(data)
 
 
-def write_text(path, text):
+def write_text(path: str, text: str) -> None:
     write(path, text.encode())
 
 
-async def on(site, name="ALICE", password="WONDER"):
+async def on(site: object, name: str = "ALICE", password: str = "WONDER") -> object:
     """Somebody who has logged on."""
     one = await person(f"{site.folder}/socket")
     await one.logon(name, password)
     return one
 
 
-def try_all(check, repository, folder, is_stand_in):
+def try_all(check: Callable, repository: str, folder: str, is_stand_in: object) -> None:
     """All that is tried in seconds."""
     command = f"{repository}/bin/installation"
     program = f"{repository}/crates/vm370_cli/out/vm370_cli"
@@ -974,5 +1183,9 @@ def try_all(check, repository, folder, is_stand_in):
     try_report(check, repository, site, 0)
     if not is_stand_in:
         wanted = ["FROM OPER CARDS 2", "FROM OPER CARDS 100", "FROM SYSTEM CARDS 2"]
-        check("decks come to the reader", [it[10:] for it in shown if it.startswith("FILE ")] == wanted, *shown)
+        check(
+            "decks come to the reader",
+            [item[10:] for item in shown if item.startswith("FILE ")] == wanted,
+            *shown,
+        )
     try_ending(check, make_site(command, f"{folder}/ending"))

@@ -1,4 +1,7 @@
-"""What an installation meets in months: users' files, faulty files, edits, failing programs. Called by .ci/test-people."""
+"""What an installation meets in months: users' files, faulty files, edits, failing programs. Called by .ci/test-people.py."""
+from __future__ import annotations
+
+from collections.abc import Callable
 import asyncio
 import os
 import re
@@ -7,13 +10,25 @@ import socket
 import subprocess
 import time
 
-from installation import kept_of, logged_on, make_site, names_in, on, person, read, replayed, run, until_so, write_text as write
+from installation import (
+    kept_of,
+    logged_on,
+    make_site,
+    names_in,
+    on,
+    person,
+    read,
+    replayed,
+    run,
+    until_so,
+    write_text as write,
+)
 
 
 # --- users' files ---
 
 
-def try_decks(check, site):
+def try_decks(check: Callable, site: object) -> None:
     """Nothing in a user's folder reaches beyond that user, and each file that fails is reported once."""
     decks = f"{site.folder}/decks"
     alice, bob = f"{decks}/ALICE", f"{decks}/BOB"
@@ -21,7 +36,11 @@ def try_decks(check, site):
     os.makedirs(f"{bob}/done/card")
     os.makedirs(f"{site.folder}/others")
     site.online("--decks", decks)
-    check("folders are made for all who have a reader", names_in(decks) == ["ALICE", "BOB", "OPER"], *names_in(decks))
+    check(
+        "folders are made for all who have a reader",
+        names_in(decks) == ["ALICE", "BOB", "OPER"],
+        *names_in(decks),
+    )
     # a file in the place of the folder for what is read in, a folder with the name of a card file, and links
     write(f"{alice}/done", "IN THE WAY\n")
     write(f"{alice}/card", "A CARD\n")
@@ -31,65 +50,86 @@ def try_decks(check, site):
     os.mkfifo(f"{bob}/pipe")
     os.symlink(f"{site.folder}/others", f"{decks}/OPER/done")
     write(f"{decks}/OPER/card", "C CARD\n")
-    is_told = all(site.await_told(f"deck {told}") for told in ("card for ALICE: Not a directory", "card for BOB: read in",
+    is_reported = all(site.await_message(f"deck {findings}") for findings in ("card for ALICE: Not a directory", "card for BOB: read in",
                   "name for BOB: the file has another name", "card for OPER: "))  # fmt: skip
-    check("files that cannot be moved are reported", is_told, *site.told)
-    check("a name that is taken gets a number", names_in(f"{bob}/done") == ["card", "card.2"], *names_in(f"{bob}/done"))
+    check("files that cannot be moved are reported", is_reported, *site.findings)
+    check(
+        "a name that is taken gets a number",
+        names_in(f"{bob}/done") == ["card", "card.2"],
+        *names_in(f"{bob}/done"),
+    )
     run(logged_on(site, "ALICE", "WONDER"))
     write(f"{bob}/later", "B LATER\n")
-    check("others' files are read in meanwhile", site.await_told("deck later for BOB: read in"), *site.told)
-    told = site.since_start()
-    holds = all(told.count(f" deck {name}") == 1 for name in ("card for ALICE", "name for BOB", "card for OPER"))
-    check("each file is reported once", holds, told)
+    check(
+        "others' files are read in meanwhile",
+        site.await_message("deck later for BOB: read in"),
+        *site.findings,
+    )
+    findings = site.since_start()
+    holds = all(
+        findings.count(f" deck {name}") == 1
+        for name in ("card for ALICE", "name for BOB", "card for OPER")
+    )
+    check("each file is reported once", holds, findings)
     os.unlink(f"{alice}/done")
-    check("and moved when it can be", site.await_told("deck card for ALICE: read in"), *site.told)
-    check("it is suspended", site.stop() == 0, *site.told)
+    check(
+        "and moved when it can be",
+        site.await_message("deck card for ALICE: read in"),
+        *site.findings,
+    )
+    check("it is suspended", site.stop() == 0, *site.findings)
     recording = read(site.record)
-    given = [recording.count(f"\n{it} CARD\n".encode()) for it in "ABC"]
+    given = [recording.count(f"\n{item} CARD\n".encode()) for item in "ABC"]
     check("each deck was given once", given == [1, 1, 1], *map(str, given))
-    reached = [b"OPERATOR" in recording, bool(names_in(f"{site.folder}/others")), os.path.exists(f"{bob}/done/link")]
+    reached = [
+        b"OPERATOR" in recording,
+        bool(names_in(f"{site.folder}/others")),
+        os.path.exists(f"{bob}/done/link"),
+    ]
     check("no link was followed", not any(reached), *map(str, reached))
     site.online("--decks", decks)
-    check("a start takes the same folders", site.stop() == 0, *site.told)
+    check("a start takes the same folders", site.stop() == 0, *site.findings)
 
 
 class GivenParts:
     """An engine that notes what it is given, and does something meanwhile."""
 
-    def __init__(self, users, meanwhile=None):
+    def __init__(self, users: list, meanwhile: object = None) -> None:
         self.users, self.meanwhile = users, meanwhile
         self.recording = self
         self.decks, self.parts = set(), []
 
-    def note(self, mark):
+    def note(self, mark: object) -> None:
         pass
 
-    async def give(self, part):
+    async def give(self, part: bytes) -> None:
         self.parts.append(part.lines)
         if self.meanwhile:
             await self.meanwhile()
 
 
-def try_removed_deck(check, folder):
+def try_removed_deck(check: Callable, folder: str) -> None:
     """A user removes his file while it is read in: only this file is reported."""
-    from decks import Folders
+    from gathjumli.decks import Folders
 
-    async def remove():
+    async def remove() -> None:
         os.unlink(f"{folder}/decks/A/card")
 
-    async def watched():
-        engine, told = GivenParts({"A": None}, remove), []
-        folders = Folders(f"{folder}/decks", engine, {"A"}, None, told.append)
+    async def watched() -> tuple:
+        engine, findings = GivenParts({"A": None}, remove), []
+        folders = Folders(f"{folder}/decks", engine, {"A"}, None, findings.append)
         folders.make()
         write(f"{folder}/decks/A/card", "A CARD\n")
         watching = asyncio.create_task(folders.watch())
-        await until_so(lambda: told)
+        await until_so(lambda: findings)
         watching.cancel()
-        return told, engine.parts, watching
+        return findings, engine.parts, watching
 
-    told, parts, watching = run(watched())
-    holds = len(parts) == 1 and told == ["deck card for A: No such file or directory; the file is skipped until it changes"]
-    check("a file that is removed while it is read in", holds, *told)
+    findings, parts, watching = run(watched())
+    holds = len(parts) == 1 and findings == [
+        "deck card for A: No such file or directory; the file is skipped until it changes"
+    ]
+    check("a file that is removed while it is read in", holds, *findings)
 
 
 # --- connections ---
@@ -98,11 +138,11 @@ def try_removed_deck(check, folder):
 class Streams:
     """Both sides of a connection that fails as the network says."""
 
-    def __init__(self, *lines):
+    def __init__(self, *lines: object) -> None:
         self.lines, self.written, self.is_gone = list(lines), b"", False
         self.transport = self
 
-    async def read(self, _):
+    async def read(self, _: int) -> object:
         line = self.lines.pop(0)
         if callable(line):
             await line()
@@ -111,71 +151,78 @@ class Streams:
             raise line
         return line
 
-    def write(self, data):
+    def write(self, data: bytes) -> None:
         self.written += data
 
-    def get_write_buffer_size(self):
+    def get_write_buffer_size(self) -> int:
         return 0
 
-    def get_extra_info(self, name):
+    def get_extra_info(self, name: str) -> object:
         return ("10.0.0.5", 2000) if name == "peername" else socket.socket()
 
-    def is_closing(self):
+    def is_closing(self) -> object:
         return self.is_gone
 
-    def close(self):
+    def close(self) -> None:
         self.is_gone = True
 
     abort = close
 
 
-def desk_program(program):
+def desk_program(program: str) -> str:
     """The program that is the desk, next to the one of the machines."""
     return program.replace("vm370_cli", "logon_desk_cli")
 
 
-def desk_of(engine, program):
-    from logon import Passwords
-    from terminals import Desk
+def desk_of(engine: object, program: str) -> tuple:
+    from gathjumli.logon import Passwords
+    from gathjumli.logon_server import LogonServer
 
-    told = []
-    desk = Desk(engine, Passwords({"A": "SECRET"}), told.append, program)
+    findings = []
+    desk = LogonServer(engine, Passwords({"A": "SECRET"}), findings.append, program)
     desk.open()
-    return desk, told
+    return desk, findings
 
 
-def try_lost_connection(check, program):
+def try_lost_connection(check: Callable, program: str) -> None:
     """A connection that the network gives up leaves its user at no terminal, whatever the fault is."""
-    from engine import User
+    from gathjumli.engine import User
 
-    async def served(fault):
+    async def served(fault: object) -> object:
         user = User("A")
         user.is_on = True
-        streams = Streams(b"LOGON A SECRET\n", lambda: until_so(lambda: b"RECONNECTED" in streams.written), fault)
-        desk, told = desk_of(GivenParts({"A": user}), program)
+        streams = Streams(
+            b"LOGON A SECRET\n", lambda: until_so(lambda: b"RECONNECTED" in streams.written), fault
+        )
+        desk, findings = desk_of(GivenParts({"A": user}), program)
         await desk.serve(streams, streams)
-        is_told = told == ["A is back from 10.0.0.5", "A leaves his terminal"]
+        is_reported = findings == ["A is back from 10.0.0.5", "A leaves his terminal"]
         is_gone = not user.terminal.is_there and not desk.places and not desk.serving
         await desk.shut()
-        return is_told and is_gone
+        return is_reported and is_gone
 
-    for fault in (TimeoutError(110, "Connection timed out"), OSError(113, "No route to host"), ConnectionResetError(), b""):
+    for fault in (
+        TimeoutError(110, "Connection timed out"),
+        OSError(113, "No route to host"),
+        ConnectionResetError(),
+        b"",
+    ):
         check(f"a connection that ends with {fault!r}", run(served(fault)))
 
 
-def try_two_logons(check, program):
+def try_two_logons(check: Callable, program: str) -> None:
     """A user who logs on at two terminals while LOGON is under way is logged on once, and the second terminal takes over."""
-    from engine import User
+    from gathjumli.engine import User
 
-    async def served():
+    async def served() -> tuple:
         user, goes_on = User("A"), asyncio.Event()
 
-        async def slowly():
+        async def slowly() -> None:
             await goes_on.wait()
             user.become("ON")
 
         engine = GivenParts({"A": user}, slowly)
-        desk, told = desk_of(engine, program)
+        desk, findings = desk_of(engine, program)
         ends = asyncio.Event()
         one, other = (Streams(b"LOGON A SECRET\n", ends.wait) for _ in range(2))
         serving = [asyncio.create_task(desk.serve(one, one))]
@@ -187,11 +234,11 @@ def try_two_logons(check, program):
         ends.set()
         await asyncio.wait(serving, timeout=10)
         await desk.shut()
-        return engine.parts, told, one.written, other.written
+        return engine.parts, findings, one.written, other.written
 
-    parts, told, one, other = run(served())
+    parts, findings, one, other = run(served())
     holds = parts == [b"LINE A LOGON\n"] and b"TAKES OVER" in one and b"RECONNECTED" in other
-    check("two logons at the same time", holds, *parts, *told, one, other)
+    check("two logons at the same time", holds, *parts, *findings, one, other)
 
 
 # --- long listings ---
@@ -214,29 +261,33 @@ A: LAST
 """
 
 
-def try_answers(check):
+def try_answers(check: Callable) -> None:
     """What a program answers is understood wherever it is cut."""
-    from following import Answers, Came, Refused
+    from gathjumli.following import Answers, PartResult, Refused
 
     wanted = [
-        Came(["A: STORED", "= A 12 WAIT"], [("== PRT 0001 A", b"> |09 HELLO\n> |09 > == PRT 0002 A\n"), ("== PUN 0002 B", b"")],
+        PartResult(["A: STORED", "= A 12 WAIT"], [("== PRT 0001 A", b"> |09 HELLO\n> |09 > == PRT 0002 A\n"), ("== PUN 0002 B", b"")],
              [("ON", "A")], True),
         Refused(3),
-        Came(["A: LAST"], [("== PRT 0003 A", b"> |01\n")], [], False),
+        PartResult(["A: LAST"], [("== PRT 0003 A", b"> |01\n")], [], False),
     ]  # fmt: skip
     for size in (1, 2, 3, 7, 20, 50, len(ANSWERS)):
         answers = Answers()
-        found = [answer for at in range(0, len(ANSWERS), size) for answer in answers.feed(ANSWERS[at : at + size])]
+        found = [
+            answer
+            for at in range(0, len(ANSWERS), size)
+            for answer in answers.feed(ANSWERS[at : at + size])
+        ]
         check(f"answers in pieces of {size} bytes", found == wanted, *map(str, found))
 
 
 LINES = 500000
 
 
-def try_listing(check, site):
+def try_listing(check: Callable, site: object) -> None:
     """While pages of a long listing are made others are answered as fast as before, at the 99th hundredth."""
 
-    async def answered(one, until):
+    async def answered(one: object, until: object) -> object:
         took = []
         while not until():
             begun = time.monotonic()
@@ -245,7 +296,7 @@ def try_listing(check, site):
             took.append(time.monotonic() - begun)
         return sorted(took)[int(len(took) * 0.99)]
 
-    async def tried():
+    async def tried() -> tuple:
         alice, bob = await person(f"{site.folder}/socket"), await person(f"{site.folder}/socket")
         await alice.logon("ALICE", "WONDER")
         await bob.logon("BOB", "BUILDER")
@@ -262,11 +313,16 @@ def try_listing(check, site):
 
     site.online("--printouts", f"{site.folder}/prints")
     before, meanwhile, lines = run(tried())
-    told = f"before {1000 * before:.0f} ms, meanwhile {1000 * meanwhile:.0f} ms"
+    findings = f"before {1000 * before:.0f} ms, meanwhile {1000 * meanwhile:.0f} ms"
     # on a host that is busy with others everybody waits for that; lines that are struck in the engine took 50 s
     bound = 0.1 if os.getloadavg()[0] < os.cpu_count() else 1
-    check(f"a listing of {LINES} lines keeps nobody waiting", meanwhile < max(bound, 3 * before) and lines == LINES, told, f"{lines}")
-    check("it is suspended", site.stop() == 0, *site.told)
+    check(
+        f"a listing of {LINES} lines keeps nobody waiting",
+        meanwhile < max(bound, 3 * before) and lines == LINES,
+        findings,
+        f"{lines}",
+    )
+    check("it is suspended", site.stop() == 0, *site.findings)
 
 
 # --- recordings and volumes that were changed ---
@@ -275,45 +331,87 @@ def try_listing(check, site):
 class SomeBase:
     """What a recording of no session is of."""
 
-    def lines(self):
-        return [b"* GATHJUMLI RECORDING 1", b"* PROGRAM 1", b"* DIRECTORY a /x", b"* SIZES 16 0", b"* VOLUME b /y"]
+    def lines(self) -> list:
+        return [
+            b"* GATHJUMLI RECORDING 1",
+            b"* PROGRAM 1",
+            b"* DIRECTORY a /x",
+            b"* SIZES 16 0",
+            b"* VOLUME b /y",
+        ]
 
 
 WHOLE = (b"LINE A LOGON\n", b"LINE A STORE G1 0000000A\n", b"DECK A 2\nFIRST CARD\nSECOND CARD\n", b"AUTO 7\n", b"LINE A #CP\n",
          b"LINE B LOGON\nLINE A DISPLAY G1\n")  # fmt: skip
 
 
-def changed(line, by):
+def changed(line: int, by: Callable) -> Callable:
     """An edit that puts these lines in the place of one."""
     return lambda lines: lines[: line - 1] + by(lines[line - 1]) + lines[line:]
 
 
 # each edit of the recording above, and what has to be reported of it: lines 1 to 7 are its beginning, and each part has a stamp
 EDITS = {
-    "a digit of a typed line": (changed(10, lambda it: [it.replace(b"A\n", b"B\n")]), "line 10 is not as written"),
-    "a digit of turns": (changed(16, lambda it: [b"AUTO 8\n"]), "line 16 is not as written"),
-    "a card": (changed(14, lambda it: [b"SECOND CARE\n"]), "lines 12 to 14 are not as written"),
-    "a line that is taken out": (changed(18, lambda it: []), "line 18 is not as written"),
-    "a line that is put in": (changed(18, lambda it: [it, it]), "lines 18 to 19 are not as written"),
-    "two lines that change places": (lambda it: it[:19] + [it[20], it[19]] + it[21:], "lines 20 to 21 are not as written"),
-    "more cards than there are": (changed(12, lambda it: [b"DECK A 200\n"]), "line 12 has more cards than follow it"),
-    "fewer cards than there are": (changed(12, lambda it: [b"DECK A 1\n"]), "line 14 is no line of a recording"),
-    "a time": (changed(17, lambda it: [it.replace(b"* 2", b"* 1")]), "line 18 is not as written"),
-    "a sum": (changed(17, lambda it: [it[:-9] + b"01234567\n"]), "or the sum in line 17 is not"),
-    "a sum that is taken out": (changed(17, lambda it: [it[:-10] + b"\n"]), "line 17 has no sum"),
-    "a stamp that is taken out": (changed(17, lambda it: []), "lines 16 to 17 are not as written"),
-    "the beginning": (changed(6, lambda it: []), "line 6 comes before any line BEGUN"),
-    "the sizes": (changed(4, lambda it: [b"* SIZES 16 1\n"]), "lines 1 to 6 are not as written"),
-    "a line that is none": (changed(10, lambda it: [b"LNIE A\n"]), "line 10 is no line of a recording"),
-    "a line after the last one": (lambda it: it + [b"NOTES\n"], "line 23 is no line of a recording"),
-    "all that follows": (lambda it: it[:17] + [b"\0" * 99 + b"\n"], "line 18 is no line of a recording"),
+    "a digit of a typed line": (
+        changed(10, lambda item: [item.replace(b"A\n", b"B\n")]),
+        "line 10 is not as written",
+    ),
+    "a digit of turns": (changed(16, lambda item: [b"AUTO 8\n"]), "line 16 is not as written"),
+    "a card": (changed(14, lambda item: [b"SECOND CARE\n"]), "lines 12 to 14 are not as written"),
+    "a line that is taken out": (changed(18, lambda item: []), "line 18 is not as written"),
+    "a line that is put in": (
+        changed(18, lambda item: [item, item]),
+        "lines 18 to 19 are not as written",
+    ),
+    "two lines that change places": (
+        lambda item: item[:19] + [item[20], item[19]] + item[21:],
+        "lines 20 to 21 are not as written",
+    ),
+    "more cards than there are": (
+        changed(12, lambda item: [b"DECK A 200\n"]),
+        "line 12 has more cards than follow it",
+    ),
+    "fewer cards than there are": (
+        changed(12, lambda item: [b"DECK A 1\n"]),
+        "line 14 is no line of a recording",
+    ),
+    "a time": (
+        changed(17, lambda item: [item.replace(b"* 2", b"* 1")]),
+        "line 18 is not as written",
+    ),
+    "a sum": (
+        changed(17, lambda item: [item[:-9] + b"01234567\n"]),
+        "or the sum in line 17 is not",
+    ),
+    "a sum that is taken out": (
+        changed(17, lambda item: [item[:-10] + b"\n"]),
+        "line 17 has no sum",
+    ),
+    "a stamp that is taken out": (
+        changed(17, lambda item: []),
+        "lines 16 to 17 are not as written",
+    ),
+    "the beginning": (changed(6, lambda item: []), "line 6 comes before any line BEGUN"),
+    "the sizes": (changed(4, lambda item: [b"* SIZES 16 1\n"]), "lines 1 to 6 are not as written"),
+    "a line that is none": (
+        changed(10, lambda item: [b"LNIE A\n"]),
+        "line 10 is no line of a recording",
+    ),
+    "a line after the last one": (
+        lambda item: item + [b"NOTES\n"],
+        "line 23 is no line of a recording",
+    ),
+    "all that follows": (
+        lambda item: item[:17] + [b"\0" * 99 + b"\n"],
+        "line 18 is no line of a recording",
+    ),
 }
 
 
-def try_edits(check, folder):
+def try_edits(check: Callable, folder: str) -> None:
     """Each edit of a recording is reported by its line, with what can be done, and nothing of the file is lost."""
-    from people import Failure
-    from recording import Recording
+    from gathjumli.cli import Failure
+    from gathjumli.recording import Recording
 
     path = f"{folder}/edited"
     recording = Recording(path)
@@ -328,49 +426,71 @@ def try_edits(check, folder):
         before = read(path)
         try:
             Recording(path).close()
-            told = ["taken"]
+            findings = ["taken"]
         except Failure as failure:
-            told = failure.lines
-        holds = wanted in told[0] and "put back a copy" in told[-1] and read(path) == before
-        check(f"an edit of a recording: {what}", holds, *told)
+            findings = failure.lines
+        holds = wanted in findings[0] and "put back a copy" in findings[-1] and read(path) == before
+        check(f"an edit of a recording: {what}", holds, *findings)
     with open(path, "wb") as file:
         file.writelines(whole)
     recording = Recording(path)
-    told = recording.begin(SomeBase())
+    findings = recording.begin(SomeBase())
     recording.close()
-    check("and that it goes on", re.fullmatch(f"goes on from 22 lines of {path}, until [0-9: -]{{19}} UTC", told), told)
+    check(
+        "and that it goes on",
+        re.fullmatch(f"goes on from 22 lines of {path}, until [0-9: -]{{19}} UTC", findings),
+        findings,
+    )
 
 
-def try_volumes(check, site):
+def try_volumes(check: Callable, site: object) -> None:
     """A volume belongs to one installation at a time, and one that somebody else has changed is not written over."""
     volume = f"{site.folder}/volume"
     write(volume, "AS IT WAS\n")
     site.paths.append(volume)
     site.online()
-    other = [site.command, "--record", f"{site.folder}/other", "--listen", f"{site.folder}/other-socket", *site.paths]
+    other = [
+        site.command,
+        "--record",
+        f"{site.folder}/other",
+        "--listen",
+        f"{site.folder}/other-socket",
+        *site.paths,
+    ]
     done = subprocess.run(other, capture_output=True, text=True, stdin=subprocess.DEVNULL)
     holds = done.returncode == 1 and f"another installation uses {volume}" in done.stderr
     check("a second installation over a volume", holds, done.stderr)
     write(volume, "CHANGED\n")
     session = site.session()
     site.operate("end now")
-    check("it ends", site.ended() == 0, *site.told)
+    check("it ends", site.ended() == 0, *site.findings)
     holds = read(volume) == b"CHANGED\n" and read(f"{volume}.{session}") == b"SAVED\n"
-    check("a volume that somebody else changed", holds and "was changed by somebody else" in site.since_start(), *site.told)
-    check("is not kept as what it was", names_in(f"{site.folder}/{kept_of(site)}") == ["directory", "recording"])
+    check(
+        "a volume that somebody else changed",
+        holds and "was changed by somebody else" in site.since_start(),
+        *site.findings,
+    )
+    check(
+        "is not kept as what it was",
+        names_in(f"{site.folder}/{kept_of(site)}") == ["directory", "recording"],
+    )
     site.online()
     site.operate("end now")
-    holds = site.ended() == 0 and read(volume) == b"SAVED\n" and read(f"{site.folder}/{kept_of(site)}/volume-1") == b"CHANGED\n"
-    check("the next session goes on from it", holds, *site.told)
+    holds = (
+        site.ended() == 0
+        and read(volume) == b"SAVED\n"
+        and read(f"{site.folder}/{kept_of(site)}/volume-1") == b"CHANGED\n"
+    )
+    check("the next session goes on from it", holds, *site.findings)
 
 
 # --- programs that die ---
 
 
-def try_killed_program(check, site, program):
+def try_killed_program(check: Callable, site: object, program: str) -> None:
     """A program that is killed is started again: nothing that was shown is lost, and nobody has to come back."""
 
-    async def tried():
+    async def tried() -> object:
         alice = await on(site)
         for count in range(1, 4):
             alice.type(f"STORE G1 {count:08X}", "DISPLAY G1")
@@ -384,28 +504,42 @@ def try_killed_program(check, site, program):
     site.online()
     lines = run(tried())
     wanted = [text for count in range(1, 4) for text in ("STORED", *[f"GPR 1 = {count:08X}"] * 2)]
-    check("a program that dies is started again", lines[1:] == ["LOGON OK", *wanted, "LOGOFF OK"], *lines, *site.told)
-    check("the operator is told", site.await_told("ended by signal 9: it is started again"), *site.told)
+    check(
+        "a program that dies is started again",
+        lines[1:] == ["LOGON OK", *wanted, "LOGOFF OK"],
+        *lines,
+        *site.findings,
+    )
+    check(
+        "the operator is told",
+        site.await_message("ended by signal 9: it is started again"),
+        *site.findings,
+    )
     check("it is suspended", site.stop() == 0)
     done, shown = replayed(program, site.paths[0], site.record)
-    check("and the recording replays", shown.get("ALICE") == lines[1:], done.stderr, *shown.get("ALICE", []))
+    check(
+        "and the recording replays",
+        shown.get("ALICE") == lines[1:],
+        done.stderr,
+        *shown.get("ALICE", []),
+    )
 
 
-def try_end_in_restart(check, site):
+def try_end_in_restart(check: Callable, site: object) -> None:
     """An end that is asked for while the program is started again saves nothing of a program that has not done all."""
     volume = f"{site.folder}/volume"
     write(volume, "AS IT WAS\n")
     site.paths.append(volume)
     os.environ["PEOPLE_SLOW"] = "0.05"
 
-    async def tried():
+    async def tried() -> None:
         alice = await on(site)
         for count in range(40):
             alice.type(f"STORE G1 {count:08X}")
             await alice.until("STORED")
         os.kill(site.program(), signal.SIGKILL)
         alice.type("DISPLAY G1")
-        site.await_told("it is started again")
+        site.await_message("it is started again")
         site.operate("end now")
         await alice.rest()
 
@@ -414,16 +548,21 @@ def try_end_in_restart(check, site):
     ended = site.ended()
     del os.environ["PEOPLE_SLOW"]
     holds = read(volume) == b"AS IT WAS\n" and os.path.exists(site.record)
-    check("an end while the program is started again saves nothing", holds, f"status {ended}", *site.told)
+    check(
+        "an end while the program is started again saves nothing",
+        holds,
+        f"status {ended}",
+        *site.findings,
+    )
     site.online()
     site.operate("end now")
-    check("the next one does", site.ended() == 0 and read(volume) == b"SAVED\n", *site.told)
+    check("the next one does", site.ended() == 0 and read(volume) == b"SAVED\n", *site.findings)
 
 
-def try_deadly_line(check, site):
+def try_deadly_line(check: Callable, site: object) -> None:
     """A line that kills each program ends the installation, once, and is not in the recording."""
 
-    async def die():
+    async def die() -> None:
         alice = await on(site)
         alice.type("DIE")
         await alice.rest()
@@ -431,12 +570,14 @@ def try_deadly_line(check, site):
     site.online()
     run(die())
     holds = site.ended() == 3 and "ended by signal 9" in site.since_start()
-    check("what kills a program twice ends the installation", holds, *site.told)
+    check("what kills a program twice ends the installation", holds, *site.findings)
     site.online()
-    check("which goes on then", site.stop() == 0 and b"DIE" not in read(site.record), *site.told)
+    check(
+        "which goes on then", site.stop() == 0 and b"DIE" not in read(site.record), *site.findings
+    )
 
 
-def try_faults(check, command, program, folder):
+def try_faults(check: Callable, command: str, program: str, folder: str) -> None:
     """All that is tried in seconds, over a stand-in for the program."""
     os.makedirs(folder)
     try_removed_deck(check, folder)

@@ -1,4 +1,7 @@
-"""Operators of an installation: where they come from, what they do, and what they are told. Called by .ci/test-people."""
+"""Operators of an installation: where they come from, what they do, and what is reported to them. Called by .ci/test-people.py."""
+from __future__ import annotations
+
+from collections.abc import Callable
 import asyncio
 import fcntl
 import os
@@ -8,17 +11,27 @@ import shutil
 import subprocess
 import termios
 
-from installation import PATIENCE, logged_on, make_site, names_in, on, person, read, run, write_text as write
+from installation import (
+    PATIENCE,
+    logged_on,
+    make_site,
+    names_in,
+    on,
+    person,
+    read,
+    run,
+    write_text as write,
+)
 
 
-def operator(site, *words, given=None):
+def operator(site: object, *words: object, given: object = None) -> object:
     """What an operator's command answers."""
     command = site.command.replace("/installation", "/operator")
     words = [command, f"{site.folder}/operator", *words]
     return subprocess.run(words, input=given, capture_output=True, text=True, timeout=PATIENCE)
 
 
-def at_window(words):
+def at_window(words: list[str]) -> tuple:
     """Starts a command in a window of its own: the command, and the window."""
     window, inside = pty.openpty()
     own_window = lambda: fcntl.ioctl(0, termios.TIOCSCTTY, 0)
@@ -28,9 +41,17 @@ def at_window(words):
     return process, window
 
 
-def try_operators(check, site):
+def try_operators(check: Callable, site: object) -> None:
     """Operators come and go, several at once; the installation outlives the window where it was started."""
-    words = [site.command, *site.words, "--operate", f"{site.folder}/operator", "--journal", f"{site.folder}/journal", *site.paths]
+    words = [
+        site.command,
+        *site.words,
+        "--operate",
+        f"{site.folder}/operator",
+        "--journal",
+        f"{site.folder}/journal",
+        *site.paths,
+    ]
     process, window = at_window(words)
     shown = b""
     while b"online at" not in shown:
@@ -46,34 +67,56 @@ def try_operators(check, site):
     holds = wrong.returncode == 1 and "there is no command nothing" in wrong.stdout
     check("a command that is none is refused", holds, wrong.stdout)
     still = operator(site, "end")
-    check("so is an end while somebody is on", still.returncode == 1 and "still on: ALICE" in still.stdout, still.stdout)
+    check(
+        "so is an end while somebody is on",
+        still.returncode == 1 and "still on: ALICE" in still.stdout,
+        still.stdout,
+    )
     streams = {"stdin": subprocess.PIPE, "stdout": subprocess.PIPE, "text": True}
     command = [site.command.replace("/installation", "/operator"), f"{site.folder}/operator"]
     others = [subprocess.Popen(command, **streams) for _ in range(2)]
     for other in others:
         other.stdin.write("users\n")
         other.stdin.flush()
-        holds = any("ALICE is stopped, at no terminal" in line for line in iter(other.stdout.readline, ""))
+        holds = any(
+            "ALICE is stopped, at no terminal" in line for line in iter(other.stdout.readline, "")
+        )
         check("several operators at once", holds)
     several = operator(site, given="users\nmessage GOOD NIGHT\n")
-    check("commands from a file", several.returncode == 0 and "1 on" in several.stdout, several.stdout)
-    second = subprocess.run([*words[:1], *(it.replace("recording", "other") for it in words[1:])], capture_output=True, text=True,
+    check(
+        "commands from a file", several.returncode == 0 and "1 on" in several.stdout, several.stdout
+    )
+    second = subprocess.run([*words[:1], *(word.replace("recording", "other") for word in words[1:])], capture_output=True, text=True,
                             stdin=subprocess.DEVNULL)  # fmt: skip
     holds = second.returncode == 3 and "another process listens at" in second.stderr
     check("a second one at its sockets is refused", holds, second.stderr)
     ended = operator(site, "end", "now")
-    check("an operator ends it", ended.returncode == 0 and "the session has ended" in ended.stdout, ended.stdout, ended.stderr)
+    check(
+        "an operator ends it",
+        ended.returncode == 0 and "the session has ended" in ended.stdout,
+        ended.stdout,
+        ended.stderr,
+    )
     check("and it has ended well", process.wait(PATIENCE) == 0)
     for other in others:
-        check("all operators see that", "the session has ended" in other.communicate(timeout=PATIENCE)[0])
+        check(
+            "all operators see that",
+            "the session has ended" in other.communicate(timeout=PATIENCE)[0],
+        )
     gone = operator(site, "status")
-    check("who comes later is told", gone.returncode == 3 and "operator:" in gone.stderr, gone.stderr)
+    check(
+        "who comes later is told", gone.returncode == 3 and "operator:" in gone.stderr, gone.stderr
+    )
     journal = read(f"{site.folder}/journal").decode()
     dated = re.findall(r"^\d{4}-\d\d-\d\d \d\d:\d\d:\d\d (.*)$", journal, re.M)
-    check("the journal has it all with dates", "ALICE logs on" in dated and "the session ends" in dated, journal)
+    check(
+        "the journal has it all with dates",
+        "ALICE logs on" in dated and "the session ends" in dated,
+        journal,
+    )
 
 
-def try_unit(check, folder):
+def try_unit(check: Callable, folder: str) -> None:
     """The unit for systemd is one."""
     if not shutil.which("systemd-analyze"):
         print("no systemd-analyze: the unit was not verified")
@@ -81,14 +124,22 @@ def try_unit(check, folder):
     top = os.path.dirname(os.path.dirname(os.path.realpath(__file__)))
     unit = read(f"{top}/docs/installation.service").decode().replace("/opt/gathjumli", top)
     write(f"{folder}/installation.service", unit)
-    done = subprocess.run(["systemd-analyze", "verify", f"{folder}/installation.service"], capture_output=True, text=True)
-    check("the unit for systemd", done.returncode == 0 and "installation.service" not in done.stderr, done.stderr)
+    done = subprocess.run(
+        ["systemd-analyze", "verify", f"{folder}/installation.service"],
+        capture_output=True,
+        text=True,
+    )
+    check(
+        "the unit for systemd",
+        done.returncode == 0 and "installation.service" not in done.stderr,
+        done.stderr,
+    )
 
 
-def try_limits(check, site):
-    """Who takes too much is logged off and told why, and that is an event of the recording; others stay."""
+def try_limits(check: Callable, site: object) -> None:
+    """Who takes too much is logged off and reported why, and that is an event of the recording; others stay."""
 
-    async def written():
+    async def written() -> tuple:
         alice, bob = await on(site), await on(site, "BOB", "BUILDER")
         alice.type("LIST 10000", "DISPLAY G1")
         await alice.until("GPR 1 = 00000000")
@@ -104,13 +155,21 @@ def try_limits(check, site):
 
     site.online("--quota", "1")
     shown, again = run(written())
-    check("a user who writes too much is logged off", shown[-2:] == ["YOU ARE LOGGED OFF: 1 MB ARE WRITTEN", "LOGOFF OK"], *shown)
-    check("the operator is told why", site.await_told("ALICE is logged off: 1 MB are written"), *site.told)
+    check(
+        "a user who writes too much is logged off",
+        shown[-2:] == ["YOU ARE LOGGED OFF: 1 MB ARE WRITTEN", "LOGOFF OK"],
+        *shown,
+    )
+    check(
+        "the operator is told why",
+        site.await_message("ALICE is logged off: 1 MB are written"),
+        *site.findings,
+    )
     check("and he may come back", again == "LOGON OK", again)
     check("it is suspended", site.stop() == 0)
     check("it is an event like any other", read(site.record).count(b"LINE ALICE #CP LOGOFF\n") == 1)
 
-    async def stay():
+    async def stay() -> object:
         return (await (await on(site)).rest())[-2:]
 
     site.online("--memory", "1")
@@ -120,61 +179,96 @@ def try_limits(check, site):
     check("it is suspended again", site.stop() == 0)
 
 
-def try_waiting_printout(check, site):
+def try_waiting_printout(check: Callable, site: object) -> None:
     """A printout that cannot be written waits, and is written when it can be."""
     site.online("--printouts", f"{site.folder}/prints", "--operate", f"{site.folder}/operator")
     folder = f"{site.folder}/prints/{site.session()}"
     write(folder, "IN THE WAY\n")
 
-    async def tried():
+    async def tried() -> object:
         alice = await on(site)
         alice.type("PRINT HELLO", "LOGOFF")
         return await alice.rest()
 
     run(tried())
-    is_told = site.await_told("PRT0001-ALICE.txt cannot be written, and waits: File exists")
-    check("a printout that cannot be written", is_told, *site.told)
+    is_reported = site.await_message("PRT0001-ALICE.txt cannot be written, and waits: File exists")
+    check("a printout that cannot be written", is_reported, *site.findings)
     status, spool, end = (operator(site, word).stdout for word in ("status", "spool", "end"))
-    holds = "1 closed, 1 not written: File exists" in status and "PRT0001-ALICE.txt 1 lines, waits" in spool
+    holds = (
+        "1 closed, 1 not written: File exists" in status
+        and "PRT0001-ALICE.txt 1 lines, waits" in spool
+    )
     check("is seen by the operator", holds, status, spool)
     check("and keeps the session from its end", "not written: PRT0001-ALICE.txt" in end, end)
     os.unlink(folder)
-    check("and is written when it can be", site.await_told(f"closed: {folder}/PRT0001-ALICE.txt"), *site.told)
+    check(
+        "and is written when it can be",
+        site.await_message(f"closed: {folder}/PRT0001-ALICE.txt"),
+        *site.findings,
+    )
     spool = operator(site, "spool").stdout
     check("which is seen too", "PRT0001-ALICE.txt 1 lines, written" in spool, spool)
-    check("then it ends", operator(site, "end").returncode == 0 and site.ended() == 0, *site.told)
+    check(
+        "then it ends", operator(site, "end").returncode == 0 and site.ended() == 0, *site.findings
+    )
 
 
-def try_commands(check, site):
+def try_commands(check: Callable, site: object) -> None:
     """What operators do to users, and users to operators; small letters; the times of what one sees again."""
 
-    async def tried():
+    async def tried() -> None:
         alice, bob = await on(site), await on(site, "BOB", "BUILDER")
-        alice.type("store g1 0000002a", "  #cp display g1", "msg bob Hello there", "begin 100", "hello", "#cp Display G2")
+        alice.type(
+            "store g1 0000002a",
+            "  #cp display g1",
+            "msg bob Hello there",
+            "begin 100",
+            "hello",
+            "#cp Display G2",
+        )
         for text in ("STORED", "GPR 1 = 0000002A", "SENT", "GPR 2 = 00000000"):
             await alice.until(text)
         await bob.until("MSG FROM ALICE: Hello there")
         check("small letters of commands are capitals", True)
         alice.type("#cp", "msg oper Help me")
         await alice.until("SENT")
-        told = site.await_told("OPER: MSG FROM ALICE: Help me")
-        check("a message to the operator", told, *site.told)
+        findings = site.await_message("OPER: MSG FROM ALICE: Help me")
+        check("a message to the operator", findings, *site.findings)
         commands = ["message BOB For you", "message For all", "force BOB", "force BOB", "message BOB x", "force NOBODY",
                     "logmsg Closed on Sunday", "end at 03:00", "end cancel", "end at 24:00", "force OPER"]  # fmt: skip
         answers = [operator(site, *words.split()).returncode for words in commands]
-        check("commands of an operator", answers == [0, 0, 0, 1, 1, 1, 0, 0, 0, 1, 1], *map(str, answers))
+        check(
+            "commands of an operator",
+            answers == [0, 0, 0, 1, 1, 1, 0, 0, 0, 1, 1],
+            *map(str, answers),
+        )
         seen = await bob.rest()
-        wanted = ["OPERATOR: For you", "OPERATOR: For all", "YOU ARE LOGGED OFF: BY THE OPERATOR", "LOGOFF OK"]
+        wanted = [
+            "OPERATOR: For you",
+            "OPERATOR: For all",
+            "YOU ARE LOGGED OFF: BY THE OPERATOR",
+            "LOGOFF OK",
+        ]
         check("are seen by who they are for", seen[-4:] == wanted, *seen)
         await alice.until("OPERATOR: For all")
         check("and by nobody else", "OPERATOR: For you" not in alice.lines, *alice.lines)
         alice.go()
         back, bob = await on(site), await on(site, "BOB", "BUILDER")
         await back.until("SENT")
-        times = [line for line in back.lines if re.fullmatch(r"-- \d{4}-\d\d-\d\d \d\d:\d\d UTC", line)]
-        check("what one sees again has its times", back.lines[1] == "RECONNECTED" and back.lines[2] in times, *back.lines)
+        times = [
+            line for line in back.lines if re.fullmatch(r"-- \d{4}-\d\d-\d\d \d\d:\d\d UTC", line)
+        ]
+        check(
+            "what one sees again has its times",
+            back.lines[1] == "RECONNECTED" and back.lines[2] in times,
+            *back.lines,
+        )
         await bob.until("Closed on Sunday")
-        check("who logs on sees the log message", bob.lines[1:] == ["LOGON OK", "Closed on Sunday"], *bob.lines)
+        check(
+            "who logs on sees the log message",
+            bob.lines[1:] == ["LOGON OK", "Closed on Sunday"],
+            *bob.lines,
+        )
         back.type("logoff")
         bob.type("logoff")
         await asyncio.gather(back.rest(), bob.rest())
@@ -190,19 +284,34 @@ def try_commands(check, site):
     site.online(*more)
     answer = operator(site, "logmsg").stdout
     check("the log message outlives a start", "Closed on Sunday" in answer, answer)
-    check("so does a planned end", planned and planned[9:] in site.since_start(), planned, *site.told)
-    holds = operator(site, "end", "cancel").returncode == 0 and not os.path.exists(f"{site.record}.end-at")
+    check(
+        "so does a planned end",
+        planned and planned[9:] in site.since_start(),
+        planned,
+        *site.findings,
+    )
+    holds = operator(site, "end", "cancel").returncode == 0 and not os.path.exists(
+        f"{site.record}.end-at"
+    )
     check("until it is taken back", holds)
     run(try_closed(check, site))
     site.stop()
     write(f"{site.record}.end-at", "2026-01-02 03:00\n")
     site.online(*more)
-    told = "the session was to end at 2026-01-02 03:00, which is past: it goes on"
-    check("one that is past is told", told in site.since_start() and not os.path.exists(f"{site.record}.end-at"), *site.told)
-    check("the operator's user is nobody who is on", operator(site, "end").returncode == 0 and site.ended() == 0, *site.told)
+    findings = "the session was to end at 2026-01-02 03:00, which is past: it goes on"
+    check(
+        "one that is past is told",
+        findings in site.since_start() and not os.path.exists(f"{site.record}.end-at"),
+        *site.findings,
+    )
+    check(
+        "the operator's user is nobody who is on",
+        operator(site, "end").returncode == 0 and site.ended() == 0,
+        *site.findings,
+    )
 
 
-async def try_closed(check, site):
+async def try_closed(check: Callable, site: object) -> None:
     """While logon is closed who is on may come back, and nobody else may come."""
     alice = await on(site)
     closed = operator(site, "logon", "closed").stdout
@@ -212,49 +321,80 @@ async def try_closed(check, site):
     refused = await other.logon("BOB", "BUILDER")
     opened = operator(site, "logon", "open").stdout
     bob = await on(site, "BOB", "BUILDER")
-    told = (closed[9:], back.lines[1], refused, opened[9:], bob.lines[1])
+    findings = (closed[9:], back.lines[1], refused, opened[9:], bob.lines[1])
     wanted = ("logon is closed\n", "RECONNECTED", "LOGON IS CLOSED", "logon is open\n", "LOGON OK")
-    check("logon is closed, and opened", told == wanted, *told)
+    check("logon is closed, and opened", findings == wanted, *findings)
     for one in (back, bob):
         one.type("LOGOFF")
         await one.rest()
 
 
-def try_small_faults(check, site):
-    """Faults that are told at once, by the place where they are."""
-    from keeping import copy_whole
-    from people import Failure
+def try_small_faults(check: Callable, site: object) -> None:
+    """Faults that are reported at once, by the place where they are."""
+    from gathjumli.checkpoints import copy_whole
+    from gathjumli.cli import Failure
 
     streams = {"capture_output": True, "text": True, "stdin": subprocess.DEVNULL}
-    wrong = subprocess.run([site.command, "--record", "r", "--listen", "127.0.0.1:99999", *site.paths], **streams)
-    same = subprocess.run([site.command, *site.words, "--sender", "OPER", "--operator", "OPER", *site.paths], **streams)
-    check("one user for two things", same.returncode == 2 and "--operator is another one" in same.stderr, same.stderr)
-    check("a port that is none", wrong.returncode == 2 and "is no value of --listen" in wrong.stderr, wrong.stderr)
+    wrong = subprocess.run(
+        [site.command, "--record", "r", "--listen", "127.0.0.1:99999", *site.paths], **streams
+    )
+    same = subprocess.run(
+        [site.command, *site.words, "--sender", "OPER", "--operator", "OPER", *site.paths],
+        **streams,
+    )
+    check(
+        "one user for two things",
+        same.returncode == 2 and "--operator is another one" in same.stderr,
+        same.stderr,
+    )
+    check(
+        "a port that is none",
+        wrong.returncode == 2 and "is no value of --listen" in wrong.stderr,
+        wrong.stderr,
+    )
     write(f"{site.folder}/file", "")
-    wrong = subprocess.run([site.command, *site.words, "--decks", f"{site.folder}/file", *site.paths], **streams)
-    holds = wrong.returncode == 3 and "file: File exists" in wrong.stderr and "online" not in wrong.stdout
+    wrong = subprocess.run(
+        [site.command, *site.words, "--decks", f"{site.folder}/file", *site.paths], **streams
+    )
+    holds = (
+        wrong.returncode == 3
+        and "file: File exists" in wrong.stderr
+        and "online" not in wrong.stdout
+    )
     check("a folder of decks that is a file", holds, wrong.stderr)
     try:
         copy_whole(f"{site.folder}/file", f"{site.folder}/none/copy")
     except Failure as failure:
-        check("a copy names the place that fails", f"{site.folder}/none/copy cannot be written" in failure.lines[0], *failure.lines)
+        check(
+            "a copy names the place that fails",
+            f"{site.folder}/none/copy cannot be written" in failure.lines[0],
+            *failure.lines,
+        )
     site.start(most_bytes=os.path.getsize(site.record) + 10)
-    holds = site.ended() == 3 and f"installation: {site.record}: " in site.since_start() and "online" not in site.since_start()
-    check("a full disk is found before anybody is served", holds, *site.told)
+    holds = (
+        site.ended() == 3
+        and f"installation: {site.record}: " in site.since_start()
+        and "online" not in site.since_start()
+    )
+    check("a full disk is found before anybody is served", holds, *site.findings)
     os.unlink(site.record)
     os.makedirs(f"{site.folder}/real")
     os.symlink("real/recording", site.record)
     os.chmod(site.paths[0], 0o644)
     site.online()
-    check("passwords that others may read are reported", "others may read it: chmod 600" in site.since_start(), *site.told)
+    check(
+        "passwords that others may read are reported",
+        "others may read it: chmod 600" in site.since_start(),
+        *site.findings,
+    )
     site.operate("end")
-    check("it ends", site.ended() == 0, *site.told)
+    check("it ends", site.ended() == 0, *site.findings)
     kept = [name for name in names_in(f"{site.folder}/real") if name.startswith("recording.2")]
     holds = len(kept) == 1 and "recording" in names_in(f"{site.folder}/real/{kept[0]}")
     check("a recording that is a link is set aside where it is", holds, *kept)
 
 
-def try_operating(check, command, folder):
+def try_operating(check: Callable, command: str, folder: str) -> None:
     """All that is tried in seconds, over a stand-in for the program."""
     os.makedirs(folder)
     try_unit(check, folder)

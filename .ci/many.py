@@ -1,5 +1,8 @@
 """Long sessions, for test-transcripts: 64 users on 16 frames, each of whom uses his devices, and a script of a million bytes.
-What comes of them is reckoned here from docs/COMMANDS.md and docs/FORMATS.md."""
+What appears of them is reckoned here from docs/COMMANDS.md and docs/FORMATS.md."""
+from __future__ import annotations
+
+from collections.abc import Iterator
 
 DEVICES = "CONSOLE 009 3215\nSPOOL 00C READER\nSPOOL 00D PUNCH\nSPOOL 00E PRINTER\n"
 NAMES = [f"U{number:02}" for number in range(1, 65)]
@@ -14,13 +17,13 @@ class Users:
     """Each user punches and prints, sends his cards and a message to the next, loads what came to him, and logs off with open
     files."""
 
-    def __init__(self, session):
+    def __init__(self, session: object) -> None:
         directory = "".join(f"USER {name} PW 8K\n{DEVICES}" for name in NAMES)
         self.session = session("64 users on 16 frames", directory, None, (), (16, 256), NAMES[0])
         self.closed = 0
         self.printed = []
 
-    def played(self):
+    def played(self) -> object:
         one = self.session
         for name in NAMES:
             one.line("LOGON", "LOGON OK", user=name)
@@ -35,7 +38,7 @@ class Users:
             one.line("#CP CLOSE 00D", f"FILE {self.closes():04} CLOSED", user=name)
             one.line("#CP CLOSE 00E", f"FILE {self.closes(name):04} CLOSED", user=name)
             one.line(f"#CP MSG {following} {TEXT}", "SENT", user=name)
-            one.told.append(f"{following}: MSG FROM {name}: {TEXT}")
+            one.findings.append(f"{following}: MSG FROM {name}: {TEXT}")
         for number, name in enumerate(NAMES):
             sender = (number - 1) % len(NAMES)
             decks = [f"FILE {2 * sender + 1:04} FROM {NAMES[sender]} CARDS 1"]
@@ -48,10 +51,10 @@ class Users:
             one.line("#CP LOGOFF", "LOGOFF OK", user=name)
             self.closes()
             self.closes(name)
-        one.told += [line for heading in self.printed for line in (heading, f"09 {TEXT}")]
+        one.findings += [line for heading in self.printed for line in (heading, f"09 {TEXT}")]
         return one
 
-    def write(self, name):
+    def write(self, name: str) -> None:
         """A card is punched and a line is printed."""
         one = self.session
         one.channel_program("00000800", "00D", name)
@@ -60,7 +63,7 @@ class Users:
         one.serve("00E", name)
         one.run(user=name)
 
-    def closes(self, printer=None):
+    def closes(self, printer: object = None) -> object:
         """The number of a file that is closed: the punch's, or the printer's of this user."""
         self.closed += 1
         if printer:
@@ -68,7 +71,7 @@ class Users:
         return self.closed
 
 
-def million(session):
+def million(session: object) -> object:
     """A script of more than a million bytes."""
     one = session("a script of a million bytes", "USER A PW 8K\n")
     one.line("LOGON", "LOGON OK")
@@ -77,6 +80,6 @@ def million(session):
     return one
 
 
-def many(session):
+def many(session: object) -> Iterator:
     yield Users(session).played()
     yield million(session)

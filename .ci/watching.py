@@ -1,4 +1,7 @@
-"""Tests how a long run is watched at a terminal (bin/lib/watched.py), over programs that print what they are told."""
+"""Tests how a long run is watched at a terminal (bin/lib/gathjumli/watched.py), over programs that print what is reported to them."""
+from __future__ import annotations
+
+from collections.abc import Callable
 import os
 import pty
 import re
@@ -12,14 +15,24 @@ import time
 TOP = os.path.dirname(os.path.dirname(os.path.realpath(__file__)))
 sys.path.insert(0, f"{TOP}/bin/lib")
 
-from watched import Count, turns_in
+from gathjumli.watched import Count, turns_in
 
 # a script, how many runs, serves and turns it has, a transcript of it, and how many of them it has the ends of
 COUNTED = {
     "runs": ("LINE A LOGON\nRUN A 5\nRUN A 6\n", 2, "A: LOGON OK\n= A 5 COUNT\n= A 6 WAIT\n", 2),
-    "turns with a serve": ("AUTO 3\n", 3, "= A 100 COUNT\nA: X\n= A SERVED 009\n= A 100 COUNT\n= B IDLE 00E\n= IDLE\n", 3),
+    "turns with a serve": (
+        "AUTO 3\n",
+        3,
+        "= A 100 COUNT\nA: X\n= A SERVED 009\n= A 100 COUNT\n= B IDLE 00E\n= IDLE\n",
+        3,
+    ),
     "serves of turns without a slice": ("AUTO 2\n", 2, "= A SERVED 009\n= A SERVED 00E\n", 2),
-    "what looks like an end": ("DECK A 1\nAUTO 9\nAUTO 2\n", 2, "A: = A 1 COUNT\n== PRT 0001 A\n09 = IDLE\n", 0),
+    "what looks like an end": (
+        "DECK A 1\nAUTO 9\nAUTO 2\n",
+        2,
+        "A: = A 1 COUNT\n== PRT 0001 A\n09 = IDLE\n",
+        0,
+    ),
     "half a line": ("RUN A 5\n", 1, "= A 5 COU", 0),
 }
 
@@ -27,11 +40,29 @@ COUNTED = {
 class Shown:
     """What a program shows at a terminal, in lines, and what of it went to its standard output if that is no terminal."""
 
-    def __init__(self, program, script, is_piped=False, interrupted_after=None):
+    def __init__(
+        self, program: str, script: str, is_piped: bool = False, interrupted_after: object = None
+    ) -> None:
         outer, inner = pty.openpty()
-        words = [sys.executable, f"{TOP}/bin/lib/watched.py", "name", script, "sh", "-c", program]
+        words = [
+            sys.executable,
+            f"{TOP}/bin/lib/run.py",
+            "watched",
+            "name",
+            script,
+            "sh",
+            "-c",
+            program,
+        ]
         output = tempfile.TemporaryFile() if is_piped else inner
-        process = subprocess.Popen(words, stdin=subprocess.DEVNULL, stdout=output, pass_fds=(), preexec_fn=lambda: os.dup2(inner, 3), close_fds=False)
+        process = subprocess.Popen(
+            words,
+            stdin=subprocess.DEVNULL,
+            stdout=output,
+            pass_fds=(),
+            preexec_fn=lambda: os.dup2(inner, 3),
+            close_fds=False,
+        )
         os.close(inner)
         self.bytes, self.times, begun = b"", [], time.monotonic()
         while select.select([outer], [], [], 20)[0]:
@@ -49,12 +80,12 @@ class Shown:
             output.seek(0)
             self.output = output.read()
 
-    def left(self):
+    def left(self) -> object:
         """What is left to see of it: what was erased is not."""
         return re.sub(rb"[^\n]*\r\x1b\[K", b"", self.bytes.replace(b"\r\n", b"\n"))
 
 
-def try_watching(check, folder):
+def try_watching(check: Callable, folder: str) -> None:
     script = os.path.join(folder, "script")
     for name, (text, turns, transcript, done) in COUNTED.items():
         with open(script, "w") as file:
@@ -62,17 +93,38 @@ def try_watching(check, folder):
         found = Count()
         for byte in transcript.encode():
             found.take(bytes([byte]))
-        check(f"events of {name}", (turns_in(script), found.done) == (turns, done), f"{turns_in(script)} {found.done}")
+        check(
+            f"events of {name}",
+            (turns_in(script), found.done) == (turns, done),
+            f"{turns_in(script)} {found.done}",
+        )
     check("events of a script that is not there", turns_in(f"{folder}/none") == 0)
     with open(script, "w") as file:
         file.write("RUN A 5\nRUN A 6\n")
-    told = b"name: events done: 1 of 2"
+    findings = b"name: events done: 1 of 2"
     slow = "echo '= A 5 COUNT'; sleep 2.6; echo '= A 6 COUNT'; exit 4"
     shown = Shown(slow, script)
-    check("a long run is told", told in shown.bytes and shown.status == 4, f"{shown.status}", shown.bytes)
+    check(
+        "a long run is told",
+        findings in shown.bytes and shown.status == 4,
+        f"{shown.status}",
+        shown.bytes,
+    )
     check("and then gone", shown.left() == b"= A 5 COUNT\n= A 6 COUNT\n", shown.bytes)
     check("the first line comes at once", shown.times[0] < shown.times[-1] - 2, f"{shown.times[0]}")
     piped = Shown(slow, script, is_piped=True)
-    check("nothing of it is in standard output", piped.output == b"= A 5 COUNT\n= A 6 COUNT\n" and told in piped.bytes, piped.output, piped.bytes)
-    broken = Shown("printf '= A 5 COUNT\nhalf a line'; exec sleep 20", script, interrupted_after=b"half")
-    check("an interrupt loses nothing", broken.left() == b"= A 5 COUNT\nhalf a line" and broken.status == 143, f"{broken.status}", broken.bytes)
+    check(
+        "nothing of it is in standard output",
+        piped.output == b"= A 5 COUNT\n= A 6 COUNT\n" and findings in piped.bytes,
+        piped.output,
+        piped.bytes,
+    )
+    broken = Shown(
+        "printf '= A 5 COUNT\nhalf a line'; exec sleep 20", script, interrupted_after=b"half"
+    )
+    check(
+        "an interrupt loses nothing",
+        broken.left() == b"= A 5 COUNT\nhalf a line" and broken.status == 143,
+        f"{broken.status}",
+        broken.bytes,
+    )

@@ -1,4 +1,4 @@
-/* Preloaded by .ci/test-refusals into a program: the host of the program refuses it memory, or fails its calls of files.
+/* Preloaded by .ci/test-refusals.py into a program: the host of the program refuses it memory, or fails its calls of files.
  *
  * REFUSE=KIND:FIRST:LAST   of the calls of this kind, counted from 1, those from FIRST to LAST are refused. Kinds are
  *     memory   malloc, calloc, realloc and their like: there is no memory

@@ -1,7 +1,7 @@
 # How a program of the repository is built: proved, or without any proof where --unproved is given or GATHJUMLI_UNPROVED is 1. Sourced
 # by bin/lib/program.sh. What bin/install has put somewhere has its programs, and is never built.
 
-# the crates that a program stands on, lowest first and the program last
+# the crates that a program uses, lowest first and the program last
 crates_of() {
     awk -v wanted="$1" '
         { sub(/#.*/, "") }
@@ -113,12 +113,12 @@ read_unproved() {
     without_proof=${GATHJUMLI_UNPROVED-}
     case $without_proof in
     '' | 1) ;;
-    *) wrong_use "GATHJUMLI_UNPROVED is 1 or empty, and not $without_proof" ;;
+    *) usage_error "GATHJUMLI_UNPROVED is 1 or empty, and not $without_proof" ;;
     esac
 }
 
-# tell_program CRATE: what the program is made of, and whether it is proved
-tell_program() {
+# describe_program CRATE: what the program is made of, and whether it is proved
+describe_program() {
     find_program "$1"
     if [ -n "$installed" ]; then
         cat -- "$installed"
@@ -144,8 +144,8 @@ state_of_program() {
 
 # --- with proofs ---
 
-# Proves each crate that the program stands on, side by side those that do not need each other, and then builds and runs the program
-# on what lies beside its sources. What is proved is kept: a build that was broken off goes on from there. Two builds at once wait for
+# Proves each crate that the program uses, side by side those that do not need each other, and then builds and runs the program
+# on what lies next to its sources. What is proved is kept: a build that was broken off goes on from there. Two builds at once wait for
 # each other, crate by crate; each has logs of its own.
 build() {
     need_kit
@@ -162,11 +162,11 @@ build() {
     began=$(date +%s)
     progress=$folder/out/building.$$
     places=$(places)
-    tell_prospects
+    print_prospects
     say "without proof it runs in about two minutes, with --unproved or GATHJUMLI_UNPROVED=1 in the environment"
     say "the logs are in $logs"
     prove_all
-    tell_progress "building $program_crate, $count of $count"
+    print_progress "building $program_crate, $count of $count"
     (unset CDPATH && cd -- "$folder" && run_once) > "$logs/$program_crate.log" 2>&1 < /dev/null || refuse_build "$program_crate"
     # of what the sources were when it began: an edit that was made meanwhile is seen the next time
     printf '%s\n%s\n' "$now_sources" "$now_kit" > "$mark.$$"
@@ -188,7 +188,7 @@ places() {
     echo "$most"
 }
 
-# proves each crate but the program's, once those below it are proved; the end of each comes through a pipe
+# proves each crate but the program's, once those below it are proved; the end of each goes through a pipe
 prove_all() {
     mkfifo -- "$aside/ended"
     exec 3<> "$aside/ended"
@@ -226,13 +226,13 @@ ready() {
     ' "$root/crates.txt"
 }
 
-# begin CRATE: it is proved beside the others, in a group of its own that stop_build can end. Whoever else works in its folder is
+# begin CRATE: it is proved next to the others, in a group of its own that stop_build can end. Whoever else works in its folder is
 # waited for.
 begin() {
     number=$((number + 1))
     running=$((running + 1))
     begun="$begun$1 "
-    tell_progress "proving $1, $number of $count"
+    print_progress "proving $1, $number of $count"
     apart=$(command -v setsid) || apart=
     (
         unset CDPATH
@@ -326,7 +326,7 @@ lines_of() {
 }
 
 # what is to be done, how long that may take, and which other build is under way
-tell_prospects() {
+print_prospects() {
     unproved=' '
     for crate in $crates; do
         [ -e "$root/crates/$crate/out/rlib" ] || [ "$crate" = "$program_crate" ] || unproved="$unproved$crate "
@@ -355,17 +355,17 @@ tell_prospects() {
     done
 }
 
-# tells a step, here and to other builds: how long it has taken, and how long the rest takes if it goes on so
-tell_progress() {
+# says a step, here and to other builds: how long it has taken, and how long the rest takes if it goes on so
+print_progress() {
     gone=$(minutes_gone)
     told=$1
-    [ "$gone" -eq 0 ] || told="$told, after $gone minutes$(tell_left)"
+    [ "$gone" -eq 0 ] || told="$told, after $gone minutes$(minutes_left_text)"
     say "$told"
     echo "$program_crate is $1, after $gone minutes" > "$progress"
 }
 
 # the minutes that are left, by the lines that were proved so far
-tell_left() {
+minutes_left_text() {
     done=
     for crate in $unproved; do
         case $proved in
@@ -377,7 +377,7 @@ tell_left() {
     [ "$lines_done" -eq 0 ] || echo "; by what is proved so far about $(((lines - lines_done) * gone / lines_done + 1)) are left"
 }
 
-# builds the program of the current folder, by a run on the words that lie beside its sources; files that they name are in data
+# builds the program of the current folder, by a run on the words that lie next to its sources; files that they name are in data
 run_once() {
     set --
     if [ -f args ]; then
@@ -391,7 +391,7 @@ run_once() {
 
 # --- without proof ---
 
-# Where the program is that is compiled of the sources as they are, which stops at what a proof would exclude: nothing is proved. It
+# If the program is that is compiled of the sources as they are, which stops at what a proof would exclude: nothing is proved. It
 # lies in a folder of its own, under a name that has the numbers of its sources and of the kit, and has no mark: no command takes it
 # for a proved one. Without a kit it is that of these sources.
 find_compiled() {

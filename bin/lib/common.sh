@@ -3,7 +3,7 @@
 #     . "$(dirname -- "$(readlink -f -- "$0")")/lib/common.sh"
 #
 # so that it is found through symbolic links and whatever CDPATH says. Nothing here changes the current folder.
-# docs/COMMAND_LINE.md tells the statuses; bin/lib/program.sh has what the commands share that build and run a program.
+# docs/COMMAND_LINE.md says the statuses; bin/lib/program.sh has what the commands share that build and run a program.
 
 # the repository, or the folder of an installation by bin/install, which is laid out alike
 root=$(dirname -- "$(dirname -- "$(readlink -f -- "$0")")")
@@ -42,24 +42,24 @@ help() {
 # the version, and of a command that runs a program of the repository ($runs) what that program is
 version() {
     echo "$name (Gathjumli) $(cat -- "$root/VERSION")"
-    [ -z "${runs-}" ] || tell_program "$runs"
+    [ -z "${runs-}" ] || describe_program "$runs"
     exit 0
 }
 
 # refuses the words of the command: what is wrong, and the first lines of the usage text
-wrong_use() {
+usage_error() {
     say "$@"
     {
         usage | sed '/^$/,$d'
-        echo "$name --help tells more"
+        echo "$name --help says more"
     } >&2
     exit 2
 }
 
-# read_words OPTIONS WORD..: takes the words apart, as the programs do. OPTIONS names the options, with a colon where a value
+# read_arguments OPTIONS WORD..: takes the words apart, as the programs do. OPTIONS names the options, with a colon where a value
 # follows, as "frames: save"; their values come to option_frames and option_save, the other words to path1, path2 .., and how
 # many these are to count.
-read_words() {
+read_arguments() {
     known=" $1 "
     shift
     count=0
@@ -79,15 +79,15 @@ read_words() {
             given=${word%%=*}
             case $known in
             *" ${given#--}: "*) set_option "${given#--}" "${word#*=}" ;;
-            *" ${given#--} "*) wrong_use "$given has no value: $word" ;;
-            *) wrong_use "no such option: $given" ;;
+            *" ${given#--} "*) usage_error "$given has no value: $word" ;;
+            *) usage_error "no such option: $given" ;;
             esac
             ;;
         true-?*)
             case $word:$known in
             --*:*" ${word#--}: "*) awaited=${word#--} ;;
             --*:*" ${word#--} "*) set_option "${word#--}" true ;;
-            *) wrong_use "no such option: $word" ;;
+            *) usage_error "no such option: $word" ;;
             esac
             ;;
         *)
@@ -96,26 +96,26 @@ read_words() {
             ;;
         esac
     done
-    [ -z "$awaited" ] || wrong_use "nothing stands behind --$awaited"
+    [ -z "$awaited" ] || usage_error "no value follows --$awaited"
 }
 
 # set_option NAME VALUE: of an option that is known
 set_option() {
-    eval "[ -z \"\${option_$1+given}\" ]" || wrong_use "--$1 is given twice"
+    eval "[ -z \"\${option_$1+given}\" ]" || usage_error "--$1 is given twice"
     eval "option_$1=\$2"
 }
 
-# need_paths NAME..: whether so many words are there beside the options; a last NAME [..] may be any number of them
+# need_paths NAME..: whether so many words are there next to the options; a last NAME [..] may be any number of them
 need_paths() {
     wanted=0
     for path_name in "$@"; do
         [ "$path_name" != '[..]' ] || return 0
         wanted=$((wanted + 1))
-        [ "$count" -ge "$wanted" ] || wrong_use "$path_name is missing"
+        [ "$count" -ge "$wanted" ] || usage_error "$path_name is missing"
     done
     [ "$count" -le "$wanted" ] || {
         eval "surplus=\$path$((wanted + 1))"
-        wrong_use "one word too many: $surplus"
+        usage_error "one argument too many: $surplus"
     }
 }
 
@@ -132,7 +132,7 @@ read_standard_input() {
 # that is named, where a lower one is refused later
 check_number() {
     case $2 in
-    '' | *[!0-9]* | ????????*) wrong_use "$1 is a number from ${5-$3} to $4, and not ${2:-empty}" ;;
+    '' | *[!0-9]* | ????????*) usage_error "$1 is a number from ${5-$3} to $4, and not ${2:-empty}" ;;
     esac
-    [ "$2" -ge "$3" ] && [ "$2" -le "$4" ] || wrong_use "$1 is a number from ${5-$3} to $4, and not $2"
+    [ "$2" -ge "$3" ] && [ "$2" -le "$4" ] || usage_error "$1 is a number from ${5-$3} to $4, and not $2"
 }

@@ -1,7 +1,7 @@
-# What the listings share: a script is played with marks after its events, and printed beside its transcript. Sourced behind
+# What the listings share: a script is played with marks after its events, and printed next to its transcript. Sourced after
 # bin/lib/program.sh.
 
-# the width of a line that has its consequences beside it, from the option
+# the width of a line that has its consequences next to it, from the option
 read_width() {
     width=${option_width-48}
     check_number --width "$width" 0 999
@@ -28,7 +28,7 @@ mark_script() {
         fail "$not_copied" "no copy of the script can be made in $work"
 }
 
-# play WORD..: runs the program on these words, behind which the played script and the volumes stand
+# play WORD..: runs the program on these words, after which the played script and the volumes stand
 play() {
     set -- "$@" "$work/played"
     number=3
@@ -39,7 +39,7 @@ play() {
     "$program" ${option_save:+--save} "$@"
 }
 
-# Prints the marked script $work/marked beside the marked transcript, tells the faults of the played script $work/played, in
+# Prints the marked script $work/marked next to the marked transcript, says the faults of the played script $work/played, in
 # which the lines of a list are marks, and ends as the program did.
 finish_listing() {
     [ ! -s "$work/transcript" ] && [ "$ended" -ne 0 ] ||

@@ -6,7 +6,7 @@ function is_number(word, longest) {
     return word ~ /^[0-9]+$/ && length(word) <= longest
 }
 
-# keeps the minidisks of a volume, and tells how many there are
+# keeps the minidisks of a volume, and says how many there are
 function read_directory(serial,    line, words, user, found) {
     while ((getline line < directory) > 0) {
         sub(/\r$/, "", line)

@@ -1,4 +1,4 @@
-# What bin/install and bin/package share: which files an installation has, and where. Sourced behind bin/lib/building.sh.
+# What bin/install and bin/package share: which files an installation has, and where. Sourced after bin/lib/building.sh.
 
 # the status for a file that cannot be written
 file_failed=3
@@ -49,12 +49,12 @@ place_programs() {
     for crate in $programs; do
         find_program "$crate"
         cp -- "$program" "$place/programs/$crate" && chmod 755 "$place/programs/$crate" || return 1
-        tell_program "$crate" > "$place/programs/$crate.built" || return 1
+        describe_program "$crate" > "$place/programs/$crate.built" || return 1
     done
 }
 
 place_commands() {
-    cp -- "$root/VERSION" "$place/" && cp -R -- "$root/bin/lib" "$place/bin/" && rm -rf -- "$place/bin/lib/__pycache__" &&
+    cp -- "$root/VERSION" "$place/" && cp -R -- "$root/bin/lib" "$place/bin/" && rm -rf -- "$place/bin/lib/__pycache__" "$place/bin/lib/gathjumli/__pycache__" &&
         cp -R -- "$root/web" "$place/" || return 1
     for command in $(installed_commands); do
         cp -- "$root/bin/$command" "$place/bin/" && ln -sf "../lib/gathjumli/bin/$command" "$1/bin/$command" || return 1

@@ -1,5 +1,5 @@
-# What the commands share that run a program of the repository: the judging of their words and files, the run, and what is told of a
-# fault. Sourced behind bin/lib/common.sh.
+# What the commands share that run a program of the repository: the judging of their words and files, the run, and what is reported of a
+# fault. Sourced after bin/lib/common.sh.
 
 # shellcheck source=bin/lib/building.sh
 . "$root/bin/lib/building.sh"
@@ -9,16 +9,16 @@ file_failed=3
 
 # --- words and files, judged before any build ---
 
-# the words of a command over a directory, a script and volumes, or with --follow no script: read_run_words MORE_OPTIONS WORD..
-read_run_words() {
+# the words of a command over a directory, a script and volumes, or with --follow no script: read_run_arguments MORE_OPTIONS WORD..
+read_run_arguments() {
     more=$1
     shift
-    read_words "frames: slots: save $more" "$@"
+    read_arguments "frames: slots: save $more" "$@"
     # fewer than 16 frames are refused when the system boots
     check_number --frames "${option_frames-64}" 0 4096 16
     check_number --slots "${option_slots-256}" 0 65536
     script=
-    [ -z "${option_terminals-}" ] || [ -n "${option_follow-}" ] || wrong_use '--terminals is for --follow'
+    [ -z "${option_terminals-}" ] || [ -n "${option_follow-}" ] || usage_error '--terminals is for --follow'
     if [ -n "${option_follow-}" ]; then
         need_paths DIRECTORY '[..]'
         number=2
@@ -36,14 +36,14 @@ read_run_words() {
     check_volumes "$number"
 }
 
-# the words of a command over one machine: read_bare_words MORE_OPTIONS WORD..
-read_bare_words() {
+# the words of a command over one machine: read_bare_arguments MORE_OPTIONS WORD..
+read_bare_arguments() {
     more=$1
     shift
-    read_words "save $more" "$@"
+    read_arguments "save $more" "$@"
     script=
     storage=
-    [ -z "${option_terminals-}" ] || [ -n "${option_follow-}" ] || wrong_use '--terminals is for --follow'
+    [ -z "${option_terminals-}" ] || [ -n "${option_follow-}" ] || usage_error '--terminals is for --follow'
     if [ -n "${option_follow-}" ]; then
         need_paths STORAGE '[..]'
         number=2
@@ -54,7 +54,7 @@ read_bare_words() {
     fi
     check_storage "$path1"
     storage=$path1
-    [ "$count" -le $((15 + number)) ] || wrong_use "a machine has at most 16 volumes, and these are $((count - number + 1))"
+    [ "$count" -le $((15 + number)) ] || usage_error "a machine has at most 16 volumes, and these are $((count - number + 1))"
     check_texts "$@"
     read_standard_input 2
     script=${script:+$path2}
@@ -84,14 +84,14 @@ check_storage() {
     *K) [ "$digits" -lt 8 ] || [ "$digits" -gt 4096 ] || [ $((digits % 4)) -ne 0 ] || return 0 ;;
     *M) [ "$digits" -lt 1 ] || [ "$digits" -gt 4 ] || return 0 ;;
     esac
-    wrong_use "STORAGE is 8K to 4096K in steps of 4K, or 1M to 4M, and not $1"
+    usage_error "STORAGE is 8K to 4096K in steps of 4K, or 1M to 4M, and not $1"
 }
 
 # the programs read their words as texts
 check_texts() {
     command -v iconv > /dev/null || return 0
     printf '%s' "$*" | iconv -f UTF-8 -t UTF-8 > /dev/null 2>&1 ||
-        wrong_use "a path is no UTF-8 text: name the file by another path, as a link to it"
+        usage_error "a path is no UTF-8 text: name the file by another path, as a link to it"
 }
 
 # whether a file can be read
@@ -117,7 +117,7 @@ build_statuses() {
     cat <<END_OF_STATUSES
   0   it ended well
   1   $1 is refused; standard error says where
-  2   a wrong use
+  2   usage error
   3   a file failed
   4   the host had no memory
  70   the program was not built; standard error has the log
@@ -128,7 +128,7 @@ END_OF_STATUSES
 
 # --- running ---
 
-# Runs the program on these words but --unproved, with standard input for a path -, and ends as it does. Where it names a line of a text that is refused, that line is
+# Runs the program on these words but --unproved, with standard input for a path -, and ends as it does. If it names a line of a text that is refused, that line is
 # shown: of the file in $script, $directory or $text. A signal ends the program too. If $watches is set, somebody at a terminal sees how many events are done.
 run_program() {
     is_option=true
@@ -140,14 +140,14 @@ run_program() {
     done
     errors=$(mktemp 2> /dev/null) || exec "$program" "$@"
     trap 'rm -f -- "$errors"' EXIT
-    # what runs beside a shell has no standard input, unless it is given it
+    # what runs next to a shell has no standard input, unless it is given it
     exec 4<&0
     running=
     trap 'stop_program 129' HUP
     trap 'stop_program 130' INT
     trap 'stop_program 143' TERM
     if [ -n "${watches-}" ] && [ -t 2 ] && [ -z "${option_follow-}" ] && command -v python3 > /dev/null; then
-        PYTHONDONTWRITEBYTECODE=1 python3 "$root/bin/lib/watched.py" "$name" "$script" "$program" "$@" <&4 3>&2 2> "$errors" &
+        PYTHONDONTWRITEBYTECODE=1 python3 "$root/bin/lib/run.py" watched "$name" "$script" "$program" "$@" <&4 3>&2 2> "$errors" &
     else
         "$program" "$@" <&4 2> "$errors" &
     fi
@@ -182,11 +182,11 @@ explain() {
     'fault: image '* | 'fault: boot '*) ;;
     *) return ;;
     esac
-    tell_reason "$1"
+    print_reason "$1"
 }
 
-# tell_reason FAULT: what is wrong and what would be right, where python3 is there to find it out
-tell_reason() {
+# print_reason FAULT: what is wrong and what would be right, where python3 is there to find it out
+print_reason() {
     command -v python3 > /dev/null || return 0
     set -- "$1" "${directory-}" "${script-}" "${text-}" "${storage-}"
     number=${first_image-}
@@ -194,7 +194,7 @@ tell_reason() {
         eval "set -- \"\$@\" \"\$path$number\""
         number=$((number + 1))
     done
-    reason=$(PYTHONDONTWRITEBYTECODE=1 python3 "$root/bin/lib/reasons.py" "$@") || return 0
+    reason=$(PYTHONDONTWRITEBYTECODE=1 python3 "$root/bin/lib/run.py" reasons "$@") || return 0
     [ -z "$reason" ] || say "$reason"
 }
 

@@ -1,4 +1,4 @@
-# Where the prover stopped first at a wrong body, from the first line that it said of it: the goal, and the file of it.
+# If the prover stopped first at a wrong body, from the first line that it said of it: the goal, and the file of it.
 {
     sub(/^: /, "")
     sub(/^note: /, "")

@@ -1,6 +1,6 @@
-# A marked script beside its marked transcript, which comes first. Where a line was typed to a machine that runs and nothing came of it, a
+# A marked script next to its marked transcript, which appears first. If a line was typed to a machine that runs and nothing came of it, a
 # note says so: it waits for the program. ended is the status of the program; where it is not 0, the
-# transcript may end before the script does, and so does what is printed. What is told after the last event stands at the end.
+# transcript may end before the script does, and so does what is printed. What is reported after the last event is at the end.
 
 FNR == NR {
     if ($0 == marker ": NOT LOGGED ON") done++
@@ -29,7 +29,7 @@ END {
     beside("")
 }
 
-# follows whose machine runs, over the event that is held and what came of it, and adds the note
+# follows whose machine runs, over the event that is held and the effect of it, and adds the note
 function note(   words, user, text, i, count, line, answers) {
     count = split(held, words, " ")
     user = words[3]
@@ -57,7 +57,7 @@ function stops(line,   part) {
     if (line ~ /^[A-Z0-9]+: (STOPPED (DISABLED WAIT|EC MODE)|LOGOFF OK|SYSTEM RESET|IPL FAILED)$/) runs[substr(part[1], 1, length(part[1]) - 1)] = 0
 }
 
-# what came of an event, beside its line where that is short
+# the effect of an event, next to its line where that is short
 function beside(text,   i) {
     if (of[event + 0] + 0 == 0) { if (text != "") print text; return }
     if (length(text) > width + 8) { print text; text = "" }

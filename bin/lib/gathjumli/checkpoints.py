@@ -1,0 +1,188 @@
+"""The volumes of an installation. While a session goes on they stay as they were when it began; its end replaces them, and a
+crash in the midst of that is made good by the next start."""
+from __future__ import annotations
+
+from collections.abc import Callable
+import contextlib
+import fcntl
+import glob
+import os
+import shutil
+import tempfile
+
+from gathjumli.cli import FILE_FAILED, Failure, REFUSED, write_whole
+from gathjumli.recording import SAVED, read_whole, sum_of_file, sync_folder, without_passwords
+
+DIRECTORY = "directory"
+ENDING = ".ending-"
+
+
+class Checkpoint:
+    """Where the images of a session come to when it ends: a folder next to the recording, until they are in their places. Each
+    start has another one, since a program whose command was killed may still write to its own."""
+
+    def __init__(self, record: object, directory: str, volumes: object) -> None:
+        self.record = record
+        self.directory = directory
+        self.volumes = volumes
+        self.folder = ""
+        self.locked = []
+
+    def lock(self) -> None:
+        """Keeps the volumes from any other installation until it is closed."""
+        for volume in self.volumes:
+            file = open(volume, "rb")
+            self.locked.append(file)
+            try:
+                fcntl.flock(file, fcntl.LOCK_EX | fcntl.LOCK_NB)
+            except BlockingIOError:
+                raise Failure(
+                    REFUSED, f"another installation uses {volume}, or it is named twice"
+                ) from None
+
+    def close(self) -> None:
+        for file in self.locked:
+            file.close()
+
+    def paths(self) -> list:
+        return [
+            os.path.join(self.folder, f"volume-{place}")
+            for place in range(1, len(self.volumes) + 1)
+        ]
+
+    def begin(self) -> object:
+        """The paths by which the program reads the volumes, and will save others."""
+        self.forget()
+        where, name = os.path.split(os.path.abspath(self.record))
+        self.folder = tempfile.mkdtemp(prefix=f"{name}{ENDING}", dir=where)
+        for path, volume in zip(self.paths(), self.volumes):
+            os.symlink(os.path.realpath(volume), path)
+        return self.paths()
+
+    def forget(self) -> None:
+        """Removes the folders of this start and of those before it."""
+        for path in glob.glob(glob.escape(os.path.abspath(self.record) + ENDING) + "*"):
+            shutil.rmtree(path, ignore_errors=True)
+
+    def make_room(self) -> None:
+        """What the program saves from now on goes into the folder, and not to the volumes themselves."""
+        for path in self.paths():
+            os.unlink(path)
+            with open(path, "xb"):
+                pass
+        write_whole(
+            os.path.join(self.folder, DIRECTORY),
+            without_passwords(read_whole(self.directory)),
+            is_settled=True,
+        )
+
+    def saved_mark(self) -> object:
+        """The line of the recording that says that all is saved, once it is on the disk: in which folder, and the sums."""
+        for path in self.paths():
+            sync_file(path)
+        sync_folder(os.path.join(self.folder, DIRECTORY))
+        words = [os.path.basename(self.folder), *map(sum_of_file, self.paths())]
+        return SAVED + " ".join(words).encode(errors="surrogateescape")
+
+    def set_aside(self, recording: object, notify: Callable) -> object:
+        """Puts the saved images in the places of the volumes, and returns the folder to which the recording goes with these as they
+        were, and with the directory. What of this was done before a crash stays."""
+        self.find(recording.last)
+        aside = recording.aside()
+        os.makedirs(aside, 0o700, exist_ok=True)
+        for path, volume, known in zip(self.paths(), self.volumes, recording.volume_sums()):
+            self.replace(
+                path,
+                volume,
+                known,
+                recording.name(),
+                os.path.join(aside, os.path.basename(path)),
+                notify,
+            )
+        copy_whole(os.path.join(self.folder, DIRECTORY), os.path.join(aside, DIRECTORY))
+        os.replace(self.record, os.path.join(aside, "recording"))
+        sync_folder(self.record)
+        self.forget()
+        return aside
+
+    def replace(
+        self, path: str, volume: object, known: object, name: str, aside: object, notify: Callable
+    ) -> None:
+        """Puts a saved image in the place of a volume whose sum is still as it is known, and keeps the old one aside. A volume
+        that somebody else has changed stays as it is: the image follows to it."""
+        now = sum_of_file(volume) if os.path.exists(volume) else ""
+        if now == known:
+            keep(volume, aside)
+        if now in (known, sum_of_file(path)):
+            put(path, volume)
+            return
+        copied = f"{os.path.realpath(volume)}.{name}"
+        copy_whole(path, copied)
+        notify(
+            f"{volume} was changed by somebody else during the session, and stays as it is; the volume of the session is {copied}"
+        )
+
+    def find(self, mark: object) -> None:
+        """Finds the images that were saved, as the recording says."""
+        words = (
+            mark.removeprefix(SAVED)
+            .decode(errors="surrogateescape")
+            .rstrip("\n")
+            .rsplit(" ", len(self.volumes))
+        )
+        self.folder = os.path.join(os.path.dirname(os.path.abspath(self.record)), words[0])
+        if words[1:] != [
+            sum_of_file(path) if os.path.exists(path) else "" for path in self.paths()
+        ]:
+            raise Failure(
+                FILE_FAILED,
+                f"{self.folder} lacks images that were saved at the end of {self.record}",
+            )
+
+
+def keep(volume: object, aside: object) -> None:
+    """Has an image under another name too, where that is not there yet."""
+    if os.path.exists(aside):
+        return
+    try:
+        os.link(os.path.realpath(volume), aside)
+    except OSError:
+        # another file system, or one without links
+        copy_whole(volume, aside)
+
+
+def put(path: str, volume: object) -> None:
+    """Puts a file in the place of a volume, for the same people."""
+    place = os.path.realpath(volume)
+    copy_whole(path, place, os.stat(place))
+
+
+def copy_whole(path: str, to: object, owned: object = None) -> None:
+    """A copy that is there whole or not at all, also after the host has crashed; whose it is, is reported by a file's state."""
+    copied = f"{to}.new-{os.getpid()}"
+    try:
+        shutil.copyfile(path, copied)
+        if owned:
+            os.chmod(copied, owned.st_mode & 0o7777)
+            with contextlib.suppress(PermissionError):
+                os.chown(copied, owned.st_uid, owned.st_gid)
+        sync_file(copied)
+        os.replace(copied, to)
+    except OSError as error:
+        with contextlib.suppress(OSError):
+            os.unlink(copied)
+        # the place that has no room is named, and not the file that was read
+        raise Failure(FILE_FAILED, f"{to} cannot be written: {error.strerror}") from None
+    except BaseException:
+        with contextlib.suppress(FileNotFoundError):
+            os.unlink(copied)
+        raise
+    sync_folder(to)
+
+
+def sync_file(path: str) -> None:
+    file = os.open(path, os.O_RDONLY)
+    try:
+        os.fsync(file)
+    finally:
+        os.close(file)

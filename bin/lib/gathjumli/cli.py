@@ -1,0 +1,264 @@
+"""What the commands in Python share: their words, how they end, and the programs that they run (docs/COMMAND_LINE.md)."""
+from __future__ import annotations
+
+from collections.abc import Callable
+import os
+import re
+import subprocess
+import sys
+import tempfile
+
+ROOT = os.path.dirname(
+    os.path.dirname(os.path.dirname(os.path.dirname(os.path.realpath(__file__))))
+)
+# set where programs run without proof (bin/lib/building.sh)
+UNPROVED = "GATHJUMLI_UNPROVED"
+
+REFUSED, WRONG_USE, FILE_FAILED, NO_MEMORY = 1, 2, 3, 4
+
+STATUSES = """statuses:
+  0   it ended well
+  1   {refused} is refused; standard error says where
+  2   usage error
+  3   a file failed
+  4   the host had no memory
+"""
+
+BUILDS = """ 70   the program was not built; standard error has the log
+ 71   the Rattle kit is not there (no rt in PATH), and the program is not built
+ 72   the program is not built, and its folder cannot be written
+"""
+
+
+class Failure(Exception):
+    """An end with a status, and what standard error says."""
+
+    def __init__(self, status: object, *lines: object) -> None:
+        super().__init__(*lines)
+        self.status = status
+        self.lines = lines
+
+
+class UsageError(Exception):
+    """Wrong words; the text says which, and is empty where there are none at all."""
+
+
+class Help(Exception):
+    """The usage text is asked for."""
+
+
+class Version(Exception):
+    """The version is asked for."""
+
+
+def name() -> object:
+    return os.path.basename(sys.argv[0])
+
+
+def say(text: str) -> None:
+    sys.stdout.flush()
+    print(f"{name()}: {text}", file=sys.stderr, flush=True)
+
+
+def version() -> str:
+    with open(os.path.join(ROOT, "VERSION")) as file:
+        return file.read().strip()
+
+
+def ask_build(word: str, crate: str) -> object:
+    """What bin/lib/built says of the program of a crate."""
+    done = subprocess.run(
+        [os.path.join(ROOT, "bin", "lib", "built"), name(), word, crate],
+        stdin=subprocess.DEVNULL,
+        stdout=subprocess.PIPE,
+    )
+    if done.returncode:
+        raise Failure(done.returncode)
+    return done.stdout.decode(errors="surrogateescape").removesuffix("\n")
+
+
+def print_version(crate: str) -> None:
+    """The version, and of a command that runs a program what that program is."""
+    print(f"{name()} (Gathjumli) {version()}")
+    if crate:
+        print(ask_build("tell", crate))
+
+
+def perform(command: str, usage: object, crate: str) -> None:
+    """What the words of a command ask for."""
+    try:
+        command(sys.argv[1:])
+    except Help:
+        print(usage.format(command=sys.argv[0]), end="")
+    except Version:
+        print_version(crate)
+
+
+def run(command: str, usage: object, crate: str = None) -> None:
+    """Runs a command on its words, and ends with its status; crate is that of the program which it runs, if it runs one."""
+    for stream in (sys.stdin, sys.stdout, sys.stderr):
+        stream.reconfigure(errors="surrogateescape")
+    try:
+        perform(command, usage, crate)
+        sys.stdout.flush()
+        status = 0
+    except UsageError as item:
+        findings = usage.format(command=sys.argv[0])
+        if str(item):
+            say(item)
+            findings = findings.partition("\n\n")[0] + f"\n{name()} --help says more\n"
+        print(findings, end="", file=sys.stderr)
+        status = WRONG_USE
+    except Failure as item:
+        for line in item.lines:
+            print(line if line.startswith("fault: ") else f"{name()}: {line}", file=sys.stderr)
+        status = item.status
+    except BrokenPipeError:
+        status = FILE_FAILED
+    except OSError as item:
+        say(f"{item.filename}: {item.strerror}" if item.filename else item.strerror)
+        status = FILE_FAILED
+    except MemoryError:
+        say("the host has no more memory")
+        status = NO_MEMORY
+    except KeyboardInterrupt:
+        status = 130
+    try:
+        sys.stdout.flush()
+    except OSError:
+        # nobody reads on, or there is no room: what is left of the output is given up
+        os.dup2(os.open(os.devnull, os.O_WRONLY), sys.stdout.fileno())
+        status = status or FILE_FAILED
+    sys.exit(status)
+
+
+def read_arguments(words: list[str], options: object, least: int, most: int) -> tuple:
+    """The options, each to a list of its values, and the other words; options maps a name to how its value is read, or to None
+    where it has none."""
+    found = {option: [] for option in options}
+    paths = []
+    words = list(words)
+    while words:
+        word = words.pop(0)
+        if word == "--":
+            paths += words
+            break
+        if not word.startswith("-") or word == "-":
+            paths.append(word)
+            continue
+        if word in ("--help", "-h"):
+            raise Help
+        if word == "--version":
+            raise Version
+        option, given, value = word.partition("=")
+        if option not in options:
+            raise UsageError(f"no such option: {option}")
+        if given and options[option] is None:
+            raise UsageError(f"{option} has no value: {word}")
+        if options[option] is None:
+            value = True
+        elif not given:
+            if not words:
+                raise UsageError(f"nothing stands behind {option}")
+            value = words.pop(0)
+        found[option].append(
+            value if options[option] is None else read_value(option, value, options[option])
+        )
+    if len(paths) < least:
+        raise UsageError("a word is missing" if paths else "")
+    if len(paths) > most:
+        raise UsageError(f"one argument too many: {paths[most]}")
+    return found, paths
+
+
+def read_value(option: object, value: object, read: object) -> object:
+    try:
+        return read(value)
+    except ValueError as item:
+        # what a value is, where its reader says so
+        text = (
+            f"{option} is {item}, and not {value}"
+            if str(item)
+            else f"{value} is no value of {option}"
+        )
+        raise UsageError(text) from None
+
+
+def last(values: object, otherwise: object) -> object:
+    """The value of an option that is given at most once."""
+    if len(values) > 1:
+        raise UsageError("an option is given twice")
+    return values[0] if values else otherwise
+
+
+def number(least: int, most: int) -> Callable:
+    """Reads a decimal number within these bounds."""
+
+    def read(text: str) -> int:
+        if not re.fullmatch("[0-9]{1,7}", text) or not least <= int(text) <= most:
+            raise ValueError(f"a number from {least} to {most}")
+        return int(text)
+
+    return read
+
+
+def user_name(text: str) -> object:
+    """A user's name, as a directory may state it."""
+    if not re.fullmatch("[A-Z][A-Z0-9]{0,7}", text):
+        raise ValueError("1 to 8 of A-Z and 0-9, a letter first")
+    return text
+
+
+def serial(text: str) -> object:
+    """The serial number of a volume."""
+    if not re.fullmatch("[A-Z0-9]{1,6}", text):
+        raise ValueError("1 to 6 of A-Z and 0-9")
+    return text
+
+
+def device(text: str) -> object:
+    """The address of a device: three hexadecimal digits, 000 to 5FF."""
+    if not re.fullmatch("[0-5][0-9A-F]{2}", text):
+        raise ValueError("000 to 5FF, three digits 0-9 A-F")
+    return text
+
+
+def address(text: str) -> int:
+    """An address of storage: one to six hexadecimal digits."""
+    if not re.fullmatch("[0-9A-F]{1,6}", text):
+        raise ValueError("an address, 1 to 6 digits 0-9 A-F")
+    return int(text, 16)
+
+
+def read_file(path: str) -> object:
+    with open(path, "rb") as file:
+        return file.read()
+
+
+def read_input(path: str) -> object:
+    """The bytes of a file, or of standard input where no path or - is given."""
+    return sys.stdin.buffer.read() if path in (None, "-") else read_file(path)
+
+
+def write_whole(path: str, data: bytes, is_settled: bool = False) -> None:
+    """Writes a file that is there whole or not at all, and where that is asked for also after the host has crashed; what is no
+    plain file is written to as it is."""
+    if os.path.exists(path) and not os.path.isfile(path):
+        with open(path, "wb") as file:
+            file.write(data)
+        return
+    path = os.path.realpath(path)
+    handle, next_to = tempfile.mkstemp(prefix=".new-", dir=os.path.dirname(path))
+    try:
+        with os.fdopen(handle, "wb") as file:
+            file.write(data)
+            if is_settled:
+                file.flush()
+                os.fsync(file.fileno())
+        mask = os.umask(0)
+        os.umask(mask)
+        os.chmod(next_to, 0o666 & ~mask)
+        os.replace(next_to, path)
+    except BaseException:
+        os.unlink(next_to)
+        raise

@@ -1,0 +1,366 @@
+"""What gives the program one part after another, and shows each user what came of it."""
+import asyncio
+import collections
+import concurrent.futures
+import contextlib
+import re
+import time
+from typing import NamedTuple
+
+from gathjumli.following import Died, NotFollowed, Program
+from gathjumli.host import memory_of, processor_seconds
+from gathjumli.machines import ScriptRefused
+from gathjumli.cli import Failure, FILE_FAILED, REFUSED
+from gathjumli.recording import PRINTED, TURNS, TYPED, sum_of_file, weight_of
+
+# lines that one who comes back sees again
+KEPT_LINES = 24
+# turns in a part at most, and after all waited, or with lines that are typed, at least
+MOST_TURNS = 100000
+FEW_TURNS = 4
+# where so many turns found no frame all wait for one: each of 64 users may have 32 programs to be served
+STUCK_TURNS = 64 * 32
+# parts of a replay that are given before the first of them is answered
+AHEAD = 256
+LACKS = re.compile("= ([A-Z0-9]+) FRAMES")
+LACKED = re.compile("= [A-Z0-9]+ 0 FRAMES")
+MINUTE = "%Y-%m-%d %H:%M"
+NO_ROOM = "NOT DONE: NO ROOM FOR A PAGE, TYPE IT AGAIN"
+
+
+class Unattended:
+    """Stands for a user's terminal where there is no desk, and keeps the lines that the desk will want."""
+
+    is_there = False
+
+    def __init__(self):
+        self.lines = collections.deque(maxlen=KEPT_LINES)
+
+    def keep(self, text, minute):
+        self.lines.append((minute, text))
+
+    def show(self, text):
+        pass
+
+    def turn(self, is_on, is_running):
+        if not is_on:
+            self.lines.clear()
+
+
+class User:
+    """A user of the directory: whether he is on and his machine runs, and his terminal."""
+
+    def __init__(self, name):
+        self.name = name
+        self.is_on = False
+        self.is_running = False
+        self.terminal = Unattended()
+        # whether he is being logged off
+        self.is_forced = False
+        # bytes that he typed, and his guests printed, since LOGON
+        self.written = 0
+
+    def keep(self, text, when=None):
+        """Keeps a line for when he comes back, with the minute of its time."""
+        self.written += len(text) + 1
+        self.terminal.keep(text, when or time.strftime(MINUTE, time.gmtime()))
+
+    def show(self, text, when=None):
+        self.keep(text, when)
+        self.terminal.show(text)
+
+    def become(self, state):
+        if state in ("ON", "OFF"):
+            self.is_on = state == "ON"
+        else:
+            self.is_running = state == "RUNS"
+        if state == "OFF":
+            self.written = 0
+            self.is_forced = False
+        self.terminal.turn(self.is_on, self.is_running)
+
+
+class Part(NamedTuple):
+    """Lines that the program is given at once, and after them so many turns; what of the lines is typed, each with the user's
+    name; whether it has to be on the disk before anything else is done."""
+
+    lines: bytes = b""
+    typed: tuple = ()
+    turns: int = 0
+    is_kept: bool = False
+
+    def script(self):
+        """The part as the program reads it."""
+        return self.lines + (b"AUTO %d\n" % self.turns if self.turns else b"")
+
+
+def typed_line(name, text):
+    return Part(b"LINE %s %s\n" % (name.encode(), text), ((name, text.decode("latin-1")),), is_kept=True)
+
+
+def part_of(entry):
+    """The part that an entry of a recording was."""
+    if turns := TURNS.fullmatch(entry):
+        return Part(turns=int(turns[1]))
+    typed = TYPED.fullmatch(entry)
+    return typed_line(typed[1].decode(), typed[2]) if typed else Part(entry)
+
+
+class Pace:
+    """How many turns a part deals, so that one takes about the same time whatever the guests and the host do."""
+
+    def __init__(self, aim):
+        self.aim = aim
+        self.turns = 1
+        self.is_busy = True
+        self.stuck = 0
+
+    def took(self, turns, seconds, came):
+        """Notes what came of so many turns."""
+        absent = sum(1 for it in came.events if LACKED.fullmatch(it))
+        self.stuck = self.stuck + turns if absent >= turns else 0
+        self.is_busy = not came.is_idle and self.stuck < STUCK_TURNS
+        self.turns = max(1, min(MOST_TURNS, 2 * self.turns, int(self.turns * self.aim / max(seconds, 1e-6))))
+        if not self.is_busy:
+            # little is wasted where the next line wakes nobody
+            self.turns = min(self.turns, FEW_TURNS)
+
+    def woke(self, came):
+        """Notes what came of lines that were typed, and of a few turns after them."""
+        self.is_busy = not came.is_idle
+        self.stuck = 0
+
+
+class Progress:
+    """How far something is of which the whole is known, told each second."""
+
+    def __init__(self, whole, notify):
+        self.whole = max(1, whole)
+        self.notify = notify
+        self.done = 0
+        self.findings = time.monotonic()
+
+    def add(self, amount):
+        self.done += amount
+        if time.monotonic() - self.findings >= 1:
+            self.findings = time.monotonic()
+            self.notify(self.done / self.whole)
+
+
+class Engine:
+    """Gives the program parts: what waits, then some turns while somebody is ready. What comes of a part is shown when the
+    recording has it. One thread alone touches the program, the recording and the printouts."""
+
+    def __init__(self, machines, recording, users, aim, printouts, notify):
+        self.machines = machines
+        self.recording = recording
+        self.notify = notify
+        self.users = users
+        # the user whose console the operators see
+        self.receiver = None
+        self.pace = Pace(aim)
+        self.printouts = printouts
+        self.program = self.begun()
+        self.thread = concurrent.futures.ThreadPoolExecutor(1)
+        self.waiting = []
+        # comments that the recording is to have
+        self.marks = collections.deque()
+        self.loop = asyncio.get_running_loop()
+        self.woken = asyncio.Event()
+        self.is_stopping = False
+        # whether the program has done all that the recording has
+        self.is_whole = False
+        printouts.note = lambda name: self.note(PRINTED + name.encode() + b"\n")
+        self.parts = 0
+        # what the last part took the disk
+        self.settling = 0.0
+
+    def begun(self):
+        return Program(self.machines, "--terminals", "--save")
+
+    def seconds(self):
+        """The processor time that the program took since the session began: about what a start takes."""
+        return processor_seconds(self.program.process.pid)
+
+    def memory(self):
+        """The bytes of memory that the program has."""
+        return memory_of(self.program.process.pid)
+
+    async def give(self, part):
+        """Has a part done; ends when what came of it is shown."""
+        done = asyncio.get_running_loop().create_future()
+        self.waiting.append((part, done))
+        self.woken.set()
+        await done
+
+    def note(self, mark):
+        """Has the recording get a comment line; any thread may ask for that."""
+        self.marks.append(mark)
+        with contextlib.suppress(RuntimeError):
+            # the loop may have ended: then the end of the session writes it
+            self.loop.call_soon_threadsafe(self.woken.set)
+
+    def take_marks(self):
+        marks = [self.marks.popleft() for _ in range(len(self.marks))]
+        return b"".join(marks)
+
+    async def work(self):
+        """Gives parts until it is stopped."""
+        while not self.is_stopping:
+            if not self.waiting and not self.marks and not self.pace.is_busy:
+                self.woken.clear()
+                await self.woken.wait()
+            if self.waiting or self.marks:
+                await self.do_waiting()
+            if self.pace.is_busy and not self.is_stopping:
+                await self.deal()
+        for _, done in self.waiting:
+            done.cancel()
+
+    async def deal(self):
+        """Deals some turns. What it takes to show what guests print is time too, but not what the disk takes."""
+        turns, begun = self.pace.turns, time.monotonic()
+        came = await self.do(Part(turns=turns))
+        self.pace.took(turns, time.monotonic() - begun - self.settling, came)
+
+    async def do_waiting(self):
+        """All that waits is one part, so that many people wait for the disk once. Whoever typed gets a turn in it, so that what
+        his machine answers is not kept waiting by a long part of others' turns."""
+        given, self.waiting = self.waiting, []
+        parts = [part for part, _ in given]
+        typed = tuple(line for part in parts for line in part.typed)
+        lines = b"".join(part.lines for part in parts) + self.take_marks()
+        turns = max(FEW_TURNS, self.count_running() + len(typed)) if given else 0
+        came = await self.do(Part(lines, typed, turns, any(part.is_kept for part in parts)))
+        if given:
+            self.pace.woke(came)
+        for _, done in given:
+            if not done.done():
+                done.set_result(None)
+
+    def count_running(self):
+        """How many machines run."""
+        return sum(user.is_running for user in self.users.values())
+
+    async def do(self, part):
+        came = await asyncio.get_running_loop().run_in_executor(self.thread, self.step, part)
+        self.parts += 1
+        self.take(part, came)
+        return came
+
+    def step(self, part):
+        """Does a part, and has it on the disk where something of it is shown."""
+        came = self.asked(part)
+        done = time.monotonic()
+        if part.lines:
+            self.recording.add(part.lines)
+        if part.turns:
+            self.recording.add_turns(part.turns)
+        if part.is_kept or came.files or any(not it.startswith("= ") for it in came.events):
+            self.recording.settle()
+        self.printouts.put(came.files)
+        self.settling = time.monotonic() - done
+        return came
+
+    def asked(self, part):
+        """What comes of a part. A program that has died is started again and asked once more; what kills it twice ends all."""
+        try:
+            return self.checked(self.program.do, part.script())
+        except Died as death:
+            if self.is_stopping:
+                raise
+            self.notify(f"{death.lines[0] if death.lines else 'the program has died'}: it is started again")
+            self.restart()
+            if not self.is_whole:
+                raise
+            self.notify("the program goes on")
+            return self.checked(self.program.do, part.script())
+
+    def restart(self):
+        """Has another program do the recording: all that anybody was shown is in it."""
+        self.recording.put(self.recording.turns_line())
+        for volume, known in zip(self.machines.originals, self.recording.volume_sums()):
+            if sum_of_file(volume) != known:
+                findings = f"{volume} was changed by somebody else during the session, which cannot go on without it as it was"
+                raise Failure(REFUSED, findings)
+        self.program.close()
+        self.program = self.begun()
+        self.do_recording(lambda share: self.notify(f"the program is started again: {100 * share:.0f}% done"), lambda *_: None)
+
+    def checked(self, ask, *given, line=None):
+        """An answer of the program; line is where in the recording its part begins, if it is from there."""
+        try:
+            return ask(*given)
+        except NotFollowed:
+            raise Failure(FILE_FAILED, "the program takes no script part by part") from None
+        except ScriptRefused as it:
+            if line is not None:
+                raise self.recording.edited(line + it.line - 1, "is refused by the program") from None
+            raise Failure(REFUSED, f"the program refuses line {it.line} of a part") from None
+
+    def take(self, part, came, when=None):
+        """Shows each user what was printed at his terminal, and keeps who is on and whose machine runs."""
+        for heading, body in came.files:
+            self.users[heading.rpartition(" ")[2]].written += len(body)
+        for name, text in part.typed:
+            self.users[name].keep(text, when)
+        for event in came.events:
+            name, colon, text = event.partition(": ")
+            if colon and name in self.users:
+                self.users[name].show(text, when)
+                if name == self.receiver and when is None:
+                    self.notify(f"{name}: {text}")
+            elif part.typed and (absent := LACKS.fullmatch(event)):
+                self.users[absent[1]].show(NO_ROOM)
+        for state, name in came.states:
+            self.users[name].become(state)
+
+    def replay(self, notify):
+        """Brings the program to where the recording ends; how far it is is told each second, from 0 to 1."""
+
+        def take(part, came, when):
+            self.take(part, came, when)
+            self.printouts.put(came.files, is_replay=True)
+
+        self.do_recording(notify, take)
+
+    def do_recording(self, notify, take):
+        """Has the program do all that the recording has, and takes what comes of each part."""
+        self.is_whole = False
+        # it has read the volumes when it has answered
+        self.checked(self.program.do, b"")
+        progress, sent = Progress(self.recording.weight, notify), collections.deque()
+
+        def take_first():
+            part, number, when = sent.popleft()
+            take(part, self.checked(self.program.answer, line=number), when.decode()[:16])
+            progress.add(weight_of(part.script()))
+
+        for number, when, entry in self.recording.entries():
+            if self.is_stopping:
+                return
+            part = part_of(entry)
+            self.program.send(part.script())
+            sent.append((part, number, when))
+            if len(sent) >= AHEAD:
+                take_first()
+        while sent and not self.is_stopping:
+            take_first()
+        self.is_whole = not sent
+
+    def stop(self):
+        self.is_stopping = True
+        self.woken.set()
+
+    def settle(self):
+        """Has the recording whole on the disk."""
+        self.printouts.settle()
+        self.printouts.close()
+        if self.marks:
+            self.recording.add(self.take_marks())
+        self.recording.settle()
+
+    def close(self):
+        self.printouts.close()
+        self.program.close()
+        self.thread.shutdown()

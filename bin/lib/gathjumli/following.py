@@ -1,0 +1,203 @@
+"""A program that goes on from where a script has led it (docs/COMMAND_LINE.md, "Parts of a script")."""
+from __future__ import annotations
+
+from collections.abc import Iterator
+import os
+import queue
+import re
+import subprocess
+import tempfile
+import threading
+from typing import NamedTuple
+
+from gathjumli.machines import ScriptRefused, failure
+from gathjumli.cli import Failure, NO_MEMORY, WRONG_USE
+
+STATES = (b"ON", b"RUNS", b"STOPS", b"OFF")
+# the end of a file's entries: a line end that no further entry follows
+FILE_ENDS = re.compile(rb"\n(?!> \|)")
+CHUNK = 1 << 20
+
+
+class NotFollowed(Exception):
+    """The program takes no script part by part."""
+
+
+class Died(Failure):
+    """The program was killed, or the host refused it memory: another one may go on."""
+
+
+class PartResult(NamedTuple):
+    """What came of a part: the lines of the transcript; each file that it closed for the operator, its heading and the lines of its
+    entries, as bytes; each user's new state, a word and his name; whether its last turn found nobody ready.
+    """
+
+    events: list
+    files: list
+    states: list
+    is_idle: bool
+
+    def headings(self) -> list:
+        return [heading for heading, _ in self.files]
+
+
+class Refused(NamedTuple):
+    """The answer to a part that is refused: the number of its first wrong line."""
+
+    line: int
+
+
+class Answers:
+    """Cuts what a program writes into answers as it arrives. A file's entries stay as they are, since a listing may have millions
+    of lines, and whoever handles each of them keeps others waiting."""
+
+    def __init__(self) -> None:
+        self.left = b""
+        self.begin()
+
+    def begin(self) -> None:
+        self.events, self.files, self.states, self.is_idle = [], [], [], False
+
+    def feed(self, data: bytes) -> Iterator:
+        """The answers that these bytes end."""
+        data = self.left + data
+        place, end = 0, data.rfind(b"\n") + 1
+        self.left = data[end:]
+        while place < end:
+            if self.files and data.startswith(b"> |", place):
+                stop = FILE_ENDS.search(data, place, end).end()
+                self.files[-1][1].append(data[place:stop])
+            else:
+                stop = data.index(b"\n", place) + 1
+                answer = self.take(data[place : stop - 1])
+                if answer:
+                    yield answer
+            place = stop
+
+    def take(self, line: bytes) -> object:
+        """Takes a line; the answer that it ends, or None."""
+        if not line.startswith(b"> "):
+            self.events.append(text_of(line))
+            return None
+        word, _, rest = line[2:].partition(b" ")
+        if word == b"==":
+            self.files.append((text_of(line[2:]), []))
+        elif word in STATES:
+            self.states.append((text_of(word), text_of(rest)))
+        elif word == b"IDLE":
+            self.is_idle = True
+        elif word in (b"DONE", b"REFUSED"):
+            files = [(heading, b"".join(pieces)) for heading, pieces in self.files]
+            answer = (
+                Refused(int(rest))
+                if rest
+                else PartResult(self.events, files, self.states, self.is_idle)
+            )
+            self.begin()
+            return answer
+        return None
+
+
+def text_of(line: bytes) -> str:
+    return line.decode(errors="surrogateescape")
+
+
+class Program:
+    """A program that is given a script part by part; some of its answers may be still to come."""
+
+    def __init__(self, machines: object, *options: object) -> None:
+        self.errors = tempfile.TemporaryFile()
+        streams = {"stdin": subprocess.PIPE, "stdout": subprocess.PIPE, "stderr": self.errors}
+        # an interrupt at the terminal is for the command alone
+        words = [machines.program(), *options, *machines.follow_words()]
+        self.process = subprocess.Popen(words, start_new_session=True, **streams)
+        self.awaited = 0
+        self.is_ending = False
+        self.answers = queue.SimpleQueue()
+        threading.Thread(target=self.listen, daemon=True).start()
+
+    def listen(self) -> None:
+        """Takes what the program writes, so that it never waits for a reader."""
+        answers = Answers()
+        with self.process.stdout as output:
+            while data := os.read(output.fileno(), CHUNK):
+                # after the end of the session come all its files once more
+                for answer in () if self.is_ending else answers.feed(data):
+                    self.answers.put(answer)
+        self.answers.put(None)
+
+    def send(self, part: bytes) -> None:
+        """Gives it a part, whose answer is awaited later."""
+        self.awaited += 1
+        self.write(b"%d\n%s" % (len(part), part))
+
+    def write(self, data: bytes) -> None:
+        try:
+            self.process.stdin.write(data)
+            self.process.stdin.flush()
+        except BrokenPipeError:
+            # it has ended, and its answer will tell why
+            pass
+
+    def do(self, part: bytes) -> object:
+        """What appears of a part. If it is refused, nothing has happened."""
+        self.send(part)
+        while self.awaited > 1:
+            self.answer()
+        return self.answer()
+
+    def answer(self) -> object:
+        """What came of the first part whose answer is awaited."""
+        self.awaited -= 1
+        answer = self.answers.get()
+        if answer is None:
+            raise self.failed()
+        if isinstance(answer, Refused):
+            raise ScriptRefused(answer.line)
+        return answer
+
+    def finish(self) -> None:
+        """Ends the session, which saves volumes if the program was reported to."""
+        self.is_ending = True
+        self.write(b"END\n")
+        if self.process.wait():
+            raise self.failed()
+
+    def failed(self) -> object:
+        """Why the program has ended by itself."""
+        status = self.process.wait()
+        self.errors.seek(0)
+        findings = self.errors.read().decode(errors="surrogateescape").splitlines()
+        if status == WRONG_USE:
+            return NotFollowed()
+        found = failure(status, findings)
+        return Died(found.status, *found.lines) if status < 0 or status == NO_MEMORY else found
+
+    def close(self) -> None:
+        self.process.kill()
+        self.process.wait()
+        self.errors.close()
+        try:
+            self.process.stdin.close()
+        except BrokenPipeError:
+            pass
+
+
+class Follower(Program):
+    """One that keeps the script which it was given."""
+
+    def __init__(self, machines: object) -> None:
+        super().__init__(machines)
+        self.script = b""
+
+    def send(self, part: bytes) -> None:
+        self.script += part
+        super().send(part)
+
+    def do(self, part: bytes) -> object:
+        before = self.script
+        try:
+            return super().do(part)
+        except ScriptRefused:
+            self.script = before
+            raise

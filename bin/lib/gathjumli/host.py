@@ -1,0 +1,30 @@
+"""What processes take of the host."""
+from __future__ import annotations
+
+import os
+
+MEGABYTE = 1 << 20
+
+
+def memory_of(process: object) -> object:
+    """The bytes of memory that a process has, or 0 if it is gone."""
+    try:
+        with open(f"/proc/{process}/statm") as file:
+            return int(file.read().split()[1]) * os.sysconf("SC_PAGE_SIZE")
+    except OSError:
+        return 0
+
+
+def processor_seconds(process: object) -> object:
+    """The processor time that a process took until now, or 0 if it is gone."""
+    try:
+        with open(f"/proc/{process}/stat") as file:
+            fields = file.read().rpartition(")")[2].split()
+        return (int(fields[11]) + int(fields[12])) / os.sysconf("SC_CLK_TCK")
+    except OSError:
+        return 0.0
+
+
+def usual_memory() -> object:
+    """Half of the host's memory."""
+    return os.sysconf("SC_PHYS_PAGES") * os.sysconf("SC_PAGE_SIZE") // 2

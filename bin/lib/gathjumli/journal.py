@@ -1,0 +1,81 @@
+"""What happens in an installation, line by line, for everybody who wants to know."""
+from __future__ import annotations
+
+import contextlib
+import os
+import queue
+import threading
+import time
+
+MOST_UNREAD_LINES = 1000
+TIME = "%H:%M:%S"
+DATE_AND_TIME = "%Y-%m-%d %H:%M:%S"
+
+
+class Outlet:
+    """A file descriptor to which lines go, by a thread of its own. If nobody reads there nobody waits for that; how many lines are
+    lost is said."""
+
+    def __init__(self, handle: object, time_format: object = TIME, prefix: str = "") -> None:
+        self.handle = handle
+        self.time_format = time_format
+        self.prefix = prefix
+        self.lines = queue.Queue(MOST_UNREAD_LINES)
+        self.lost = 0
+        self.thread = threading.Thread(target=self.write_all, daemon=True)
+        self.thread.start()
+
+    def put(self, text: str, prefix: object = None) -> None:
+        prefix = self.prefix if prefix is None else prefix
+        try:
+            if self.lost:
+                self.lines.put_nowait(f"{prefix}{self.now()} ({self.lost} lines are lost)")
+                self.lost = 0
+            self.lines.put_nowait(f"{prefix}{self.now()} {text}")
+        except queue.Full:
+            self.lost += 1
+
+    def put_as_is(self, line: bytes) -> None:
+        with contextlib.suppress(queue.Full):
+            self.lines.put_nowait(line)
+
+    def now(self) -> object:
+        return time.strftime(self.time_format)
+
+    def write_all(self) -> None:
+        while (line := self.lines.get()) is not None:
+            data = f"{line}\n".encode(errors="surrogateescape")
+            # not by sys.stdout, whose lock would be kept while nobody reads; and perhaps nobody is there any more
+            with contextlib.suppress(OSError):
+                while data:
+                    data = data[os.write(self.handle, data) :]
+
+    def close(self, seconds: int = 1) -> None:
+        with contextlib.suppress(queue.Full):
+            self.lines.put_nowait(None)
+            self.thread.join(seconds)
+
+
+class Journal:
+    """Says all outlets what happens: standard output, the operators, and a file with dates where one is asked for."""
+
+    def __init__(self, path: str = None) -> None:
+        self.outlets = [Outlet(1)]
+        if path:
+            handle = os.open(path, os.O_WRONLY | os.O_APPEND | os.O_CREAT, 0o600)
+            self.outlets.append(Outlet(handle, DATE_AND_TIME))
+
+    def notify(self, text: str) -> None:
+        for outlet in list(self.outlets):
+            outlet.put(text)
+
+    def add(self, outlet: object) -> None:
+        self.outlets.append(outlet)
+
+    def remove(self, outlet: object) -> None:
+        with contextlib.suppress(ValueError):
+            self.outlets.remove(outlet)
+
+    def close(self) -> None:
+        for outlet in list(self.outlets):
+            outlet.close()

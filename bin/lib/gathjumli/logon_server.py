@@ -1,0 +1,415 @@
+"""The connections of people, and the program that is the logon desk.
+
+The desk (crates/logon_desk_cli) decides who logs on, whose line a typed line is and who is shown what; here are the sockets. Whoever
+brings people, by telnet or otherwise, makes a Connection: `Desk.come` opens it, `Desk.receive` gives the desk bytes that came, at most
+MOST_BYTES and only while `may_send` is set, and `Desk.leave` reports that it has ended. The desk gives it bytes by `send`, and ends it by
+`close`.
+"""
+from __future__ import annotations
+
+from collections.abc import Callable
+import asyncio
+import collections
+import concurrent.futures
+import contextlib
+import hashlib
+import os
+import socket
+import subprocess
+import time
+
+from gathjumli.engine import typed_line
+from gathjumli.cli import FILE_FAILED, Failure
+
+
+# those who are about to log on, as the desk counts them, and one more
+MOST_STRANGERS = 80
+# bytes that the desk takes at once
+MOST_BYTES = 4096
+# lines that the desk is given at once: what they and their answers take fits a pipe
+MOST_PENDING = 16
+# what waits for a reader: he is closed over so many bytes
+MOST_UNREAD = 1 << 20
+# of what waits the host takes so many bytes; the rest waits here, where it is counted
+SEND_BUFFER = 1 << 16
+# a connection that is closed has so many seconds to read what waits, where that is little
+SECONDS_TO_LEAVE = 2
+LITTLE_UNREAD = 1 << 16
+# how often the desk is given the time while somebody is about to log on
+TICK = 0.05
+# for so long wrong passwords are summed before the journal has them
+SECONDS_TO_SUM = 60
+LOGON = b"LOGON"
+GOES_DOWN = b"GATHJUMLI GOES DOWN\r\n"
+CLOSED = b"LOGON IS CLOSED\r\n"
+
+
+class Connection:
+    """Somebody who appears from an address; the number of its place, while the desk has one for it."""
+
+    def __init__(self, address: int) -> None:
+        self.address = address
+        self.place = None
+        self.user = None
+        # when lines are shown again, the minute that was shown last
+        self.minute = ""
+        self.may_send = asyncio.Event()
+
+    def send(self, data: bytes) -> None:
+        """Gives it bytes."""
+
+    def close(self) -> None:
+        """Ends it, when it has read what waits."""
+
+
+class SocketConnection(Connection):
+    """A connection by telnet or plain."""
+
+    def __init__(self, writer: object, notify: Callable) -> None:
+        peer = writer.get_extra_info("peername")
+        super().__init__(peer[0] if isinstance(peer, tuple) else "")
+        self.writer = writer
+        self.notify = notify
+        # one that is gone already cannot be asked for anything
+        with contextlib.suppress(OSError):
+            connection = writer.get_extra_info("socket")
+            connection.setsockopt(socket.SOL_SOCKET, socket.SO_SNDBUF, SEND_BUFFER)
+            if connection.family != socket.AF_UNIX:
+                # one that goes without a word is found out some time
+                connection.setsockopt(socket.SOL_SOCKET, socket.SO_KEEPALIVE, 1)
+
+    def send(self, data: bytes) -> None:
+        if self.writer.is_closing():
+            return
+        self.writer.write(data)
+        if self.unread() > MOST_UNREAD:
+            self.notify(f"{self.user.name if self.user else 'a stranger'} does not read: closed")
+            self.writer.transport.abort()
+
+    def unread(self) -> object:
+        return self.writer.transport.get_write_buffer_size()
+
+    def close(self) -> None:
+        if self.writer.is_closing():
+            return
+        if self.unread() > LITTLE_UNREAD:
+            self.writer.transport.abort()
+            return
+        self.writer.close()
+        asyncio.get_running_loop().call_later(SECONDS_TO_LEAVE, self.writer.transport.abort)
+
+
+class Terminal:
+    """The terminal of a user, who logs on at the desk."""
+
+    def __init__(self, desk: object, number: int) -> None:
+        self.desk = desk
+        self.number = number
+        self.connection = None
+
+    @property
+    def is_there(self) -> bool:
+        return self.connection is not None
+
+    def keep(self, text: str, minute: str) -> None:
+        """Keeps a line for when he appears back."""
+        self.desk.notify_soon("KEEP", self.number, encoded(minute), encoded(text))
+
+    def show(self, text: str) -> None:
+        """Shows him a line, which is on the disk, if he is there."""
+        self.desk.notify_soon("SHOW", self.number, encoded(text))
+
+    def turn(self, is_on: object, is_running: bool) -> None:
+        self.desk.ask("TURN", self.number, (1 + is_running) * is_on)
+
+    def close(self) -> None:
+        if self.connection:
+            self.desk.leave(self.connection)
+
+
+class WrongPasswords:
+    """Sums the wrong passwords, so that the journal has a line for many."""
+
+    def __init__(self, notify: Callable) -> None:
+        self.notify = notify
+        self.counts = collections.Counter()
+
+    def add(self, name: str, address: int) -> None:
+        if not self.counts:
+            asyncio.get_running_loop().call_later(SECONDS_TO_SUM, self.notify_all)
+        self.counts[name, address] += 1
+
+    def notify_all(self) -> None:
+        for (name, address), count in self.counts.items():
+            passwords = "a wrong password" if count == 1 else f"{count} wrong passwords"
+            self.notify(
+                f"{passwords} for {name or 'nobody here'}{' from ' * bool(address)}{address}"
+            )
+        self.counts.clear()
+
+
+class LogonServer:
+    """The program that is the desk, the connections at its places, and the people who log on."""
+
+    def __init__(self, engine: object, passwords: object, notify: Callable, program: str) -> None:
+        self.engine = engine
+        self.passwords = passwords
+        self.notify = notify
+        # what everybody is shown who logs on
+        self.log_message = ""
+        # whether nobody may log on who is not on
+        self.is_closed = False
+        # how many are about to log on
+        self.strangers = 0
+        self.people = [engine.users[name] for name in passwords.names]
+        self.begun = time.monotonic()
+        self.key = os.urandom(16)
+        self.wrong = WrongPasswords(notify)
+        self.pending = []
+        self.places = {}
+        self.serving = set()
+        self.tasks = set()
+        self.judging = concurrent.futures.ThreadPoolExecutor(1)
+        self.is_asked = asyncio.Event()
+        self.has_failed = asyncio.Event()
+        self.path = program
+        self.program = None
+
+    def open(self) -> None:
+        """Begins the program, and gives it the users, and what is known of them since a replay."""
+        self.program = subprocess.Popen(
+            [self.path], stdin=subprocess.PIPE, stdout=subprocess.PIPE, start_new_session=True
+        )
+        for user in self.people:
+            self.ask("USER", encoded(user.name))
+        self.room = MOST_STRANGERS + 1 + len(self.people)
+        self.ask("ROOM", self.room)
+        for number, user in enumerate(self.people):
+            before, user.terminal = user.terminal, Terminal(self, number)
+            user.terminal.turn(user.is_on, user.is_running)
+            for minute, text in before.lines:
+                user.terminal.keep(text, minute)
+        self.flush()
+
+    # --- the lines that pass (crates/logon_desk_cli/src: frame.rt, printing.rt) ---
+
+    def ask(self, word: str, *words: object) -> None:
+        """Says the desk what has happened, and does what it says then."""
+        self.pending.append(self.line(word, *words))
+        self.flush()
+
+    def notify_soon(self, word: str, *words: object) -> None:
+        """Gives the desk something with what follows, at the end of this turn at the latest."""
+        self.pending.append(self.line(word, *words))
+        if len(self.pending) == MOST_PENDING:
+            self.flush()
+        elif len(self.pending) == 1:
+            asyncio.get_running_loop().call_soon(self.flush)
+
+    def line(self, word: str, *words: object) -> object:
+        return (
+            " ".join(
+                [word, f"{int(1000 * (time.monotonic() - self.begun)):X}", *map(written, words)]
+            )
+            + "\n"
+        )
+
+    def flush(self) -> None:
+        """Says the desk what waits for that, and does what it says to each line."""
+        pending, self.pending = self.pending, []
+        try:
+            self.program.stdin.write("".join(pending).encode())
+            self.program.stdin.flush()
+            for line in pending:
+                # it is silent until it knows everybody
+                if not line.startswith("USER"):
+                    self.obey_all()
+        except (OSError, ValueError):
+            self.has_failed.set()
+        if self.strangers:
+            self.is_asked.set()
+
+    def obey_all(self) -> None:
+        """Does what the desk says to a line."""
+        while True:
+            word, *words = self.program.stdout.readline().decode().split()
+            if word == "THAT":
+                self.strangers = int(words[0], 16)
+                return
+            self.obey(word, *words)
+
+    def obey(self, word: str, number: int, *words: object) -> None:
+        number = int(number, 16)
+        if word == "TYPE":
+            self.start(self.give(self.people[number], number, read_bytes(words[0])))
+        elif connection := self.places.get(number):
+            getattr(self, f"obey_{word.lower()}")(connection, *words)
+
+    def obey_give(self, connection: object, data: bytes) -> None:
+        connection.send(read_bytes(data))
+
+    def obey_back(self, connection: object, minute: str, text: str) -> None:
+        """A line that he has seen before, and its minute where that is another one."""
+        if minute != connection.minute:
+            connection.send(b"-- %s UTC\r\n" % read_bytes(minute))
+        connection.minute = minute
+        connection.send(read_bytes(text) + b"\r\n")
+
+    def obey_read(self, connection: object) -> None:
+        connection.may_send.set()
+
+    def obey_asks(self, connection: object, name: str, password: str) -> None:
+        self.start(self.judge(connection, name, password))
+
+    def obey_ends(self, connection: object) -> None:
+        del self.places[connection.place]
+        connection.place = None
+        connection.may_send.set()
+        connection.close()
+        user = connection.user
+        if user and user.terminal.connection is connection:
+            user.terminal.connection = None
+            self.engine.note(b"* DISCONNECTED %s\n" % user.name.encode())
+            self.notify(f"{user.name} {'leaves his terminal' if user.is_on else 'is logged off'}")
+
+    def obey_note(self, connection: object, word: str, number: int) -> None:
+        user = None if number == "-" else self.people[int(number, 16)]
+        if word == "FAIL":
+            self.wrong.add(user and user.name, connection.address)
+        elif word in ("LOGS", "BACK"):
+            connection.user, user.terminal.connection = user, connection
+            origin = f" from {connection.address}" if connection.address else ""
+            self.notify(f"{user.name} {'logs on' if word == 'LOGS' else 'is back'}{origin}")
+            self.engine.note(f"* CONNECTED {user.name} {connection.address or '-'}\n".encode())
+
+    # --- what takes time ---
+
+    def start(self, work: str) -> None:
+        self.tasks.add(task := asyncio.get_running_loop().create_task(work))
+        task.add_done_callback(self.tasks.discard)
+
+    async def give(self, user: str, number: int, text: str) -> None:
+        """Has a line done that is typed for a user."""
+        was_on = user.is_on
+        with contextlib.suppress(asyncio.CancelledError):
+            await self.engine.give(typed_line(user.name, text))
+            if user.is_on and not was_on and text == LOGON and self.log_message:
+                user.terminal.show(self.log_message)
+            self.ask("DONE", number)
+
+    async def judge(self, connection: object, name: str, password: str) -> None:
+        """Answers whether a name and a password are right."""
+        given = [word.decode("latin-1") for word in map(read_bytes, (name, password))]
+        is_right = await asyncio.get_running_loop().run_in_executor(
+            self.judging, self.passwords.are_right, *given
+        )
+        if connection.place is None:
+            return
+        if is_right and self.is_closed and not self.engine.users[given[0]].is_on:
+            connection.send(CLOSED)
+            self.leave(connection)
+            return
+        self.ask("SAYS", connection.place, int(is_right), name, password)
+
+    async def work(self) -> None:
+        """Says the desk the time while somebody waits for it; fails where the desk does."""
+        while not self.has_failed.is_set():
+            if not self.strangers:
+                self.is_asked.clear()
+                await first_of(self.is_asked, self.has_failed)
+            await asyncio.sleep(TICK)
+            self.ask("TIME")
+        raise Failure(FILE_FAILED, "the program of the logon desk has died")
+
+    # --- connections ---
+
+    def come(self, connection: object) -> bool:
+        """A connection has come; whether there is a place for it."""
+        connection.place = next(
+            (number for number in range(self.room) if number not in self.places), None
+        )
+        if connection.place is None:
+            return False
+        self.places[connection.place] = connection
+        connection.may_send.set()
+        self.ask("OPEN", connection.place, self.origin(connection.address))
+        return connection.place is not None
+
+    def origin(self, address: int) -> object:
+        """A number for an address, which nobody outside can know; neighbours in a network of IPv6 have the same one."""
+        parts = address.split(":")
+        network = ":".join(parts[:4]) if len(parts) > 1 else address
+        return int.from_bytes(
+            hashlib.blake2b(network.encode(), key=self.key, digest_size=7).digest(), "big"
+        )
+
+    def receive(self, connection: object, data: bytes) -> None:
+        """Bytes have come at a connection."""
+        if connection.place is not None:
+            connection.may_send.clear()
+            self.ask("CAME", connection.place, data.hex().upper())
+
+    def leave(self, connection: object) -> None:
+        """A connection has ended."""
+        if connection.place is not None:
+            self.ask("GONE", connection.place)
+
+    async def serve(self, reader: int, writer: object) -> None:
+        """Serves a socket until it ends."""
+        connection = SocketConnection(writer, self.notify)
+        self.serving.add(asyncio.current_task())
+        # the installation stops by an end of all these
+        try:
+            with contextlib.suppress(asyncio.CancelledError, OSError):
+                is_open = self.come(connection)
+                while is_open:
+                    await connection.may_send.wait()
+                    data = await reader.read(MOST_BYTES)
+                    if not data or connection.place is None:
+                        break
+                    self.receive(connection, data)
+        finally:
+            self.leave(connection)
+            connection.close()
+            self.serving.discard(asyncio.current_task())
+
+    async def shut(self) -> None:
+        """Says all connections that it ends, and closes them."""
+        for connection in list(self.places.values()):
+            connection.send(GOES_DOWN)
+            connection.close()
+        if self.wrong.counts:
+            self.wrong.notify_all()
+        for task in [*self.serving, *self.tasks]:
+            task.cancel()
+        if self.serving:
+            await asyncio.wait(list(self.serving))
+        self.judging.shutdown(wait=False)
+        if self.program:
+            with contextlib.suppress(OSError):
+                self.program.stdin.close()
+            self.program.wait()
+            self.program.stdout.close()
+
+
+async def first_of(*events: object) -> None:
+    """Waits until one of these happens."""
+    tasks = [asyncio.ensure_future(event.wait()) for event in events]
+    try:
+        await asyncio.wait(tasks, return_when=asyncio.FIRST_COMPLETED)
+    finally:
+        for task in tasks:
+            task.cancel()
+
+
+def encoded(text: str) -> str:
+    """A text as the desk reads bytes."""
+    return text.encode(errors="surrogateescape").hex().upper() or "-"
+
+
+def written(word: str) -> object:
+    return f"{word:X}" if isinstance(word, int) else word
+
+
+def read_bytes(word: str) -> object:
+    return b"" if word == "-" else bytes.fromhex(word)

@@ -1,0 +1,276 @@
+"""What an operator of an installation types, and what is answered."""
+from __future__ import annotations
+
+import asyncio
+import contextlib
+import datetime
+import os
+import re
+import subprocess
+import threading
+
+from gathjumli.host import MEGABYTE, memory_of
+from gathjumli.cli import ask_build, read_file, write_whole
+
+DONE, NOT_DONE, ENDS = range(3)
+# before all of the recording is done again
+ALWAYS = {"status", "help", "suspend"}
+MOST_SPOOL_LINES = 40
+WARNED_MINUTES = (10, 5, 1)
+MINUTE = "%Y-%m-%d %H:%M"
+HELP = """\
+status             who is on, memory, sizes, the age of the session, how long a start takes
+users              who is on, and how much each has written since LOGON
+frames             in which frames pages are; this takes as long as a start
+spool              the files that users closed for the operator, the last ones
+message TEXT       a line for each terminal; message USER TEXT for one user
+logmsg TEXT        a line for everybody who logs on; logmsg alone shows it, logmsg off ends it
+logon closed       nobody logs on any more, but who is on may come back; logon open ends that
+force USER         logs a user off
+suspend            ends this command; the next start goes on from here
+end                if nobody is on and all printouts are written, ends the session: volumes
+                   are saved, and the recording is set aside
+end now            ends it whoever is on
+end at HH:MM       ends it then, whoever is on; users are warned. A suspend in between changes
+                   nothing of that; end cancel takes it back"""
+
+
+class NotDone(Exception):
+    """A command that is not carried out; the text says why."""
+
+
+class Operator:
+    """Does the commands of the operators."""
+
+    def __init__(self, installation: object, framemap: object) -> None:
+        self.installation = installation
+        self.engine = installation.engine
+        self.framemap = framemap
+        self.notify = installation.notify
+        self.mapping = None
+        self.ending = []
+        # if the time of the end is written down, so that the next start knows it
+        self.ending_path = f"{installation.options['record']}.end-at"
+        self.commands = {"status": self.status, "users": self.users, "spool": self.spool, "message": self.message,
+                         "logmsg": self.set_log_message, "logon": self.set_logon, "force": self.force, "suspend": self.suspend, "end": self.end,
+                         "help": self.help}  # fmt: skip
+
+    def read(self, loop: object, lines: list) -> None:
+        """Takes commands from a stream as they come; answers go to everybody."""
+        for line in lines:
+            loop.call_soon_threadsafe(self.do, line.strip(), self.notify)
+
+    def do(self, line: bytes, reply: object, end: object = lambda how: None) -> None:
+        """Does a command. How it ended is reported when its answer is whole."""
+        word, _, rest = line.partition(" ")
+        if not word:
+            return
+        if not self.installation.is_ready and word not in ALWAYS:
+            reply("the installation is not online yet")
+            end(NOT_DONE)
+            return
+        if word == "frames":
+            self.frames(reply, end)
+            return
+        try:
+            if word not in self.commands:
+                raise NotDone(f"there is no command {word}; help shows all")
+            how = self.commands[word](rest.strip(), reply)
+        except (NotDone, OSError) as reason:
+            reply(str(reason))
+            how = NOT_DONE
+        end(how or DONE)
+
+    def help(self, rest: str, reply: object) -> None:
+        for line in HELP.split("\n"):
+            reply(line)
+
+    def named(self, name: str) -> object:
+        user = self.engine.users.get(name.upper())
+        if not user:
+            raise NotDone(f"there is no user {name}")
+        return user
+
+    def on(self) -> list:
+        """The people who are on."""
+        return [
+            user
+            for user in self.engine.users.values()
+            if user.is_on and user is not self.installation.receiver
+        ]
+
+    def status(self, rest: str, reply: object) -> None:
+        engine, desk, recording = self.engine, self.installation.desk, self.engine.recording
+        reply(f"{len(self.on())} on, {desk.strangers} about to log on, {engine.parts} parts, "
+              f"{'somebody computes' if engine.pace.is_busy else 'all wait'}; "
+              f"a start that goes on from here takes about {engine.seconds():.0f} s")  # fmt: skip
+        most = self.installation.limits.memory // MEGABYTE
+        reply(
+            f"memory: command {memory_of(os.getpid()) // MEGABYTE} MB, program {engine.memory() // MEGABYTE} MB of {most} MB"
+        )
+        reply(f"the session began {recording.begun_at()} UTC, {age(recording.seconds())} ago; "
+              f"its recording has {recording.lines} lines, {recording.size() / MEGABYTE:.1f} MB, "
+              f"and its disk {recording.free() // MEGABYTE} MB free")  # fmt: skip
+        printouts = engine.printouts
+        waiting = printouts.unwritten()
+        trouble = f": {printouts.trouble}" if printouts.trouble else ""
+        reply(f"printouts: {len(printouts.all)} closed, {len(waiting)} not written{trouble}")
+        for text in self.ending[:1]:
+            reply(text)
+
+    def users(self, rest: str, reply: object) -> None:
+        for user in self.on():
+            where = "" if user.terminal.is_there else ", at no terminal"
+            reply(
+                f"{user.name} {'runs' if user.is_running else 'is stopped'}{where}, {user.written / MEGABYTE:.1f} MB written"
+            )
+        reply(f"{len(self.on())} on")
+
+    def spool(self, rest: str, reply: object) -> None:
+        printouts = self.engine.printouts.all
+        for printout in printouts[-MOST_SPOOL_LINES:]:
+            reply(f"{printout.name} {printout.lines} lines, {printout.state}")
+        reply(f"{len(printouts)} files, the last {MOST_SPOOL_LINES} are shown" if len(printouts) > MOST_SPOOL_LINES
+              else f"{len(printouts)} files")  # fmt: skip
+
+    def frames(self, reply: object, end: object) -> None:
+        """Has bin/framemap do the recording as it is now, in parallel to all else."""
+        if self.mapping and self.mapping.is_alive():
+            reply("the frames are being looked for")
+            end(NOT_DONE)
+            return
+        self.mapping = threading.Thread(
+            target=self.map_frames, args=(self.engine.recording.whole(), reply, end), daemon=True
+        )
+        self.mapping.start()
+
+    def map_frames(self, script: str, reply: object, end: object) -> None:
+        # a build would take minutes in silence
+        if ask_build("tell", "frame_map").endswith("not built"):
+            reply("the program frame_map is not built: run bin/framemap once by hand")
+            end(NOT_DONE)
+            return
+        done = subprocess.run(self.framemap, input=script, capture_output=True)
+        for line in (
+            (done.stderr if done.returncode else done.stdout).decode(errors="replace").splitlines()
+        ):
+            reply(line)
+        end(NOT_DONE if done.returncode else DONE)
+
+    def message(self, text: str, reply: object) -> None:
+        """A line for the user whose name is the first word, else for each terminal."""
+        word, _, rest = text.partition(" ")
+        user = self.engine.users.get(word)
+        if not user or not rest:
+            self.announce(text)
+        elif not user.is_on:
+            raise NotDone(f"{word} is not on")
+        else:
+            user.show(f"OPERATOR: {plain(rest)}")
+            reply(
+                f"{word} is at no terminal, and sees it when he comes back"
+                if not user.terminal.is_there
+                else f"sent to {word}"
+            )
+
+    def announce(self, text: str) -> None:
+        for user in self.engine.users.values():
+            user.terminal.show(f"OPERATOR: {plain(text)}")
+
+    def set_log_message(self, text: str, reply: object) -> None:
+        if text:
+            self.installation.set_log_message("" if text == "off" else plain(text))
+        reply(self.installation.desk.log_message or "there is no log message")
+
+    def set_logon(self, text: str, reply: object) -> None:
+        desk = self.installation.desk
+        if text not in ("", "open", "closed"):
+            raise NotDone("logon closed or logon open")
+        if text:
+            desk.is_closed = text == "closed"
+        reply(f"logon is {'closed' if desk.is_closed else 'open'}")
+
+    def force(self, name: str, reply: object) -> None:
+        user = self.named(name)
+        if not self.installation.is_person(user):
+            raise NotDone(f"nobody logs on as {user.name}")
+        if not user.is_on:
+            raise NotDone(f"{user.name} is not on")
+        self.installation.force(user, "by the operator")
+
+    def suspend(self, rest: str, reply: object) -> object:
+        self.notify("the installation is suspended")
+        self.installation.stop()
+        return ENDS
+
+    def end(self, rest: str, reply: object) -> object:
+        """Ends the session, now or later."""
+        if rest == "cancel":
+            return self.cancel()
+        if found := re.fullmatch(r"at ([01]?\d|2[0-3]):([0-5]\d)", rest):
+            return self.end_at(int(found[1]), int(found[2]), reply)
+        if rest not in ("", "now"):
+            raise NotDone("end, end now, end at HH:MM or end cancel")
+        on, unwritten = [user.name for user in self.on()], self.engine.printouts.unwritten()
+        if not rest and on:
+            raise NotDone(f"still on: {' '.join(on)} (end now ends all the same)")
+        if not rest and unwritten:
+            raise NotDone(
+                f"not written: {' '.join(unwritten[:8])} (end now ends all the same: bin/printouts makes them later)"
+            )
+        self.cancel()
+        self.notify("the session ends")
+        self.installation.stop(is_end=True)
+        return ENDS
+
+    def end_at(self, hour: object, minute: str, reply: object) -> None:
+        self.cancel()
+        now = datetime.datetime.now()
+        when = now.replace(hour=hour, minute=minute, second=0, microsecond=0)
+        when += datetime.timedelta(days=1) * (when <= now)
+        write_whole(self.ending_path, f"{when:{MINUTE}}\n".encode())
+        self.plan_end(when)
+        reply(self.ending[0])
+
+    def resume(self) -> None:
+        """Plans the end again that was planned before a suspend."""
+        if not os.path.exists(self.ending_path):
+            return
+        text = read_file(self.ending_path).decode(errors="replace").strip()
+        with contextlib.suppress(ValueError):
+            when = datetime.datetime.strptime(text, MINUTE)
+            if when > datetime.datetime.now():
+                self.plan_end(when)
+                self.notify(self.ending[0])
+                return
+        os.unlink(self.ending_path)
+        self.notify(f"the session was to end at {text}, which is past: it goes on")
+
+    def plan_end(self, when: object) -> None:
+        loop, left = asyncio.get_running_loop(), (when - datetime.datetime.now()).total_seconds()
+        self.ending = [f"the session ends at {when:{MINUTE}}"]
+        for minutes in WARNED_MINUTES:
+            if left > 60 * minutes:
+                findings = f"GATHJUMLI GOES DOWN IN {minutes} MINUTE{'S' * (minutes > 1)}"
+                self.ending.append(loop.call_later(left - 60 * minutes, self.announce, findings))
+        self.ending.append(loop.call_later(left, self.end, "now", self.notify))
+
+    def cancel(self) -> None:
+        for planned in self.ending[1:]:
+            planned.cancel()
+        self.ending = []
+        with contextlib.suppress(FileNotFoundError):
+            os.unlink(self.ending_path)
+
+
+def plain(text: str) -> str:
+    """A text without what a terminal takes for something else."""
+    return "".join(item if " " <= item <= "~" else " " for item in text)
+
+
+def age(seconds: object) -> str:
+    """A time span in words."""
+    for unit, name in ((86400, "days"), (3600, "hours"), (60, "minutes")):
+        if seconds >= 2 * unit:
+            return f"{seconds // unit:.0f} {name}"
+    return f"{max(0, seconds):.0f} seconds"

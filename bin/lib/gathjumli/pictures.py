@@ -1,0 +1,49 @@
+"""Maps as pictures: SVG of squares, each with what it is as its title, and the same as text."""
+from __future__ import annotations
+
+from xml.sax.saxutils import escape
+
+
+SIZE = 12
+LETTERS = "ABCDEFGHIJKLMNOPQRSTUVWXYZabcdefghijklmnopqrstuvwxyz0123456789@#"
+SHADES = ".:-=+*#%@"
+
+
+class Picture:
+    """Squares and lines of text, in SVG."""
+
+    def __init__(self) -> None:
+        self.parts = []
+        self.width = self.height = 0
+
+    def grow(self, x: object, y: object) -> None:
+        self.width, self.height = max(self.width, x), max(self.height, y)
+
+    def square(self, x: object, y: object, color: object, title: object) -> None:
+        self.grow(x + SIZE, y + SIZE)
+        self.parts.append(
+            f'<rect x="{x}" y="{y}" width="{SIZE - 1}" height="{SIZE - 1}" fill="{color}"><title>{escape(title)}</title></rect>'
+        )
+
+    def text(self, x: object, y: object, text: str) -> None:
+        self.grow(x + 7 * len(text), y + 4)
+        self.parts.append(f'<text x="{x}" y="{y}">{escape(text)}</text>')
+
+    def svg(self) -> str:
+        size = f'width="{self.width + SIZE}" height="{self.height + SIZE}"'
+        head = f'<svg xmlns="http://www.w3.org/2000/svg" {size} font-family="monospace" font-size="11">'
+        ground = '<rect width="100%" height="100%" fill="white"/>'
+        return "\n".join([head, ground, *self.parts, "</svg>"])
+
+
+def color_of(place: object) -> str:
+    """A color for each user, neighbours far apart on the circle."""
+    return f"hsl({place * 137 % 360},65%,{45 + place * 7 % 25}%)"
+
+
+def shade_of(part: bytes) -> str:
+    """A color for how full something is: from light to dark."""
+    return f"hsl(210,70%,{90 - round(65 * part)}%)"
+
+
+FREE = "#eeeeee"

@@ -1,0 +1,370 @@
+"""The recording of an installation: the script of all that the program accepted (docs/INSTALLATION.md)."""
+import calendar
+import errno
+import fcntl
+import hashlib
+import os
+import re
+import time
+from typing import NamedTuple
+
+from gathjumli.machines import statements
+from gathjumli.cli import Failure, REFUSED
+
+TITLE = b"* GATHJUMLI RECORDING 1"
+BEGUN = b"* BEGUN "
+END = b"* END"
+SAVED = b"* SAVED "
+DECK_READ = b"* DECK "
+PRINTED = b"* PRINTED "
+MOST_TURNS = 100000
+SUM_DIGITS = 32
+# of the running sum that a stamp has
+STAMP_DIGITS = 8
+SECONDS_TO_STAMP_TURNS = 60
+MOST_UNSTAMPED = 10000
+TIME = "%Y-%m-%d %H:%M:%S UTC"
+DECK = re.compile(rb"DECK [A-Z0-9]+ ([0-9]+)\n")
+TURNS = re.compile(rb"AUTO ([0-9]+)\n")
+TYPED = re.compile(rb"LINE ([A-Z0-9]+) ?(.*)\n")
+STAMP = re.compile(rb"\* (\d{4}-\d\d-\d\d \d\d:\d\d:\d\d) UTC(?: ([0-9a-f]{8}))?\n", re.M)
+STAMPED = re.compile(rb"^" + STAMP.pattern, re.M)
+SCRIPT_WORDS = (b"LINE ", b"AUTO ", b"*", b"DECK ", b"RUN ", b"SERVE ", b"TICK ", b"\n")
+
+
+class Base(NamedTuple):
+    """What a recording stands on."""
+
+    program: str
+    sizes: str
+    directory: str
+    volumes: list
+
+    def lines(self):
+        """The first lines of a recording of it. The paths are for readers, and may differ."""
+        files = [("DIRECTORY", self.directory, sum_of(without_passwords(read_whole(self.directory))))]
+        files += [("VOLUME", it, sum_of_file(it)) for it in self.volumes]
+        findings = [f"* {kind} {known} {os.path.abspath(path)}" for kind, path, known in files]
+        texts = [f"* PROGRAM {self.program}", findings[0], f"* SIZES {self.sizes}", *findings[1:]]
+        return [TITLE, *(it.encode(errors="surrogateescape") for it in texts)]
+
+
+def read_whole(path):
+    with open(path, "rb") as file:
+        return file.read()
+
+
+def sum_of(data):
+    return hashlib.sha256(data).hexdigest()[:SUM_DIGITS]
+
+
+def sum_of_file(path):
+    known = hashlib.sha256()
+    with open(path, "rb") as file:
+        while data := file.read(1 << 20):
+            known.update(data)
+    return known.hexdigest()[:SUM_DIGITS]
+
+
+def without_passwords(directory):
+    """A directory that states the same but for the passwords, which are X."""
+    stated = ([*it[:2], "X", *it[3:]] if it[0] == "USER" and len(it) == 4 else it for it in statements(directory))
+    return "".join(" ".join(it) + "\n" for it in stated).encode("latin-1")
+
+
+def entries_of(file):
+    """Each entry of a script that is there whole: a line, or a deck with its cards."""
+    while (line := file.readline()).endswith(b"\n"):
+        lines = [line]
+        if line.startswith(b"DECK ") and (deck := DECK.fullmatch(line)):
+            lines += [file.readline() for _ in range(int(deck[1]))]
+        if not lines[-1].endswith(b"\n"):
+            return
+        yield b"".join(lines)
+
+
+def stamp_in(entry):
+    """The time and the sum of a stamp, or None."""
+    return STAMP.fullmatch(entry) if entry.startswith(b"* ") and entry[2:3].isdigit() else None
+
+
+def stamped(file):
+    """The entries of a recording in groups, each with the time of the stamp that follows it, or an empty time."""
+    group = []
+    for entry in entries_of(file):
+        if stamp := stamp_in(entry):
+            yield stamp[1].decode(), group
+            group = []
+        else:
+            group.append(entry)
+        if len(group) >= MOST_UNSTAMPED:
+            yield "", group
+            group = []
+    yield "", group
+
+
+def known_part(line):
+    """What of a first line is compared: not the path, nor behind the sources' sum the version."""
+    words = line.split(b" ", 3)
+    return words[:3] if words[1] in (b"PROGRAM", b"DIRECTORY", b"VOLUME") else words
+
+
+def differing(found, wanted):
+    """What the first lines of a recording tell otherwise than what it is to go on with, in words, or None."""
+    if len(found) != len(wanted):
+        return "it has another number of volumes"
+    names = ["another kind", "another version of the program", "another directory", "other numbers of --frames and --slots"]
+    names += [f"another volume {it}" for it in range(1, len(wanted) - 3)]
+    for name, one, other in zip(names, found, wanted):
+        if known_part(one) != known_part(other):
+            return f"it is of {name}"
+    return None
+
+
+class Recording:
+    """A recording that goes on. Nobody else may write it meanwhile. Each part is followed by a stamp: the time, and the sum of all
+    bytes before."""
+
+    def __init__(self, path):
+        self.path = path
+        self.turns = 0
+        self.stamped = self.written = time.monotonic()
+        self.base = []
+        self.begun = b""
+        self.last = b""
+        self.until = b""
+        self.decks = set()
+        self.printed = set()
+        self.weight = 0
+        self.lines = 0
+        self.cut = 0
+        self.sum = hashlib.sha256()
+        self.has_sums = False
+        # the last line of which the sum is known to be right
+        self.right = 0
+        # it has all that was typed, perhaps a password at a wrong place
+        self.file = open(path, "ab", buffering=0, opener=lambda path, flags: os.open(path, flags, 0o600))
+        try:
+            fcntl.flock(self.file, fcntl.LOCK_EX | fcntl.LOCK_NB)
+        except BlockingIOError:
+            raise Failure(REFUSED, f"another installation goes on with {path}") from None
+        self.look()
+
+    def look(self):
+        """Reads all that it has, and refuses what is not as it was written. An end that a crash of the host left in part was never
+        shown, and is cut."""
+        size = 0
+        with open(self.path, "rb") as file:
+            if not (TITLE + b"\n").startswith(file.read(len(TITLE) + 1)):
+                raise Failure(REFUSED, f"{self.path} is no recording of an installation")
+            file.seek(0)
+            for entry in entries_of(file):
+                size += len(entry)
+                self.judge(entry)
+                self.count(entry)
+                self.note(entry)
+            file.seek(size)
+            torn = file.read()
+        if STAMPED.search(torn):
+            raise self.edited(self.lines + 1, "has more cards than follow it")
+        if not self.begun:
+            # not even its first lines were written: nothing was done
+            size, self.base, self.lines, self.sum = 0, [], 0, hashlib.sha256()
+        self.cut = len(torn)
+        self.file.truncate(size)
+
+    def judge(self, entry):
+        """Refuses an entry that is not as it was written."""
+        if not entry.startswith(SCRIPT_WORDS):
+            raise self.edited(self.lines + 1, "is no line of a recording")
+        stamp = stamp_in(entry)
+        if not self.begun and (stamp or not entry.startswith(b"* ")):
+            raise self.edited(self.lines + 1, "comes before any line BEGUN")
+        if stamp:
+            self.judge_stamp(stamp, self.lines + 1)
+
+    def judge_stamp(self, stamp, line):
+        if stamp[2] and stamp[2] != self.digits():
+            first, last = self.right + 1, line - 1
+            which = f"lines {first} to {last} are" if first < last else f"line {first} is"
+            raise self.edited(first, "", f"{which} not as written, or the sum in line {line} is not")
+        if self.has_sums and not stamp[2]:
+            raise self.edited(line, "has no sum, as the lines before it have")
+        self.has_sums = bool(stamp[2])
+        self.right = line
+        self.until = stamp[1]
+
+    def edited(self, line, fault, findings=""):
+        """The failure that a wrong line is, and what can be done."""
+        findings = findings or f"line {line} {fault}"
+        right = min(self.right, line - 1)
+        until = f"until {self.until.decode()} UTC, " if right == self.right else ""
+        kept = f"{until}head -n {right} {self.path} > OTHER" if right else "nothing"
+        advice = f"put back a copy from before it was changed, or go on with what is known to be right: {kept}"
+        return Failure(REFUSED, f"{self.path}: {findings}", advice)
+
+    def digits(self):
+        return self.sum.hexdigest()[:STAMP_DIGITS].encode()
+
+    def count(self, data):
+        self.sum.update(data)
+        self.lines += data.count(b"\n")
+
+    def note(self, entry):
+        if not self.begun and not entry.startswith(BEGUN):
+            self.base.append(entry[:-1])
+            return
+        if entry.startswith(b"*"):
+            if stamp_in(entry):
+                return
+            self.note_comment(entry)
+        self.last = entry
+        self.weight += weight_of(entry)
+
+    def note_comment(self, entry):
+        if entry.startswith(BEGUN):
+            self.begun = self.begun or entry
+            self.until = entry.removeprefix(BEGUN)[:19]
+        elif entry.startswith(DECK_READ):
+            self.decks.add(entry)
+        elif entry.startswith(PRINTED):
+            self.printed.add(entry.removeprefix(PRINTED).decode().rstrip("\n"))
+
+    def begin(self, base):
+        """Begins it on this base, or goes on if it has the same. What it says about that is for the operator."""
+        wanted = base.lines()
+        if self.base:
+            if differs := differing(self.base, wanted):
+                advice = "put back what it is of, or move the file away: then a session begins anew"
+                raise Failure(REFUSED, f"{self.path}: {differs}", advice)
+            cut = f"; {self.cut} bytes after the last whole line are cut" if self.cut else ""
+            findings = f"goes on from {self.lines} lines of {self.path}, until {self.until.decode()} UTC{cut}"
+            # a full disk is found here, and not when somebody types
+            self.put(b"", is_stamped=True)
+        else:
+            findings = f"begins {self.path}"
+            self.begun = begun_now()
+            while os.path.exists(self.aside()):
+                # another session was begun in this second
+                time.sleep(0.1)
+                self.begun = begun_now()
+            self.base = wanted
+            self.put(b"".join(it + b"\n" for it in wanted) + self.begun, is_stamped=True)
+        os.fdatasync(self.file.fileno())
+        sync_folder(self.path)
+        return findings
+
+    def volume_sums(self):
+        """The sums of the volumes when the session began."""
+        return [line.split(b" ")[2].decode() for line in self.base if line.startswith(b"* VOLUME ")]
+
+    def name(self):
+        """What this session is called among those of the same files: the time when it was begun."""
+        return self.begun_at().translate({ord(" "): "-", ord(":"): None})
+
+    def begun_at(self):
+        return self.begun.removeprefix(BEGUN).decode()[:19]
+
+    def seconds(self):
+        """How long ago it was begun."""
+        return time.time() - calendar.timegm(time.strptime(self.begun_at(), "%Y-%m-%d %H:%M:%S"))
+
+    def size(self):
+        return os.fstat(self.file.fileno()).st_size
+
+    def free(self):
+        """The bytes that are free on its disk."""
+        found = os.fstatvfs(self.file.fileno())
+        return found.f_bavail * found.f_frsize
+
+    def aside(self):
+        """The folder to which it goes when the session ends."""
+        return f"{self.path}.{self.name()}"
+
+    def entries(self):
+        """What was done until now: each entry with the number of its line, and the time of the stamp that follows it."""
+        number, waiting, when = 1, [], self.begun.removeprefix(BEGUN)[:19]
+        with open(self.path, "rb") as file:
+            for entry in entries_of(file):
+                stamp = stamp_in(entry)
+                if stamp:
+                    when = stamp[1]
+                elif not entry.startswith(b"*"):
+                    waiting.append((number, entry))
+                if stamp or len(waiting) >= MOST_UNSTAMPED:
+                    yield from ((line, when, text) for line, text in waiting)
+                    waiting = []
+                number += entry.count(b"\n")
+        yield from ((line, when, text) for line, text in waiting)
+
+    def whole(self):
+        """All that it has."""
+        return read_whole(self.path)
+
+    def add(self, part):
+        """Adds lines that were done; they need not be on the disk yet."""
+        self.put(self.turns_line() + part, is_stamped=True)
+        self.written = time.monotonic()
+
+    def add_turns(self, turns):
+        """Adds turns that were done; those that follow each other are one line, which is written each second."""
+        if self.turns + turns > MOST_TURNS:
+            self.put(self.turns_line())
+        self.turns += turns
+        now = time.monotonic()
+        if now - self.written >= 1:
+            self.put(self.turns_line(), is_stamped=now - self.stamped >= SECONDS_TO_STAMP_TURNS)
+            self.written = now
+
+    def turns_line(self):
+        line = b"AUTO %d\n" % self.turns if self.turns else b""
+        self.turns = 0
+        return line
+
+    def put(self, data, is_stamped=False):
+        """Writes lines, and a stamp after them if that is asked for, at once."""
+        self.count(data)
+        if is_stamped:
+            stamp = time.strftime(f"* {TIME} ", time.gmtime()).encode() + self.digits() + b"\n"
+            self.count(stamp)
+            self.stamped, self.until = time.monotonic(), stamp[2:21]
+            data += stamp
+        try:
+            is_whole = not data or self.file.write(data) == len(data)
+        except OSError as error:
+            raise OSError(error.errno, error.strerror, self.path) from None
+        if not is_whole:
+            raise OSError(errno.ENOSPC, os.strerror(errno.ENOSPC), self.path)
+
+    def settle(self):
+        """What was added is on the disk now."""
+        self.put(self.turns_line())
+        os.fdatasync(self.file.fileno())
+
+    def mark(self, line):
+        """Adds a comment line, and has it on the disk."""
+        self.put(self.turns_line() + line + b"\n", is_stamped=True)
+        self.settle()
+        self.last = line + b"\n"
+
+    def close(self):
+        self.file.close()
+
+
+def begun_now():
+    return time.strftime(f"{BEGUN.decode()}{TIME}\n", time.gmtime()).encode()
+
+
+def weight_of(entry):
+    """About how much the program has to do for an entry, in turns."""
+    turns = TURNS.fullmatch(entry) if entry.startswith(b"AUTO ") else None
+    return int(turns[1]) if turns else 20
+
+
+def sync_folder(path):
+    """Has the name of a file on the disk."""
+    folder = os.open(os.path.dirname(os.path.abspath(path)), os.O_RDONLY)
+    try:
+        os.fsync(folder)
+    finally:
+        os.close(folder)

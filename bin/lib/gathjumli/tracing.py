@@ -1,0 +1,488 @@
+"""The units of a guest one by one. A script is done again with its runs as single units, and between these the machine is
+asked by DISPLAY; the guest does not notice. What is asked depends on earlier answers, so the script is run until nothing is
+left to ask."""
+from __future__ import annotations
+
+from collections.abc import Iterator
+import re
+from typing import NamedTuple
+
+from gathjumli.channels import chained, command_text, status_text
+from gathjumli.instructions import length, place_of, text_of, under_execute
+from gathjumli.machines import parts
+from gathjumli.cli import Failure, REFUSED
+
+
+SLICE = 100
+# if an interruption stores the old PSW, and where its new PSW is
+INTERRUPTIONS = {
+    "external": (0x18, 0x58),
+    "svc": (0x20, 0x60),
+    "program": (0x28, 0x68),
+    "io": (0x38, 0x78),
+}
+PROGRAM_CODES = {
+    1: "operation", 2: "privileged operation", 3: "execute", 4: "protection", 5: "addressing", 6: "specification", 7: "data",
+    8: "fixed-point overflow", 9: "fixed-point divide",
+}  # fmt: skip
+CSW = 0x40
+LOADING = re.compile(rb"LINE [A-Z0-9]+ (?:#CP )?IPL ([0-5][0-9A-F]{2})\n")
+GENERAL = [f"G{number}" for number in range(16)]
+CONTROL = [f"X{number}" for number in range(16)]
+LOW_ROWS = range(0x10, 0x80, 0x10)
+PREFETCHED = 8
+CHANGED = (
+    "the machines do something else when the script is done again: has a volume changed meanwhile?"
+)
+
+
+class Step(NamedTuple):
+    """A line of the script that is run; kind is unit, run, serve, which each have a last line in the transcript, or line."""
+
+    kind: str
+    text: bytes
+    user: str = ""
+    device: str = ""
+
+
+def events_of(script: str) -> Iterator:
+    """The events of a script that is accepted, each with its cards."""
+    lines = script.split(b"\n")
+    while lines:
+        line = lines.pop(0)
+        if not line or line.startswith(b"*"):
+            continue
+        words = line.split(b" ", 2)
+        text = [line]
+        if words[0] == b"DECK":
+            count = int(words[2])
+            text, lines = text + lines[:count], lines[count:]
+        yield [word.decode("latin-1") for word in words], b"".join(item + b"\n" for item in text)
+
+
+class Expansion:
+    """The steps of a script: turns as the runs and the served devices that they were, and the runs of one user as single
+    units, of which those from `first` on are traced, at most `most`."""
+
+    def __init__(self, machines: object, user: str, script: str, first: int, most: int) -> None:
+        self.user = user
+        self.first, self.most = first, most
+        self.units = 0
+        self.is_cut = False
+        self.steps = []
+        findings, _ = parts(machines.run(script))
+        self.printed = printed(findings)
+        self.ends = [item.split(" ") for item in findings if item.startswith("= ")]
+        if any(end[-1] == "FRAMES" for end in self.ends):
+            raise Failure(
+                REFUSED,
+                "an event of the script finds no frame free, also with as many as there may be",
+            )
+        for words, text in events_of(script):
+            if self.is_cut:
+                break
+            self.expand(words, text)
+
+    def expand(self, words: list[str], text: str) -> None:
+        if words[0] == "RUN":
+            self.run(words[1], int(words[2]))
+        elif words[0] == "SERVE":
+            self.serve()
+        elif words[0] == "AUTO":
+            for _ in range(int(words[1])):
+                self.turn()
+        else:
+            self.steps.append(Step("line", text, words[1]))
+
+    def turn(self) -> None:
+        if self.ends[0] == ["=", "IDLE"]:
+            self.ends.pop(0)
+            return
+        if self.ends[0][2] != "SERVED":
+            self.run(self.ends[0][1], SLICE)
+        # A device is served in the turn of the slice before it, or in a turn without a slice: where a turn with a slice
+        # serves none, no program is in the line, and none is served in the next one.
+        if self.ends and not self.is_cut and self.ends[0][2:3] == ["SERVED"]:
+            self.serve()
+
+    def serve(self) -> None:
+        _, user, _, device = self.ends.pop(0)
+        self.add("serve", f"SERVE {user} {device}", user, device)
+
+    def add(self, kind: str, text: str, user: str, device: str = "") -> None:
+        if not self.is_cut:
+            self.steps.append(Step(kind, text.encode() + b"\n", user, device))
+
+    def run(self, user: str, count: int) -> None:
+        _, _, done, reason = self.ends.pop(0)
+        if user != self.user:
+            self.add("run", f"RUN {user} {count}", user)
+            return
+        done = int(done)
+        before = max(0, min(done, self.first - 1 - self.units))
+        if before:
+            self.add("run", f"RUN {user} {before}", user)
+        self.units += before
+        for _ in range(done - before):
+            if self.units - self.first + 1 >= self.most:
+                self.is_cut = True
+                return
+            self.units += 1
+            self.add("unit", f"RUN {user} 1", user)
+        if reason != "COUNT":
+            self.add("run", f"RUN {user} {count - done}", user)
+
+
+def printed(findings: object) -> list:
+    """The lines of a transcript that terminals show."""
+    return [item for item in findings if not item.startswith("= ")]
+
+
+class Machine:
+    """What is known of a machine after each number of steps: `ask` gives an answer, or None where it is yet to be asked."""
+
+    def __init__(self, machines: object, user: str, expansion: object) -> None:
+        self.machines = machines
+        self.user = user
+        self.steps = steps = expansion.steps
+        self.known = {}
+        self.wanted = {}
+        self.findings, _ = parts(machines.run(b"".join(step.text for step in steps)))
+        shown = printed(self.findings)
+        if shown != expansion.printed[: len(shown) if expansion.is_cut else None]:
+            raise Failure(REFUSED, CHANGED)
+        self.trailing = {0: 0, len(steps): len(self.findings)}
+        ends = [place + 1 for place, item in enumerate(self.findings) if item.startswith("= ")]
+        for place, step in enumerate(steps):
+            if step.kind != "line":
+                self.trailing[place + 1] = ends.pop(0)
+
+    def lines_after(self, place: object) -> object:
+        """How many lines the transcript has after so many steps; of a typed line a run of the script up to it says."""
+        if place not in self.trailing:
+            findings, _ = parts(
+                self.machines.run(b"".join(step.text for step in self.steps[:place]))
+            )
+            self.trailing[place] = len(findings)
+        return self.trailing[place]
+
+    def ask(self, place: object, what: str) -> object:
+        answer = self.known.get((place, what))
+        if answer is None:
+            self.wanted.setdefault(place, {})[what] = True
+        return answer
+
+    def learn(self) -> bool:
+        """Asks what is wanted; says whether there was something."""
+        if not self.wanted:
+            return False
+        wanted, self.wanted = self.wanted, {}
+        script = b""
+        for place in range(len(self.steps) + 1):
+            script += b"".join(
+                f"LINE {self.user} #CP DISPLAY {item}\n".encode() for item in wanted.get(place, ())
+            )
+            script += self.steps[place].text if place < len(self.steps) else b""
+        findings, _ = parts(self.machines.run(script))
+        last = 0
+        for place in sorted(wanted):
+            trailing = self.lines_after(place)
+            if findings[: trailing - last] != self.findings[last:trailing]:
+                raise Failure(REFUSED, CHANGED)
+            findings, last = findings[trailing - last :], trailing
+            for what in wanted[place]:
+                self.known[place, what] = findings.pop(0).removeprefix(self.user + ": ")
+        return True
+
+    def psw(self, place: object) -> object:
+        """The PSW as eight bytes."""
+        answer = self.ask(place, "PSW")
+        words = answer.split(" ") if answer else []
+        return bytes.fromhex("".join(words[1:])) if words[:1] == ["PSW"] else None
+
+    def registers(self, place: object, names: list[bytes] = GENERAL) -> list | None:
+        answers = [self.ask(place, name) for name in names]
+        if not all(answer and "=" in answer for answer in answers):
+            return None
+        return [int(answer.split(" ")[3], 16) for answer in answers]
+
+    def row(self, place: object, address: int) -> object:
+        """Sixteen bytes of storage; none past its end."""
+        answer = self.ask(place, f"{address:06X}")
+        words = answer.split(" ") if answer else []
+        if words[:1] == [f"{address:06X}"]:
+            return bytes.fromhex("".join(words[1:]))
+        return None if answer is None else b""
+
+    def storage(self, place: object, address: int, count: int) -> object:
+        """Bytes of storage, fewer where it ends; None where some are yet to be asked."""
+        rows = [
+            self.row(place, number)
+            for number in range(address & 0xFFFFF0, min(address + count, 1 << 24), 16)
+        ]
+        if None in rows:
+            return None
+        return b"".join(rows)[address & 15 :][:count]
+
+
+class Trace:
+    """The lines of a trace."""
+
+    def __init__(
+        self,
+        machine: object,
+        expansion: object,
+        devices: object,
+        ranges: object,
+        stop_at: object,
+        stop_on: object,
+        names: list[bytes],
+    ) -> None:
+        self.machine = machine
+        self.expansion = expansion
+        self.devices = devices
+        self.ranges = ranges
+        self.stop_at = stop_at
+        self.stop_on = stop_on
+        self.names = names
+        self.started = {}
+
+    def lines(self) -> object:
+        while True:
+            found = list(self.pass_over())
+            if not self.machine.learn():
+                return found
+
+    def pass_over(self) -> Iterator:
+        """All lines as far as the answers are there."""
+        self.started = {}
+        unit = self.expansion.first - 1
+        shown = 0
+        for place, step in enumerate(self.machine.steps):
+            if step.kind == "unit":
+                before = self.machine.psw(place)
+                if (
+                    self.stop_at is not None
+                    and before
+                    and int.from_bytes(before[5:], "big") == self.stop_at
+                ):
+                    yield f"STOP at {self.stop_at:06X}"
+                    return
+                unit += 1
+                if before and (name := self.names.get(int.from_bytes(before[5:], "big"))):
+                    yield f"AT {name}"
+                yield from self.unit(place, unit)
+            elif step.kind == "serve":
+                yield f"SERVE {step.user} {step.device}"
+                yield from self.program(place, step)
+            else:
+                yield from (
+                    f"{'CARD' if item else 'DO'} {text}"
+                    for item, text in enumerate(text_lines(step))
+                )
+                if typed := LOADING.fullmatch(step.text):
+                    yield from self.loading(place, step.user, typed[1].decode())
+            # a typed line's replies come where they are known to end
+            if place + 1 in self.machine.trailing:
+                trailing = self.machine.trailing[place + 1]
+                findings = self.machine.findings[shown:trailing]
+                yield from (
+                    f"TOLD {item}"
+                    for item in findings
+                    if not (item.startswith("= ") and step.kind in ("unit", "serve"))
+                )
+                shown = trailing
+            if step.kind == "unit" and (what := self.stop(place)):
+                yield f"STOP on a change of {what}"
+                return
+        yield f"STOP after {self.expansion.most} units" if self.expansion.is_cut else "END of the script"
+
+    def stop(self, place: object) -> object:
+        """What of that on which the trace stops a unit has changed."""
+        for what in self.stop_on:
+            if isinstance(what, str):
+                before, after = self.machine.ask(place, what), self.machine.ask(place + 1, what)
+                name = what
+            else:
+                before, after = (
+                    self.machine.storage(item, what[0], what[1] - what[0] + 1)
+                    for item in (place, place + 1)
+                )
+                name = f"{what[0]:06X}-{what[1]:06X}"
+            if before is not None and after is not None and before != after:
+                return name
+        return None
+
+    def unit(self, place: object, number: int) -> Iterator:
+        machine = self.machine
+        before, after = machine.psw(place), machine.psw(place + 1)
+        registers, later = machine.registers(place), machine.registers(place + 1)
+        low = [
+            machine.storage(item, LOW_ROWS[0], LOW_ROWS[-1] + 16 - LOW_ROWS[0])
+            for item in (place, place + 1)
+        ]
+        changed = [self.changed_bytes(place, item) for item in self.ranges]
+        if None in (before, after, registers, later, *low, *changed):
+            return
+        address = int.from_bytes(before[5:], "big")
+        code = machine.storage(place, address, 6)
+        if code is None:
+            return
+        code = code[: length(code[0])] if code else b""
+        target = self.target(place, code, registers)
+        if target is None:
+            return
+        kind, old = interruption(before, after, *low, (target or code)[:1] == b"\x0a")
+        if kind not in ("external", "io"):
+            changes = self.changes(place, code, before, after, registers, later, kind) + "".join(
+                changed
+            )
+            name, operands = text_of(code) if code else ("", "")
+            shown = f"UNIT {number} {address:06X} {code.hex().upper():<12} {name:<5} {operands:<20}"
+            if target:
+                shown += f" > {' '.join(text_of(target)):<20}"
+            yield f"{shown} {changes}".rstrip()
+            yield from self.channel(place, target or code, registers, after, kind)
+        if kind:
+            said = old[2:4].hex().upper()
+            if kind == "program":
+                said += " " + PROGRAM_CODES.get(int(said, 16), "")
+            new = f"{after[:4].hex().upper()} {after[4:].hex().upper()}"
+            rest = "".join(changed) if kind in ("external", "io") else ""
+            yield f"INT {number} {address:06X} {kind} {said} PSW={new}{rest}".rstrip()
+            if kind == "io":
+                yield f"CSW {said[1:]} {status_text(low[1][CSW - 0x10 : CSW - 8])}"
+
+    def target(self, place: object, code: int, registers: object) -> object:
+        """The target of EX as it is carried out; empty for another instruction, None where it is yet to be asked."""
+        if code[:1] != b"\x44" or len(code) < 4:
+            return b""
+        found = self.machine.storage(place, place_of(code, registers), 6)
+        if not found or len(found) < length(found[0]):
+            return found and b""
+        return under_execute(code, found[: length(found[0])], registers)
+
+    def changes(
+        self,
+        place: object,
+        code: int,
+        before: str,
+        after: object,
+        registers: object,
+        later: object,
+        kind: str,
+    ) -> str:
+        """What a unit has changed of registers, condition code and PSW."""
+        said = [
+            f"G{number}={later[number]:08X}"
+            for number in range(16)
+            if registers[number] != later[number]
+        ]
+        if code[:1] == b"\xb7":
+            controls = [self.machine.registers(item, CONTROL) for item in (place, place + 1)]
+            if None not in controls:
+                said += [
+                    f"X{item}={new:08X}"
+                    for item, (old, new) in enumerate(zip(*controls))
+                    if old != new
+                ]
+        if not kind:
+            if before[:4] != after[:4] or before[4] & 15 != after[4] & 15:
+                said.append(f"PSW={after[:4].hex().upper()}_{after[4:].hex().upper()}")
+            elif before[4] != after[4]:
+                said.append(f"CC={after[4] >> 4 & 3}")
+        return " ".join(said)
+
+    def changed_bytes(self, place: object, bounds: object) -> object:
+        """The changed bytes of a range, run by run."""
+        low, high = bounds
+        old, new = (self.machine.storage(item, low, high - low + 1) for item in (place, place + 1))
+        if old is None or new is None:
+            return None
+        said, at = "", 0
+        while at < len(old):
+            end = at
+            while end < len(old) and old[end] != new[end]:
+                end += 1
+            if end > at:
+                said += f" M{low + at:06X}={new[at:end].hex().upper()}"
+            at = end + 1
+        return said
+
+    def channel(
+        self, place: object, code: int, registers: object, after: object, kind: str
+    ) -> Iterator:
+        """What an instruction of the channel did."""
+        if kind or len(code) < 4 or code[0] not in (0x9C, 0x9D, 0x9E):
+            return
+        device = f"{place_of(code, registers) & 0xFFFF:04X}"[1:]
+        said = after[4] >> 4 & 3
+        words = self.machine.storage(place + 1, CSW, 16)
+        if code[0] == 0x9C and said == 0:
+            self.started[device] = int.from_bytes(words[9:12], "big")
+            yield f"CAW {device} {words[8]:02X} {self.started[device]:06X}"
+        elif said == 1:
+            yield f"CSW {device} {status_text(words[:8])}"
+
+    def program(self, place: object, step: object) -> Iterator:
+        """The words of the program of a device that is served, as they stand before."""
+        if step.user != self.machine.user:
+            return
+        if step.device not in self.started:
+            yield f"CCW {step.device} its start was not traced"
+            return
+        yield from self.words(step.device, place, self.started.pop(step.device))
+
+    def words(self, device: str, place: object, start: int) -> Iterator:
+        kind = self.devices.get(device, "")
+        for at, word in chained(start, lambda item: self.word(place, item)):
+            yield f"CCW {device} {at:06X} " + (
+                "stands past storage" if not word else command_text(word, kind)
+            )
+
+    def loading(self, place: object, user: str, device: str) -> Iterator:
+        """The words of a program that has loaded the machine: the implied first one, and those that it read, as they stand then."""
+        if user != self.machine.user:
+            return
+        low = self.machine.storage(place + 1, 0, 8)
+        if low and low[2:4] == int(device, 16).to_bytes(2, "big"):
+            yield f"CCW {device} ------ {command_text(bytes.fromhex('0200000060000018'), self.devices.get(device, ''))}"
+            yield from self.words(device, place + 1, 8)
+
+    def word(self, place: object, address: int) -> object:
+        """A command word; None where there is none, or where it is yet to be asked."""
+        word = self.machine.storage(place, address, 8)
+        if word is None:
+            self.machine.storage(place, address, 16 * PREFETCHED)
+        return word if word and len(word) == 8 else None
+
+
+def text_lines(step: object) -> object:
+    return step.text.decode("latin-1").split("\n")[:-1]
+
+
+def interruption(
+    before: str, after: object, old_low: object, new_low: object, is_call: object
+) -> object:
+    """Which interruption a unit ended in, and the old PSW that it stored; None where it ended in none."""
+    found = []
+    for kind, (old, new) in INTERRUPTIONS.items():
+        stored = new_low[old - 0x10 : old - 8]
+        # what a PSW has once it is loaded: no interruption code and no instruction length
+        loaded = bytearray(new_low[new - 0x10 : new - 8])
+        loaded[2:4] = b"\0\0"
+        loaded[4] &= 0x3F
+        stays = kind in ("external", "io")
+        if bytes(loaded) != after or stored[:2] != before[:2]:
+            continue
+        if (
+            stays
+            and (stored[5:] != before[5:] or stored[4] != before[4])
+            or kind == "svc"
+            and not is_call
+        ):
+            continue
+        found.append((stored == old_low[old - 0x10 : old - 8], kind, stored))
+    # one whose old PSW is new appears before one whose old PSW was there
+    found.sort(key=lambda item: (item[0], item[1] != "svc"))
+    return found[0][1:] if found else (None, None)

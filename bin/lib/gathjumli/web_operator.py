@@ -1,0 +1,185 @@
+"""The operator's page: what happens, who is on, and the commands of bin/operator (docs/OPERATING.md), to whoever has the token."""
+from __future__ import annotations
+
+import asyncio
+import contextlib
+import os
+import secrets
+import time
+
+from gathjumli.host import MEGABYTE, memory_of
+from gathjumli.operating import DONE, plain
+from gathjumli.report_line import count_strangers, place_of
+from gathjumli.web_pages import Refused, is_token, text_in
+
+
+SECONDS_BETWEEN_STATES = 1
+MOST_PAGES = 16
+MOST_COMMAND = 4096
+# lines that wait to be sent to one page
+MOST_UNSENT = 2000
+TOKEN_BYTES = 24
+
+
+class PageOutlet:
+    """An outlet of the journal that leads to a page; any thread may put a line."""
+
+    def __init__(self, page: object, loop: object) -> None:
+        self.page = page
+        self.loop = loop
+
+    def put(self, text: str, prefix: object = None) -> None:
+        now = round(time.time() * 1000)
+        try:
+            self.loop.call_soon_threadsafe(
+                self.page.put, {"is": "happens", "time": now, "text": plain(text)}
+            )
+        except RuntimeError:
+            # the loop has ended
+            pass
+
+    def close(self) -> None:
+        pass
+
+
+class OperatorPage:
+    """One page of an operator: nothing is sent to it before its token was right."""
+
+    def __init__(self, pages: object, address: int, outbox: object) -> None:
+        self.pages = pages
+        self.address = address
+        self.outbox = outbox
+        self.is_known = False
+        self.outlet = PageOutlet(self, pages.loop)
+
+    def is_somebody(self) -> object:
+        return self.is_known
+
+    def put(self, message: str) -> None:
+        if len(self.outbox.messages) < MOST_UNSENT:
+            self.outbox.put(message)
+
+    def open(self) -> None:
+        if len(self.pages.all) >= MOST_PAGES:
+            raise Refused("there are too many operators")
+        self.is_known = True
+        self.pages.all.add(self)
+        self.pages.opened.set()
+        self.pages.journal.add(self.outlet)
+        self.pages.notify(f"an operator comes by a page from {self.address}")
+        self.put({"is": "open"})
+        self.put(self.pages.state())
+
+    def close(self) -> None:
+        if self.is_known:
+            self.pages.all.discard(self)
+            self.pages.journal.remove(self.outlet)
+
+    async def take(self, message: str) -> None:
+        """Obeys a message. Each has the token."""
+        kind = str(message.get("is"))
+        try:
+            if not is_token(message.get("token"), self.pages.token):
+                await asyncio.sleep(1)
+                raise Refused("the token is wrong")
+            if not self.is_known:
+                self.open()
+            if kind == "command":
+                self.command(
+                    plain(text_in(message, "text"))[:MOST_COMMAND].strip(), message.get("number")
+                )
+            elif kind == "frames":
+                self.frames()
+            elif kind != "open":
+                raise Refused(f"there is no message {plain(kind)[:20]}")
+        except Refused as reason:
+            self.put({"is": "refused", "what": plain(kind)[:20], "why": str(reason)})
+
+    def command(self, text: str, number: int) -> None:
+        """Has a command done; its answer appears in lines, and how it ended last."""
+        self.pages.operator.do(
+            text,
+            self.sender("answer", number),
+            lambda how: self.from_thread({"is": "end", "number": number, "how": how}),
+        )
+
+    def sender(self, kind: str, number: int) -> object:
+        return lambda text: self.from_thread({"is": kind, "number": number, "text": plain(text)})
+
+    def frames(self) -> None:
+        """Has the frames looked for, and sends the map as a whole."""
+        lines, begun = [], time.monotonic()
+
+        def end(how: object) -> None:
+            took = round(time.monotonic() - begun, 2)
+            self.from_thread({"is": "frames", "lines": lines, "done": how == DONE, "took": took})
+
+        self.pages.operator.do("frames", lines.append, end)
+
+    def from_thread(self, message: str) -> None:
+        self.pages.loop.call_soon_threadsafe(self.put, message)
+
+
+class OperatorPages:
+    """All pages of operators."""
+
+    def __init__(self, installation: object, loop: object) -> None:
+        self.installation = installation
+        self.operator = installation.operator
+        self.journal = installation.journal
+        self.notify = installation.notify
+        self.loop = loop
+        self.all = set()
+        self.opened = asyncio.Event()
+        self.path = f"{installation.options['record']}.web-token"
+        self.token = self.read_token()
+
+    def read_token(self) -> object:
+        """The token of the file next to the recording, which only its owner can read; it is made if it is not there, or was for others
+        to read."""
+        with contextlib.suppress(FileNotFoundError):
+            if not os.stat(self.path).st_mode & 0o077:
+                with open(self.path) as file:
+                    if found := file.read().strip():
+                        return found
+            os.unlink(self.path)
+        token = secrets.token_urlsafe(TOKEN_BYTES)
+        handle = os.open(self.path, os.O_WRONLY | os.O_CREAT | os.O_EXCL, 0o600)
+        with open(handle, "w") as file:
+            file.write(f"{token}\n")
+        return token
+
+    def state(self) -> dict:
+        """What an operator sees at a glance."""
+        installation, engine = self.installation, self.installation.engine
+        recording = engine.recording
+        people = [user for user in engine.users.values() if user is not installation.receiver]
+        return {
+            "is": "state", "time": round(time.time() * 1000), "users": [self.user(user) for user in people],
+            "strangers": count_strangers(installation.desk), "parts": engine.parts, "busy": engine.pace.is_busy,
+            "command": memory_of(os.getpid()) // MEGABYTE, "program": engine.memory() // MEGABYTE,
+            "most": installation.limits.memory // MEGABYTE, "lines": recording.lines, "size": recording.size(), "begun": recording.begun_at(),
+            "start": round(engine.seconds(), 1), "free": recording.free() // MEGABYTE, "printouts": len(engine.printouts.all),
+            "unwritten": len(engine.printouts.unwritten()), "ending": self.operator.ending[:1],
+        }  # fmt: skip
+
+    def user(self, user: str) -> dict:
+        return {
+            "name": user.name,
+            "on": user.is_on,
+            "running": user.is_running,
+            "from": place_of(user),
+            "written": user.written,
+        }
+
+    async def watch(self) -> None:
+        """Says all pages how things are, each second."""
+        while True:
+            await self.opened.wait()
+            await asyncio.sleep(SECONDS_BETWEEN_STATES)
+            if not self.all:
+                self.opened.clear()
+                continue
+            state = self.state()
+            for page in list(self.all):
+                page.put(state)

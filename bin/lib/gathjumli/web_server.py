@@ -1,0 +1,224 @@
+"""Pages in browsers: files of the folder web, and a WebSocket for each page (docs/OPERATING.md, "Pages"). Debian's python3-websockets does
+the protocol; what the messages mean is in bin/lib/gathjumli/web_pages.py and bin/lib/gathjumli/web_operator.py."""
+from __future__ import annotations
+
+import asyncio
+import collections
+import json
+import logging
+import resource
+
+from websockets.exceptions import ConnectionClosed
+from websockets.legacy.server import WebSocketServerProtocol, serve
+
+from gathjumli.minidisks import Minidisks
+from gathjumli.web_operator import OperatorPage, OperatorPages
+from gathjumli.web_requests import HEADERS, USER_SOCKET, answer_to, read_files
+from gathjumli.web_pages import Outbox, Pages, Rate
+from gathjumli.cli import FILE_FAILED, Failure
+from gathjumli.tls import how
+
+# a connection that asks for nothing goes after so many seconds; of too many that nobody has logged on at one goes
+SECONDS_TO_ASK = 10
+MOST_CONNECTIONS = 512
+MOST_MESSAGE = 3 << 14
+# files and connections that the command may have open
+MOST_OPEN = 1 << 13
+LIMITS = {"max_size": MOST_MESSAGE, "max_queue": 2, "read_limit": 1 << 16, "write_limit": 1 << 16, "ping_interval": 20, "ping_timeout": 20,
+          "close_timeout": 2, "compression": None, "server_header": None}  # fmt: skip
+WRONG_MESSAGE = 1008
+
+
+class Connection(WebSocketServerProtocol):
+    """A browser's connection, which goes if it asks for nothing."""
+
+    crowd = None
+    page = None
+
+    def connection_made(self, transport: object) -> None:
+        super().connection_made(transport)
+        self.crowd.add(self)
+        self.loop.call_later(SECONDS_TO_ASK, self.give_up)
+
+    def connection_lost(self, error: object) -> None:
+        super().connection_lost(error)
+        self.crowd.discard(self)
+
+    def give_up(self) -> None:
+        if self.state.name == "CONNECTING":
+            self.transport.abort()
+
+    def is_stranger(self) -> bool:
+        """Whether nobody is logged on here."""
+        return not (self.page and self.page.is_somebody())
+
+    def address(self) -> object:
+        return (self.remote_address or [""])[0]
+
+
+class Crowd:
+    """All connections, the oldest first. Of too many the oldest stranger goes of the address that has most strangers."""
+
+    def __init__(self) -> None:
+        self.all = {}
+
+    def add(self, connection: object) -> None:
+        self.all[connection] = None
+        if len(self.all) > MOST_CONNECTIONS:
+            strangers = [other for other in self.all if other.is_stranger()]
+            counts = collections.Counter(other.address() for other in strangers)
+            crowded = counts.most_common(1)[0][0] if counts else None
+            gone = next((other for other in strangers if other.address() == crowded), connection)
+            self.discard(gone)
+            gone.transport.abort()
+
+    def discard(self, connection: object) -> None:
+        self.all.pop(connection, None)
+
+
+class Web:
+    """The server of pages."""
+
+    def __init__(self, installation: object, tls: object) -> None:
+        self.installation = installation
+        self.tls = tls
+        self.files = read_files()
+        loop = asyncio.get_running_loop()
+        self.pages = Pages(installation, Minidisks(installation.directory, installation.volumes))
+        self.operators = OperatorPages(installation, loop)
+        self.crowd = Crowd()
+        self.tasks = [loop.create_task(pages.watch()) for pages in (self.pages, self.operators)]
+
+    async def listen(self, where: object) -> None:
+        address, _, port = where.rpartition(":")
+        logger = logging.Logger("web", logging.CRITICAL + 1)
+        kind = type("OwnConnection", (Connection,), {"crowd": self.crowd})
+        more = {
+            "create_protocol": kind,
+            "process_request": self.answer,
+            "logger": logger,
+            "backlog": 512,
+            **LIMITS,
+            **how(self.tls),
+        }
+        allow_more_files()
+        try:
+            self.server = await serve(self.serve, address.strip("[]"), int(port), **more)
+        except OSError as error:
+            raise Failure(FILE_FAILED, f"{where}: {error.strerror}") from None
+        scheme = "https" if self.tls else "http"
+        self.installation.notify(
+            f"pages are at {scheme}://{where}/, the operator's at /operator with the token in {self.operators.path}"
+        )
+
+    async def answer(self, path: str, headers: object) -> tuple | None:
+        # of a header that is there twice none is taken
+        host, origin = (
+            found[0] if len(found := headers.get_all(name)) == 1 else ""
+            for name in ("Host", "Origin")
+        )
+        found = answer_to(path, host, origin, bool(self.tls), self.files)
+        if found is None:
+            return None
+        status, kind, body = found
+        return (
+            status,
+            {
+                **HEADERS,
+                "Content-Type": kind,
+                "Content-Length": str(len(body)),
+                "Connection": "close",
+            }.items(),
+            body,
+        )
+
+    async def serve(self, connection: object) -> None:
+        """Serves the page of a connection until that ends."""
+        outbox = Outbox()
+        sender = asyncio.create_task(send_all(connection, outbox))
+        try:
+            page = (
+                self.page_of(connection, outbox, await received(connection))
+                if connection.path.startswith(USER_SOCKET)
+                else None
+            )
+            if page:
+                await self.converse_with_user(connection, page, outbox)
+            else:
+                await self.converse_with_operator(connection, outbox)
+        except (ValueError, RecursionError):
+            await connection.close(WRONG_MESSAGE)
+        except ConnectionClosed:
+            pass
+        finally:
+            sender.cancel()
+
+    def page_of(self, connection: object, outbox: object, message: str) -> object:
+        page, answer = self.pages.open(message, connection.address())
+        connection.page = page
+        if page.connection:
+            # the browser has come back before its old connection was missed
+            page.connection.transport.abort()
+        page.connection = connection
+        outbox.put(answer)
+        page.attach(outbox)
+        return page
+
+    async def converse_with_user(self, connection: object, page: object, outbox: object) -> None:
+        rate = Rate()
+        try:
+            while True:
+                await outbox.room()
+                await asyncio.sleep(rate.wait())
+                await page.take(await received(connection))
+        finally:
+            if page.connection is connection:
+                page.connection = None
+                page.detach()
+
+    async def converse_with_operator(self, connection: object, outbox: object) -> None:
+        page = connection.page = OperatorPage(self.operators, connection.address(), outbox)
+        try:
+            while True:
+                await outbox.room()
+                await page.take(await received(connection))
+                if not page.is_known:
+                    await connection.close(WRONG_MESSAGE)
+        finally:
+            page.close()
+
+    async def close(self) -> None:
+        for task in self.tasks:
+            task.cancel()
+        self.server.close()
+        await self.server.wait_closed()
+
+
+def allow_more_files() -> None:
+    """Has the host allow so many files that a flood of connections leaves some for others."""
+    soft, hard = resource.getrlimit(resource.RLIMIT_NOFILE)
+    most = MOST_OPEN if hard == resource.RLIM_INFINITY else min(MOST_OPEN, hard)
+    if soft != resource.RLIM_INFINITY and soft < most:
+        resource.setrlimit(resource.RLIMIT_NOFILE, (most, hard))
+
+
+async def received(connection: object) -> object:
+    """The next message of a page, an object. What is none is a ValueError."""
+    text = await connection.recv()
+    if isinstance(text, bytes):
+        raise ValueError
+    found = json.loads(text)
+    if not isinstance(found, dict):
+        raise ValueError
+    return found
+
+
+async def send_all(connection: object, outbox: object) -> None:
+    """Sends a page its messages, as fast as the browser takes them."""
+    try:
+        while True:
+            await connection.send(json.dumps(await outbox.taken()))
+    except ConnectionClosed:
+        pass
+    finally:
+        outbox.close()
