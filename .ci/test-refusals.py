@@ -435,16 +435,33 @@ def test_desk(host, pool):
     decided it has told whole lines, in order."""
     lines = list(desk.some_lines(1, DESK_LINES))
     told = "".join(f"{line}\n" for answers in desk.answers(lines) for line in answers).encode()
-    case = Case("the logon desk", "logon_desk_cli", ["lines"], {"lines": "".join(f"{line}\n" for line in lines)}, told)
+    case = Case(
+        "the logon desk",
+        "logon_desk_cli",
+        ["lines"],
+        {"lines": "".join(f"{line}\n" for line in lines)},
+        told,
+    )
     whole = host.run(case, report=True)
-    check("the logon desk where nothing is refused", whole.status == 0 and whole.out == told, *whole.told())
+    check(
+        "the logon desk where nothing is refused",
+        whole.status == 0 and whole.out == told,
+        *whole.told(),
+    )
     allocations, letters = int(whole.report[0]), whole.report[1]
     cut = lambda at, ended: desk_fault(case, ended)
     refuse_each(host, pool, case, "memory", once(allocations), cut)
     refuse_each(host, pool, case, "memory", onwards(allocations), cut)
     refuse_each(host, pool, case, "file", once(len(letters)), cut)
     short = lambda at, ended: None if (ended.status, ended.out) == (0, told) else "another answer"
-    refuse_each(host, pool, case, "short", [at for at in once(len(letters)) if letters[at[0] - 1] in "rw"], short)
+    refuse_each(
+        host,
+        pool,
+        case,
+        "short",
+        [at for at in once(len(letters)) if letters[at[0] - 1] in "rw"],
+        short,
+    )
     count("allocations of the logon desk refused", allocations)
 
 

@@ -2,6 +2,10 @@
 """Tries an installation for minutes, over the programs that are built, with many people, kills and hostile clients; what takes
 seconds .ci/test-people.py has. .ci/try-installation.py [--seconds N] [--kills N] [--lines N] [PART]...; the parts are telnet, load, kills,
 ends, hostile, connections, mute, endless and listing. Prints figures (docs/BENCHMARK.md), and last 'N passed, M failed'."""
+from __future__ import annotations
+
+from collections.abc import Iterator
+from typing import TYPE_CHECKING
 import asyncio
 import collections
 import concurrent.futures
@@ -23,12 +27,27 @@ sys.dont_write_bytecode = True
 TOP = os.path.dirname(os.path.dirname(os.path.realpath(__file__)))
 sys.path[:0] = [f"{TOP}/bin/lib", f"{TOP}/.ci"]
 
-from installation import BANNER, Person, Site, image_of, memory_of, person, processor_ticks, read, replayed, sizes_of, write
+from installation import (
+    BANNER,
+    Person,
+    Site,
+    image_of,
+    memory_of,
+    person,
+    processor_ticks,
+    read,
+    replayed,
+    sizes_of,
+    write,
+)
 from gathjumli.cli import last, number, read_arguments
 from gathjumli.recording import entries_of
 
+if TYPE_CHECKING:
+    from desk import Account, Place
+
 COMMAND = f"{TOP}/bin/installation"
-PROGRAM, BARE = (f"{TOP}/crates/{it}/out/{it}" for it in ("vm370_cli", "bare370_cli"))
+PROGRAM, BARE = (f"{TOP}/crates/{name}/out/{name}" for name in ("vm370_cli", "bare370_cli"))
 DEVICES = "CONSOLE 009 3215\nSPOOL 00C READER\nSPOOL 00D PUNCH\nSPOOL 00E PRINTER\n"
 # adds one to register 1 for ever
 COMPUTES = "STORE 100 4111000147F00100"
@@ -36,27 +55,27 @@ COMPUTES = "STORE 100 4111000147F00100"
 COUNTS = "STORE 100 46200100820001080002000000000000"
 # starts a program at the console, waits until that is done, and so on
 PRINTS_FOR_EVER = ["STORE 48 00000800", "STORE 800 0900084020000078", "STORE 100 9C0000099D0000094770010447F00100",
-                   *(f"STORE {0x840 + 16 * it:X} {'C1' * 16}" for it in range(8)), "BEGIN 100"]  # fmt: skip
+                   *(f"STORE {0x840 + 16 * number:X} {'C1' * 16}" for number in range(8)), "BEGIN 100"]  # fmt: skip
 ADDRESS = "127.0.0.1"
-# the time of the lines that follow, as one who comes back sees it
+# the time of the lines that follow, as one who appears back sees it
 TIME = re.compile(r"-- [0-9: -]{16} UTC")
 
 passed = failed = 0
 
 
-def check(what, holds, *findings):
-    """Counts a test, and tells what is wrong where it does not hold."""
+def check(what: str, holds: object, *findings: object) -> None:
+    """Counts a test, and says what is wrong where it does not hold."""
     global passed, failed
     passed, failed = (passed + 1, failed) if holds else (passed, failed + 1)
     if not holds:
         print(f"FAILED: {what}", *findings, sep="\n    ", flush=True)
 
 
-def notify(text):
+def notify(text: str) -> None:
     print(text, flush=True)
 
 
-def free_port():
+def free_port() -> object:
     with socket.socket() as one:
         one.bind((ADDRESS, 0))
         return one.getsockname()[1]
@@ -65,33 +84,40 @@ def free_port():
 class Town(Site):
     """An installation of so many users U00, U01 .. with passwords PW00, PW01 .., at a port."""
 
-    def __init__(self, folder, users, *words):
+    def __init__(self, folder: str, users: list, *words: object) -> None:
         os.makedirs(folder)
-        self.users = [f"U{it:02}" for it in range(users)]
-        write(f"{folder}/directory", "".join(f"USER {it} PW{it[1:]} 64K\n{DEVICES}" for it in self.users).encode())
+        self.users = [f"U{number:02}" for number in range(users)]
+        write(
+            f"{folder}/directory",
+            "".join(f"USER {user} PW{user[1:]} 64K\n{DEVICES}" for user in self.users).encode(),
+        )
         self.where = (ADDRESS, free_port())
-        super().__init__(COMMAND, folder, f"{folder}/directory", "--listen", f"{ADDRESS}:{self.where[1]}", *words)
-        self.words = [it for it in self.words if it != "--listen" and not it.endswith("/socket")]
+        super().__init__(
+            COMMAND, folder, f"{folder}/directory", "--listen", f"{ADDRESS}:{self.where[1]}", *words
+        )
+        self.words = [
+            word for word in self.words if word != "--listen" and not word.endswith("/socket")
+        ]
         self.words[2:2] = ["--listen"]
 
-    async def on(self, user):
+    async def on(self, user: Account) -> object:
         """Somebody who has logged on."""
         one = await person(self.where)
         await one.logon(user, f"PW{user[1:]}")
         return one
 
-    def told_memory(self):
+    def told_memory(self) -> str:
         return f"command {memory_of(self.process.pid) // 1024} MB, program {memory_of(self.program()) // 1024} MB"
 
 
-def hundredths(seconds):
+def hundredths(seconds: object) -> str:
     """The median, the 99th hundredth and the worst, in milliseconds."""
-    found = sorted(it * 1000 for it in seconds)
+    found = sorted(second * 1000 for second in seconds)
     return f"median {statistics.median(found):.1f} ms, 99th {found[int(len(found) * 0.99)]:.1f} ms, worst {found[-1]:.1f} ms"
 
 
-def replays(town):
-    """What comes of the recording as a whole, and what each user's machine of its own is to be given, side by side."""
+def replays(town: object) -> tuple:
+    """What appears of the recording as a whole, and what each user's machine of its own is to be given, side by side."""
     begun = time.monotonic()
     with concurrent.futures.ThreadPoolExecutor(1) as next_to:
         scripts = next_to.submit(bare_scripts, town)
@@ -101,14 +127,14 @@ def replays(town):
     return done, shown, scripts
 
 
-def check_replay(town, seen, found):
+def check_replay(town: object, seen: dict, found: object) -> None:
     """The recording replays to what each was shown; and his part is that of a machine of his own."""
     shown = check_machines(town, found)
     for user, connections in seen.items():
         check_seen(user, connections, shown.get(user, []))
 
 
-def check_machines(town, found):
+def check_machines(town: object, found: object) -> object:
     """The recording replays, and each user's part is that of a machine of his own; what each was shown."""
     done, shown, scripts = found
     check("the recording replays", done.returncode == 0, done.stderr)
@@ -116,22 +142,31 @@ def check_machines(town, found):
     return shown
 
 
-def check_seen(user, connections, lines):
-    """What was shown at each connection is a piece of what the replay shows, each behind the one before, without a gap."""
+def check_seen(user: Account, connections: object, lines: list) -> None:
+    """What was shown at each connection is a piece of what the replay shows, each after the one before, without a gap."""
     place = 0
     for shown in connections:
-        shown = [it for it in shown if it not in (BANNER, "RECONNECTED", "GATHJUMLI GOES DOWN") and not TIME.fullmatch(it)]
-        # what one sees again who comes back has also what he typed
+        shown = [
+            item
+            for item in shown
+            if item not in (BANNER, "RECONNECTED", "GATHJUMLI GOES DOWN")
+            and not TIME.fullmatch(item)
+        ]
+        # what one sees again who appears back has also what he typed
         starts = range(max(0, place - 24), place + 1)
-        found = next((it for it in starts if lines[it : it + len(shown)] == shown), None)
+        found = next(
+            (start for start in starts if lines[start : start + len(shown)] == shown), None
+        )
         if found is None:
-            check(f"{user} saw what the replay shows", False, f"{place} of {len(lines)}", *shown[:5])
+            check(
+                f"{user} saw what the replay shows", False, f"{place} of {len(lines)}", *shown[:5]
+            )
             return
         place = max(place, found + len(shown))
     check(f"{user} saw what the replay shows", True)
 
 
-def check_bare(town, shown, scripts):
+def check_bare(town: object, shown: object, scripts: object) -> None:
     """Each user's lines are those of a machine of his own that is given his events."""
     if not os.path.exists(BARE):
         notify("no bare370: users were not compared with machines of their own")
@@ -141,38 +176,45 @@ def check_bare(town, shown, scripts):
         ran = pool.map(lambda user: run_bare(town, user, scripts.lines[user]), scripts.lines)
         for user, (done, lines) in zip(scripts.lines, ran):
             # what he sends himself goes to another name there
-            wanted = [it.replace(user, "BARE") for it in shown.get(user, [])]
-            check(f"{user} is a machine of his own", done.returncode == 0 and lines == wanted, done.stderr, *lines[-3:])
+            wanted = [item.replace(user, "BARE") for item in shown.get(user, [])]
+            check(
+                f"{user} is a machine of his own",
+                done.returncode == 0 and lines == wanted,
+                done.stderr,
+                *lines[-3:],
+            )
             compared += len(lines)
     notify(f"{len(scripts.lines)} machines of their own: {time.monotonic() - begun:.1f} s, {scripts.granted / 1e6:.0f} million units, "
          f"{compared} lines compared")  # fmt: skip
 
 
-def run_bare(town, user, script):
+def run_bare(town: object, user: Account, script: str) -> tuple:
     """A machine of its own that is given a script, and the lines that it shows."""
     path = f"{town.folder}/bare-{user}"
     write(path, b"".join(script))
     done = subprocess.run([BARE, "--", "64K", path], capture_output=True)
     os.unlink(path)
     lines = done.stdout.decode("latin-1").split("\n== ")[0].splitlines()
-    return done, [it[6:] for it in lines if it.startswith("BARE: ")]
+    return done, [line[6:] for line in lines if line.startswith("BARE: ")]
 
 
 class BareScripts:
     """Of each user the events of his machine, as a script of a machine of its own. Slices that go on are one run."""
 
-    def __init__(self):
+    def __init__(self) -> None:
         self.lines = collections.defaultdict(list)
         self.units = collections.Counter()
         self.granted = 0
 
-    def add(self, entry, findings):
-        """Adds an entry of the recording, of which the program has told this."""
+    def add(self, entry: object, findings: object) -> None:
+        """Adds an entry of the recording, of which the program has reported this."""
         word, user, *rest = entry.split(b" ", 2)
         if word in (b"LINE", b"TICK", b"DECK"):
             user = user.strip()
-            typed = [it.replace(user, b"BARE") for it in rest]
-            self.put(user.decode(), b" ".join([word, b"BARE", *typed]) if rest else word + b" BARE\n")
+            typed = [item.replace(user, b"BARE") for item in rest]
+            self.put(
+                user.decode(), b" ".join([word, b"BARE", *typed]) if rest else word + b" BARE\n"
+            )
             return
         slices, *served = SERVED.split(findings) if b" SERVED " in findings else [findings]
         self.add_slices(slices)
@@ -180,17 +222,17 @@ class BareScripts:
             self.put(user.decode(), b"SERVE BARE %s\n" % device)
             self.add_slices(slices)
 
-    def add_slices(self, findings):
+    def add_slices(self, findings: object) -> None:
         for line, count in counted(findings).items():
             if ran := SLICE.fullmatch(line):
                 # one that ended by itself was granted more
                 self.units[ran[1].decode()] += count * (int(ran[2]) + (ran[3] != b"COUNT"))
 
-    def put(self, user, line):
+    def put(self, user: Account, line: bytes) -> None:
         self.settle(user)
         self.lines[user].append(line)
 
-    def settle(self, user):
+    def settle(self, user: Account) -> None:
         left = self.units.pop(user, 0)
         self.granted += left
         while left:
@@ -203,7 +245,7 @@ SERVED = re.compile(rb"^= (U\d\d) SERVED ([0-9A-F]{3})\n", re.M)
 SLICE = re.compile(rb"= (U\d\d) (\d+) ([A-Z]+)")
 
 
-def counted(text):
+def counted(text: str) -> object:
     """How often each line is there. Those who take turns have the same few again and again, which is seen without a look at each."""
     first = text[: text.find(b"\n") + 1]
     around = text[: text.find(b"\n" + first) + 1]
@@ -216,8 +258,8 @@ def counted(text):
     return counts
 
 
-def bare_scripts(town):
-    """What each user's machine of its own is to be given. Minutes of computing are told in gigabytes, of which a part is here at
+def bare_scripts(town: object) -> object:
+    """What each user's machine of its own is to be given. Minutes of computing are reported in gigabytes, of which a part is here at
     once."""
     scripts = BareScripts()
     words = [PROGRAM, *sizes_of(town.record), "--follow", "--", town.paths[0]]
@@ -226,7 +268,7 @@ def bare_scripts(town):
         findings = pieces(program.stdout, b"> DONE\n")
         for entry in entries_in(town.record):
             scripts.add(entry, next(findings, b""))
-        # behind the last part come the files of the session
+        # after the last part come the files of the session
         collections.deque(findings, maxlen=0)
     if program.returncode:
         raise AssertionError("the program does not take the recording part by part")
@@ -235,19 +277,19 @@ def bare_scripts(town):
     return scripts
 
 
-def entries_in(record):
+def entries_in(record: object) -> Iterator:
     with open(record, "rb") as file:
-        yield from (it for it in entries_of(file) if not it.startswith(b"*"))
+        yield from (item for item in entries_of(file) if not item.startswith(b"*"))
 
 
-def feed(stream, record):
-    """Gives a program the entries of a recording part by part. Why it ends before that its status tells."""
+def feed(stream: object, record: object) -> None:
+    """Gives a program the entries of a recording part by part. Why it ends before that its status says."""
     with contextlib.suppress(BrokenPipeError), stream:
-        for it in entries_in(record):
-            stream.write(b"%d\n%s" % (len(it), it))
+        for item in entries_in(record):
+            stream.write(b"%d\n%s" % (len(item), item))
 
 
-def pieces(stream, mark):
+def pieces(stream: object, mark: object) -> Iterator:
     """What is in a stream before each mark."""
     left = b""
     while data := stream.read(1 << 20):
@@ -258,7 +300,7 @@ def pieces(stream, mark):
 # --- the parts; each is given a folder and the numbers of the words ---
 
 
-def part_telnet(folder, options):
+def part_telnet(folder: str, options: object) -> None:
     """Debian's telnet, with a person's own terminal (tmux), and nc."""
     if not all(map(shutil.which, ("telnet", "nc", "tmux"))):
         notify("no telnet, nc or tmux: they were not tried")
@@ -266,16 +308,19 @@ def part_telnet(folder, options):
     town = Town(f"{folder}/telnet", 2).online()
     name = f"installation-{os.getpid()}"
 
-    def tmux(*words):
+    def tmux(*words: object) -> object:
         return subprocess.run(["tmux", "-L", name, *words], capture_output=True, text=True).stdout
 
-    def type_and_await(text, wanted):
+    def type_and_await(text: str, wanted: object) -> object:
         tmux("send-keys", "-t", "0", text, "Enter")
         return await_shown(wanted)
 
-    def await_shown(wanted):
+    def await_shown(wanted: object) -> object:
         until = time.monotonic() + 20
-        while wanted not in (shown := tmux("capture-pane", "-p", "-t", "0")) and time.monotonic() < until:
+        while (
+            wanted not in (shown := tmux("capture-pane", "-p", "-t", "0"))
+            and time.monotonic() < until
+        ):
             time.sleep(0.1)
         check(f"telnet shows {wanted}", wanted in shown, shown)
         return shown
@@ -291,22 +336,28 @@ def part_telnet(folder, options):
     tmux("send-keys", "-t", "0", "send brk", "Enter")
     type_and_await("DISPLAY G1", "GPR 1 = ")
     tmux("kill-server")
-    given = f"LOGON U00 PW00\nMSG U00 HELLO\n#CP LOGOFF\n".encode()
-    done = subprocess.run(["nc", "-q", "20", *map(str, town.where)], input=given, capture_output=True, timeout=60)
+    given = "LOGON U00 PW00\nMSG U00 HELLO\n#CP LOGOFF\n".encode()
+    done = subprocess.run(
+        ["nc", "-q", "20", *map(str, town.where)], input=given, capture_output=True, timeout=60
+    )
     lines = done.stdout.decode().splitlines()
-    holds = lines[1] == "RECONNECTED" and lines[-3:] == ["SENT", "MSG FROM U00: HELLO", "LOGOFF OK"] and "DISPLAY G1" in lines
+    holds = (
+        lines[1] == "RECONNECTED"
+        and lines[-3:] == ["SENT", "MSG FROM U00: HELLO", "LOGOFF OK"]
+        and "DISPLAY G1" in lines
+    )
     check("nc takes the terminal up again", holds, *lines)
     check("it is suspended", town.stop() == 0)
     done, _ = replayed(PROGRAM, town.paths[0], town.record)
     check("the recording replays", done.returncode == 0, done.stderr)
 
 
-def part_load(folder, options):
+def part_load(folder: str, options: object) -> None:
     """64 people at guests that compute, each of whom types every few seconds."""
     town = Town(f"{folder}/load", 64).online()
     took, seen = [], {}
 
-    async def live(user, place, until, everybody):
+    async def live(user: Account, place: Place, until: object, everybody: object) -> object:
         one = await town.on(user)
         seen[user] = [one.lines]
         one.type(COMPUTES)
@@ -330,10 +381,12 @@ def part_load(folder, options):
             pass
         return one
 
-    async def all_live():
+    async def all_live() -> None:
         until = time.monotonic() + 10 + options["seconds"]
         everybody = []
-        people = await asyncio.gather(*(live(user, place, until, everybody) for place, user in enumerate(town.users)))
+        people = await asyncio.gather(
+            *(live(user, place, until, everybody) for place, user in enumerate(town.users))
+        )
         await asyncio.sleep(1)
         before = processor_ticks(town)
         await asyncio.sleep(10)
@@ -347,28 +400,32 @@ def part_load(folder, options):
     asyncio.run(all_live())
     town.operate("status")
     town.await_message("a start that goes on")
-    notify(f"load: {re.search('a start that.*', town.since_start())[0]}; the recording has {os.path.getsize(town.record)} bytes")
+    notify(
+        f"load: {re.search('a start that.*', town.since_start())[0]}; the recording has {os.path.getsize(town.record)} bytes"
+    )
     check("it is suspended", town.stop() == 0)
     with concurrent.futures.ThreadPoolExecutor(1) as next_to:
         found = next_to.submit(replays, town)
         begun = time.monotonic()
         town.online()
-        notify(f"load: a start that goes on takes {time.monotonic() - begun:.1f} s, beside two replays")
+        notify(
+            f"load: a start that goes on takes {time.monotonic() - begun:.1f} s, beside two replays"
+        )
         check("and is suspended again", town.stop() == 0)
         found = found.result()
     check_replay(town, seen, found)
 
 
-def part_kills(folder, options):
-    """Kills at random moments, each other one of the program too, each fifth with a torn end, beside six people whose guests
+def part_kills(folder: str, options: object) -> None:
+    """Kills at random moments, each other one of the program too, each fifth with a torn end, next to six people whose guests
     count."""
     town = Town(f"{folder}/kills", 6).online()
     chance = random.Random(7)
-    seen = {it: [] for it in town.users}
+    seen = {user: [] for user in town.users}
     counts = dict.fromkeys(town.users, 0)
     back = []
 
-    async def live(user, stop):
+    async def live(user: Account, stop: object) -> None:
         while not stop.is_set():
             try:
                 one = await person(town.where)
@@ -377,21 +434,26 @@ def part_kills(folder, options):
             except (OSError, EOFError, asyncio.TimeoutError, AttributeError):
                 await asyncio.sleep(0.05)
 
-    async def stay(one, user, stop):
+    async def stay(one: object, user: Account, stop: object) -> None:
         if await one.logon(user, f"PW{user[1:]}") == "RECONNECTED":
             back.append(user)
         if not counts[user]:
             one.type(COUNTS)
         while not stop.is_set():
             counts[user] += 1
-            one.type(f"#CP STORE G5 {counts[user]:08X}", "#CP STORE G2 00010000", "#CP DISPLAY G5", "#CP BEGIN 100")
+            one.type(
+                f"#CP STORE G5 {counts[user]:08X}",
+                "#CP STORE G2 00010000",
+                "#CP DISPLAY G5",
+                "#CP BEGIN 100",
+            )
             await one.until(f"GPR 5 = {counts[user]:08X}")
             await asyncio.sleep(chance.uniform(0, 0.1))
         one.go()
 
-    async def all_live():
+    async def all_live() -> object:
         stop = asyncio.Event()
-        tasks = [asyncio.create_task(live(it, stop)) for it in town.users]
+        tasks = [asyncio.create_task(live(user, stop)) for user in town.users]
         await asyncio.sleep(3)
         took = []
         for round in range(options["kills"]):
@@ -399,7 +461,9 @@ def part_kills(folder, options):
             town.kill(is_all=round % 2 == 1)
             before = read(town.record)
             if round % 5 == 4:
-                write(town.record, before + (b"LINE U00 DISP" if round % 2 else b"DECK U00 3\nA\nB\n"))
+                write(
+                    town.record, before + (b"LINE U00 DISP" if round % 2 else b"DECK U00 3\nA\nB\n")
+                )
             begun, had = time.monotonic(), len(back)
             await asyncio.get_running_loop().run_in_executor(None, town.online)
             await asyncio.sleep(0.2)
@@ -416,7 +480,7 @@ def part_kills(folder, options):
 
     took = asyncio.run(all_live())
     check("it is suspended", town.stop() == 0)
-    lines = sum(len(it) for connections in seen.values() for it in connections)
+    lines = sum(len(connection) for connections in seen.values() for connection in connections)
     connections = sum(map(len, seen.values()))
     notify(f"kills: {options['kills']}, {connections} connections, {lines} lines seen; seconds until six people were back: "
          f"{min(took):.1f} to {max(took):.1f}; the recording has {os.path.getsize(town.record)} bytes")  # fmt: skip
@@ -426,7 +490,7 @@ def part_kills(folder, options):
         check_pieces(user, connections, shown.get(user, []), typed.get(user, set()))
 
 
-def typed_in(record):
+def typed_in(record: object) -> object:
     """What each user has typed."""
     found = {}
     for user, text in re.findall(r"^LINE (\S+) (.*)$", read(record).decode("latin-1"), re.M):
@@ -434,27 +498,47 @@ def typed_in(record):
     return found
 
 
-def check_pieces(user, connections, lines, typed):
-    """Each connection shows a piece of what the replay shows, the next begins no later than where it ended. What one who comes
+def check_pieces(user: Account, connections: object, lines: list, typed: object) -> None:
+    """Each connection shows a piece of what the replay shows, the next begins no later than where it ended. What one who appears
     back sees has what he typed between."""
     place = 0
     for shown in connections:
-        shown = [it for it in shown if it not in (BANNER, "RECONNECTED") and not TIME.fullmatch(it) and (it not in typed or it in lines)]
-        found = next((it for it in range(max(0, place - 24), place + 1) if lines[it : it + len(shown)] == shown), None)
+        shown = [
+            item
+            for item in shown
+            if item not in (BANNER, "RECONNECTED")
+            and not TIME.fullmatch(item)
+            and (item not in typed or item in lines)
+        ]
+        found = next(
+            (
+                number
+                for number in range(max(0, place - 24), place + 1)
+                if lines[number : number + len(shown)] == shown
+            ),
+            None,
+        )
         if found is None:
-            check(f"nothing that {user} saw is missing", False, f"{place} of {len(lines)}", *shown[:3], "..", *shown[-3:])
+            check(
+                f"nothing that {user} saw is missing",
+                False,
+                f"{place} of {len(lines)}",
+                *shown[:3],
+                "..",
+                *shown[-3:],
+            )
             return
         place = max(place, found + len(shown))
     check(f"nothing that {user} saw is missing", True)
 
 
-def part_ends(folder, options):
-    """Kills in the midst of an end: behind the next start all volumes are as they were and the session goes on, or all are saved
+def part_ends(folder: str, options: object) -> None:
+    """Kills in the midst of an end: after the next start all volumes are as they were and the session goes on, or all are saved
     and the recording is set aside."""
-    old = [image_of(it, 1) for it in ("V1", "V2", "V3")]
+    old = [image_of(name, 1) for name in ("V1", "V2", "V3")]
     chance, saved, kept = random.Random(5), 0, 0
     town = Town(f"{folder}/ends", 1)
-    town.paths += [f"{folder}/ends/{it}" for it in range(len(old))]
+    town.paths += [f"{folder}/ends/{number}" for number in range(len(old))]
     for round in range(options["kills"]):
         for path, data in zip(town.paths[1:], old):
             write(path, data)
@@ -464,20 +548,27 @@ def part_ends(folder, options):
         time.sleep(chance.uniform(0, 0.05))
         town.kill(is_all=round % 2 == 1)
         town.online()
-        are_old = [read(it) == data for it, data in zip(town.paths[1:], old)]
-        check("all volumes are saved, or none is", len(set(are_old)) == 1, f"round {round}", *map(str, are_old))
+        are_old = [read(item) == data for item, data in zip(town.paths[1:], old)]
+        check(
+            "all volumes are saved, or none is",
+            len(set(are_old)) == 1,
+            f"round {round}",
+            *map(str, are_old),
+        )
         is_set_aside = "U00" not in read(town.record).decode("latin-1").partition("* BEGUN")[2]
         check("and the recording stands with them", is_set_aside != are_old[0], f"round {round}")
         saved, kept = saved + (not are_old[0]), kept + are_old[0]
         town.operate("end now")
         check("it ends", town.ended() == 0, *town.findings)
-        for it in os.listdir(town.folder):
-            if it.startswith("recording.2"):
-                shutil.rmtree(f"{town.folder}/{it}")
-    notify(f"ends: {saved + kept} kills in the midst of an end; {saved} times all was saved then, {kept} times the session went on")
+        for entry in os.listdir(town.folder):
+            if entry.startswith("recording.2"):
+                shutil.rmtree(f"{town.folder}/{entry}")
+    notify(
+        f"ends: {saved + kept} kills in the midst of an end; {saved} times all was saved then, {kept} times the session went on"
+    )
 
 
-async def leave_a_mark(town, round):
+async def leave_a_mark(town: object, round: object) -> None:
     one = await town.on("U00")
     one.type(f"STORE G1 {round:08X}")
     await one.until("STORED")
@@ -485,16 +576,16 @@ async def leave_a_mark(town, round):
 
 
 class Honest:
-    """Two people who type all the time, beside whom others are hostile."""
+    """Two people who type all the time, next to whom others are hostile."""
 
-    def __init__(self, town):
+    def __init__(self, town: object) -> None:
         self.town = town
         self.seen = {}
         self.worst = 0
         self.took = []
         self.is_over = False
 
-    async def live(self, user):
+    async def live(self, user: Account) -> None:
         one = await self.town.on(user)
         self.seen[user] = [one.lines]
         count = 0
@@ -509,16 +600,16 @@ class Honest:
         one.go()
 
 
-async def half_lines(town):
+async def half_lines(town: object) -> str:
     people = [await person(town.where) for _ in range(10)]
-    for it in people:
-        it.writer.write(b"LOGON U0")
-    shown = await asyncio.gather(*(asyncio.wait_for(it.reader.read(), 90) for it in people))
-    check("half a line is too late", all(it.endswith(b"\r\nTOO LATE\r\n") for it in shown))
+    for entry in people:
+        entry.writer.write(b"LOGON U0")
+    shown = await asyncio.gather(*(asyncio.wait_for(person.reader.read(), 90) for person in people))
+    check("half a line is too late", all(item.endswith(b"\r\nTOO LATE\r\n") for item in shown))
     return f"{len(people)} half lines"
 
 
-async def long_line(town, user):
+async def long_line(town: object, user: Account) -> str:
     one = await (town.on(user) if user else person(town.where))
     for _ in range(160):
         one.writer.write(b"x" * 65536)
@@ -529,26 +620,35 @@ async def long_line(town, user):
     return f"10 MB without a line feed, {user or 'a stranger'}"
 
 
-async def all_bytes(town):
+async def all_bytes(town: object) -> str:
     one = await town.on("U02")
-    one.writer.write(b"#CP MSG U02 " + bytes(range(256)) + b"\r\n" + b"\xff\xfa\x18\x00abc\xff\xf0#CP MSG U02 AB\xff\xffCD\r\n")
-    one.writer.write(b"\xff\xfd\x01\xff\xfb\x1f\xff\xf4\xff\xf3" + random.Random(3).randbytes(200000))
+    one.writer.write(
+        b"#CP MSG U02 "
+        + bytes(range(256))
+        + b"\r\n"
+        + b"\xff\xfa\x18\x00abc\xff\xf0#CP MSG U02 AB\xff\xffCD\r\n"
+    )
+    one.writer.write(
+        b"\xff\xfd\x01\xff\xfb\x1f\xff\xf4\xff\xf3" + random.Random(3).randbytes(200000)
+    )
     await asyncio.sleep(3)
     one.go()
     return "all bytes, telnet's own, 200 KB of noise"
 
 
-async def drops(town):
+async def drops(town: object) -> str:
     for _ in range(50):
         one = await town.on("U03")
         one.type(*["#CP DISPLAY 0"] * 8)
         await asyncio.sleep(0.02)
-        one.writer.get_extra_info("socket").setsockopt(socket.SOL_SOCKET, socket.SO_LINGER, b"\1\0\0\0\0\0\0\0")
+        one.writer.get_extra_info("socket").setsockopt(
+            socket.SOL_SOCKET, socket.SO_LINGER, b"\1\0\0\0\0\0\0\0"
+        )
         one.go()
     return "50 resets in the midst of output"
 
 
-async def mute(town):
+async def mute(town: object) -> str:
     """One who asks for more than he reads."""
     one = await town.on("U02")
     one.writer.transport.pause_reading()
@@ -565,13 +665,15 @@ async def mute(town):
     return f"a reader that never reads, {sent} lines"
 
 
-async def mute_guest(town):
+async def mute_guest(town: object) -> str:
     """One whose guest prints without end, and who does not read: he is closed, and his machine goes on."""
     one = await town.on("U03")
     one.type("#CP SYSTEM RESET", *PRINTS_FOR_EVER)
     await one.until("STORED")
     one.writer.transport.pause_reading()
-    is_reported = await asyncio.get_running_loop().run_in_executor(None, town.await_message, "U03 does not read: closed", 300)
+    is_reported = await asyncio.get_running_loop().run_in_executor(
+        None, town.await_message, "U03 does not read: closed", 300
+    )
     check("one who does not read is closed", is_reported)
     one.go()
     again = await town.on("U03")
@@ -581,11 +683,11 @@ async def mute_guest(town):
     return "a guest that prints without end to one who does not read"
 
 
-async def guesses(town):
-    """Many who guess the password of one user, who himself logs on beside them."""
+async def guesses(town: object) -> str:
+    """Many who guess the password of one user, who himself logs on next to them."""
     begun, tried = time.monotonic(), 0
 
-    async def guess():
+    async def guess() -> None:
         nonlocal tried
         one = await person(town.where)
         one.type(*["LOGON U04 WRONG"] * 3)
@@ -598,13 +700,18 @@ async def guesses(town):
     one = await person(town.where)
     answer = await one.logon("U04", "PW04")
     took = time.monotonic() - asked
-    check("a right password is let in beside guesses", answer == "LOGON OK" and took < 6, answer, f"{took:.1f} s")
+    check(
+        "a right password is let in beside guesses",
+        answer == "LOGON OK" and took < 6,
+        answer,
+        f"{took:.1f} s",
+    )
     one.go()
     await asyncio.wait(tasks, timeout=30)
     return f"60 guess at one name, {tried} guesses in {time.monotonic() - begun:.0f} s, its user is on after {took:.1f} s"
 
 
-async def thousand(town):
+async def thousand(town: object) -> str:
     people = []
     for _ in range(1000):
         try:
@@ -615,18 +722,18 @@ async def thousand(town):
     one = await town.on("U05")
     took = time.monotonic() - begun
     check("one logs on beside them", one.lines[-1] in ("LOGON OK", "RECONNECTED"), *one.lines)
-    for it in [one, *people]:
-        it.go()
+    for item in [one, *people]:
+        item.go()
     return f"{len(people)} connections, a logon beside them takes {1000 * took:.0f} ms"
 
 
-def beside_honest(folder, name, phases):
-    """Has hostile people come one after another beside two honest ones."""
+def beside_honest(folder: str, name: str, phases: object) -> None:
+    """Has hostile people come one after another next to two honest ones."""
     town = Town(f"{folder}/{name}", 6).online()
     honest = Honest(town)
 
-    async def tried():
-        tasks = [asyncio.create_task(honest.live(it)) for it in ("U00", "U01")]
+    async def tried() -> None:
+        tasks = [asyncio.create_task(honest.live(name)) for name in ("U00", "U01")]
         await asyncio.sleep(2)
         for phase in phases:
             honest.worst = 0
@@ -643,12 +750,14 @@ def beside_honest(folder, name, phases):
     check_replay(town, honest.seen, replays(town))
 
 
-def part_hostile(folder, options):
-    long_lines = [lambda town, it=it: long_line(town, it) for it in (None, "U02")]
-    beside_honest(folder, "hostile", [half_lines, *long_lines, all_bytes, drops, mute, mute_guest, guesses])
+def part_hostile(folder: str, options: object) -> None:
+    long_lines = [lambda town, item=item: long_line(town, item) for item in (None, "U02")]
+    beside_honest(
+        folder, "hostile", [half_lines, *long_lines, all_bytes, drops, mute, mute_guest, guesses]
+    )
 
 
-def part_connections(folder, options):
+def part_connections(folder: str, options: object) -> None:
     beside_honest(folder, "connections", [thousand, thousand])
 
 
@@ -656,13 +765,13 @@ def part_connections(folder, options):
 # served as a whole, so that a long one would keep all waiting
 LINES_AT_ONCE = 50
 LISTS = [f"STORE 300 000020000900084060000078{LINES_AT_ONCE:08X}", "STORE 310 2000007800000004", "STORE 48 00002000",
-         "STORE 200 0002000000000000", *(f"STORE {0x840 + 16 * it:X} {'C1' * 16}" for it in range(8)),
+         "STORE 200 0002000000000000", *(f"STORE {0x840 + 16 * number:X} {'C1' * 16}" for number in range(8)),
          "STORE 100 5810030058200304583003085840030C", "STORE 110 90231000411010084640011058600310",
          "STORE 120 5B100314506010005850031847000000", "STORE 130 9C00000E9D00000E4770013446500130",
          "STORE 140 82000200"]  # fmt: skip
 
 
-async def measured(honest, what, work):
+async def measured(honest: object, what: str, work: str) -> object:
     """How long the lines of honest people take while something is done: the 99th hundredth."""
     honest.took.clear()
     begun = time.monotonic()
@@ -672,13 +781,13 @@ async def measured(honest, what, work):
     return sorted(honest.took)[int(len(honest.took) * 0.99)]
 
 
-def part_endless(folder, options):
-    """A guest prints without end; whenever its user is logged off for that he comes back, and has it print again."""
+def part_endless(folder: str, options: object) -> None:
+    """A guest prints without end; whenever its user is logged off for that he appears back, and has it print again."""
     town = Town(f"{folder}/endless", 6, "--quota", "64").online()
     honest = Honest(town)
     logons = 0
 
-    async def print_on():
+    async def print_on() -> None:
         nonlocal logons
         while True:
             one = await town.on("U02")
@@ -690,61 +799,76 @@ def part_endless(folder, options):
             one.go()
             await asyncio.sleep(2)
 
-    async def tried():
-        tasks = [asyncio.create_task(honest.live(it)) for it in ("U00", "U01")]
+    async def tried() -> None:
+        tasks = [asyncio.create_task(honest.live(name)) for name in ("U00", "U01")]
         await asyncio.sleep(1)
         before = await measured(honest, "endless: nothing is printed", asyncio.sleep(10))
         printing = asyncio.create_task(print_on())
-        during = await measured(honest, "endless: a guest prints", asyncio.sleep(options["seconds"]))
+        during = await measured(
+            honest, "endless: a guest prints", asyncio.sleep(options["seconds"])
+        )
         printing.cancel()
-        check("others are answered as fast as before", during < max(0.1, 2 * before), f"{1000 * before:.0f} and {1000 * during:.0f} ms")
+        check(
+            "others are answered as fast as before",
+            during < max(0.1, 2 * before),
+            f"{1000 * before:.0f} and {1000 * during:.0f} ms",
+        )
         honest.is_over = True
         await asyncio.gather(*tasks)
 
     asyncio.run(tried())
     town.operate("status")
     town.await_message("memory: ")
-    notify(f"endless: {logons} logons; {re.search('memory: .*', town.since_start())[0]}; the recording has {os.path.getsize(town.record)} bytes")
+    notify(
+        f"endless: {logons} logons; {re.search('memory: .*', town.since_start())[0]}; the recording has {os.path.getsize(town.record)} bytes"
+    )
     check("it is suspended", town.stop() == 0, *town.findings)
     check_replay(town, honest.seen, replays(town))
 
 
-def part_listing(folder, options):
+def part_listing(folder: str, options: object) -> None:
     """A listing of so many lines is printed, closed and made pages of, while two people type."""
     lines = options["lines"] // 1000 * 1000
     prints = f"{folder}/listing/prints"
     town = Town(f"{folder}/listing", 6, "--printouts", prints).online()
     honest = Honest(town)
 
-    async def stopped(one):
+    async def stopped(one: object) -> None:
         while not one.lines or one.lines[-1] != "STOPPED DISABLED WAIT":
             # it may take minutes
             with contextlib.suppress(asyncio.TimeoutError):
                 await one.line()
 
-    async def written():
+    async def written() -> None:
         path = f"{prints}/{town.session()}/PRT0001-U02.txt"
         while not os.path.exists(path):
             await asyncio.sleep(0.1)
         with open(path, "rb") as file:
-            check("the listing is whole", sum(data.count(b"\n") for data in iter(lambda: file.read(1 << 20), b"")) == lines)
+            check(
+                "the listing is whole",
+                sum(data.count(b"\n") for data in iter(lambda: file.read(1 << 20), b"")) == lines,
+            )
         # what takes no time has to be measured for a while, too
         await asyncio.sleep(5)
 
-    async def closed(one):
+    async def closed(one: object) -> None:
         one.type("CLOSE 00E")
         await one.until("FILE 0001 CLOSED")
         await written()
 
-    async def tried():
-        tasks = [asyncio.create_task(honest.live(it)) for it in ("U00", "U01")]
+    async def tried() -> None:
+        tasks = [asyncio.create_task(honest.live(name)) for name in ("U00", "U01")]
         await asyncio.sleep(1)
         await measured(honest, "listing: nothing is printed", asyncio.sleep(10))
         one = await town.on("U02")
         one.type(*LISTS, f"STORE 318 {lines // LINES_AT_ONCE:08X}", "BEGIN 100")
         await measured(honest, f"listing: {lines} lines are printed", stopped(one))
         slow = await measured(honest, "listing: it is closed, and its pages are made", closed(one))
-        check("others are answered within 100 ms at the 99th hundredth", slow < 0.1, f"{1000 * slow:.0f} ms")
+        check(
+            "others are answered within 100 ms at the 99th hundredth",
+            slow < 0.1,
+            f"{1000 * slow:.0f} ms",
+        )
         honest.is_over = True
         await asyncio.gather(*tasks)
         one.go()
@@ -754,16 +878,24 @@ def part_listing(folder, options):
     check_replay(town, honest.seen, replays(town))
 
 
-def part_mute(folder, options):
+def part_mute(folder: str, options: object) -> None:
     beside_honest(folder, "mute", [mute_guest])
 
 
-OPTIONS = {"--seconds": number(1, 100000), "--kills": number(1, 10000), "--lines": number(1000, 9999999)}
+OPTIONS = {
+    "--seconds": number(1, 100000),
+    "--kills": number(1, 10000),
+    "--lines": number(1000, 9999999),
+}
 USUAL = {"--seconds": 600, "--kills": 100, "--lines": 500000}
-PARTS = {name.removeprefix("part_"): it for name, it in list(globals().items()) if name.startswith("part_")}
+PARTS = {
+    name.removeprefix("part_"): item
+    for name, item in list(globals().items())
+    if name.startswith("part_")
+}
 
 
-def main():
+def main() -> None:
     found, names = read_arguments(sys.argv[1:], OPTIONS, 0, 100)
     options = {name.removeprefix("--"): last(found[name], usual) for name, usual in USUAL.items()}
     signal.signal(signal.SIGTERM, lambda *_: sys.exit(143))

@@ -1,4 +1,6 @@
-"""What gives the program one part after another, and shows each user what came of it."""
+"""What gives the program one part after another, and shows each user the effect of it."""
+from __future__ import annotations
+
 import asyncio
 import collections
 import concurrent.futures
@@ -13,12 +15,12 @@ from gathjumli.machines import ScriptRefused
 from gathjumli.cli import Failure, FILE_FAILED, REFUSED
 from gathjumli.recording import PRINTED, TURNS, TYPED, sum_of_file, weight_of
 
-# lines that one who comes back sees again
+# lines that one who appears back sees again
 KEPT_LINES = 24
 # turns in a part at most, and after all waited, or with lines that are typed, at least
 MOST_TURNS = 100000
 FEW_TURNS = 4
-# where so many turns found no frame all wait for one: each of 64 users may have 32 programs to be served
+# if so many turns found no frame all wait for one: each of 64 users may have 32 programs to be served
 STUCK_TURNS = 64 * 32
 # parts of a replay that are given before the first of them is answered
 AHEAD = 256
@@ -33,16 +35,16 @@ class Unattended:
 
     is_there = False
 
-    def __init__(self):
+    def __init__(self) -> None:
         self.lines = collections.deque(maxlen=KEPT_LINES)
 
-    def keep(self, text, minute):
+    def keep(self, text: str, minute: str) -> None:
         self.lines.append((minute, text))
 
-    def show(self, text):
+    def show(self, text: str) -> None:
         pass
 
-    def turn(self, is_on, is_running):
+    def turn(self, is_on: object, is_running: bool) -> None:
         if not is_on:
             self.lines.clear()
 
@@ -50,7 +52,7 @@ class Unattended:
 class User:
     """A user of the directory: whether he is on and his machine runs, and his terminal."""
 
-    def __init__(self, name):
+    def __init__(self, name: str) -> None:
         self.name = name
         self.is_on = False
         self.is_running = False
@@ -60,16 +62,16 @@ class User:
         # bytes that he typed, and his guests printed, since LOGON
         self.written = 0
 
-    def keep(self, text, when=None):
-        """Keeps a line for when he comes back, with the minute of its time."""
+    def keep(self, text: str, when: object = None) -> None:
+        """Keeps a line for when he appears back, with the minute of its time."""
         self.written += len(text) + 1
         self.terminal.keep(text, when or time.strftime(MINUTE, time.gmtime()))
 
-    def show(self, text, when=None):
+    def show(self, text: str, when: object = None) -> None:
         self.keep(text, when)
         self.terminal.show(text)
 
-    def become(self, state):
+    def become(self, state: str) -> None:
         if state in ("ON", "OFF"):
             self.is_on = state == "ON"
         else:
@@ -89,16 +91,18 @@ class Part(NamedTuple):
     turns: int = 0
     is_kept: bool = False
 
-    def script(self):
+    def script(self) -> object:
         """The part as the program reads it."""
         return self.lines + (b"AUTO %d\n" % self.turns if self.turns else b"")
 
 
-def typed_line(name, text):
-    return Part(b"LINE %s %s\n" % (name.encode(), text), ((name, text.decode("latin-1")),), is_kept=True)
+def typed_line(name: str, text: str) -> object:
+    return Part(
+        b"LINE %s %s\n" % (name.encode(), text), ((name, text.decode("latin-1")),), is_kept=True
+    )
 
 
-def part_of(entry):
+def part_of(entry: object) -> object:
     """The part that an entry of a recording was."""
     if turns := TURNS.fullmatch(entry):
         return Part(turns=int(turns[1]))
@@ -109,38 +113,40 @@ def part_of(entry):
 class Pace:
     """How many turns a part deals, so that one takes about the same time whatever the guests and the host do."""
 
-    def __init__(self, aim):
+    def __init__(self, aim: object) -> None:
         self.aim = aim
         self.turns = 1
         self.is_busy = True
         self.stuck = 0
 
-    def took(self, turns, seconds, came):
+    def took(self, turns: int, seconds: object, came: object) -> None:
         """Notes what came of so many turns."""
-        absent = sum(1 for it in came.events if LACKED.fullmatch(it))
+        absent = sum(1 for event in came.events if LACKED.fullmatch(event))
         self.stuck = self.stuck + turns if absent >= turns else 0
         self.is_busy = not came.is_idle and self.stuck < STUCK_TURNS
-        self.turns = max(1, min(MOST_TURNS, 2 * self.turns, int(self.turns * self.aim / max(seconds, 1e-6))))
+        self.turns = max(
+            1, min(MOST_TURNS, 2 * self.turns, int(self.turns * self.aim / max(seconds, 1e-6)))
+        )
         if not self.is_busy:
             # little is wasted where the next line wakes nobody
             self.turns = min(self.turns, FEW_TURNS)
 
-    def woke(self, came):
+    def woke(self, came: object) -> None:
         """Notes what came of lines that were typed, and of a few turns after them."""
         self.is_busy = not came.is_idle
         self.stuck = 0
 
 
 class Progress:
-    """How far something is of which the whole is known, told each second."""
+    """How far something is of which the whole is known, reported each second."""
 
-    def __init__(self, whole, notify):
+    def __init__(self, whole: object, notify: object) -> None:
         self.whole = max(1, whole)
         self.notify = notify
         self.done = 0
         self.findings = time.monotonic()
 
-    def add(self, amount):
+    def add(self, amount: object) -> None:
         self.done += amount
         if time.monotonic() - self.findings >= 1:
             self.findings = time.monotonic()
@@ -148,10 +154,18 @@ class Progress:
 
 
 class Engine:
-    """Gives the program parts: what waits, then some turns while somebody is ready. What comes of a part is shown when the
+    """Gives the program parts: what waits, then some turns while somebody is ready. What appears of a part is shown when the
     recording has it. One thread alone touches the program, the recording and the printouts."""
 
-    def __init__(self, machines, recording, users, aim, printouts, notify):
+    def __init__(
+        self,
+        machines: object,
+        recording: object,
+        users: list,
+        aim: object,
+        printouts: object,
+        notify: object,
+    ) -> None:
         self.machines = machines
         self.recording = recording
         self.notify = notify
@@ -175,36 +189,36 @@ class Engine:
         # what the last part took the disk
         self.settling = 0.0
 
-    def begun(self):
+    def begun(self) -> object:
         return Program(self.machines, "--terminals", "--save")
 
-    def seconds(self):
+    def seconds(self) -> object:
         """The processor time that the program took since the session began: about what a start takes."""
         return processor_seconds(self.program.process.pid)
 
-    def memory(self):
+    def memory(self) -> object:
         """The bytes of memory that the program has."""
         return memory_of(self.program.process.pid)
 
-    async def give(self, part):
-        """Has a part done; ends when what came of it is shown."""
+    async def give(self, part: bytes) -> None:
+        """Has a part done; ends when the effect of it is shown."""
         done = asyncio.get_running_loop().create_future()
         self.waiting.append((part, done))
         self.woken.set()
         await done
 
-    def note(self, mark):
+    def note(self, mark: object) -> None:
         """Has the recording get a comment line; any thread may ask for that."""
         self.marks.append(mark)
         with contextlib.suppress(RuntimeError):
             # the loop may have ended: then the end of the session writes it
             self.loop.call_soon_threadsafe(self.woken.set)
 
-    def take_marks(self):
+    def take_marks(self) -> str:
         marks = [self.marks.popleft() for _ in range(len(self.marks))]
         return b"".join(marks)
 
-    async def work(self):
+    async def work(self) -> None:
         """Gives parts until it is stopped."""
         while not self.is_stopping:
             if not self.waiting and not self.marks and not self.pace.is_busy:
@@ -217,13 +231,13 @@ class Engine:
         for _, done in self.waiting:
             done.cancel()
 
-    async def deal(self):
+    async def deal(self) -> None:
         """Deals some turns. What it takes to show what guests print is time too, but not what the disk takes."""
         turns, begun = self.pace.turns, time.monotonic()
         came = await self.do(Part(turns=turns))
         self.pace.took(turns, time.monotonic() - begun - self.settling, came)
 
-    async def do_waiting(self):
+    async def do_waiting(self) -> None:
         """All that waits is one part, so that many people wait for the disk once. Whoever typed gets a turn in it, so that what
         his machine answers is not kept waiting by a long part of others' turns."""
         given, self.waiting = self.waiting, []
@@ -238,17 +252,17 @@ class Engine:
             if not done.done():
                 done.set_result(None)
 
-    def count_running(self):
+    def count_running(self) -> int:
         """How many machines run."""
         return sum(user.is_running for user in self.users.values())
 
-    async def do(self, part):
+    async def do(self, part: bytes) -> object:
         came = await asyncio.get_running_loop().run_in_executor(self.thread, self.step, part)
         self.parts += 1
         self.take(part, came)
         return came
 
-    def step(self, part):
+    def step(self, part: bytes) -> object:
         """Does a part, and has it on the disk where something of it is shown."""
         came = self.asked(part)
         done = time.monotonic()
@@ -256,27 +270,29 @@ class Engine:
             self.recording.add(part.lines)
         if part.turns:
             self.recording.add_turns(part.turns)
-        if part.is_kept or came.files or any(not it.startswith("= ") for it in came.events):
+        if part.is_kept or came.files or any(not event.startswith("= ") for event in came.events):
             self.recording.settle()
         self.printouts.put(came.files)
         self.settling = time.monotonic() - done
         return came
 
-    def asked(self, part):
-        """What comes of a part. A program that has died is started again and asked once more; what kills it twice ends all."""
+    def asked(self, part: bytes) -> object:
+        """What appears of a part. A program that has died is started again and asked once more; what kills it twice ends all."""
         try:
             return self.checked(self.program.do, part.script())
         except Died as death:
             if self.is_stopping:
                 raise
-            self.notify(f"{death.lines[0] if death.lines else 'the program has died'}: it is started again")
+            self.notify(
+                f"{death.lines[0] if death.lines else 'the program has died'}: it is started again"
+            )
             self.restart()
             if not self.is_whole:
                 raise
             self.notify("the program goes on")
             return self.checked(self.program.do, part.script())
 
-    def restart(self):
+    def restart(self) -> None:
         """Has another program do the recording: all that anybody was shown is in it."""
         self.recording.put(self.recording.turns_line())
         for volume, known in zip(self.machines.originals, self.recording.volume_sums()):
@@ -285,20 +301,25 @@ class Engine:
                 raise Failure(REFUSED, findings)
         self.program.close()
         self.program = self.begun()
-        self.do_recording(lambda share: self.notify(f"the program is started again: {100 * share:.0f}% done"), lambda *_: None)
+        self.do_recording(
+            lambda share: self.notify(f"the program is started again: {100 * share:.0f}% done"),
+            lambda *_: None,
+        )
 
-    def checked(self, ask, *given, line=None):
+    def checked(self, ask: object, *given: object, line: bytes = None) -> object:
         """An answer of the program; line is where in the recording its part begins, if it is from there."""
         try:
             return ask(*given)
         except NotFollowed:
             raise Failure(FILE_FAILED, "the program takes no script part by part") from None
-        except ScriptRefused as it:
+        except ScriptRefused as item:
             if line is not None:
-                raise self.recording.edited(line + it.line - 1, "is refused by the program") from None
-            raise Failure(REFUSED, f"the program refuses line {it.line} of a part") from None
+                raise self.recording.edited(
+                    line + item.line - 1, "is refused by the program"
+                ) from None
+            raise Failure(REFUSED, f"the program refuses line {item.line} of a part") from None
 
-    def take(self, part, came, when=None):
+    def take(self, part: bytes, came: object, when: object = None) -> None:
         """Shows each user what was printed at his terminal, and keeps who is on and whose machine runs."""
         for heading, body in came.files:
             self.users[heading.rpartition(" ")[2]].written += len(body)
@@ -315,23 +336,23 @@ class Engine:
         for state, name in came.states:
             self.users[name].become(state)
 
-    def replay(self, notify):
-        """Brings the program to where the recording ends; how far it is is told each second, from 0 to 1."""
+    def replay(self, notify: object) -> None:
+        """Brings the program to where the recording ends; how far it is is reported each second, from 0 to 1."""
 
-        def take(part, came, when):
+        def take(part: bytes, came: object, when: object) -> None:
             self.take(part, came, when)
             self.printouts.put(came.files, is_replay=True)
 
         self.do_recording(notify, take)
 
-    def do_recording(self, notify, take):
-        """Has the program do all that the recording has, and takes what comes of each part."""
+    def do_recording(self, notify: object, take: object) -> None:
+        """Has the program do all that the recording has, and takes the effect of each part."""
         self.is_whole = False
         # it has read the volumes when it has answered
         self.checked(self.program.do, b"")
         progress, sent = Progress(self.recording.weight, notify), collections.deque()
 
-        def take_first():
+        def take_first() -> None:
             part, number, when = sent.popleft()
             take(part, self.checked(self.program.answer, line=number), when.decode()[:16])
             progress.add(weight_of(part.script()))
@@ -348,11 +369,11 @@ class Engine:
             take_first()
         self.is_whole = not sent
 
-    def stop(self):
+    def stop(self) -> None:
         self.is_stopping = True
         self.woken.set()
 
-    def settle(self):
+    def settle(self) -> None:
         """Has the recording whole on the disk."""
         self.printouts.settle()
         self.printouts.close()
@@ -360,7 +381,7 @@ class Engine:
             self.recording.add(self.take_marks())
         self.recording.settle()
 
-    def close(self):
+    def close(self) -> None:
         self.printouts.close()
         self.program.close()
         self.thread.shutdown()

@@ -1,4 +1,7 @@
 """The recording of an installation: the script of all that the program accepted (docs/INSTALLATION.md)."""
+from __future__ import annotations
+
+from collections.abc import Iterator
 import calendar
 import errno
 import fcntl
@@ -33,32 +36,34 @@ SCRIPT_WORDS = (b"LINE ", b"AUTO ", b"*", b"DECK ", b"RUN ", b"SERVE ", b"TICK "
 
 
 class Base(NamedTuple):
-    """What a recording stands on."""
+    """What a recording uses."""
 
     program: str
     sizes: str
     directory: str
     volumes: list
 
-    def lines(self):
+    def lines(self) -> list:
         """The first lines of a recording of it. The paths are for readers, and may differ."""
-        files = [("DIRECTORY", self.directory, sum_of(without_passwords(read_whole(self.directory))))]
-        files += [("VOLUME", it, sum_of_file(it)) for it in self.volumes]
+        files = [
+            ("DIRECTORY", self.directory, sum_of(without_passwords(read_whole(self.directory))))
+        ]
+        files += [("VOLUME", volume, sum_of_file(volume)) for volume in self.volumes]
         findings = [f"* {kind} {known} {os.path.abspath(path)}" for kind, path, known in files]
         texts = [f"* PROGRAM {self.program}", findings[0], f"* SIZES {self.sizes}", *findings[1:]]
-        return [TITLE, *(it.encode(errors="surrogateescape") for it in texts)]
+        return [TITLE, *(text.encode(errors="surrogateescape") for text in texts)]
 
 
-def read_whole(path):
+def read_whole(path: str) -> object:
     with open(path, "rb") as file:
         return file.read()
 
 
-def sum_of(data):
+def sum_of(data: bytes) -> object:
     return hashlib.sha256(data).hexdigest()[:SUM_DIGITS]
 
 
-def sum_of_file(path):
+def sum_of_file(path: str) -> object:
     known = hashlib.sha256()
     with open(path, "rb") as file:
         while data := file.read(1 << 20):
@@ -66,13 +71,18 @@ def sum_of_file(path):
     return known.hexdigest()[:SUM_DIGITS]
 
 
-def without_passwords(directory):
+def without_passwords(directory: str) -> bytes:
     """A directory that states the same but for the passwords, which are X."""
-    stated = ([*it[:2], "X", *it[3:]] if it[0] == "USER" and len(it) == 4 else it for it in statements(directory))
-    return "".join(" ".join(it) + "\n" for it in stated).encode("latin-1")
+    stated = (
+        [*statement[:2], "X", *statement[3:]]
+        if statement[0] == "USER" and len(statement) == 4
+        else statement
+        for statement in statements(directory)
+    )
+    return "".join(" ".join(item) + "\n" for item in stated).encode("latin-1")
 
 
-def entries_of(file):
+def entries_of(file: object) -> Iterator:
     """Each entry of a script that is there whole: a line, or a deck with its cards."""
     while (line := file.readline()).endswith(b"\n"):
         lines = [line]
@@ -83,12 +93,12 @@ def entries_of(file):
         yield b"".join(lines)
 
 
-def stamp_in(entry):
+def stamp_in(entry: object) -> object:
     """The time and the sum of a stamp, or None."""
     return STAMP.fullmatch(entry) if entry.startswith(b"* ") and entry[2:3].isdigit() else None
 
 
-def stamped(file):
+def stamped(file: object) -> Iterator:
     """The entries of a recording in groups, each with the time of the stamp that follows it, or an empty time."""
     group = []
     for entry in entries_of(file):
@@ -103,18 +113,23 @@ def stamped(file):
     yield "", group
 
 
-def known_part(line):
-    """What of a first line is compared: not the path, nor behind the sources' sum the version."""
+def known_part(line: bytes) -> object:
+    """What of a first line is compared: not the path, nor after the sources' sum the version."""
     words = line.split(b" ", 3)
     return words[:3] if words[1] in (b"PROGRAM", b"DIRECTORY", b"VOLUME") else words
 
 
-def differing(found, wanted):
+def differing(found: object, wanted: object) -> str | None:
     """What the first lines of a recording tell otherwise than what it is to go on with, in words, or None."""
     if len(found) != len(wanted):
         return "it has another number of volumes"
-    names = ["another kind", "another version of the program", "another directory", "other numbers of --frames and --slots"]
-    names += [f"another volume {it}" for it in range(1, len(wanted) - 3)]
+    names = [
+        "another kind",
+        "another version of the program",
+        "another directory",
+        "other numbers of --frames and --slots",
+    ]
+    names += [f"another volume {number}" for number in range(1, len(wanted) - 3)]
     for name, one, other in zip(names, found, wanted):
         if known_part(one) != known_part(other):
             return f"it is of {name}"
@@ -125,7 +140,7 @@ class Recording:
     """A recording that goes on. Nobody else may write it meanwhile. Each part is followed by a stamp: the time, and the sum of all
     bytes before."""
 
-    def __init__(self, path):
+    def __init__(self, path: str) -> None:
         self.path = path
         self.turns = 0
         self.stamped = self.written = time.monotonic()
@@ -143,14 +158,16 @@ class Recording:
         # the last line of which the sum is known to be right
         self.right = 0
         # it has all that was typed, perhaps a password at a wrong place
-        self.file = open(path, "ab", buffering=0, opener=lambda path, flags: os.open(path, flags, 0o600))
+        self.file = open(
+            path, "ab", buffering=0, opener=lambda path, flags: os.open(path, flags, 0o600)
+        )
         try:
             fcntl.flock(self.file, fcntl.LOCK_EX | fcntl.LOCK_NB)
         except BlockingIOError:
             raise Failure(REFUSED, f"another installation goes on with {path}") from None
         self.look()
 
-    def look(self):
+    def look(self) -> None:
         """Reads all that it has, and refuses what is not as it was written. An end that a crash of the host left in part was never
         shown, and is cut."""
         size = 0
@@ -173,7 +190,7 @@ class Recording:
         self.cut = len(torn)
         self.file.truncate(size)
 
-    def judge(self, entry):
+    def judge(self, entry: object) -> None:
         """Refuses an entry that is not as it was written."""
         if not entry.startswith(SCRIPT_WORDS):
             raise self.edited(self.lines + 1, "is no line of a recording")
@@ -183,18 +200,20 @@ class Recording:
         if stamp:
             self.judge_stamp(stamp, self.lines + 1)
 
-    def judge_stamp(self, stamp, line):
+    def judge_stamp(self, stamp: object, line: bytes) -> None:
         if stamp[2] and stamp[2] != self.digits():
             first, last = self.right + 1, line - 1
             which = f"lines {first} to {last} are" if first < last else f"line {first} is"
-            raise self.edited(first, "", f"{which} not as written, or the sum in line {line} is not")
+            raise self.edited(
+                first, "", f"{which} not as written, or the sum in line {line} is not"
+            )
         if self.has_sums and not stamp[2]:
             raise self.edited(line, "has no sum, as the lines before it have")
         self.has_sums = bool(stamp[2])
         self.right = line
         self.until = stamp[1]
 
-    def edited(self, line, fault, findings=""):
+    def edited(self, line: bytes, fault: object, findings: str = "") -> object:
         """The failure that a wrong line is, and what can be done."""
         findings = findings or f"line {line} {fault}"
         right = min(self.right, line - 1)
@@ -203,14 +222,14 @@ class Recording:
         advice = f"put back a copy from before it was changed, or go on with what is known to be right: {kept}"
         return Failure(REFUSED, f"{self.path}: {findings}", advice)
 
-    def digits(self):
+    def digits(self) -> bytes:
         return self.sum.hexdigest()[:STAMP_DIGITS].encode()
 
-    def count(self, data):
+    def count(self, data: bytes) -> None:
         self.sum.update(data)
         self.lines += data.count(b"\n")
 
-    def note(self, entry):
+    def note(self, entry: object) -> None:
         if not self.begun and not entry.startswith(BEGUN):
             self.base.append(entry[:-1])
             return
@@ -221,7 +240,7 @@ class Recording:
         self.last = entry
         self.weight += weight_of(entry)
 
-    def note_comment(self, entry):
+    def note_comment(self, entry: object) -> None:
         if entry.startswith(BEGUN):
             self.begun = self.begun or entry
             self.until = entry.removeprefix(BEGUN)[:19]
@@ -230,7 +249,7 @@ class Recording:
         elif entry.startswith(PRINTED):
             self.printed.add(entry.removeprefix(PRINTED).decode().rstrip("\n"))
 
-    def begin(self, base):
+    def begin(self, base: object) -> object:
         """Begins it on this base, or goes on if it has the same. What it says about that is for the operator."""
         wanted = base.lines()
         if self.base:
@@ -249,39 +268,39 @@ class Recording:
                 time.sleep(0.1)
                 self.begun = begun_now()
             self.base = wanted
-            self.put(b"".join(it + b"\n" for it in wanted) + self.begun, is_stamped=True)
+            self.put(b"".join(item + b"\n" for item in wanted) + self.begun, is_stamped=True)
         os.fdatasync(self.file.fileno())
         sync_folder(self.path)
         return findings
 
-    def volume_sums(self):
+    def volume_sums(self) -> list:
         """The sums of the volumes when the session began."""
         return [line.split(b" ")[2].decode() for line in self.base if line.startswith(b"* VOLUME ")]
 
-    def name(self):
+    def name(self) -> object:
         """What this session is called among those of the same files: the time when it was begun."""
         return self.begun_at().translate({ord(" "): "-", ord(":"): None})
 
-    def begun_at(self):
+    def begun_at(self) -> object:
         return self.begun.removeprefix(BEGUN).decode()[:19]
 
-    def seconds(self):
+    def seconds(self) -> object:
         """How long ago it was begun."""
         return time.time() - calendar.timegm(time.strptime(self.begun_at(), "%Y-%m-%d %H:%M:%S"))
 
-    def size(self):
+    def size(self) -> object:
         return os.fstat(self.file.fileno()).st_size
 
-    def free(self):
+    def free(self) -> object:
         """The bytes that are free on its disk."""
         found = os.fstatvfs(self.file.fileno())
         return found.f_bavail * found.f_frsize
 
-    def aside(self):
+    def aside(self) -> str:
         """The folder to which it goes when the session ends."""
         return f"{self.path}.{self.name()}"
 
-    def entries(self):
+    def entries(self) -> Iterator:
         """What was done until now: each entry with the number of its line, and the time of the stamp that follows it."""
         number, waiting, when = 1, [], self.begun.removeprefix(BEGUN)[:19]
         with open(self.path, "rb") as file:
@@ -297,16 +316,16 @@ class Recording:
                 number += entry.count(b"\n")
         yield from ((line, when, text) for line, text in waiting)
 
-    def whole(self):
+    def whole(self) -> object:
         """All that it has."""
         return read_whole(self.path)
 
-    def add(self, part):
+    def add(self, part: bytes) -> None:
         """Adds lines that were done; they need not be on the disk yet."""
         self.put(self.turns_line() + part, is_stamped=True)
         self.written = time.monotonic()
 
-    def add_turns(self, turns):
+    def add_turns(self, turns: int) -> None:
         """Adds turns that were done; those that follow each other are one line, which is written each second."""
         if self.turns + turns > MOST_TURNS:
             self.put(self.turns_line())
@@ -316,12 +335,12 @@ class Recording:
             self.put(self.turns_line(), is_stamped=now - self.stamped >= SECONDS_TO_STAMP_TURNS)
             self.written = now
 
-    def turns_line(self):
+    def turns_line(self) -> object:
         line = b"AUTO %d\n" % self.turns if self.turns else b""
         self.turns = 0
         return line
 
-    def put(self, data, is_stamped=False):
+    def put(self, data: bytes, is_stamped: bool = False) -> None:
         """Writes lines, and a stamp after them if that is asked for, at once."""
         self.count(data)
         if is_stamped:
@@ -336,32 +355,32 @@ class Recording:
         if not is_whole:
             raise OSError(errno.ENOSPC, os.strerror(errno.ENOSPC), self.path)
 
-    def settle(self):
+    def settle(self) -> None:
         """What was added is on the disk now."""
         self.put(self.turns_line())
         os.fdatasync(self.file.fileno())
 
-    def mark(self, line):
+    def mark(self, line: bytes) -> None:
         """Adds a comment line, and has it on the disk."""
         self.put(self.turns_line() + line + b"\n", is_stamped=True)
         self.settle()
         self.last = line + b"\n"
 
-    def close(self):
+    def close(self) -> None:
         self.file.close()
 
 
-def begun_now():
+def begun_now() -> bytes:
     return time.strftime(f"{BEGUN.decode()}{TIME}\n", time.gmtime()).encode()
 
 
-def weight_of(entry):
+def weight_of(entry: object) -> int:
     """About how much the program has to do for an entry, in turns."""
     turns = TURNS.fullmatch(entry) if entry.startswith(b"AUTO ") else None
     return int(turns[1]) if turns else 20
 
 
-def sync_folder(path):
+def sync_folder(path: str) -> None:
     """Has the name of a file on the disk."""
     folder = os.open(os.path.dirname(os.path.abspath(path)), os.O_RDONLY)
     try:

@@ -1,7 +1,13 @@
-"""A person's session: what is typed becomes a script that grows. The program goes on from where it stands, or where it cannot, runs
+"""A person's session: what is typed becomes a script that grows. The program goes on from where it is, or where it cannot, runs
 the script from its beginning each time."""
+from __future__ import annotations
+
+from typing import TYPE_CHECKING
 from gathjumli.following import Follower, NotFollowed
 from gathjumli.machines import ScriptRefused, headings_of, parts
+
+if TYPE_CHECKING:
+    from desk import Account
 
 
 class Replaying:
@@ -10,24 +16,24 @@ class Replaying:
     # whose machine started or stopped in the last part
     states = ()
 
-    def __init__(self, machines):
+    def __init__(self, machines: object) -> None:
         self.machines = machines
 
-    def go_on(self, session, part):
-        """The lines of the transcript that come of a part behind the session's script, and the headings of the files that it
-        closes for the operator. Where the program refuses or fails, nothing has happened."""
+    def go_on(self, session: object, part: bytes) -> tuple:
+        """The lines of the transcript that come of a part after the session's script, and the headings of the files that it
+        closes for the operator. If the program refuses or fails, nothing has happened."""
         try:
             events, files = parts(self.machines.run(session.script() + part))
-        except ScriptRefused as it:
-            raise ScriptRefused(it.line - session.count_lines(), *it.lines) from None
-        closed = [it for it in headings_of(files) if it not in session.headings]
+        except ScriptRefused as entry:
+            raise ScriptRefused(entry.line - session.count_lines(), *entry.lines) from None
+        closed = [item for item in headings_of(files) if item not in session.headings]
         return events[len(session.events) :], closed
 
-    def settle(self, script, added, is_busy):
+    def settle(self, script: str, added: object, is_busy: object) -> None:
         """The last part was kept as these lines, which now end the script; whether only few of its turns were, since somebody does
         not wait."""
 
-    def close(self):
+    def close(self) -> None:
         pass
 
 
@@ -35,19 +41,19 @@ class Following:
     """One program does part after part; where it does not stand where the session does, another begins with its script. While
     somebody does not wait, of whose turns most are not kept, another one is held ready there."""
 
-    def __init__(self, machines):
+    def __init__(self, machines: object) -> None:
         self.machines = machines
         self.follower = self.begun(b"")
         self.spare = None
         self.states = ()
 
-    def begun(self, script):
+    def begun(self, script: str) -> object:
         follower = Follower(self.machines)
         if script:
             follower.send(script)
         return follower
 
-    def go_on(self, session, part):
+    def go_on(self, session: object, part: bytes) -> tuple:
         try:
             self.stand_at(session.script())
             came = self.follower.do(part)
@@ -59,7 +65,7 @@ class Following:
             self.close()
             raise
 
-    def stand_at(self, script):
+    def stand_at(self, script: str) -> None:
         if self.follower and self.follower.script == script:
             return
         if self.spare and self.spare.script == script:
@@ -69,21 +75,21 @@ class Following:
             self.close()
             self.follower = self.begun(script)
 
-    def settle(self, script, added, is_busy):
+    def settle(self, script: str, added: object, is_busy: object) -> None:
         self.follower.script = script
         if self.spare:
             self.spare.send(added)
         elif is_busy:
             self.spare = self.begun(script)
 
-    def close(self):
-        for it in (self.follower, self.spare):
-            if it:
-                it.close()
+    def close(self) -> None:
+        for item in (self.follower, self.spare):
+            if item:
+                item.close()
         self.follower = self.spare = None
 
 
-def find_way(machines):
+def find_way(machines: object) -> object:
     """How a program is brought to do what is typed."""
     way = Following(machines)
     try:
@@ -94,7 +100,7 @@ def find_way(machines):
         return Replaying(machines)
 
 
-def after(running, states):
+def after(running: object, states: object) -> set:
     """Whose machines run after these changes."""
     changed = {name: word == "RUNS" for word, name in states}
     return {name for name in running | set(changed) if changed.get(name, True)}
@@ -104,7 +110,7 @@ class Session:
     """The entries of a session, each the lines of a script that it added, how many lines and headings were there before it, and whose
     machines ran then; and the transcript as it is."""
 
-    def __init__(self, machines, user, turns):
+    def __init__(self, machines: object, user: Account, turns: int) -> None:
         self.machines = machines
         self.user = user
         self.turns = turns
@@ -114,21 +120,21 @@ class Session:
         self.headings = headings_of(files)
         self.way = find_way(machines)
 
-    def close(self):
+    def close(self) -> None:
         self.way.close()
 
-    def script(self):
-        return b"".join(it[0] for it in self.entries)
+    def script(self) -> str:
+        return b"".join(entry[0] for entry in self.entries)
 
-    def count_lines(self):
+    def count_lines(self) -> object:
         return self.script().count(b"\n")
 
-    def do(self, lines, turns, kept=None):
-        """Does these lines, and deals turns until nobody is ready, at most so many. Where somebody is ready even then, only
+    def do(self, lines: list, turns: int, kept: object = None) -> tuple:
+        """Does these lines, and deals turns until nobody is ready, at most so many. If somebody is ready even then, only
         `kept` turns are dealt, where a number is given: so a guest that never waits does not make each later line slow. Gives
-        the new lines of the transcript, and how many turns were dealt where somebody is still ready, else None. Where the
+        the new lines of the transcript, and how many turns were dealt where somebody is still ready, else None. If the
         program refuses or fails, nothing has happened."""
-        added = b"".join(it + b"\n" for it in lines)
+        added = b"".join(line + b"\n" for line in lines)
         new, closed, idle = self.dealt(added, turns)
         is_busy = bool(turns and not idle and kept and kept < turns)
         if is_busy:
@@ -144,8 +150,8 @@ class Session:
         self.way.settle(self.script(), added, is_busy)
         return new + closed, turns if turns and not idle else None
 
-    def dealt(self, added, turns):
-        """What comes of these lines and so many turns, and how many of the turns did nothing, whose lines are left out."""
+    def dealt(self, added: object, turns: int) -> tuple:
+        """What appears of these lines and so many turns, and how many of the turns did nothing, whose lines are left out."""
         new, closed = self.way.go_on(self, added + (b"AUTO %d\n" % turns if turns else b""))
         idle = 0
         while idle < turns and new and new[-1] == "= IDLE":
@@ -153,17 +159,17 @@ class Session:
             idle += 1
         return new, closed, idle
 
-    def was_running(self):
+    def was_running(self) -> bool:
         """Whether the user's machine ran before the last entry."""
         return self.user in self.entries[-1][3]
 
-    def undo(self):
+    def undo(self) -> object:
         """Takes back the last entry, and gives its lines."""
         added, events, headings, self.running = self.entries.pop()
         del self.events[events:], self.headings[headings:]
         return added
 
-    def replays(self):
+    def replays(self) -> bool:
         """Whether the script as it is leads to what was shown."""
         events, files = parts(self.machines.run(self.script()))
         return (events, headings_of(files)) == (self.events, self.headings)
