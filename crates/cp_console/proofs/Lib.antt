@@ -7,3 +7,4 @@ pub mod DeviceGrammars
 pub mod FileTexts
 pub mod Joined
 pub mod Cuts
+pub mod PrintedCodes

@@ -9,3 +9,4 @@ pub mod Commands
 pub mod ConsoleLine
 pub mod Responses
 pub mod Grammar
+pub mod Saved

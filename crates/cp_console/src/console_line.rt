@@ -1,6 +1,9 @@
 //! A line that was written on a console.
-ghost use Rattle.std.specs.Prelude.{◌≡◌, ◌≤◌, length, take};
-ghost use Rattle.cp_console.specs.ConsoleLine.{characters_of};
+ghost use Rattle.std.specs.Prelude.{◌≡◌, ◌≤◌, ◌++◌, length, take, OnOk};
+ghost use Rattle.cp_console.specs.ConsoleLine.{characters_of, line_bytes};
+
+use saved_bytes::{Input, put_bytes, put_number};
+use std::alloc::AllocError;
 
 /// The most characters of a line that is written on a console: a message of a user's name and text has at most so many.
 pub const MOST_CHARACTERS: usize = 144;
@@ -33,5 +36,27 @@ impl ConsoleLine {
     {
         let length = usize::from(self.length).min(MOST_CHARACTERS);
         &self.characters[..length]
+    }
+
+    /// Appends all of it, what stands after its characters too.
+    pub fn save(&self, out: &mut Vec<u8>) -> Result<(), AllocError>
+        ensures { OnOk result (out.new.items ≡ out.old.items ++ line_bytes self.now) }
+    {
+        // Exhaustive: a new field fails to compile here.
+        let ConsoleLine { characters, length } = self;
+        put_bytes(out, characters)?;
+        put_number(out, u64::from(*length))
+    }
+
+    /// The line that comes next.
+    pub fn restored(input: &mut Input<'_>) -> Option<ConsoleLine> {
+        let bytes = input.bytes()?;
+        if bytes.len() != MOST_CHARACTERS {
+            return None;
+        }
+        let mut characters = [b' '; 144];
+        characters.copy_from_slice(bytes);
+        let length = input.small()?;
+        Some(ConsoleLine { characters, length })
     }
 }

@@ -2,10 +2,12 @@
 ghost use Rattle.std.specs.Prelude.{◌≡◌, ◌+◌, ◌<◌, ◌≤◌, ◌==◌, ◌++◌, [], ◌∷◌, length, OnOk, OnErr, slice_get, slice_index_or, slice_range};
 ghost use Rattle.std.specs.Option.{option_map};
 ghost use Rattle.cp_console.specs.Responses.{text_of};
+ghost use Rattle.cp_console.specs.Saved.{printed_bytes};
 
 use crate::console_line::MOST_CHARACTERS;
 use crate::responses::Response;
 use crate::texts::add_text;
+use saved_bytes::{Input, put_bytes, put_one, put_zero};
 use std::alloc::{AllocError, Global};
 use std::marker::Model;
 
@@ -128,4 +130,41 @@ fn start_of(ends: &[usize], line: usize) -> usize
         return 0;
     }
     ends[line - 1]
+}
+
+impl ConsoleOutput {
+    /// Appends the lines that were printed.
+    pub fn save(&self, out: &mut Vec<u8>) -> Result<(), AllocError>
+        ensures { OnOk result (out.new.items ≡ out.old.items ++ printed_bytes self.now.lines) }
+    {
+        for line in 0..self.len() {
+            put_one(out)?;
+            match self.get(line) {
+                Some(text) => put_bytes(out, text)?,
+                None => unreachable!(),
+            }
+        }
+        put_zero(out)
+    }
+
+    /// Takes the lines that come next, after those that were printed.
+    pub fn restore(&mut self, input: &mut Input<'_>) -> Option<()> {
+        for _ in 0..u64::MAX {
+            if !input.flag()? {
+                break;
+            }
+            let text = input.bytes()?;
+            self.add_line(text).ok()?;
+        }
+        Some(())
+    }
+
+    /// Adds a line, which takes memory, and leaves no room for others.
+    fn add_line(&mut self, text: &[u8]) -> Result<(), AllocError> {
+        self.ends.reserve(1)?;
+        self.room = 0;
+        self.text.extend_from_slice(text)?;
+        self.ends.push_reserved(self.text.len());
+        Ok(())
+    }
 }

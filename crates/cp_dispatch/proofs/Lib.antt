@@ -1,3 +1,4 @@
 pub mod Places
 pub mod Fair
 pub mod Queues
+pub mod LineCodes

@@ -1,3 +1,4 @@
 pub mod Turns
 pub mod Fairness
 pub mod Policy
+pub mod Saved

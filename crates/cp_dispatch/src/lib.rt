@@ -28,7 +28,9 @@
 mod policy;
 mod program;
 mod ready;
+mod saved;
 
 pub use policy::{Policy, is_fair};
 pub use program::Program;
 pub use ready::Ready;
+pub use saved::one_by_saved;

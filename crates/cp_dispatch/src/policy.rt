@@ -16,9 +16,9 @@ use user_names::UserNo;
 /// started, each in the order in which they are dealt.
 #[derive(Drop)]
 pub struct Policy {
-    users: Vec<UserNo>,
-    programs: Vec<Program>,
-    most_users: usize,
+    pub(crate) users: Vec<UserNo>,
+    pub(crate) programs: Vec<Program>,
+    pub(crate) most_users: usize,
 }
 
 impl Model for Policy {

@@ -32,7 +32,9 @@ mod order;
 mod owners;
 mod paging;
 mod pool;
+mod saved;
 mod table;
 
 pub use numbers::{FRAME_SIZE, FrameNo, UserPage};
 pub use pool::Frames;
+pub use saved::one_pool_by_saved;

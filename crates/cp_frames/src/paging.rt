@@ -144,7 +144,7 @@ impl Frames {
     }
 
     /// Exchanges what stands in a frame and what stands in a slot.
-    fn exchange(&mut self, frame: usize, slot: usize)
+    pub(crate) fn exchange(&mut self, frame: usize, slot: usize)
         requires frame { frame < length self.old.supply.owners }
         requires slot { slot < length self.old.supply.slots }
         requires unpinned { slice_index_or self.old.supply.pins frame false ≡ false }
@@ -167,7 +167,7 @@ impl Frames {
     }
 
     /// Puts a page that stands nowhere, and so is all zero, into a free frame.
-    fn fill(&mut self, frame: usize, user: UserNo, page: Page)
+    pub(crate) fn fill(&mut self, frame: usize, user: UserNo, page: Page)
         requires inside { page.0 * 4096 < length (bytes_of self.old user) }
         requires frame { frame < length self.old.supply.owners }
         requires free { slice_index_or self.old.supply.owners frame None ≡ None }

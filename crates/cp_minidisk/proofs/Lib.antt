@@ -8,3 +8,4 @@ pub mod Modes
 pub mod Mounting
 pub mod Walked
 pub mod Parting
+pub mod MinidiskCodes

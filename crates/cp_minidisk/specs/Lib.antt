@@ -5,3 +5,4 @@ pub mod Kept
 pub mod Part
 pub mod Projected
 pub mod PartLaws
+pub mod Saved

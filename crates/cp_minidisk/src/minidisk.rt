@@ -1,10 +1,13 @@
 //! What a minidisk has of its own.
-ghost use Rattle.std.specs.Prelude.{◌≡◌, ◌<◌};
+ghost use Rattle.std.specs.Prelude.{◌≡◌, ◌<◌, ◌++◌, OnOk};
 ghost use Rattle.cp_minidisk.specs.Extent.{IsWithin};
 ghost use Rattle.cp_minidisk.specs.Minidisk.{minidisk_new, minidisk_reset, dismounted};
+ghost use Rattle.cp_minidisk.specs.Saved.{extent_bytes, minidisk_bytes, sense_bytes};
 
 use crate::extent::Extent;
-use ckd_volume::{Sense, Unit};
+use ckd_volume::{HEADS, Sense, Unit};
+use saved_bytes::{Input, put_flag, put_number};
+use std::alloc::AllocError;
 use std::marker::Model;
 
 /// A minidisk but for its cylinders, which stand on a volume: its extent, where its arm stands, and its sense.
@@ -109,5 +112,69 @@ impl Minidisk {
         self.cylinder = arm.cylinder - usize::from(self.extent.start());
         self.head = arm.head;
         self.sense = arm.sense;
+    }
+}
+
+/// Appends an extent.
+fn put_extent(out: &mut Vec<u8>, extent: Extent) -> Result<(), AllocError>
+    ensures { OnOk result (out.new.items ≡ out.old.items ++ extent_bytes extent) }
+{
+    put_number(out, u64::from(extent.start()))?;
+    put_number(out, u64::from(extent.count()))?;
+    put_flag(out, extent.is_writable())
+}
+
+/// Passes over an extent.
+fn pass_extent(input: &mut Input<'_>) -> Option<()> {
+    let _start = input.number()?;
+    let _count = input.number()?;
+    let _writable = input.flag()?;
+    Some(())
+}
+
+/// Appends what a Sense command tells.
+fn put_sense(out: &mut Vec<u8>, sense: Sense) -> Result<(), AllocError>
+    ensures { OnOk result (out.new.items ≡ out.old.items ++ sense_bytes sense) }
+{
+    // Exhaustive: a new field fails to compile here.
+    let Sense { first, second } = sense;
+    put_number(out, u64::from(first))?;
+    put_number(out, u64::from(second))
+}
+
+impl Minidisk {
+    /// Appends all that is seen of a minidisk.
+    pub fn save(&self, out: &mut Vec<u8>) -> Result<(), AllocError>
+        ensures { OnOk result (out.new.items ≡ out.old.items ++ minidisk_bytes self.now) }
+    {
+        // Exhaustive: a new field fails to compile here.
+        let Minidisk {
+            extent,
+            cylinder,
+            head,
+            sense,
+        } = self;
+        put_extent(out, *extent)?;
+        put_number(out, *cylinder as u64)?;
+        put_number(out, *head as u64)?;
+        put_sense(out, *sense)
+    }
+
+    /// Takes the arm and the sense that come next. The extent stays, whatever comes.
+    pub fn restore(&mut self, input: &mut Input<'_>) -> Option<()>
+        ensures { self.new.extent ≡ self.old.extent }
+    {
+        pass_extent(input)?;
+        let cylinder = input.place()?;
+        let head = input.place()?;
+        if cylinder >= usize::from(self.extent.count()) || head >= HEADS {
+            return None;
+        }
+        let first = input.small()?;
+        let second = input.small()?;
+        self.cylinder = cylinder;
+        self.head = head;
+        self.sense = Sense { first, second };
+        Some(())
     }
 }

@@ -8,3 +8,4 @@ pub mod Others
 pub mod Search
 pub mod Sound
 pub mod Walks
+pub mod FileCodes

@@ -3,3 +3,4 @@ pub mod Queues
 pub mod Keys
 pub mod Reader
 pub mod Alike
+pub mod Saved

@@ -43,6 +43,7 @@ mod progress;
 mod queue;
 mod queues;
 mod reader;
+mod saved;
 mod seen;
 
 pub use error::SpoolError;

@@ -389,7 +389,7 @@ impl Queues {
     }
 
     /// So many cards of this user's first deck were read; None where it is not current.
-    fn set_place(&mut self, user: UserNo, place: Option<usize>)
+    pub(crate) fn set_place(&mut self, user: UserNo, place: Option<usize>)
         ensures { self.new.users ≡ with_files user (with_place place (files_of self.old.users user)) self.old.users }
     {
         if user.index() < self.users.len() {

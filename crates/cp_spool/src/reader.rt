@@ -27,9 +27,9 @@ const CHAINING: Flags = Flags { bits: 0xC0 };
 /// What a card reader keeps beside its decks: its sense byte, and the bytes that are still to be given.
 #[derive(Drop)]
 pub struct Reader {
-    sense: u8,
-    bytes: Record,
-    given: usize,
+    pub(crate) sense: u8,
+    pub(crate) bytes: Record,
+    pub(crate) given: usize,
 }
 
 impl Model for Reader {

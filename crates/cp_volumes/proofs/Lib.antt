@@ -1,3 +1,4 @@
 pub mod Parts
 pub mod Confined
 pub mod Seats
+pub mod DiskCodes

@@ -1,10 +1,13 @@
 //! A minidisk but for its cylinders, which stand on a volume that others share.
-ghost use Rattle.std.specs.Prelude.{◌≡◌};
+ghost use Rattle.std.specs.Prelude.{◌≡◌, ◌++◌, OnOk};
 ghost use Rattle.cp_minidisk.specs.Minidisk.{minidisk_new, minidisk_reset};
+ghost use Rattle.cp_volumes.specs.Saved.{disk_bytes};
 ghost use Rattle.cp_volumes.specs.Shared.{stand_of};
 
 use cp_minidisk::{Extent, Minidisk};
 use s370_num::DevAddr;
+use saved_bytes::{Input, put_number};
+use std::alloc::AllocError;
 use std::marker::Model;
 
 /// A user's minidisk at its address, on the volume of this index.
@@ -76,5 +79,31 @@ impl SharedDisk {
         ensures { self.new ≡ record self.old { minidisk = minidisk_new self.old.minidisk.extent } }
     {
         self.minidisk.clear();
+    }
+}
+
+impl SharedDisk {
+    /// Appends all that is seen of a minidisk.
+    pub fn save(&self, out: &mut Vec<u8>) -> Result<(), AllocError>
+        ensures { OnOk result (out.new.items ≡ out.old.items ++ disk_bytes self.now) }
+    {
+        // Exhaustive: a new field fails to compile here.
+        let SharedDisk {
+            address,
+            volume,
+            minidisk,
+        } = self;
+        put_number(out, u64::from(address.get()))?;
+        put_number(out, *volume as u64)?;
+        minidisk.save(out)
+    }
+
+    /// Takes the arm and the sense that come next. The minidisk stays where it stands, whatever comes.
+    pub fn restore(&mut self, input: &mut Input<'_>) -> Option<()>
+        ensures { stand_of self.new ≡ stand_of self.old }
+    {
+        let _address = input.number()?;
+        let _volume = input.number()?;
+        self.minidisk.restore(input)
     }
 }

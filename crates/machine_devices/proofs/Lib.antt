@@ -11,3 +11,4 @@ pub mod Beside
 pub mod Answered
 mod OneLife
 mod Working
+pub mod DeviceCodes

@@ -19,3 +19,4 @@ pub mod Coming
 pub mod Reuses
 pub mod OneLife
 pub mod Working
+pub mod Saved

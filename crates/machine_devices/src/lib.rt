@@ -34,6 +34,7 @@ mod obey;
 mod places;
 mod reply;
 mod request;
+pub mod saved;
 mod seen;
 mod serve;
 mod spooling;

@@ -1,3 +1,4 @@
 pub mod Reached
 pub mod Nothing
 pub mod Readies
+pub mod MachineCodes

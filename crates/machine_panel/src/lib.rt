@@ -31,6 +31,7 @@ mod line;
 mod machine;
 mod ready;
 mod run;
+mod saved;
 mod tick;
 
 pub use display_store::{change, display};

@@ -2,3 +2,4 @@ pub mod Takes
 pub mod DeckReads
 pub mod Commands
 pub mod Seen
+pub mod DeviceCodes

@@ -7,3 +7,4 @@ pub mod Console
 pub mod ConsoleRoom
 pub mod Laws
 pub mod Trials
+pub mod Saved

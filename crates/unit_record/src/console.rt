@@ -36,12 +36,12 @@ pub enum Arrival {
 /// A typewriter console: the lines that were written, and those that wait to be read.
 #[derive(Drop)]
 pub struct Console {
-    lines: Vec<Record>,
-    unfinished: Record,
+    pub(crate) lines: Vec<Record>,
+    pub(crate) unfinished: Record,
     pub(crate) waiting: VecDeque<Record>,
     pub(crate) sense: u8,
-    wanted: usize,
-    ends_line: bool,
+    pub(crate) wanted: usize,
+    pub(crate) ends_line: bool,
     pub(crate) giving: Outgoing,
 }
 

@@ -31,6 +31,7 @@ mod printer;
 mod punch;
 mod reader;
 mod record;
+pub mod saved;
 mod trials;
 
 pub use console::{Arrival, Console};

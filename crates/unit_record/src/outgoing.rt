@@ -46,6 +46,15 @@ impl Outgoing {
         Outgoing::of(Record::of(&self.bytes.as_slice()[self.given..]))
     }
 
+    /// The bytes that are left.
+    pub(crate) fn left(&self) -> &[u8]
+        ensures { result.now ≡ self.now }
+    {
+        // Exhaustive: a new field fails to compile here.
+        let Outgoing { bytes, given } = self;
+        &bytes.as_slice()[*given..]
+    }
+
     /// How many bytes are left.
     pub fn len(&self) -> usize
         ensures { result ≡ length self.now }

@@ -84,6 +84,13 @@ impl Output {
         }
     }
 
+    /// Returns an open file of these entries.
+    pub fn of(entries: Vec<Entry>) -> Output
+        ensures { result.entries ≡ entries.items }
+    {
+        Output { entries }
+    }
+
     /// Makes room for one more entry.
     pub fn reserve(&mut self) -> Result<(), AllocError>
         ensures entries { self.new.entries ≡ self.old.entries }

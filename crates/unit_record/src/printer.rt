@@ -13,10 +13,10 @@ use std::mem;
 /// A line printer: the entries of its open file.
 #[derive(Drop)]
 pub struct Printer {
-    output: Output,
-    sense: u8,
-    printing: Option<u8>,
-    line: Record,
+    pub(crate) output: Output,
+    pub(crate) sense: u8,
+    pub(crate) printing: Option<u8>,
+    pub(crate) line: Record,
 }
 
 impl Model for Printer {

@@ -20,10 +20,10 @@ const BLANK: u8 = 0x40;
 /// A card punch: the cards of its open file.
 #[derive(Drop)]
 pub struct Punch {
-    output: Output,
-    sense: u8,
-    is_punching: bool,
-    card: Record,
+    pub(crate) output: Output,
+    pub(crate) sense: u8,
+    pub(crate) is_punching: bool,
+    pub(crate) card: Record,
 }
 
 impl Model for Punch {

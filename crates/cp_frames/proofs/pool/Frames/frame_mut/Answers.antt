@@ -1,4 +1,4 @@
-use Rattle.std.proofs.Common.{◌≡◌, List, ℕ, Option, None, Some, ◌∙◌, ◌++◌, ap, refl, arith, sym, get_or, set}
+use Rattle.std.proofs.Common.{◌≡◌, List, ℕ, Option, None, Some, ◌∙◌, ◌++◌, ap, refl, arith, sym, set}
 use Rattle.std.specs.Prelude.{IfSome}
 use Rattle.std.proofs.lemmas.List.{set-get_or}
 use Rattle.cp_frames.specs.Layout.{FrameSupply, Pool, storages_of, written_frame}

@@ -1,4 +1,4 @@
-use Rattle.std.proofs.Common.{◌≡◌, ◌*◌, ◌<◌, Some, None, ap, arith, length, refl, sym, ◌∙◌}
+use Rattle.std.proofs.Common.{◌*◌, ◌<◌, arith, length, refl, sym, ◌∙◌}
 use Rattle.std.proofs.lemmas.List.{get_or_read}
 use Rattle.cp_frames.specs.Layout.{frame_of}
 use Rattle.cp_frames.proofs.Layouts.{absent-zero, frame_found}

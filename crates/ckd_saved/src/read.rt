@@ -1,0 +1,77 @@
+//! Volumes of bytes. What comes may be anything.
+ghost use Rattle.std.specs.Prelude.{◌≡◌, length};
+
+use ckd_track::Track;
+use ckd_volume::{HEADS, Volume};
+use saved_bytes::Input;
+use std::alloc::Global;
+
+/// Takes five bytes that come next, with how many they are before them.
+fn five_of(input: &mut Input<'_>) -> Option<[u8; 5]> {
+    let bytes = input.bytes()?;
+    let mut five = [0u8; 5];
+    if bytes.len() != five.len() {
+        return None;
+    }
+    five.copy_from_slice(bytes);
+    Some(five)
+}
+
+/// Takes the serial number that comes next.
+fn volser_of(input: &mut Input<'_>) -> Option<[u8; 6]> {
+    let bytes = input.bytes()?;
+    let mut volser = [0u8; 6];
+    if bytes.len() != volser.len() {
+        return None;
+    }
+    volser.copy_from_slice(bytes);
+    Some(volser)
+}
+
+/// Takes the record that comes next, to the end of a track.
+fn take_record(track: &mut Track, input: &mut Input<'_>) -> Option<()> {
+    let id = five_of(input)?;
+    let key = input.bytes()?;
+    let content = input.bytes()?;
+    track.push(id, key, content).ok()
+}
+
+/// Takes the home address and the records that come next, for a track that has no record.
+fn take_track(track: &mut Track, input: &mut Input<'_>) -> Option<()> {
+    track.set_home(five_of(input)?);
+    for _ in 0..u64::MAX {
+        if !input.flag()? {
+            break;
+        }
+        take_record(track, input)?;
+    }
+    Some(())
+}
+
+/// Takes the tracks that come next, for a cylinder without records.
+fn take_cylinder(volume: &mut Volume, cylinder: usize, input: &mut Input<'_>) -> Option<()> {
+    for head in 0..HEADS {
+        if !input.flag()? {
+            return None;
+        }
+        match volume.track_mut(cylinder, head) {
+            Some(track) => take_track(track, input)?,
+            None => return None,
+        }
+    }
+    if input.flag()? { None } else { Some(()) }
+}
+
+/// Returns the volume that comes next, if one does, and if there is memory for it.
+pub fn volume_of(alloc: Global, input: &mut Input<'_>) -> Option<Volume> {
+    let volser = volser_of(input)?;
+    let count = input.half()?;
+    let mut volume = Volume::blank(alloc, volser, count).ok()?;
+    for cylinder in 0..usize::from(count) {
+        if !input.flag()? {
+            return None;
+        }
+        take_cylinder(&mut volume, cylinder, input)?;
+    }
+    if input.flag()? { None } else { Some(volume) }
+}

@@ -1,0 +1,117 @@
+//! A policy as the bytes of a saved state, and back.
+ghost use Rattle.std.specs.Prelude.{◌≡◌, ◌++◌, ◌<◌, IfOk, IfSome, OnOk};
+ghost use Rattle.saved_bytes.specs.Codes.{each, number};
+ghost use Rattle.cp_dispatch.specs.Saved.{IsOneBySaved, lines_bytes, program_bytes};
+
+use crate::policy::Policy;
+use crate::program::Program;
+use s370_num::DevAddr;
+use saved_bytes::{Input, put_number, put_one, put_zero};
+use std::alloc::{AllocError, Global};
+use user_names::{MOST_USERS, UserNo};
+
+/// Appends users.
+#[tactic(auto, using(saved_bytes::proofs::Codes::each_on))]
+fn put_users(out: &mut Vec<u8>, users: &[UserNo]) -> Result<(), AllocError>
+    ensures { OnOk result (out.new.items ≡ out.old.items ++ each number users.now) }
+{
+    for user in users {
+        put_one(out)?;
+        put_number(out, u64::from(user.number()))?;
+    }
+    put_zero(out)
+}
+
+/// Appends a program.
+fn put_program(out: &mut Vec<u8>, program: Program) -> Result<(), AllocError>
+    ensures { OnOk result (out.new.items ≡ out.old.items ++ program_bytes program) }
+{
+    put_number(out, u64::from(program.user.number()))?;
+    put_number(out, u64::from(program.device.get()))
+}
+
+/// Appends programs.
+#[tactic(auto, using(saved_bytes::proofs::Codes::each_on))]
+fn put_programs(out: &mut Vec<u8>, programs: &[Program]) -> Result<(), AllocError>
+    ensures { OnOk result (out.new.items ≡ out.old.items ++ each program_bytes programs.now) }
+{
+    for program in programs {
+        put_one(out)?;
+        put_program(out, *program)?;
+    }
+    put_zero(out)
+}
+
+/// Takes the user who comes next, one of so many.
+fn next_user(input: &mut Input<'_>, users: usize) -> Option<UserNo>
+    ensures { IfSome result (λ user. user < users) }
+{
+    let number = input.number()?;
+    let few = users.min(MOST_USERS) as u64;
+    if number < few {
+        Some(UserNo::new(number as u8))
+    } else {
+        None
+    }
+}
+
+impl Policy {
+    /// Appends the queue, the line and how many users there are.
+    pub fn save(&self, out: &mut Vec<u8>) -> Result<(), AllocError>
+        ensures { OnOk result (out.new.items ≡ out.old.items ++ lines_bytes self.now) }
+    {
+        // Exhaustive: a new field fails to compile here.
+        let Policy {
+            users,
+            programs,
+            most_users,
+        } = self;
+        put_users(out, users)?;
+        put_programs(out, programs)?;
+        put_number(out, *most_users as u64)
+    }
+
+    /// Takes the policy that comes next, of so many users.
+    pub fn read(alloc: Global, users: usize, input: &mut Input<'_>) -> Option<Policy>
+        ensures { IfSome result (λ policy. policy.most_users ≡ users) }
+    {
+        let mut policy = Policy::new(alloc, users).ok()?;
+        'users: for _ in 0..u64::MAX {
+            if !input.flag()? {
+                break 'users;
+            }
+            policy.join(next_user(input, users)?);
+        }
+        'programs: for _ in 0..u64::MAX {
+            if !input.flag()? {
+                break 'programs;
+            }
+            let user = next_user(input, users)?;
+            let device = input.half()?;
+            policy.started(user, DevAddr::new(device)).ok()?;
+        }
+        let _users = input.number()?;
+        Some(policy)
+    }
+
+    /// Returns the policy of so many users that is saved as these bytes, if there is one.
+    pub fn restored(alloc: Global, users: usize, bytes: &[u8]) -> Result<Option<Policy>, AllocError>
+        ensures { IfOk result (λ found. IfSome found (λ policy. lines_bytes policy ≡ bytes.now)) }
+    {
+        let Some(policy) = Policy::read(alloc, users, &mut Input::new(bytes)) else {
+            return Ok(None);
+        };
+        let mut again = Vec::new(alloc);
+        policy.save(&mut again)?;
+        if again.as_slice() == bytes {
+            Ok(Some(policy))
+        } else {
+            Ok(None)
+        }
+    }
+}
+
+/// States that bytes are those of one policy: the one that is restored is the one that was saved.
+pub fn one_by_saved()
+    ensures { IsOneBySaved }
+{}

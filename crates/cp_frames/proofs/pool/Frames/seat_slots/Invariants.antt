@@ -1,0 +1,9 @@
+use Rattle.std.proofs.Common.{◌≡◌, length, map}
+use Rattle.cp_frames.proofs.pool.Frames.seat_slots.Given as goal
+
+abbrev pub invariant-loop-slot : goal.invariant-loop-slot
+invariant-loop-slot l = record {
+  sizes : map length l.self.storages ≡ map length l.fn.self.storages;
+  pins : l.self.supply.pins ≡ l.fn.self.supply.pins;
+  frames : length l.self.supply.owners ≡ length l.fn.self.supply.owners;
+}

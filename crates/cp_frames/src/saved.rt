@@ -1,0 +1,451 @@
+//! Frames as bytes, and frames of bytes.
+//!
+//! [`Frames::save`] appends what a contract sees of them, exactly: no two pools have the same bytes. What
+//! [`Frames::restore`] makes of bytes is lawful whatever they are, and whoever saves it again sees whether it is what
+//! was saved.
+ghost use Rattle.std.specs.Prelude.{◌≡◌, ◌++◌, ◌<◌, ◌≤◌, ◌*◌, ◌/◌, length, map, take, drop, IfSome, IfNone, OnOk};
+ghost use Rattle.saved_bytes.specs.Codes.{each, flag, number, optional};
+ghost use Rattle.cp_frames.specs.Layout.{IsZeroPage};
+ghost use Rattle.cp_frames.specs.Saved.{IsOneBySaved, is_zero, packed, page_bytes, pages_bytes, pool_bytes, storage_bytes, supply_bytes};
+
+use crate::frame::whole;
+use crate::order::last;
+use crate::table::PAGES;
+use crate::{FRAME_SIZE, FrameNo, Frames, UserPage};
+use s370_store::{PAGE_SIZE, Page};
+use saved_bytes::{Input, put_flag, put_number, put_one, put_zero};
+use std::alloc::{AllocError, Global};
+use user_names::{MOST_USERS, UserNo};
+
+/// Appends whose page stands somewhere, and which.
+fn put_page(out: &mut Vec<u8>, page: UserPage) -> Result<(), AllocError>
+    ensures { OnOk result (out.new.items ≡ out.old.items ++ page_bytes page) }
+{
+    put_number(out, u64::from(page.user.number()))?;
+    put_number(out, u64::from(page.page.0))
+}
+
+/// Appends which page stands somewhere, if one does.
+fn put_place(out: &mut Vec<u8>, owner: Option<UserPage>) -> Result<(), AllocError>
+    ensures { OnOk result (out.new.items ≡ out.old.items ++ optional page_bytes owner) }
+{
+    match owner {
+        Some(page) => {
+            put_one(out)?;
+            put_page(out, page)
+        }
+        None => put_zero(out),
+    }
+}
+
+/// Appends which pages stand in these places.
+#[tactic(auto, using(saved_bytes::proofs::Codes::each_on))]
+fn put_places(out: &mut Vec<u8>, owners: &[Option<UserPage>]) -> Result<(), AllocError>
+    ensures { OnOk result (out.new.items ≡ out.old.items ++ each (optional page_bytes) owners.now) }
+{
+    for owner in owners {
+        put_one(out)?;
+        put_place(out, *owner)?;
+    }
+    put_zero(out)
+}
+
+/// Appends marks.
+#[tactic(auto, using(saved_bytes::proofs::Codes::each_on))]
+fn put_pins(out: &mut Vec<u8>, pins: &[bool]) -> Result<(), AllocError>
+    ensures { OnOk result (out.new.items ≡ out.old.items ++ each flag pins.now) }
+{
+    for pin in pins {
+        put_one(out)?;
+        put_flag(out, *pin)?;
+    }
+    put_zero(out)
+}
+
+/// Appends the numbers of frames.
+#[tactic(auto, using(saved_bytes::proofs::Codes::each_on))]
+fn put_order(out: &mut Vec<u8>, order: &[u16]) -> Result<(), AllocError>
+    ensures { OnOk result (out.new.items ≡ out.old.items ++ each number order.now) }
+{
+    for frame in order {
+        put_one(out)?;
+        put_number(out, u64::from(*frame))?;
+    }
+    put_zero(out)
+}
+
+/// Whether each byte is zero.
+fn is_zero(content: &[u8]) -> bool
+    ensures { result ≡ is_zero content.now }
+{
+    content.iter().all(|byte| *byte == 0)
+}
+
+/// Appends the content of a page: a mark alone where each byte is zero.
+fn put_content(out: &mut Vec<u8>, content: &[u8]) -> Result<(), AllocError>
+    ensures { OnOk result (out.new.items ≡ out.old.items ++ packed content.now) }
+{
+    if is_zero(content) {
+        put_zero(out)
+    } else {
+        put_one(out)?;
+        out.extend_from_slice(content)?;
+        Ok(())
+    }
+}
+
+impl Frames {
+    ghost use Rattle.cp_frames.specs.Layout.{bytes_of};
+
+    /// How many users there are.
+    fn users(&self) -> usize
+        ensures value { result ≡ length self.now.storages }
+        ensures few { result ≤ 64 }
+    {
+        self.sizes.len()
+    }
+
+    /// The content of a page, if it stands in a frame or in a slot.
+    fn content_of(&self, user: UserNo, page: Page) -> Option<&[u8]>
+        requires { page.0 * 4096 < length (bytes_of self.now user) }
+        ensures content { IfSome result
+            (λ content. content.now ≡ take 4096 (drop (page.0 * 4096) (bytes_of self.now user))) }
+        ensures zero { IfNone result (IsZeroPage (bytes_of self.now user) page.0) }
+    {
+        match self.frame_of(user, page) {
+            Some(frame) => return Some(whole(&self.frames[frame.0 as usize])),
+            None => {}
+        }
+        match self.slot_of(user, page) {
+            Some(slot) => Some(whole(&self.slots[slot])),
+            None => None,
+        }
+    }
+
+    /// Appends all that is seen of them.
+    pub fn save(&self, out: &mut Vec<u8>) -> Result<(), AllocError>
+        ensures { OnOk result (out.new.items ≡ out.old.items ++ pool_bytes self.now) }
+    {
+        self.save_supply(out)?;
+        self.save_storages(out)
+    }
+
+    /// Appends where pages stand.
+    fn save_supply(&self, out: &mut Vec<u8>) -> Result<(), AllocError>
+        ensures { OnOk result (out.new.items ≡ out.old.items ++ supply_bytes self.now.supply) }
+    {
+        // Exhaustive: a new field fails to compile here. What is left out follows from what is saved.
+        let Frames {
+            frames: _,
+            slots: _,
+            owners,
+            slot_owners,
+            pins,
+            is_marked: _,
+            order,
+            end: _,
+            low: _,
+            page_ins,
+            sizes: _,
+            tables: _,
+            looks: _,
+            slot_table: _,
+        } = self;
+        put_places(out, owners)?;
+        put_places(out, slot_owners)?;
+        put_pins(out, pins)?;
+        put_order(out, order)?;
+        put_number(out, *page_ins)
+    }
+
+    /// Appends the storages of all users.
+    fn save_storages(&self, out: &mut Vec<u8>) -> Result<(), AllocError>
+        ensures { OnOk result (out.new.items ≡ out.old.items ++ each storage_bytes self.now.storages) }
+    {
+        for user in 0..self.users() {
+            put_one(out)?;
+            self.save_storage(UserNo::new(user as u8), out)?;
+        }
+        put_zero(out)
+    }
+
+    /// Appends the storage of a user.
+    fn save_storage(&self, user: UserNo, out: &mut Vec<u8>) -> Result<(), AllocError>
+        ensures { OnOk result (out.new.items ≡ out.old.items ++ storage_bytes (bytes_of self.now user)) }
+    {
+        put_number(out, u64::from(self.size(user)))?;
+        self.save_pages(user, out)
+    }
+
+    /// Appends the pages of a user.
+    fn save_pages(&self, user: UserNo, out: &mut Vec<u8>) -> Result<(), AllocError>
+        ensures { OnOk result (out.new.items ≡ out.old.items
+            ++ pages_bytes (length (bytes_of self.now user) / 4096) (bytes_of self.now user)) }
+    {
+        let count = self.size(user) / PAGE_SIZE;
+        for page in 0..count {
+            self.save_page(user, Page(page), out)?;
+        }
+        Ok(())
+    }
+
+    /// Appends a page.
+    fn save_page(&self, user: UserNo, page: Page, out: &mut Vec<u8>) -> Result<(), AllocError>
+        requires { page.0 * 4096 < length (bytes_of self.now user) }
+        ensures { OnOk result (out.new.items ≡ out.old.items
+            ++ packed (take 4096 (drop (page.0 * 4096) (bytes_of self.now user)))) }
+    {
+        match self.content_of(user, page) {
+            Some(content) => put_content(out, content),
+            None => put_zero(out),
+        }
+    }
+
+    /// Has a page that stands nowhere stand in a free frame. None is told where that cannot be.
+    fn seat(&mut self, frame: usize, there: UserPage) -> Option<()>
+        ensures sizes { map length self.new.storages ≡ map length self.old.storages }
+        ensures pins { self.new.supply.pins ≡ self.old.supply.pins }
+        ensures frames { length self.new.supply.owners ≡ length self.old.supply.owners }
+    {
+        let UserPage { user, page } = there;
+        if frame >= self.owners.len() || self.owners[frame].is_some() {
+            return None;
+        }
+        if page.0 >= self.size(user) / PAGE_SIZE {
+            return None;
+        }
+        if self.frame_of(user, page).is_some() || self.slot_of(user, page).is_some() {
+            return None;
+        }
+        self.fill(frame, user, page);
+        Some(())
+    }
+
+    /// Has a page that stands nowhere stand in a free slot, by way of the first frame, which is free. None is told where
+    /// that cannot be.
+    fn seat_in_slot(&mut self, slot: usize, there: UserPage) -> Option<()>
+        ensures sizes { map length self.new.storages ≡ map length self.old.storages }
+        ensures pins { self.new.supply.pins ≡ self.old.supply.pins }
+        ensures frames { length self.new.supply.owners ≡ length self.old.supply.owners }
+    {
+        self.seat(0, there)?;
+        if self.owners.is_empty() || self.is_pinned(FrameNo(0)) {
+            return None;
+        }
+        if slot >= self.slot_owners.len() || self.slot_owners[slot].is_some() {
+            return None;
+        }
+        self.exchange(0, slot);
+        Some(())
+    }
+
+    /// Has these pages stand in the slots.
+    fn seat_slots(&mut self, slots: &[Option<UserPage>]) -> Option<()>
+        ensures sizes { map length self.new.storages ≡ map length self.old.storages }
+        ensures pins { self.new.supply.pins ≡ self.old.supply.pins }
+        ensures frames { length self.new.supply.owners ≡ length self.old.supply.owners }
+    {
+        for slot in 0..slots.len() {
+            match slots[slot] {
+                Some(there) => self.seat_in_slot(slot, there)?,
+                None => {}
+            }
+        }
+        Some(())
+    }
+
+    /// Has these pages stand in the frames.
+    fn seat_frames(&mut self, owners: &[Option<UserPage>]) -> Option<()>
+        ensures sizes { map length self.new.storages ≡ map length self.old.storages }
+        ensures pins { self.new.supply.pins ≡ self.old.supply.pins }
+        ensures frames { length self.new.supply.owners ≡ length self.old.supply.owners }
+    {
+        for frame in 0..owners.len() {
+            match owners[frame] {
+                Some(there) => self.seat(frame, there)?,
+                None => {}
+            }
+        }
+        Some(())
+    }
+
+    /// Where a frame stands in the order.
+    fn turn_of(&self, frame: u16) -> Option<usize>
+        ensures { IfSome result (λ turn. turn < length self.now.supply.order) }
+    {
+        let turn = self.order.iter().position(|other| *other == frame)?;
+        if turn < self.order.len() {
+            Some(turn)
+        } else {
+            None
+        }
+    }
+
+    /// Has the frame that has this turn stand last.
+    fn put_last(&mut self, turn: usize)
+        requires { turn < length self.old.supply.order }
+        ensures storages { self.new.storages ≡ self.old.storages }
+        ensures pins { self.new.supply.pins ≡ self.old.supply.pins }
+        ensures owners { self.new.supply.owners ≡ self.old.supply.owners }
+    {
+        self.end = self.order.len();
+        last(&mut self.order, turn);
+    }
+
+    /// Puts the frames into the order that comes next.
+    fn restore_order(&mut self, input: &mut Input<'_>) -> Option<()>
+        ensures storages { self.new.storages ≡ self.old.storages }
+        ensures pins { self.new.supply.pins ≡ self.old.supply.pins }
+        ensures owners { self.new.supply.owners ≡ self.old.supply.owners }
+    {
+        for _ in 0..u16::MAX {
+            if !input.flag()? {
+                return Some(());
+            }
+            let turn = self.turn_of(input.half()?)?;
+            self.put_last(turn);
+        }
+        None
+    }
+
+    /// Says that so many pages have come.
+    fn set_page_ins(&mut self, page_ins: u64)
+        ensures storages { self.new.storages ≡ self.old.storages }
+        ensures pins { self.new.supply.pins ≡ self.old.supply.pins }
+        ensures owners { self.new.supply.owners ≡ self.old.supply.owners }
+    {
+        self.page_ins = page_ins;
+    }
+
+    /// Writes the content of a page where it stands. None is told where it stands nowhere.
+    fn write(&mut self, user: UserNo, page: Page, content: &[u8]) -> Option<()>
+        requires inside { page.0 * 4096 < length (bytes_of self.old user) }
+        requires full { length content.now ≡ 4096 }
+        ensures sizes { map length self.new.storages ≡ map length self.old.storages }
+        ensures supply { self.new.supply ≡ self.old.supply }
+    {
+        match self.frame_of(user, page) {
+            Some(frame) => {
+                self.frames[frame.0 as usize].copy_from_slice(content);
+                return Some(());
+            }
+            None => {}
+        }
+        match self.slot_of(user, page) {
+            Some(slot) => {
+                self.slots[slot].copy_from_slice(content);
+                Some(())
+            }
+            None => None,
+        }
+    }
+
+    /// Takes the content of a page that comes next.
+    fn restore_page(&mut self, user: UserNo, page: Page, input: &mut Input<'_>) -> Option<()>
+        ensures sizes { map length self.new.storages ≡ map length self.old.storages }
+        ensures supply { self.new.supply ≡ self.old.supply }
+    {
+        if !input.flag()? {
+            return Some(());
+        }
+        if page.0 >= self.size(user) / PAGE_SIZE {
+            return None;
+        }
+        let content = input.take(FRAME_SIZE)?;
+        self.write(user, page, content)
+    }
+
+    /// Takes the storage of a user that comes next.
+    fn restore_storage(&mut self, user: UserNo, input: &mut Input<'_>) -> Option<()>
+        ensures sizes { map length self.new.storages ≡ map length self.old.storages }
+        ensures supply { self.new.supply ≡ self.old.supply }
+    {
+        let size = self.size(user);
+        if input.number()? != u64::from(size) {
+            return None;
+        }
+        for page in 0..size / PAGE_SIZE {
+            self.restore_page(user, Page(page), input)?;
+        }
+        Some(())
+    }
+
+    /// Takes the storages of all users that come next.
+    fn restore_storages(&mut self, input: &mut Input<'_>) -> Option<()>
+        ensures sizes { map length self.new.storages ≡ map length self.old.storages }
+        ensures supply { self.new.supply ≡ self.old.supply }
+    {
+        for user in 0..self.users() {
+            if !input.flag()? {
+                return None;
+            }
+            self.restore_storage(UserNo::new(user as u8), input)?;
+        }
+        if input.flag()? { None } else { Some(()) }
+    }
+
+    /// Takes what comes next, in the place of frames and slots in which no page stands. None is told of bytes that no
+    /// such frames save; what is left then is lawful, and nothing else is said of it.
+    pub fn restore(&mut self, alloc: Global, input: &mut Input<'_>) -> Option<()>
+        ensures sizes { map length self.new.storages ≡ map length self.old.storages }
+        ensures pins { self.new.supply.pins ≡ self.old.supply.pins }
+        ensures frames { length self.new.supply.owners ≡ length self.old.supply.owners }
+    {
+        let owners = next_places(alloc, input)?;
+        let slots = next_places(alloc, input)?;
+        self.seat_slots(&slots)?;
+        self.seat_frames(&owners)?;
+        skip_pins(input)?;
+        self.restore_order(input)?;
+        let page_ins = input.number()?;
+        self.set_page_ins(page_ins);
+        self.restore_storages(input)
+    }
+}
+
+/// The place that comes next: a page that may stand in it, or none.
+fn next_place(input: &mut Input<'_>) -> Option<Option<UserPage>> {
+    if !input.flag()? {
+        return Some(None);
+    }
+    let user = input.small()?;
+    let page = input.half()?;
+    if usize::from(user) >= MOST_USERS || usize::from(page) >= PAGES {
+        return None;
+    }
+    Some(Some(UserPage {
+        user: UserNo::new(user),
+        page: Page(u32::from(page)),
+    }))
+}
+
+/// The places that come next.
+fn next_places(alloc: Global, input: &mut Input<'_>) -> Option<Vec<Option<UserPage>>> {
+    let mut places = Vec::new(alloc);
+    for _ in 0..u64::MAX {
+        if !input.flag()? {
+            return Some(places);
+        }
+        let place = next_place(input)?;
+        places.push(place).ok()?;
+    }
+    None
+}
+
+/// Passes over the marks of frames, none of which is set where a state is saved.
+fn skip_pins(input: &mut Input<'_>) -> Option<()> {
+    for _ in 0..u64::MAX {
+        if !input.flag()? {
+            return Some(());
+        }
+        if input.flag()? {
+            return None;
+        }
+    }
+    None
+}
+
+/// No two pools have the same bytes, so what saves the same bytes again is what was saved.
+pub fn one_pool_by_saved()
+    ensures { IsOneBySaved }
+{}

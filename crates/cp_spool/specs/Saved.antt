@@ -1,0 +1,20 @@
+-- The bytes of spool files, and of what a reader keeps, in a saved state.
+use Rattle.std.specs.Prelude.{ℕ, List, ◌++◌}
+use Rattle.saved_bytes.specs.Codes.{bytes, each, number, optional}
+use Rattle.unit_record.specs.Output.{FileValue}
+use Rattle.unit_record.specs.Reader.{DeckValue}
+use Rattle.unit_record.specs.Saved.{entries_bytes, sender_bytes, target_bytes}
+use Rattle.cp_spool.specs.Queues.{UserFiles}
+use Rattle.cp_spool.specs.Reader.{ReaderPart}
+
+abbrev pub reader_bytes : ReaderPart → List ℕ
+reader_bytes r = number r.sense ++ bytes r.giving
+
+abbrev pub deck_bytes : DeckValue → List ℕ
+deck_bytes d = number d.label ++ (sender_bytes d.sender ++ each bytes d.cards)
+
+abbrev pub file_bytes : FileValue → List ℕ
+file_bytes f = target_bytes f.target ++ entries_bytes f.entries
+
+abbrev pub files_bytes : UserFiles → List ℕ
+files_bytes f = each deck_bytes f.decks ++ (optional number f.place ++ (each file_bytes f.punched ++ each file_bytes f.printed))

@@ -1,0 +1,8 @@
+-- The bytes of users' minidisks in a saved state. Where they stand is among them so that bytes are those of one minidisk.
+use Rattle.std.specs.Prelude.{ℕ, List, ◌++◌}
+use Rattle.saved_bytes.specs.Codes.{number}
+use Rattle.cp_minidisk.specs.Saved.{minidisk_bytes}
+use Rattle.cp_volumes.specs.Shared.{SharedMinidisk}
+
+abbrev pub disk_bytes : SharedMinidisk → List ℕ
+disk_bytes d = number d.address ++ (number d.volume ++ minidisk_bytes d.minidisk)

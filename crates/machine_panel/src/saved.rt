@@ -1,0 +1,187 @@
+//! A machine but for its storage as the bytes of a saved state, and back.
+ghost use Rattle.std.specs.Prelude.{◌≡◌, ◌++◌, OnOk};
+ghost use Rattle.saved_bytes.specs.Codes.{each, number};
+ghost use Rattle.s370_subchannels.specs.Saved.{addresses};
+ghost use Rattle.machine_panel.specs.Saved.{cpu_bytes, machine_bytes, mode_bytes, mode_number, pending_bytes, psw_bytes, psw_flags_bytes, psw_masks_bytes};
+
+use crate::machine::{Machine, Mode};
+use s370_intr::Pending;
+use s370_num::{Addr24, ConditionCode};
+use s370_psw::Psw;
+use s370_rows::Cpu;
+use saved_bytes::{Input, put_flag, put_number, put_one, put_zero};
+use std::alloc::AllocError;
+
+/// Appends registers.
+#[tactic(auto, using(saved_bytes::proofs::Codes::each_on))]
+fn put_registers(out: &mut Vec<u8>, registers: &[u32]) -> Result<(), AllocError>
+    ensures { OnOk result (out.new.items ≡ out.old.items ++ each number registers.now) }
+{
+    for register in registers {
+        put_one(out)?;
+        put_number(out, u64::from(*register))?;
+    }
+    put_zero(out)
+}
+
+/// Takes the registers that come next.
+fn registers_of(input: &mut Input<'_>) -> Option<[u32; 16]> {
+    let mut registers = [0u32; 16];
+    for place in 0..16usize {
+        if !input.flag()? {
+            return None;
+        }
+        registers[place] = input.word()?;
+    }
+    if input.flag()? { None } else { Some(registers) }
+}
+
+/// Appends the masks and the key of a PSW.
+fn put_psw_masks(out: &mut Vec<u8>, psw: &Psw) -> Result<(), AllocError>
+    ensures { OnOk result (out.new.items ≡ out.old.items ++ psw_masks_bytes psw.now) }
+{
+    put_number(out, u64::from(psw.system_mask()))?;
+    put_number(out, u64::from(psw.key().get()))?;
+    put_number(out, u64::from(psw.program_mask()))
+}
+
+/// Appends the bits of a PSW.
+fn put_psw_flags(out: &mut Vec<u8>, psw: &Psw) -> Result<(), AllocError>
+    ensures { OnOk result (out.new.items ≡ out.old.items ++ psw_flags_bytes psw.now) }
+{
+    put_flag(out, psw.is_ec())?;
+    put_flag(out, psw.machine_check())?;
+    put_flag(out, psw.waits())?;
+    put_flag(out, psw.is_problem())
+}
+
+/// Appends a PSW.
+fn put_psw(out: &mut Vec<u8>, psw: &Psw) -> Result<(), AllocError>
+    ensures { OnOk result (out.new.items ≡ out.old.items ++ psw_bytes psw.now) }
+{
+    put_psw_masks(out, psw)?;
+    put_psw_flags(out, psw)?;
+    put_number(out, u64::from(psw.condition().get()))?;
+    put_number(out, u64::from(psw.address().get()))
+}
+
+/// Takes a bit that comes next, in its place of a word.
+fn bit_of(input: &mut Input<'_>, bit: u64) -> Option<u64> {
+    if input.flag()? { Some(bit) } else { Some(0) }
+}
+
+/// Takes the PSW that comes next.
+fn psw_of(input: &mut Input<'_>) -> Option<Psw> {
+    let system_mask = input.small()?;
+    let key = input.small()?;
+    let program_mask = input.small()?;
+    let extended = bit_of(input, 0x0008_0000_0000_0000)?;
+    let machine_check = bit_of(input, 0x0004_0000_0000_0000)?;
+    let mut psw = Psw::from_word(u64::from(key % 16) << 52 | extended | machine_check);
+    psw.set_system_mask(system_mask);
+    psw.set_program_mask(program_mask % 16);
+    psw.set_wait(input.flag()?);
+    psw.set_problem(input.flag()?);
+    psw.set_condition(ConditionCode::new(input.small()? % 4));
+    psw.set_address(Addr24::wrapping(input.word()?));
+    Some(psw)
+}
+
+/// Appends the registers of a processor and its PSW.
+#[tactic(auto, unfolding(crate::specs::Saved::cpu_bytes))]
+fn put_cpu(out: &mut Vec<u8>, cpu: &Cpu) -> Result<(), AllocError>
+    ensures { OnOk result (out.new.items ≡ out.old.items ++ cpu_bytes cpu.now) }
+{
+    // Exhaustive: a new field fails to compile here.
+    let Cpu {
+        general,
+        control,
+        psw,
+    } = cpu;
+    put_registers(out, general)?;
+    put_registers(out, control)?;
+    put_psw(out, psw)
+}
+
+/// Appends the external conditions that are pending.
+fn put_pending(out: &mut Vec<u8>, pending: Pending) -> Result<(), AllocError>
+    ensures { OnOk result (out.new.items ≡ out.old.items ++ pending_bytes pending) }
+{
+    // Exhaustive: a new field fails to compile here.
+    let Pending { timer, key } = pending;
+    put_flag(out, timer)?;
+    put_flag(out, key)
+}
+
+/// Returns the number of a mode.
+fn number_of(mode: Mode) -> u64
+    ensures { result ≡ mode_number mode }
+{
+    match mode {
+        Mode::Off => 0,
+        Mode::Stopped => 1,
+        Mode::Running => 2,
+    }
+}
+
+/// Appends a mode.
+fn put_mode(out: &mut Vec<u8>, mode: Mode) -> Result<(), AllocError>
+    ensures { OnOk result (out.new.items ≡ out.old.items ++ mode_bytes mode) }
+{
+    put_number(out, number_of(mode))
+}
+
+/// Takes the mode that comes next.
+fn mode_of(input: &mut Input<'_>) -> Option<Mode> {
+    match input.number()? {
+        0 => Some(Mode::Off),
+        1 => Some(Mode::Stopped),
+        2 => Some(Mode::Running),
+        _ => None,
+    }
+}
+
+impl Machine {
+    /// Appends all that is seen of a machine but its storage.
+    pub fn save(&self, out: &mut Vec<u8>) -> Result<(), AllocError>
+        ensures { OnOk result (out.new.items ≡ out.old.items ++ machine_bytes self.now) }
+    {
+        // Exhaustive: a new field fails to compile here.
+        let Machine {
+            cpu,
+            pending,
+            subchannels,
+            mode,
+            output,
+        } = self;
+        put_cpu(out, cpu)?;
+        put_pending(out, *pending)?;
+        subchannels.save(out)?;
+        put_mode(out, *mode)?;
+        output.save(out)
+    }
+
+    /// Takes what comes next, for a machine that has printed nothing. Its devices stay, whatever comes.
+    pub fn restore(&mut self, input: &mut Input<'_>) -> Option<()>
+        ensures { addresses self.new.subchannels ≡ addresses self.old.subchannels }
+    {
+        // It does not run until there is room for the notice of its stop.
+        self.mode = Mode::Off;
+        let general = registers_of(input)?;
+        let control = registers_of(input)?;
+        let psw = psw_of(input)?;
+        self.cpu = Cpu {
+            general,
+            control,
+            psw,
+        };
+        self.pending.timer = input.flag()?;
+        self.pending.key = input.flag()?;
+        self.subchannels.restore(input)?;
+        let mode = mode_of(input)?;
+        self.output.restore(input)?;
+        self.output.make_room(1).ok()?;
+        self.mode = mode;
+        Some(())
+    }
+}

@@ -1,0 +1,305 @@
+//! Devices that are no disks as the bytes of a saved state, and back.
+ghost use Rattle.std.specs.Prelude.{◌≡◌, ◌++◌, length, IfSome, OnOk};
+ghost use Rattle.saved_bytes.specs.Codes.{bytes, each, number, optional};
+ghost use Rattle.unit_record.specs.Saved.{console_bytes, console_command_bytes, console_lines_bytes, entries_bytes, entry_bytes, printer_bytes, punch_bytes, sender_bytes, target_bytes};
+
+use crate::console::Console;
+use crate::outgoing::Outgoing;
+use crate::output::{Entry, Output, Target};
+use crate::printer::Printer;
+use crate::punch::Punch;
+use crate::reader::{Card, Sender};
+use crate::record::{RECORD_LENGTH, Record};
+use saved_bytes::{Input, put_bytes, put_flag, put_number, put_one, put_zero};
+use std::alloc::{AllocError, Global};
+use std::collections::VecDeque;
+
+/// Appends for whom a file is.
+pub fn put_target(out: &mut Vec<u8>, target: Target) -> Result<(), AllocError>
+    ensures { OnOk result (out.new.items ≡ out.old.items ++ target_bytes target) }
+{
+    match target {
+        Target::System => put_zero(out),
+        Target::User(user) => {
+            put_one(out)?;
+            put_number(out, u64::from(user))
+        }
+    }
+}
+
+/// Takes the target that comes next.
+pub fn target_of(input: &mut Input<'_>) -> Option<Target> {
+    if input.flag()? {
+        Some(Target::User(input.small()?))
+    } else {
+        Some(Target::System)
+    }
+}
+
+/// Appends from whom a deck is.
+pub fn put_sender(out: &mut Vec<u8>, sender: Sender) -> Result<(), AllocError>
+    ensures { OnOk result (out.new.items ≡ out.old.items ++ sender_bytes sender) }
+{
+    match sender {
+        Sender::System => put_zero(out),
+        Sender::User(user) => {
+            put_one(out)?;
+            put_number(out, u64::from(user))
+        }
+    }
+}
+
+/// Takes the sender that comes next.
+pub fn sender_of(input: &mut Input<'_>) -> Option<Sender> {
+    if input.flag()? {
+        Some(Sender::User(input.small()?))
+    } else {
+        Some(Sender::System)
+    }
+}
+
+/// Takes the card that comes next, behind how many bytes it has.
+pub fn card_of(input: &mut Input<'_>) -> Option<Card> {
+    let bytes = input.bytes()?;
+    let mut card = [0u8; 80];
+    if bytes.len() != card.len() {
+        return None;
+    }
+    card.copy_from_slice(bytes);
+    Some(card)
+}
+
+/// Takes the record that comes next.
+pub fn record_of(input: &mut Input<'_>) -> Option<Record> {
+    let bytes = input.bytes()?;
+    if bytes.len() > RECORD_LENGTH {
+        return None;
+    }
+    Some(Record::of(bytes))
+}
+
+/// Appends an entry.
+fn put_entry(out: &mut Vec<u8>, entry: &Entry) -> Result<(), AllocError>
+    ensures { OnOk result (out.new.items ≡ out.old.items ++ entry_bytes entry.now) }
+{
+    put_number(out, u64::from(entry.code()))?;
+    put_bytes(out, entry.bytes())
+}
+
+/// Appends entries.
+pub fn put_entries(out: &mut Vec<u8>, entries: &[Entry]) -> Result<(), AllocError>
+    ensures { OnOk result (out.new.items ≡ out.old.items ++ entries_bytes entries.now) }
+{
+    for entry in entries {
+        put_one(out)?;
+        put_entry(out, entry)?;
+    }
+    put_zero(out)
+}
+
+/// Takes the entries that come next.
+pub fn entries_of(alloc: Global, input: &mut Input<'_>) -> Option<Vec<Entry>> {
+    let mut entries = Vec::new(alloc);
+    for _ in 0..u64::MAX {
+        if !input.flag()? {
+            break;
+        }
+        let code = input.small()?;
+        let bytes = record_of(input)?;
+        entries.push(Entry::new(code, bytes)).ok()?;
+    }
+    Some(entries)
+}
+
+/// Appends records.
+fn put_records(out: &mut Vec<u8>, records: &[Record]) -> Result<(), AllocError>
+    ensures { OnOk result (out.new.items ≡ out.old.items ++ each bytes records.now) }
+{
+    for line in records {
+        put_one(out)?;
+        put_bytes(out, line.as_slice())?;
+    }
+    put_zero(out)
+}
+
+/// Adds the records that come next to finished lines.
+fn take_lines(lines: &mut Vec<Record>, input: &mut Input<'_>) -> Option<()> {
+    for _ in 0..u64::MAX {
+        if !input.flag()? {
+            break;
+        }
+        lines.push(record_of(input)?).ok()?;
+    }
+    Some(())
+}
+
+/// Adds the records that come next to lines that wait.
+fn take_waiting(waiting: &mut VecDeque<Record>, input: &mut Input<'_>) -> Option<()> {
+    for _ in 0..u64::MAX {
+        if !input.flag()? {
+            break;
+        }
+        waiting.push_back(record_of(input)?).ok()?;
+    }
+    Some(())
+}
+
+/// Appends a command that is under way, if one is.
+fn put_command(out: &mut Vec<u8>, command: Option<u8>) -> Result<(), AllocError>
+    ensures { OnOk result (out.new.items ≡ out.old.items ++ optional number command) }
+{
+    match command {
+        Some(code) => {
+            put_one(out)?;
+            put_number(out, u64::from(code))
+        }
+        None => put_zero(out),
+    }
+}
+
+/// Takes the command that comes next, if one does.
+fn command_of(input: &mut Input<'_>) -> Option<Option<u8>> {
+    if input.flag()? {
+        Some(Some(input.small()?))
+    } else {
+        Some(None)
+    }
+}
+
+impl Console {
+    /// Appends all that is seen of a console.
+    pub fn save(&self, out: &mut Vec<u8>) -> Result<(), AllocError>
+        ensures { OnOk result (out.new.items ≡ out.old.items ++ console_bytes self.now) }
+    {
+        // Exhaustive: a new field fails to compile here.
+        let Console {
+            lines: _,
+            unfinished: _,
+            waiting: _,
+            sense,
+            wanted: _,
+            ends_line: _,
+            giving: _,
+        } = self;
+        self.put_lines(out)?;
+        put_number(out, u64::from(*sense))?;
+        self.put_command(out)
+    }
+
+    /// Appends what was written and what was typed.
+    fn put_lines(&self, out: &mut Vec<u8>) -> Result<(), AllocError>
+        ensures { OnOk result (out.new.items ≡ out.old.items ++ console_lines_bytes self.now) }
+    {
+        put_records(out, &self.lines)?;
+        put_bytes(out, self.unfinished())?;
+        self.put_waiting(out)
+    }
+
+    /// Appends the command that is under way.
+    fn put_command(&self, out: &mut Vec<u8>) -> Result<(), AllocError>
+        ensures { OnOk result (out.new.items ≡ out.old.items ++ console_command_bytes self.now) }
+    {
+        put_number(out, self.wanted as u64)?;
+        put_flag(out, self.ends_line)?;
+        put_bytes(out, self.giving.left())
+    }
+
+    /// Appends the lines that wait.
+    fn put_waiting(&self, out: &mut Vec<u8>) -> Result<(), AllocError>
+        ensures { OnOk result (out.new.items ≡ out.old.items ++ each bytes self.now.waiting) }
+    {
+        for index in 0..self.waiting() {
+            put_one(out)?;
+            match self.waiting_line(index) {
+                Some(line) => put_bytes(out, line.as_slice())?,
+                None => unreachable!(),
+            }
+        }
+        put_zero(out)
+    }
+
+    /// Takes what comes next, for a console on which nothing was written or typed.
+    pub fn restore(&mut self, input: &mut Input<'_>) -> Option<()> {
+        // Nothing is being written until there is room for it.
+        self.ends_line = false;
+        self.wanted = 0;
+        take_lines(&mut self.lines, input)?;
+        self.unfinished = record_of(input)?;
+        take_waiting(&mut self.waiting, input)?;
+        self.sense = input.small()?;
+        let wanted = input.place()?;
+        if wanted > RECORD_LENGTH {
+            return None;
+        }
+        let ends_line = input.flag()?;
+        self.giving = Outgoing::of(record_of(input)?);
+        self.lines.reserve(2).ok()?;
+        self.wanted = wanted;
+        self.ends_line = ends_line;
+        Some(())
+    }
+}
+
+impl Punch {
+    /// Appends all that is seen of a punch.
+    pub fn save(&self, out: &mut Vec<u8>) -> Result<(), AllocError>
+        ensures { OnOk result (out.new.items ≡ out.old.items ++ punch_bytes self.now) }
+    {
+        // Exhaustive: a new field fails to compile here.
+        let Punch {
+            output,
+            sense,
+            is_punching,
+            card,
+        } = self;
+        put_entries(out, output.entries())?;
+        put_number(out, u64::from(*sense))?;
+        put_flag(out, *is_punching)?;
+        put_bytes(out, card.as_slice())
+    }
+
+    /// Takes what comes next, in the place of this punch.
+    pub fn restore(&mut self, alloc: Global, input: &mut Input<'_>) -> Option<()> {
+        // No card is being punched until there is room for it.
+        self.is_punching = false;
+        self.output = Output::of(entries_of(alloc, input)?);
+        self.sense = input.small()?;
+        let is_punching = input.flag()?;
+        self.card = record_of(input)?;
+        self.output.reserve().ok()?;
+        self.is_punching = is_punching;
+        Some(())
+    }
+}
+
+impl Printer {
+    /// Appends all that is seen of a printer.
+    pub fn save(&self, out: &mut Vec<u8>) -> Result<(), AllocError>
+        ensures { OnOk result (out.new.items ≡ out.old.items ++ printer_bytes self.now) }
+    {
+        // Exhaustive: a new field fails to compile here.
+        let Printer {
+            output,
+            sense,
+            printing,
+            line,
+        } = self;
+        put_entries(out, output.entries())?;
+        put_number(out, u64::from(*sense))?;
+        put_command(out, *printing)?;
+        put_bytes(out, line.as_slice())
+    }
+
+    /// Takes what comes next, in the place of this printer.
+    pub fn restore(&mut self, alloc: Global, input: &mut Input<'_>) -> Option<()> {
+        // No line is being printed until there is room for it.
+        self.printing = None;
+        self.output = Output::of(entries_of(alloc, input)?);
+        self.sense = input.small()?;
+        let printing = command_of(input)?;
+        self.line = record_of(input)?;
+        self.output.reserve().ok()?;
+        self.printing = printing;
+        Some(())
+    }
+}
