@@ -446,7 +446,7 @@ def test_desk(host, pool):
     check(
         "the logon desk where nothing is refused",
         whole.status == 0 and whole.out == told,
-        *whole.told(),
+        *whole.findings(),
     )
     allocations, letters = int(whole.report[0]), whole.report[1]
     cut = lambda at, ended: desk_fault(case, ended)
@@ -467,13 +467,13 @@ def test_desk(host, pool):
 
 def desk_fault(case, ended):
     """What is wrong with how the logon desk ended, or None."""
-    if (ended.status, ended.out) == (0, case.told):
+    if (ended.status, ended.out) == (0, case.findings):
         return None
     if ended.status == 0 or not ended.err:
         return "nothing is told of the failure"
     if not isinstance(ended.status, int) or ended.status < 0:
         return "it was ended by a signal"
-    return None if case.told.startswith(ended.out) else "it has told something else"
+    return None if case.findings.startswith(ended.out) else "it has told something else"
 
 
 # --- files that are cut ---
