@@ -3,6 +3,8 @@ from __future__ import annotations
 
 from collections.abc import Callable, Iterator
 import asyncio
+import concurrent.futures
+import collections
 import atexit
 import contextlib
 import os
@@ -374,6 +376,7 @@ def try_tables(check: Callable, folder: str) -> None:
     try_terminal(check)
     try_recordings(check, folder)
     try_pace(check)
+    try_no_room(check)
 
 
 def try_passwords(check: Callable) -> None:
@@ -558,6 +561,45 @@ def try_pace(check: Callable) -> None:
         done += pace.turns
         pace.took(pace.turns, 0.001, PartResult(["= A 0 FRAMES"] * pace.turns, [], [], False))
     check("who lack frames wait too", not pace.is_busy and done >= STUCK_TURNS, f"{done}")
+
+
+def try_no_room(check: Callable) -> None:
+    """Who typed is told that a line found no room for a page, and nobody is told so of a turn that found none."""
+    from gathjumli.engine import NO_ROOM, Engine, Pace, Part, User, typed_line
+    from gathjumli.following import PartResult
+
+    engine, given, shown = Engine.__new__(Engine), [], []
+    user = User("A")
+    user.show = lambda text, when=None: shown.append(text)
+    engine.users, engine.receiver, engine.pace, engine.parts = {"A": user}, None, Pace(1), 0
+    engine.marks, engine.thread = collections.deque(), concurrent.futures.ThreadPoolExecutor(1)
+    short, done = PartResult(["= A FRAMES"], [], [], True), PartResult([], [], [], True)
+
+    def try_results(*results: PartResult) -> None:
+        def step(parts: tuple) -> list:
+            given.extend(parts)
+            return list(results)
+
+        async def type_line() -> None:
+            engine.step = step
+            engine.waiting = [(typed_line("A", b"X"), asyncio.get_running_loop().create_future())]
+            await engine.do_waiting()
+
+        given.clear()
+        run(type_line())
+
+    try_results(short, done)
+    check("a line that found no room is told of", shown == [NO_ROOM], *shown)
+    shown.clear()
+    try_results(done, short)
+    check("a turn that found none is not", not shown, *shown)
+    first, then = given
+    check(
+        "a typed line is a part, and its turns another",
+        first.lines == b"LINE A X\n" and then.turns >= 4,
+    )
+    check("which deal nothing else", isinstance(then, Part) and not then.typed)
+    engine.thread.shutdown()
 
 
 # --- what is tried in seconds, over the stand-in or the program itself ---

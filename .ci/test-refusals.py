@@ -430,7 +430,7 @@ def fail_files(host: object, pool: object, case: object, letters: object) -> Non
 # --- the logon desk ---
 
 
-def test_desk(host, pool):
+def test_desk(host: Host, pool: ThreadPoolExecutor) -> None:
     """The logon desk whose host refuses it each allocation, or fails each call of a file: it ends and says so, and of what it has
     decided it has told whole lines, in order."""
     lines = list(desk.some_lines(1, DESK_LINES))
@@ -465,7 +465,7 @@ def test_desk(host, pool):
     count("allocations of the logon desk refused", allocations)
 
 
-def desk_fault(case, ended):
+def desk_fault(case: Case, ended: Ended) -> str | None:
     """What is wrong with how the logon desk ended, or None."""
     if (ended.status, ended.out) == (0, case.findings):
         return None

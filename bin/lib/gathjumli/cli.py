@@ -1,6 +1,7 @@
 """What the commands in Python share: their words, how they end, and the programs that they run (docs/COMMAND_LINE.md)."""
 from __future__ import annotations
 
+from typing import Any
 from collections.abc import Callable
 import os
 import re
@@ -33,7 +34,7 @@ BUILDS = """ 70   the program was not built; standard error has the log
 class Failure(Exception):
     """An end with a status, and what standard error says."""
 
-    def __init__(self, status: object, *lines: object) -> None:
+    def __init__(self, status: Any, *lines: Any) -> None:
         super().__init__(*lines)
         self.status = status
         self.lines = lines
@@ -51,11 +52,11 @@ class Version(Exception):
     """The version is asked for."""
 
 
-def name() -> object:
+def name() -> Any:
     return os.path.basename(sys.argv[0])
 
 
-def say(text: str) -> None:
+def say(text: Any) -> None:
     sys.stdout.flush()
     print(f"{name()}: {text}", file=sys.stderr, flush=True)
 
@@ -65,7 +66,7 @@ def version() -> str:
         return file.read().strip()
 
 
-def ask_build(word: str, crate: str) -> object:
+def ask_build(word: str, crate: str) -> Any:
     """What bin/lib/built says of the program of a crate."""
     done = subprocess.run(
         [os.path.join(ROOT, "bin", "lib", "built"), name(), word, crate],
@@ -84,7 +85,7 @@ def print_version(crate: str) -> None:
         print(ask_build("tell", crate))
 
 
-def perform(command: str, usage: object, crate: str) -> None:
+def perform(command: Any, usage: Any, crate: Any) -> None:
     """What the words of a command ask for."""
     try:
         command(sys.argv[1:])
@@ -94,7 +95,7 @@ def perform(command: str, usage: object, crate: str) -> None:
         print_version(crate)
 
 
-def run(command: str, usage: object, crate: str = None) -> None:
+def run(command: Any, usage: Any, crate: Any = None) -> None:
     """Runs a command on its words, and ends with its status; crate is that of the program which it runs, if it runs one."""
     for stream in (sys.stdin, sys.stdout, sys.stderr):
         stream.reconfigure(errors="surrogateescape")
@@ -132,7 +133,7 @@ def run(command: str, usage: object, crate: str = None) -> None:
     sys.exit(status)
 
 
-def read_arguments(words: list[str], options: object, least: int, most: int) -> tuple:
+def read_arguments(words: Any, options: Any, least: Any, most: Any) -> tuple:
     """The options, each to a list of its values, and the other words; options maps a name to how its value is read, or to None
     where it has none."""
     found = {option: [] for option in options}
@@ -159,7 +160,7 @@ def read_arguments(words: list[str], options: object, least: int, most: int) -> 
             value = True
         elif not given:
             if not words:
-                raise UsageError(f"nothing stands behind {option}")
+                raise UsageError(f"{option} needs a value after it")
             value = words.pop(0)
         found[option].append(
             value if options[option] is None else read_value(option, value, options[option])
@@ -171,7 +172,7 @@ def read_arguments(words: list[str], options: object, least: int, most: int) -> 
     return found, paths
 
 
-def read_value(option: object, value: object, read: object) -> object:
+def read_value(option: Any, value: Any, read: Any) -> Any:
     try:
         return read(value)
     except ValueError as item:
@@ -184,7 +185,7 @@ def read_value(option: object, value: object, read: object) -> object:
         raise UsageError(text) from None
 
 
-def last(values: object, otherwise: object) -> object:
+def last(values: Any, otherwise: Any) -> Any:
     """The value of an option that is given at most once."""
     if len(values) > 1:
         raise UsageError("an option is given twice")
@@ -194,7 +195,7 @@ def last(values: object, otherwise: object) -> object:
 def number(least: int, most: int) -> Callable:
     """Reads a decimal number within these bounds."""
 
-    def read(text: str) -> int:
+    def read(text: Any) -> Any:
         if not re.fullmatch("[0-9]{1,7}", text) or not least <= int(text) <= most:
             raise ValueError(f"a number from {least} to {most}")
         return int(text)
@@ -202,21 +203,21 @@ def number(least: int, most: int) -> Callable:
     return read
 
 
-def user_name(text: str) -> object:
+def user_name(text: str) -> Any:
     """A user's name, as a directory may state it."""
     if not re.fullmatch("[A-Z][A-Z0-9]{0,7}", text):
         raise ValueError("1 to 8 of A-Z and 0-9, a letter first")
     return text
 
 
-def serial(text: str) -> object:
+def serial(text: str) -> Any:
     """The serial number of a volume."""
     if not re.fullmatch("[A-Z0-9]{1,6}", text):
         raise ValueError("1 to 6 of A-Z and 0-9")
     return text
 
 
-def device(text: str) -> object:
+def device(text: str) -> Any:
     """The address of a device: three hexadecimal digits, 000 to 5FF."""
     if not re.fullmatch("[0-5][0-9A-F]{2}", text):
         raise ValueError("000 to 5FF, three digits 0-9 A-F")
@@ -230,12 +231,12 @@ def address(text: str) -> int:
     return int(text, 16)
 
 
-def read_file(path: str) -> object:
+def read_file(path: str) -> Any:
     with open(path, "rb") as file:
         return file.read()
 
 
-def read_input(path: str) -> object:
+def read_input(path: str) -> Any:
     """The bytes of a file, or of standard input where no path or - is given."""
     return sys.stdin.buffer.read() if path in (None, "-") else read_file(path)
 

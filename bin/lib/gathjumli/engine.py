@@ -7,9 +7,9 @@ import concurrent.futures
 import contextlib
 import re
 import time
-from typing import NamedTuple
+from typing import Any, NamedTuple
 
-from gathjumli.following import Died, NotFollowed, Program
+from gathjumli.following import Died, NotFollowed, PartResult, Program
 from gathjumli.host import memory_of, processor_seconds
 from gathjumli.machines import ScriptRefused
 from gathjumli.cli import Failure, FILE_FAILED, REFUSED
@@ -17,7 +17,7 @@ from gathjumli.recording import PRINTED, TURNS, TYPED, sum_of_file, weight_of
 
 # lines that one who appears back sees again
 KEPT_LINES = 24
-# turns in a part at most, and after all waited, or with lines that are typed, at least
+# turns in a part at most; after all waited at most, and after typed lines at least
 MOST_TURNS = 100000
 FEW_TURNS = 4
 # if so many turns found no frame all wait for one: each of 64 users may have 32 programs to be served
@@ -44,7 +44,7 @@ class Unattended:
     def show(self, text: str) -> None:
         pass
 
-    def turn(self, is_on: object, is_running: bool) -> None:
+    def turn(self, is_on: Any, is_running: bool) -> None:
         if not is_on:
             self.lines.clear()
 
@@ -62,12 +62,12 @@ class User:
         # bytes that he typed, and his guests printed, since LOGON
         self.written = 0
 
-    def keep(self, text: str, when: object = None) -> None:
+    def keep(self, text: str, when: Any = None) -> None:
         """Keeps a line for when he appears back, with the minute of its time."""
         self.written += len(text) + 1
         self.terminal.keep(text, when or time.strftime(MINUTE, time.gmtime()))
 
-    def show(self, text: str, when: object = None) -> None:
+    def show(self, text: str, when: Any = None) -> None:
         self.keep(text, when)
         self.terminal.show(text)
 
@@ -83,29 +83,28 @@ class User:
 
 
 class Part(NamedTuple):
-    """Lines that the program is given at once, and after them so many turns; what of the lines is typed, each with the user's
-    name; whether it has to be on the disk before anything else is done."""
+    """Lines that the program is given at once; what of them is typed, each with the user's name; how
+    many turns it deals; whether it has to be on the disk before anything else is done."""
 
-    lines: bytes = b""
+    lines: bytes
     typed: tuple = ()
     turns: int = 0
     is_kept: bool = False
 
-    def script(self) -> object:
-        """The part as the program reads it."""
-        return self.lines + (b"AUTO %d\n" % self.turns if self.turns else b"")
+
+def turns_part(turns: int) -> Part:
+    return Part(b"AUTO %d\n" % turns, turns=turns)
 
 
-def typed_line(name: str, text: str) -> object:
-    return Part(
-        b"LINE %s %s\n" % (name.encode(), text), ((name, text.decode("latin-1")),), is_kept=True
-    )
+def typed_line(name: str, text: Any) -> Part:
+    line = b"LINE %s %s\n" % (name.encode(), text)
+    return Part(line, ((name, text.decode("latin-1")),), is_kept=True)
 
 
-def part_of(entry: object) -> object:
+def part_of(entry: bytes) -> Part:
     """The part that an entry of a recording was."""
     if turns := TURNS.fullmatch(entry):
-        return Part(turns=int(turns[1]))
+        return turns_part(int(turns[1]))
     typed = TYPED.fullmatch(entry)
     return typed_line(typed[1].decode(), typed[2]) if typed else Part(entry)
 
@@ -113,13 +112,13 @@ def part_of(entry: object) -> object:
 class Pace:
     """How many turns a part deals, so that one takes about the same time whatever the guests and the host do."""
 
-    def __init__(self, aim: object) -> None:
+    def __init__(self, aim: float) -> None:
         self.aim = aim
         self.turns = 1
         self.is_busy = True
         self.stuck = 0
 
-    def took(self, turns: int, seconds: object, came: object) -> None:
+    def took(self, turns: int, seconds: float, came: PartResult) -> None:
         """Notes what came of so many turns."""
         absent = sum(1 for event in came.events if LACKED.fullmatch(event))
         self.stuck = self.stuck + turns if absent >= turns else 0
@@ -131,7 +130,7 @@ class Pace:
             # little is wasted where the next line wakes nobody
             self.turns = min(self.turns, FEW_TURNS)
 
-    def woke(self, came: object) -> None:
+    def woke(self, came: PartResult) -> None:
         """Notes what came of lines that were typed, and of a few turns after them."""
         self.is_busy = not came.is_idle
         self.stuck = 0
@@ -140,17 +139,22 @@ class Pace:
 class Progress:
     """How far something is of which the whole is known, reported each second."""
 
-    def __init__(self, whole: object, notify: object) -> None:
+    def __init__(self, whole: Any, notify: Any) -> None:
         self.whole = max(1, whole)
         self.notify = notify
         self.done = 0
         self.findings = time.monotonic()
 
-    def add(self, amount: object) -> None:
+    def add(self, amount: Any) -> None:
         self.done += amount
         if time.monotonic() - self.findings >= 1:
             self.findings = time.monotonic()
             self.notify(self.done / self.whole)
+
+
+def is_shown(result: PartResult) -> bool:
+    """Whether anybody is shown something of a part."""
+    return bool(result.files) or any(not event.startswith("= ") for event in result.events)
 
 
 class Engine:
@@ -159,12 +163,12 @@ class Engine:
 
     def __init__(
         self,
-        machines: object,
-        recording: object,
-        users: list,
-        aim: object,
-        printouts: object,
-        notify: object,
+        machines: Any,
+        recording: Any,
+        users: Any,
+        aim: Any,
+        printouts: Any,
+        notify: Any,
     ) -> None:
         self.machines = machines
         self.recording = recording
@@ -189,32 +193,32 @@ class Engine:
         # what the last part took the disk
         self.settling = 0.0
 
-    def begun(self) -> object:
+    def begun(self) -> Any:
         return Program(self.machines, "--terminals", "--save")
 
-    def seconds(self) -> object:
+    def seconds(self) -> Any:
         """The processor time that the program took since the session began: about what a start takes."""
         return processor_seconds(self.program.process.pid)
 
-    def memory(self) -> object:
+    def memory(self) -> Any:
         """The bytes of memory that the program has."""
         return memory_of(self.program.process.pid)
 
-    async def give(self, part: bytes) -> None:
+    async def give(self, part: Part) -> None:
         """Has a part done; ends when the effect of it is shown."""
         done = asyncio.get_running_loop().create_future()
         self.waiting.append((part, done))
         self.woken.set()
         await done
 
-    def note(self, mark: object) -> None:
+    def note(self, mark: bytes) -> None:
         """Has the recording get a comment line; any thread may ask for that."""
         self.marks.append(mark)
         with contextlib.suppress(RuntimeError):
             # the loop may have ended: then the end of the session writes it
             self.loop.call_soon_threadsafe(self.woken.set)
 
-    def take_marks(self) -> str:
+    def take_marks(self) -> bytes:
         marks = [self.marks.popleft() for _ in range(len(self.marks))]
         return b"".join(marks)
 
@@ -232,22 +236,26 @@ class Engine:
             done.cancel()
 
     async def deal(self) -> None:
-        """Deals some turns. What it takes to show what guests print is time too, but not what the disk takes."""
+        """Deals some turns. What it takes to show what guests print is time too, but not what the
+        disk takes."""
         turns, begun = self.pace.turns, time.monotonic()
-        came = await self.do(Part(turns=turns))
-        self.pace.took(turns, time.monotonic() - begun - self.settling, came)
+        result = await self.do(turns_part(turns))
+        self.pace.took(turns, time.monotonic() - begun - self.settling, result)
 
     async def do_waiting(self) -> None:
-        """All that waits is one part, so that many people wait for the disk once. Whoever typed gets a turn in it, so that what
-        his machine answers is not kept waiting by a long part of others' turns."""
+        """All that waits is one part, so that many people wait for the disk once. A few turns follow
+        before the disk is waited for, so that a machine's answer to a typed line is not kept waiting
+        by a long part of other users' turns."""
         given, self.waiting = self.waiting, []
         parts = [part for part, _ in given]
         typed = tuple(line for part in parts for line in part.typed)
         lines = b"".join(part.lines for part in parts) + self.take_marks()
-        turns = max(FEW_TURNS, self.count_running() + len(typed)) if given else 0
-        came = await self.do(Part(lines, typed, turns, any(part.is_kept for part in parts)))
+        part = Part(lines, typed, is_kept=any(part.is_kept for part in parts))
         if given:
-            self.pace.woke(came)
+            turns = max(FEW_TURNS, self.count_running() + len(typed))
+            self.pace.woke(await self.do(part, turns_part(turns)))
+        else:
+            await self.do(part)
         for _, done in given:
             if not done.done():
                 done.set_result(None)
@@ -256,30 +264,40 @@ class Engine:
         """How many machines run."""
         return sum(user.is_running for user in self.users.values())
 
-    async def do(self, part: bytes) -> object:
-        came = await asyncio.get_running_loop().run_in_executor(self.thread, self.step, part)
-        self.parts += 1
-        self.take(part, came)
-        return came
+    async def do(self, *parts: Part) -> PartResult:
+        """Does parts, and shows what came of each; returns what came of the last."""
+        loop = asyncio.get_running_loop()
+        results = await loop.run_in_executor(self.thread, self.step, parts)
+        for part, result in zip(parts, results):
+            self.parts += 1
+            self.take(part, result)
+        return results[-1]
 
-    def step(self, part: bytes) -> object:
-        """Does a part, and has it on the disk where something of it is shown."""
-        came = self.asked(part)
+    def step(self, parts: tuple) -> list:
+        """Does parts, and has them on the disk together if something of them is shown."""
+        results, self.settling = [], 0.0
+        for part in parts:
+            results.append(self.asked(part))
+            # a program that dies in the next part does this one again
+            self.record(part)
         done = time.monotonic()
-        if part.lines:
-            self.recording.add(part.lines)
+        if any(part.is_kept for part in parts) or any(map(is_shown, results)):
+            self.recording.settle()
+        for result in results:
+            self.printouts.put(result.files)
+        self.settling = time.monotonic() - done
+        return results
+
+    def record(self, part: Part) -> None:
         if part.turns:
             self.recording.add_turns(part.turns)
-        if part.is_kept or came.files or any(not event.startswith("= ") for event in came.events):
-            self.recording.settle()
-        self.printouts.put(came.files)
-        self.settling = time.monotonic() - done
-        return came
+        else:
+            self.recording.add(part.lines)
 
-    def asked(self, part: bytes) -> object:
-        """What appears of a part. A program that has died is started again and asked once more; what kills it twice ends all."""
+    def asked(self, part: Part) -> PartResult:
+        """What comes of a part. A program that has died is started again and asked once more; what kills it twice ends all."""
         try:
-            return self.checked(self.program.do, part.script())
+            return self.checked(self.program.do, part.lines)
         except Died as death:
             if self.is_stopping:
                 raise
@@ -290,7 +308,7 @@ class Engine:
             if not self.is_whole:
                 raise
             self.notify("the program goes on")
-            return self.checked(self.program.do, part.script())
+            return self.checked(self.program.do, part.lines)
 
     def restart(self) -> None:
         """Has another program do the recording: all that anybody was shown is in it."""
@@ -306,7 +324,7 @@ class Engine:
             lambda *_: None,
         )
 
-    def checked(self, ask: object, *given: object, line: bytes = None) -> object:
+    def checked(self, ask: Any, *given: Any, line: Any = None) -> Any:
         """An answer of the program; line is where in the recording its part begins, if it is from there."""
         try:
             return ask(*given)
@@ -319,7 +337,7 @@ class Engine:
                 ) from None
             raise Failure(REFUSED, f"the program refuses line {item.line} of a part") from None
 
-    def take(self, part: bytes, came: object, when: object = None) -> None:
+    def take(self, part: Any, came: Any, when: Any = None) -> None:
         """Shows each user what was printed at his terminal, and keeps who is on and whose machine runs."""
         for heading, body in came.files:
             self.users[heading.rpartition(" ")[2]].written += len(body)
@@ -336,16 +354,16 @@ class Engine:
         for state, name in came.states:
             self.users[name].become(state)
 
-    def replay(self, notify: object) -> None:
+    def replay(self, notify: Any) -> None:
         """Brings the program to where the recording ends; how far it is is reported each second, from 0 to 1."""
 
-        def take(part: bytes, came: object, when: object) -> None:
+        def take(part: Part, came: PartResult, when: str) -> None:
             self.take(part, came, when)
             self.printouts.put(came.files, is_replay=True)
 
         self.do_recording(notify, take)
 
-    def do_recording(self, notify: object, take: object) -> None:
+    def do_recording(self, notify: Any, take: Any) -> None:
         """Has the program do all that the recording has, and takes the effect of each part."""
         self.is_whole = False
         # it has read the volumes when it has answered
@@ -355,13 +373,13 @@ class Engine:
         def take_first() -> None:
             part, number, when = sent.popleft()
             take(part, self.checked(self.program.answer, line=number), when.decode()[:16])
-            progress.add(weight_of(part.script()))
+            progress.add(weight_of(part.lines))
 
         for number, when, entry in self.recording.entries():
             if self.is_stopping:
                 return
             part = part_of(entry)
-            self.program.send(part.script())
+            self.program.send(part.lines)
             sent.append((part, number, when))
             if len(sent) >= AHEAD:
                 take_first()
