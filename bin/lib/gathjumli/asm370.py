@@ -13,6 +13,7 @@ Assembler goes over the statements until each name keeps its address, and then m
 
 from __future__ import annotations
 
+from typing import Any
 import os
 import re
 import sys
@@ -32,7 +33,7 @@ ATTRIBUTE = re.compile(f"(?<![{LETTERS}0-9])[LKN]'(?=[{LETTERS}&])")
 class Fault(Exception):
     """What is wrong with a statement, and at which index of its text where one is known."""
 
-    def __init__(self, text: str, index: object = None) -> None:
+    def __init__(self, text: str, index: Any = None) -> None:
         super().__init__(text)
         self.text = text
         self.index = index
@@ -53,7 +54,7 @@ CODES = bytes.fromhex(
 EBCDIC = dict(zip(ALPHABET, CODES))
 
 
-def ebcdic(text: str, index: object = None) -> bytes:
+def ebcdic(text: str, index: Any = None) -> bytes:
     """The bytes of a text."""
     for character in text:
         if character not in EBCDIC:
@@ -67,15 +68,13 @@ def ebcdic(text: str, index: object = None) -> bytes:
 class Origin:
     """Where a statement came from: its file, where its pieces stood there, and the call of the macro that made it."""
 
-    def __init__(
-        self, path: str, pieces: object, caller: object = None, made: object = None
-    ) -> None:
+    def __init__(self, path: str, pieces: Any, caller: Any = None, made: Any = None) -> None:
         self.path = path
         self.pieces = pieces
         self.caller = caller
         self.made = made
 
-    def message(self, fault: object) -> object:
+    def message(self, fault: Any) -> Any:
         """The lines that tell a fault."""
         index = fault.index or 0
         start, line, column = [
@@ -98,7 +97,7 @@ class Origin:
 class Statement:
     """A name, an operation and operands, as parts of one text."""
 
-    def __init__(self, text: str, origin: str) -> None:
+    def __init__(self, text: Any, origin: Any) -> None:
         self.text = text
         self.origin = origin
         match = re.match(r"\S*", text)
@@ -109,25 +108,25 @@ class Statement:
         self.start = skip_blanks(text, self.operation_at + match.end())
         self.end = None
 
-    def reader(self) -> object:
+    def reader(self) -> Any:
         """A reader of the operands, which end at the first blank that is in no text."""
         if self.end is None:
             self.end = operands_end(self.text, self.start)
         return Reader(self.text, self.start, self.end)
 
-    def operands(self) -> object:
+    def operands(self) -> Any:
         """The operands as they stand."""
         reader = self.reader()
         return reader.text[reader.at : reader.end]
 
 
-def skip_blanks(text: str, at: int) -> object:
+def skip_blanks(text: str, at: int) -> Any:
     while at < len(text) and text[at] in " \t":
         at += 1
     return at
 
 
-def operands_end(text: str, start: int) -> object:
+def operands_end(text: str, start: int) -> Any:
     """Where operands that begin here end."""
     quoted = None
     for at in range(start, len(text)):
@@ -140,7 +139,7 @@ def operands_end(text: str, start: int) -> object:
     return len(text)
 
 
-def split_list(text: str) -> object:
+def split_list(text: str) -> Any:
     """The parts between the commas that are in no text and in no parentheses."""
     parts, depth, quoted, last = [], 0, False, 0
     for at, character in enumerate(text):
@@ -159,7 +158,7 @@ def split_list(text: str) -> object:
 class Reader:
     """A place in a text, which goes forward."""
 
-    def __init__(self, text: str, at: int, end: object) -> None:
+    def __init__(self, text: str, at: int, end: Any) -> None:
         self.text = text
         self.at = at
         self.end = end
@@ -167,28 +166,28 @@ class Reader:
     def is_done(self) -> bool:
         return self.at >= self.end
 
-    def peek(self) -> object:
+    def peek(self) -> Any:
         return "" if self.is_done() else self.text[self.at]
 
-    def take(self, character: object) -> bool:
+    def take(self, character: Any) -> bool:
         """Whether this character is next; it is read then."""
         if self.peek() != character:
             return False
         self.at += 1
         return True
 
-    def need(self, character: object) -> None:
+    def need(self, character: Any) -> None:
         if not self.take(character):
             raise Fault(f"'{character}' is missing before {self.rest()}", self.at)
 
-    def match(self, pattern: object) -> object:
+    def match(self, pattern: Any) -> Any:
         """What a pattern matches here, which is read then, or None."""
         found = re.compile(pattern).match(self.text, self.at, self.end)
         if found:
             self.at = found.end()
         return found
 
-    def rest(self) -> object:
+    def rest(self) -> Any:
         return self.text[self.at : self.end] or "the end"
 
     def quoted(self) -> tuple:
@@ -224,7 +223,7 @@ Macro = namedtuple("Macro", "name label positional keywords path lines first tak
 class Frame:
     """Lines that are gone through: those of a file, or those of a macro that was called."""
 
-    def __init__(self, path: str, lines: list, first: int = 1, caller: object = None) -> None:
+    def __init__(self, path: Any, lines: Any, first: Any = 1, caller: Any = None) -> None:
         self.path = path
         self.lines = lines
         self.first = first
@@ -256,7 +255,7 @@ class Frame:
             text = text[: operands_end(text, Statement(text, None).start)]
 
 
-def is_comment(line: bytes) -> bool:
+def is_comment(line: Any) -> bool:
     return line.startswith(("*", ".*")) or not line.strip()
 
 
@@ -271,8 +270,8 @@ def goes_on(text: str) -> bool:
         return False
 
 
-def sequence_symbols(lines: list) -> object:
-    """Where each line is that has a name with a point before it, but for those of macros that are stated here."""
+def sequence_symbols(lines: Any) -> Any:
+    """The place of each line whose name begins with a point, except in macros that are defined here."""
     places, depth = {}, 0
     for at, line in enumerate(lines):
         if is_comment(line):
@@ -300,7 +299,7 @@ class Expander:
         # the first line after END, if there is one
         self.left_over = None
 
-    def go(self, path: str) -> None:
+    def go(self, path: Any) -> None:
         frame = Frame(path, read_lines(path))
         self.run(frame, 0)
         self.left_over = (
@@ -309,7 +308,7 @@ class Expander:
             else None
         )
 
-    def run(self, frame: object, depth: object) -> None:
+    def run(self, frame: Any, depth: Any) -> None:
         if depth > MOST_DEPTH:
             raise Refused(f"macros or copies stand in one another more than {MOST_DEPTH} deep")
         while not self.has_ended:
@@ -329,7 +328,7 @@ class Expander:
             except Fault as fault:
                 self.faults.append((origin, fault))
 
-    def step(self, frame: object, statement: object, depth: object) -> None:
+    def step(self, frame: Any, statement: Any, depth: Any) -> None:
         if statement.operation == "MACRO":
             self.define(frame)
         elif statement.operation in CONDITIONAL:
@@ -337,7 +336,7 @@ class Expander:
         else:
             self.statement(frame, statement, depth)
 
-    def statement(self, frame: object, statement: object, depth: object) -> None:
+    def statement(self, frame: Any, statement: Any, depth: Any) -> None:
         """A statement of the program, or a call."""
         text = substitute(statement.text, frame, self)
         if text != statement.text:
@@ -354,7 +353,7 @@ class Expander:
         if statement.operation == "END":
             self.has_ended = True
 
-    def define(self, frame: object) -> None:
+    def define(self, frame: Any) -> None:
         """A macro, whose prototype is the next statement."""
         found = frame.next_text()
         while found and is_comment(found[0]):
@@ -389,7 +388,7 @@ class Expander:
             prototype.operation, label, positional, keywords, frame.path, body, first, takes_lists
         )
 
-    def call(self, macro: object, statement: object, depth: object) -> None:
+    def call(self, macro: Any, statement: Any, depth: Any) -> None:
         self.calls += 1
         frame = Frame(macro.path, macro.lines, macro.first, statement.origin)
         frame.variables = dict(macro.keywords)
@@ -415,7 +414,7 @@ class Expander:
             frame.variables[macro.label] = statement.name
         self.run(frame, depth + 1)
 
-    def condition(self, frame: object, statement: object, depth: object) -> None:
+    def condition(self, frame: Any, statement: Any, depth: Any) -> None:
         """A statement of conditional assembly."""
         operation, reader = statement.operation, Reader(
             statement.text, statement.start, len(statement.text.rstrip())
@@ -449,7 +448,7 @@ class Expander:
                 raise Fault(str(refused), statement.start) from refused
             self.run(copied, depth + 1)
 
-    def jump(self, frame: object, reader: int) -> None:
+    def jump(self, frame: Any, reader: Any) -> None:
         found = reader.match(rf"\.{NAME.pattern}")
         if not found or found.group() not in frame.places:
             raise Fault(
@@ -461,7 +460,7 @@ class Expander:
             raise Refused(f"more than {MOST_JUMPS} jumps: AIF or AGO goes round for ever")
         frame.at = frame.places[found.group()]
 
-    def declare(self, frame: object, statement: object) -> None:
+    def declare(self, frame: Any, statement: Any) -> None:
         start = "" if statement.operation[3] == "C" else "0"
         for name in split_list(statement.operands()):
             match = VARIABLE.fullmatch(name)
@@ -473,7 +472,7 @@ class Expander:
             else:
                 frame.variables[match.group(1)] = start
 
-    def assign(self, frame: object, statement: object, value: object) -> None:
+    def assign(self, frame: Any, statement: Any, value: Any) -> None:
         match = VARIABLE.fullmatch(statement.name)
         if not match:
             raise Fault(f"{statement.operation} has the name of a variable before it, as &N", 0)
@@ -483,7 +482,7 @@ class Expander:
         else:
             frame.variables[name] = value
 
-    def value(self, frame: object, name: str, index: object) -> object:
+    def value(self, frame: Any, name: str, index: Any) -> Any:
         value = frame.variables.get(name)
         if value is None and name in frame.variables:
             value = self.globals[name]
@@ -492,7 +491,7 @@ class Expander:
         return value
 
 
-def substitute(text: str, frame: object, expander: object) -> object:
+def substitute(text: str, frame: Any, expander: Any) -> Any:
     """A text with the values of its variables."""
     out, at = "", 0
     while True:
@@ -512,7 +511,7 @@ def substitute(text: str, frame: object, expander: object) -> object:
             at += 1
 
 
-def variable(text: str, match: object, frame: object, expander: object) -> tuple:
+def variable(text: Any, match: Any, frame: Any, expander: Any) -> tuple:
     """The value of the variable that was matched, with its subscript, and where it ends."""
     name, at = match.group(1), match.end()
     if text.startswith("(", at) and (name == "SYSLIST" or name in frame.variables and frame.caller):
@@ -529,18 +528,18 @@ def variable(text: str, match: object, frame: object, expander: object) -> tuple
     return expander.value(frame, name, match.start()), at
 
 
-def members(value: object) -> object:
+def members(value: Any) -> Any:
     """The parts of a list in parentheses; anything else is a list of itself."""
     if value.startswith("(") and value.endswith(")"):
         return split_list(value[1:-1])
     return [value] if value else []
 
 
-def element(parts: object, number: int) -> object:
+def element(parts: Any, number: int) -> Any:
     return parts[number] if 0 <= number < len(parts) else ""
 
 
-def read_text(reader: int, frame: object, expander: object) -> object:
+def read_text(reader: Any, frame: Any, expander: Any) -> Any:
     """The value of SETC: texts between apostrophes, cut by (first,length), one after another by a point."""
     out = ""
     while True:
@@ -563,38 +562,38 @@ def read_text(reader: int, frame: object, expander: object) -> object:
 class Terms:
     """Reads and works out an expression of conditional assembly: a number, or a text."""
 
-    def __init__(self, reader: int, frame: object, expander: object) -> None:
+    def __init__(self, reader: Any, frame: Any, expander: Any) -> None:
         self.reader = reader
         self.frame = frame
         self.expander = expander
 
-    def need(self, character: object) -> None:
+    def need(self, character: Any) -> None:
         self.skip()
         self.reader.need(character)
 
     def skip(self) -> None:
         self.reader.match(r"[ \t]*")
 
-    def word(self, *words: object) -> object:
+    def word(self, *words: Any) -> Any:
         self.skip()
         found = self.reader.match(r"(?:%s)\b" % "|".join(words))
         return found.group() if found else None
 
-    def either(self) -> object:
+    def either(self) -> Any:
         value = self.both()
         while self.word("OR"):
             right = self.both()
             value = bool(value) or bool(right)
         return value
 
-    def both(self) -> object:
+    def both(self) -> Any:
         value = self.negation()
         while self.word("AND"):
             right = self.negation()
             value = bool(value) and bool(right)
         return value
 
-    def negation(self) -> object:
+    def negation(self) -> Any:
         if self.word("NOT"):
             return not self.negation()
         left = self.sum()
@@ -615,7 +614,7 @@ class Terms:
             "GE": left >= right,
         }[relation]
 
-    def sum(self) -> object:
+    def sum(self) -> Any:
         value = self.product()
         while self.reader.peek() in ("+", "-") and self.reader.peek():
             sign = 1 if self.reader.take("+") else -1
@@ -624,7 +623,7 @@ class Terms:
             value = self.number(value) + sign * self.number(self.product())
         return value
 
-    def product(self) -> object:
+    def product(self) -> Any:
         value = self.term()
         while self.reader.peek() in ("*", "/") and self.reader.peek():
             if self.reader.take("*"):
@@ -634,12 +633,12 @@ class Terms:
                 value = quotient(self.number(value), self.number(self.term()))
         return value
 
-    def number(self, value: object) -> int:
+    def number(self, value: Any) -> Any:
         if isinstance(value, str):
             raise Fault(f"{value!r} is no number", self.reader.at)
         return int(value)
 
-    def term(self) -> object:
+    def term(self) -> Any:
         self.skip()
         reader, at = self.reader, self.reader.at
         if reader.take("("):
@@ -666,7 +665,7 @@ class Terms:
         return self.self_defining(found.group(), at)
 
     @staticmethod
-    def self_defining(text: str, at: int) -> object:
+    def self_defining(text: str, at: int) -> Any:
         match = re.fullmatch(r"(-?[0-9]+)|X'([0-9A-Fa-f]+)'|B'([01]+)'|C'(.*)'", text)
         if not match:
             raise Fault(f"{text!r} is no number", at)
@@ -681,7 +680,7 @@ class Terms:
         )
 
 
-def quotient(left: object, right: object) -> object:
+def quotient(left: Any, right: Any) -> Any:
     """Towards zero; by zero it is zero, as in the field."""
     if right == 0:
         return 0
@@ -722,7 +721,7 @@ ABSENT = set(
 )
 
 
-def operations() -> object:
+def operations() -> Any:
     """Each operation's form, codes and mask, by its name."""
     table = {}
     for form, text in FORMS.items():
@@ -755,7 +754,7 @@ PROGRAM = "the program"
 NOTHING = {"PRINT", "TITLE", "EJECT", "SPACE"}
 
 
-def digits_value(text: str, start: int, base: object) -> int:
+def digits_value(text: Any, start: int, base: Any) -> int:
     digits = "0123456789ABCDEF"[:base]
     for place, character in enumerate(text):
         if character.upper() not in digits:
@@ -764,9 +763,7 @@ def digits_value(text: str, start: int, base: object) -> int:
     return int(text, base) if text else 0
 
 
-def fitted(
-    data: bytes, length: int, start: int, is_left: bool = False, fill: bytes = b"\0"
-) -> object:
+def fitted(data: bytes, length: int, start: int, is_left: bool = False, fill: bytes = b"\0") -> Any:
     """Bytes in an area of a length: filled where they are shorter, and refused where a byte would be lost."""
     if not length:
         return data
@@ -779,7 +776,7 @@ def fitted(
     return data + more if is_left else more + data
 
 
-def number_bytes(number: int, length: int, start: int, is_signed: object) -> bytes:
+def number_bytes(number: int, length: int, start: int, is_signed: Any) -> bytes:
     """A number in so many bytes, as a signed one, or as whichever it fits."""
     lowest, highest = -(1 << (8 * length - 1)), (1 << (8 * length - (1 if is_signed else 0))) - 1
     if not lowest <= number <= highest:
@@ -790,7 +787,7 @@ def number_bytes(number: int, length: int, start: int, is_signed: object) -> byt
     return (number & ((1 << (8 * length)) - 1)).to_bytes(length, "big")
 
 
-def packed(text: str, start: int) -> object:
+def packed(text: Any, start: int) -> Any:
     match = re.fullmatch(r"([+-]?)([0-9]+)", text)
     if not match:
         raise Fault(f"no decimal number: {text}", start)
@@ -798,7 +795,7 @@ def packed(text: str, start: int) -> object:
     return bytes.fromhex(digits if len(digits) % 2 == 0 else "0" + digits)
 
 
-def zoned(text: str, start: int) -> bytes:
+def zoned(text: Any, start: int) -> bytes:
     data = bytearray(ebcdic(text.lstrip("+-"), start))
     packed(text, start)
     data[-1] = (0xD0 if text.startswith("-") else 0xC0) + (data[-1] & 15)
@@ -811,7 +808,7 @@ def zoned(text: str, start: int) -> bytes:
 class Assembler:
     """Statements become bytes. A pass goes over all of them; passes end when no name's value changes any more."""
 
-    def __init__(self, statements: object) -> None:
+    def __init__(self, statements: Any) -> None:
         self.statements = statements
         self.names = {statement.name for statement in statements}
         self.symbols = {}
@@ -835,7 +832,7 @@ class Assembler:
             if self.symbols == before:
                 return
         raise Refused(
-            "some names never keep a value: an EQU, ORG or DS speaks of what comes behind it"
+            "some names never keep a value: an EQU, ORG or DS depends on what is defined after it"
         )
 
     def one_pass(self) -> None:
@@ -857,7 +854,7 @@ class Assembler:
         except Fault as fault:
             self.faults.append((self.statement.origin, fault))
 
-    def lay(self, statement: object) -> None:
+    def lay(self, statement: Any) -> None:
         operation = statement.operation
         if operation in OPERATIONS:
             self.instruction(statement)
@@ -871,7 +868,7 @@ class Assembler:
             raise Fault(self.unknown(operation), statement.operation_at)
 
     @staticmethod
-    def unknown(operation: object) -> str:
+    def unknown(operation: Any) -> str:
         if operation in ABSENT:
             return f"this machine has no {operation} (docs/MACHINE.md); DC X'..' stores any bytes"
         if operation.startswith("."):
@@ -880,7 +877,7 @@ class Assembler:
 
     # names and places
 
-    def define(self, name: str, value: object, length: int) -> None:
+    def define(self, name: str, value: Any, length: int) -> None:
         if not name:
             return
         if not NAME.fullmatch(name):
@@ -889,13 +886,13 @@ class Assembler:
             raise Fault(f"the name {name} stands before another statement too", 0)
         self.symbols[name] = Symbol(value, length)
 
-    def here(self) -> object:
+    def here(self) -> Any:
         return self.sections[self.here_in]
 
-    def align(self, alignment: object) -> None:
+    def align(self, alignment: Any) -> None:
         self.move_to(-(-self.here() // alignment) * alignment)
 
-    def move_to(self, place: object) -> None:
+    def move_to(self, place: Any) -> None:
         if not 0 <= place <= MOST_STORAGE:
             raise Fault(
                 f"the address {place & 0xFFFFFFFF:X} is past all storage", self.statement.start
@@ -903,7 +900,7 @@ class Assembler:
         self.sections[self.here_in] = place
         self.highest[self.here_in] = max(self.highest[self.here_in], place)
 
-    def reserve(self, length: int) -> object:
+    def reserve(self, length: int) -> Any:
         """An area here; where it begins."""
         place = self.here()
         self.move_to(place + length)
@@ -917,14 +914,14 @@ class Assembler:
         self.memory += bytes(max(0, missing))
         self.stated += bytes(max(0, missing))
 
-    def store(self, place: object, data: bytes) -> None:
+    def store(self, place: Any, data: bytes) -> None:
         if self.here_in == PROGRAM:
             self.memory[place : place + len(data)] = data
         self.made = (self.made[0], self.made[1] + data) if self.made[1] else (place, data)
 
     # expressions
 
-    def expression(self, reader: int) -> tuple:
+    def expression(self, reader: Any) -> tuple:
         """The value, and the length of what its first term names, or None where that is a number."""
         start = reader.at
         sign = -1 if reader.take("-") else 1
@@ -941,7 +938,7 @@ class Assembler:
         return value, length
 
     @staticmethod
-    def joined(left: object, right: object, sign: object, start: int) -> object:
+    def joined(left: Any, right: Any, sign: Any, start: int) -> Any:
         number = left.number + sign * right.number
         if right.section is None:
             return Value(number, left.section)
@@ -953,7 +950,7 @@ class Assembler:
             return Value(number, None)
         raise Fault("an address of a DSECT is joined with another address", start)
 
-    def product(self, reader: int) -> tuple:
+    def product(self, reader: Any) -> tuple:
         start = reader.at
         value, length = self.term(reader)
         while reader.peek() in ("*", "/") and reader.peek():
@@ -969,7 +966,7 @@ class Assembler:
             value = Value(number, None)
         return value, length
 
-    def term(self, reader: int) -> tuple:
+    def term(self, reader: Any) -> tuple:
         at = reader.at
         if reader.take("("):
             value, length = self.expression(reader)
@@ -994,7 +991,7 @@ class Assembler:
         return symbol.value, symbol.length
 
     @staticmethod
-    def self_defining(reader: int, kind: str) -> object:
+    def self_defining(reader: Any, kind: str) -> Any:
         text, start = reader.quoted()
         if kind == "C":
             data = ebcdic(text.replace("&&", "&"), start)
@@ -1008,14 +1005,14 @@ class Assembler:
             raise Fault(f"{kind}'..' has more than 32 bits", start)
         return number
 
-    def length_of(self, reader: int) -> object:
+    def length_of(self, reader: Any) -> Any:
         at = reader.at
         found = reader.match(NAME)
         if not found:
             raise Fault(f"L' wants a name, and not {reader.rest()}", at)
         return self.symbol(found.group(), at).length
 
-    def symbol(self, name: str, at: int) -> object:
+    def symbol(self, name: str, at: int) -> Any:
         if name in self.symbols:
             return self.symbols[name]
         if name in self.before:
@@ -1024,7 +1021,7 @@ class Assembler:
             raise Fault(f"the value of {name} is not known here: it hangs on itself", at)
         raise Fault(f"no statement has the name {name}", at)
 
-    def absolute(self, reader: int, lowest: object, highest: object, what: str) -> object:
+    def absolute(self, reader: Any, lowest: Any, highest: Any, what: str) -> Any:
         """A number within bounds."""
         at = reader.at
         value, _ = self.expression(reader)
@@ -1038,19 +1035,19 @@ class Assembler:
 
     # operands
 
-    def register(self, reader: int, what: str = "a register") -> object:
+    def register(self, reader: int, what: str = "a register") -> Any:
         return self.absolute(reader, 0, 15, what)
 
-    def comma(self, reader: int) -> None:
+    def comma(self, reader: Any) -> None:
         if reader.is_done():
             raise Fault(f"{self.statement.operation} lacks an operand here", reader.at)
         reader.need(",")
 
-    def finish(self, reader: int) -> None:
+    def finish(self, reader: Any) -> None:
         if not reader.is_done():
             raise Fault(f"{self.statement.operation} has no use for {reader.rest()}", reader.at)
 
-    def base_of(self, value: object) -> object:
+    def base_of(self, value: Any) -> Any:
         """The register and the displacement of an address by USING, or None."""
         best = None
         for base in self.bases:
@@ -1060,7 +1057,7 @@ class Assembler:
                     best = (base.register, distance)
         return best
 
-    def implied(self, value: object, at: int) -> object:
+    def implied(self, value: Any, at: int) -> Any:
         """The register and the displacement of an address for which none is written."""
         if value.section is None and 0 <= value.number <= 4095:
             return 0, value.number
@@ -1073,7 +1070,7 @@ class Assembler:
             raise Fault(f"no USING says which register has an address of {value.section}", at)
         raise Fault(self.unreached(value), at)
 
-    def written(self, value: object, register: object, at: int) -> tuple:
+    def written(self, value: Any, register: Any, at: int) -> tuple:
         if value.section == PROGRAM and value.number > 4095:
             raise Fault(self.unreached(value), at)
         if not 0 <= value.number <= 4095:
@@ -1081,7 +1078,7 @@ class Assembler:
         return register, value.number
 
     @staticmethod
-    def unreached(value: object) -> str:
+    def unreached(value: Any) -> str:
         place = (
             f"{value.number & 0xFFFFFFFF:X}"
             if value.section
@@ -1089,7 +1086,7 @@ class Assembler:
         )
         return f"the address {place} needs a base: no USING reaches it, and it lies past FFF"
 
-    def place(self, reader: int) -> tuple:
+    def place(self, reader: Any) -> tuple:
         """An address as it is written: its value, its length, and what is in parentheses after it."""
         if reader.is_done():
             raise Fault(f"{self.statement.operation} lacks an operand here", reader.at)
@@ -1105,10 +1102,10 @@ class Assembler:
             reader.need(")")
         return value, length, inner
 
-    def inner_number(self, at: int, highest: object, what: str) -> object:
+    def inner_number(self, at: Any, highest: Any, what: str) -> Any:
         return self.absolute(Reader(self.statement.text, at, self.statement.end), 0, highest, what)
 
-    def indexed(self, reader: int) -> tuple:
+    def indexed(self, reader: Any) -> tuple:
         """D(X,B): index, base and displacement."""
         at = reader.at
         value, _, inner = self.place(reader)
@@ -1124,7 +1121,7 @@ class Assembler:
             return last, *self.base_of(value)
         return 0, *self.written(value, last, at)
 
-    def based(self, reader: int) -> object:
+    def based(self, reader: Any) -> Any:
         """D(B): base and displacement."""
         at = reader.at
         value, _, inner = self.place(reader)
@@ -1139,7 +1136,7 @@ class Assembler:
             )
         return self.written(value, self.inner_number(inner[0], 15, "a register"), at)
 
-    def long(self, reader: int, most: int) -> tuple:
+    def long(self, reader: Any, most: Any) -> tuple:
         """D(L,B): length, base and displacement."""
         at = reader.at
         value, length, inner = self.place(reader)
@@ -1159,7 +1156,7 @@ class Assembler:
 
     # instructions
 
-    def instruction(self, statement: object) -> None:
+    def instruction(self, statement: Any) -> None:
         self.align(2)
         form, code, mask = OPERATIONS[statement.operation]
         length = LENGTHS[code[0] >> 6]
@@ -1175,53 +1172,53 @@ class Assembler:
         self.store(place, data)
 
     @staticmethod
-    def halfword(base: object, displacement: object) -> bytes:
+    def halfword(base: Any, displacement: Any) -> bytes:
         return bytes([base << 4 | displacement >> 8, displacement & 255])
 
-    def form_rr(self, code: int, reader: int) -> object:
+    def form_rr(self, code: Any, reader: Any) -> Any:
         first = self.register(reader)
         self.comma(reader)
         return code + bytes([first << 4 | self.register(reader)])
 
-    def form_r(self, code: int, reader: int) -> object:
+    def form_r(self, code: Any, reader: Any) -> Any:
         return code + bytes([self.register(reader) << 4])
 
-    def form_i(self, code: int, reader: int) -> object:
+    def form_i(self, code: Any, reader: Any) -> Any:
         return code + bytes([self.absolute(reader, 0, 255, "the code")])
 
-    def form_br(self, code: int, reader: int, mask: object) -> object:
+    def form_br(self, code: Any, reader: Any, mask: Any) -> Any:
         return code + bytes([mask << 4 | self.register(reader)])
 
-    def form_rx(self, code: int, reader: int) -> object:
+    def form_rx(self, code: int, reader: int) -> Any:
         first = self.register(reader)
         self.comma(reader)
         return self.form_bx(code, reader, first)
 
-    def form_bx(self, code: int, reader: int, first: int) -> object:
+    def form_bx(self, code: Any, reader: Any, first: Any) -> Any:
         index, base, displacement = self.indexed(reader)
         return code + bytes([first << 4 | index]) + self.halfword(base, displacement)
 
-    def form_rs(self, code: int, reader: int) -> object:
+    def form_rs(self, code: Any, reader: Any) -> Any:
         first = self.register(reader)
         self.comma(reader)
         third = self.register(reader)
         self.comma(reader)
         return code + bytes([first << 4 | third]) + self.halfword(*self.based(reader))
 
-    def form_shift(self, code: int, reader: int) -> object:
+    def form_shift(self, code: Any, reader: Any) -> Any:
         first = self.register(reader)
         self.comma(reader)
         return code + bytes([first << 4]) + self.halfword(*self.based(reader))
 
-    def form_si(self, code: int, reader: int) -> object:
+    def form_si(self, code: Any, reader: Any) -> Any:
         place = self.halfword(*self.based(reader))
         self.comma(reader)
         return code + bytes([self.absolute(reader, 0, 255, "the byte")]) + place
 
-    def form_s(self, code: int, reader: int) -> object:
+    def form_s(self, code: Any, reader: Any) -> Any:
         return code + self.halfword(*self.based(reader))
 
-    def form_ss(self, code: int, reader: int) -> object:
+    def form_ss(self, code: Any, reader: Any) -> Any:
         length, base, displacement = self.long(reader, 256)
         self.comma(reader)
         return (
@@ -1231,7 +1228,7 @@ class Assembler:
             + self.halfword(*self.based(reader))
         )
 
-    def form_ss2(self, code: int, reader: int) -> object:
+    def form_ss2(self, code: Any, reader: Any) -> Any:
         first, *place = self.long(reader, 16)
         self.comma(reader)
         second, *other = self.long(reader, 16)
@@ -1244,7 +1241,7 @@ class Assembler:
 
     # constants
 
-    def constant(self, reader: int, is_area: object) -> object:
+    def constant(self, reader: Any, is_area: Any) -> Any:
         """Reads one constant: [times]type[Llength][value]."""
         start = reader.at
         times = 1
@@ -1273,7 +1270,7 @@ class Assembler:
         length = self.constant_length(kind, explicit or normal, value, at)
         return Constant(times, kind, explicit, value, at, length, 1 if explicit else alignment)
 
-    def explicit_length(self, reader: int, kind: str) -> object:
+    def explicit_length(self, reader: Any, kind: str) -> Any:
         if not reader.match("L"):
             return None
         at = reader.at
@@ -1291,7 +1288,7 @@ class Assembler:
         return length
 
     @staticmethod
-    def in_parentheses(reader: int) -> object:
+    def in_parentheses(reader: Any) -> Any:
         start, depth, quoted = reader.at, 1, False
         while not reader.is_done():
             character = reader.peek()
@@ -1304,7 +1301,7 @@ class Assembler:
                 return reader.text[start : reader.at - 1]
         raise Fault("')' is missing", start)
 
-    def constant_length(self, kind: str, length: int, value: object, start: int) -> object:
+    def constant_length(self, kind: str, length: int, value: Any, start: int) -> Any:
         """How many bytes all values of a constant have, done once."""
         if value is None:
             return length or 1
@@ -1320,7 +1317,7 @@ class Assembler:
             return sum(len(part.lstrip("+-")) for part in parts)
         return length * len(parts)
 
-    def constant_bytes(self, constant: object, place: object) -> object:
+    def constant_bytes(self, constant: Any, place: Any) -> Any:
         """The bytes of a constant, once, at a place."""
         kind, value, start = constant.type, constant.value, constant.start
         if kind == "D":
@@ -1338,7 +1335,7 @@ class Assembler:
             start += len(part) + 1
         return out
 
-    def part_bytes(self, constant: object, part: bytes, start: int, place: object) -> object:
+    def part_bytes(self, constant: Any, part: Any, start: Any, place: Any) -> Any:
         kind, explicit = constant.type, constant.explicit
         if kind in "XB":
             width, base = (2, 16) if kind == "X" else (8, 2)
@@ -1359,7 +1356,7 @@ class Assembler:
         except Fault as fault:
             raise type(fault)(fault.text, start + (fault.index or 0)) from fault
 
-    def address_bytes(self, reader: int, kind: str, length: int, place: object) -> object:
+    def address_bytes(self, reader: Any, kind: str, length: Any, place: Any) -> Any:
         line = self.start_of_line
         if line is not None:
             self.start_of_line = Value(place, self.here_in)
@@ -1382,7 +1379,7 @@ class Assembler:
             raise Fault(f"{kind}(..) has no use for {reader.rest()}", reader.at)
         return data
 
-    def lay_constant(self, constant: object, is_area: object) -> None:
+    def lay_constant(self, constant: Any, is_area: Any) -> None:
         """One constant where the program is now."""
         place = self.reserve(constant.times * constant.length)
         if is_area or constant.times == 0:
@@ -1396,7 +1393,7 @@ class Assembler:
             data = self.constant_bytes(constant, place) * constant.times
         self.store(place, data)
 
-    def data(self, statement: object) -> None:
+    def data(self, statement: Any) -> None:
         """DC and DS."""
         is_area = statement.operation == "DS"
         reader = statement.reader()
@@ -1423,7 +1420,7 @@ class Assembler:
 
     # literals
 
-    def literal(self, reader: int) -> object:
+    def literal(self, reader: Any) -> Any:
         """The place of a literal, which is after the next LTORG or at the end."""
         start = reader.at
         reader.need("=")
@@ -1434,13 +1431,13 @@ class Assembler:
         self.pending.setdefault(text, (constant, self.statement.origin, start))
         return self.symbol_of_literal(text, constant)
 
-    def symbol_of_literal(self, text: str, constant: object) -> tuple:
+    def symbol_of_literal(self, text: str, constant: Any) -> tuple:
         symbol = self.before.get((self.pools, text))
         if symbol is None:
             return Value(self.here(), PROGRAM), constant.length
         return symbol.value, constant.length
 
-    def pool(self, statement: object) -> None:
+    def pool(self, statement: Any) -> None:
         """LTORG."""
         self.align(8)
         self.define(statement.name, Value(self.here(), self.here_in), 1)
@@ -1457,7 +1454,7 @@ class Assembler:
             self.move_to(self.highest[PROGRAM])
             self.align(8)
 
-        def rank(text: str) -> object:
+        def rank(text: str) -> Any:
             size = self.pending[text][0].times * self.pending[text][0].length
             return -max(unit for unit in (8, 4, 2, 1) if size % unit == 0)
 
@@ -1477,7 +1474,7 @@ class Assembler:
 
     # other statements
 
-    def equate(self, statement: object) -> None:
+    def equate(self, statement: Any) -> None:
         reader = statement.reader()
         self.instruction_length = 1
         value, length = self.expression(reader)
@@ -1488,7 +1485,7 @@ class Assembler:
         self.finish(reader)
         self.define(statement.name, value, 1 if length is None else length)
 
-    def origin(self, statement: object) -> None:
+    def origin(self, statement: Any) -> None:
         if statement.name:
             raise Fault("ORG has no name: write it before the next statement, or before EQU *", 0)
         reader = statement.reader()
@@ -1504,7 +1501,7 @@ class Assembler:
             raise Fault(f"ORG leads out of {self.here_in}", at)
         self.move_to(value.number)
 
-    def begin(self, statement: object) -> None:
+    def begin(self, statement: Any) -> None:
         """START."""
         self.here_in = PROGRAM
         reader = statement.reader()
@@ -1513,7 +1510,7 @@ class Assembler:
             self.finish(reader)
         self.define(statement.name, Value(self.here(), PROGRAM), 1)
 
-    def section(self, statement: object) -> None:
+    def section(self, statement: Any) -> None:
         """CSECT goes on with the program, DSECT states what storage looks like somewhere."""
         if statement.operation == "CSECT":
             self.here_in = PROGRAM
@@ -1528,7 +1525,7 @@ class Assembler:
             self.define(statement.name, Value(0, statement.name), 1)
         self.made = (self.here(), b"")
 
-    def using(self, statement: object) -> None:
+    def using(self, statement: Any) -> None:
         reader = statement.reader()
         value, _ = self.expression(reader)
         if reader.is_done():
@@ -1541,7 +1538,7 @@ class Assembler:
             value = Value(value.number + 4096, value.section)
         self.finish(reader)
 
-    def drop(self, statement: object) -> None:
+    def drop(self, statement: Any) -> None:
         reader = statement.reader()
         if reader.is_done():
             self.bases = []
@@ -1556,20 +1553,20 @@ class Assembler:
                 break
         self.finish(reader)
 
-    def end(self, statement: object) -> None:
+    def end(self, statement: Any) -> None:
         reader = statement.reader()
         if not reader.is_done():
             self.entry = self.absolute(reader, 0, MOST_STORAGE - 1, "the address to begin at")
             self.finish(reader)
 
-    def doubleword(self, statement: object) -> tuple:
+    def doubleword(self, statement: Any) -> tuple:
         self.align(8)
         self.start_of_line = Value(self.here(), self.here_in)
         self.instruction_length = 8
         self.define(statement.name, self.start_of_line, 8)
         return self.reserve(8), statement.reader()
 
-    def command(self, statement: object) -> None:
+    def command(self, statement: Any) -> None:
         """CCW code,address,flags,count"""
         place, reader = self.doubleword(statement)
         code = self.absolute(reader, 0, 255, "the command")
@@ -1588,7 +1585,7 @@ class Assembler:
             + count.to_bytes(2, "big"),
         )
 
-    def status(self, statement: object) -> None:
+    def status(self, statement: Any) -> None:
         """PSW left,address"""
         place, reader = self.doubleword(statement)
         left = self.absolute(reader, 0, 0xFFFFFFFF, "the left word")
@@ -1603,7 +1600,7 @@ class Assembler:
 # --- what appears out ---
 
 
-def assembled(path: str) -> object:
+def assembled(path: str) -> Any:
     """The program of a source: an Assembler that has gone over all of it."""
     expander = Expander()
     expander.go(path)
@@ -1623,13 +1620,13 @@ def assembled(path: str) -> object:
     return assembler
 
 
-def entry_of(program: str) -> object:
+def entry_of(program: Any) -> Any:
     if program.entry is None:
         raise Refused("END names no address to begin at")
     return program.entry
 
 
-def print_script(program: str, user: str, has_begin: object) -> None:
+def print_script(program: Any, user: Any, has_begin: Any) -> None:
     """Sixteen bytes a line, without the words of zero at either end; with its start it is a script of its own."""
     if has_begin:
         print(f"LINE {user} LOGON")
@@ -1649,7 +1646,7 @@ def print_script(program: str, user: str, has_begin: object) -> None:
 LOADER, LOADER_SIZE = 0x80, 0xE0
 
 
-def print_deck(program: str) -> None:
+def print_deck(program: Any) -> None:
     """Three cards of the loader, 48 bytes of the program a card, and the end with the words that channels use."""
     entry = entry_of(program)
     place = LOADER
@@ -1676,7 +1673,7 @@ def print_deck(program: str) -> None:
         sys.stdout.buffer.write(data + b"\x40" * (80 - len(data)))
 
 
-def assembled_statements(statements: object) -> bytes:
+def assembled_statements(statements: Any) -> Any:
     assembler = Assembler(statements)
     assembler.go()
     for origin, fault in assembler.faults:
@@ -1684,7 +1681,7 @@ def assembled_statements(statements: object) -> bytes:
     return bytes(assembler.memory)
 
 
-def card(kind: str, address: int, data: bytes) -> object:
+def card(kind: str, address: int, data: bytes) -> Any:
     """02 and the kind, an address in columns 6 to 8, a length in 11 and 12, the bytes from column 17 on."""
     blank = b"\x40"
     return (
@@ -1699,7 +1696,7 @@ def card(kind: str, address: int, data: bytes) -> object:
     )
 
 
-def print_volume(program: str, serial: str) -> None:
+def print_volume(program: Any, serial: Any) -> None:
     """Record 1 of the first track is the PSW and the command word that reads record 2, the program from 18 on."""
     entry = entry_of(program)
     if any(program.memory[:24]):
@@ -1716,7 +1713,7 @@ def print_volume(program: str, serial: str) -> None:
     print(f"REC 0 0 0000000002 - {data.hex().upper()}")
 
 
-def addresses(program: str) -> object:
+def addresses(program: Any) -> Any:
     """The names of the program's addresses, but those that other names or numbers equate."""
     found = {}
     for statement, section, place, _ in program.lines:
@@ -1725,7 +1722,7 @@ def addresses(program: str) -> object:
     return found
 
 
-def print_listing(program: str) -> None:
+def print_listing(program: Any) -> None:
     """Of each statement its address, its bytes, eight a line, and its text; then each name with its address and length."""
     for statement, section, place, data in program.lines:
         has_place = (
@@ -1751,7 +1748,7 @@ def print_listing(program: str) -> None:
         print(f"{symbol.value.number:06X} {symbol.length:5d} {key}")
 
 
-def main(words: list[str]) -> object:
+def main(words: list[str]) -> Any:
     form, source = words[0], words[-1]
     try:
         program = assembled(source)

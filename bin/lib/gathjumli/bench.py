@@ -8,6 +8,7 @@ So the start of a program, the reading of a script and its first pages are not i
     bench.py VM370 BARE370 spool CARDS FILES"""
 from __future__ import annotations
 
+from typing import Any
 import os
 import re
 import shutil
@@ -70,11 +71,11 @@ def notify(text: str) -> None:
 class Bench:
     """The two programs."""
 
-    def __init__(self, vm370: object, bare370: object) -> None:
+    def __init__(self, vm370: Any, bare370: Any) -> None:
         self.vm370, self.bare370 = vm370, bare370
 
     def command(
-        self, room: int, first: int, script: str, volumes: tuple = (), sizes: tuple = ()
+        self, room: Any, first: Any, script: str, volumes: tuple = (), sizes: tuple = ()
     ) -> list:
         """A program with its words: of users where the first text is a directory, else of a machine with so much storage."""
         files = []
@@ -86,7 +87,7 @@ class Bench:
             [self.vm370, *sizes, *files] if "USER" in first else [self.bare370, first, *files[1:]]
         )
 
-    def seconds(self, *words: object) -> object:
+    def seconds(self, *words: Any) -> Any:
         """The least processor time of some runs."""
         best = float("inf")
         with tempfile.TemporaryDirectory() as room:
@@ -100,14 +101,14 @@ class Bench:
                 best = min(best, used.ru_utime + used.ru_stime)
         return best
 
-    def output(self, *words: object) -> str:
+    def output(self, *words: Any) -> str:
         """What a run prints."""
         with tempfile.TemporaryDirectory() as room:
             return subprocess.run(
                 self.command(room, *words), stdout=subprocess.PIPE, check=True
             ).stdout.decode()
 
-    def instructions(self, *words: object) -> int:
+    def instructions(self, *words: Any) -> int:
         """How many instructions of the host a run takes."""
         with tempfile.TemporaryDirectory() as room:
             valgrind = [
@@ -122,7 +123,7 @@ class Bench:
         found = re.search(rb"Collected : ([0-9]+)", findings)
         return int(found[1]) if found else 0
 
-    def functions(self, *words: object) -> dict:
+    def functions(self, *words: Any) -> dict:
         """How many instructions of the host each function takes, with those that it calls."""
         with tempfile.TemporaryDirectory() as room:
             valgrind = [
@@ -144,13 +145,13 @@ class Bench:
         )
         return {line[2]: int(line[1].replace(",", "")) for line in lines if line}
 
-    def each(self, first: int, ready: object, again: object, count: int, *more: object) -> object:
+    def each(self, first: int, ready: Any, again: Any, count: int, *more: Any) -> Any:
         """Microseconds of what is done again, by three times as much of it; never none, so that a rate can be reported."""
         less, most = (self.seconds(first, ready + again * (count * item), *more) for item in (1, 3))
         return max((most - less) / (2 * count) * 1e6, 1e-6)
 
 
-def measure_rates(bench: object, thousands: object, loops: object, places: object) -> object:
+def measure_rates(bench: Any, thousands: Any, loops: Any, places: Any) -> Any:
     """Rates of guest loops; their settings."""
     places_of = {"bare": [], "one": ["A"], "eight": list("ABCDEFGH")}
     cases = [(loop, place) for loop in loops.split() for place in places.split()]
@@ -176,7 +177,7 @@ def measure_rates(bench: object, thousands: object, loops: object, places: objec
     return settings
 
 
-def measure_loops(bench: object, *words: object) -> None:
+def measure_loops(bench: Any, *words: Any) -> None:
     """Rates of guest loops, and instructions of the host a unit."""
     settings = measure_rates(bench, *words)
     if not shutil.which("valgrind"):
@@ -193,7 +194,7 @@ def measure_loops(bench: object, *words: object) -> None:
         notify(f"{loop} {place}: {(more - less) / 80000:.1f} instructions of the host a unit")
 
 
-def full_volume(cylinders: int) -> str:
+def full_volume(cylinders: int) -> Any:
     """The image of a volume with one record of a full track on each."""
     out = [b"CKD2BENCH1", cylinders.to_bytes(2, "big")]
     for cylinder in range(cylinders):
@@ -203,7 +204,7 @@ def full_volume(cylinders: int) -> str:
     return b"".join([*out, (cylinders * HEADS).to_bytes(4, "big")])
 
 
-def measure_parts(bench: object, name: str, first: int, ready: object, again: object) -> None:
+def measure_parts(bench: Any, name: Any, first: Any, ready: Any, again: Any) -> None:
     """Instructions of the host of a serve with its units: of each crate those of the function that takes the most of them."""
     less, more = (
         bench.functions(first, ready + again * item, [full_volume(1)]) for item in (20, 60)
@@ -217,7 +218,7 @@ def measure_parts(bench: object, name: str, first: int, ready: object, again: ob
     notify(f"{name} user: instructions of the host: {parts}")
 
 
-def measure_channels(bench: object, programs: str, cylinders: int) -> None:
+def measure_channels(bench: Any, programs: Any, cylinders: Any) -> None:
     """What a serve costs that runs a program, and one that does nothing; and how fast an image is read."""
     programs = max(int(programs), 1)
     devices = "SPOOL 00C READER\nSPOOL 00E PRINTER\nMDISK 190 3330 0 1 BENCH1 W\n"
@@ -266,7 +267,7 @@ def measure_channels(bench: object, programs: str, cylinders: int) -> None:
     )
 
 
-def measure_installation(bench: object, users: list, frames: object, slots: object) -> None:
+def measure_installation(bench: Any, users: Any, frames: Any, slots: Any) -> None:
     """A boot, a LOGON, pages that come into frames, and turns."""
     users, frames, slots = int(users), int(frames), int(slots)
     names = [f"U{number}" for number in range(users)]
@@ -308,13 +309,13 @@ def measure_installation(bench: object, users: list, frames: object, slots: obje
 class Followed:
     """A session of vm370 that is given its script part by part, each of which is timed."""
 
-    def __init__(self, vm370: object, directory: str, room: int) -> None:
+    def __init__(self, vm370: Any, directory: str, room: Any) -> None:
         with open(f"{room}/directory", "w", encoding="utf-8") as file:
             file.write(directory)
         words = [vm370, "--frames", "512", "--follow", f"{room}/directory"]
         self.child = subprocess.Popen(words, stdin=subprocess.PIPE, stdout=subprocess.PIPE)
 
-    def do(self, lines: list) -> object:
+    def do(self, lines: list) -> Any:
         """Microseconds until these lines are answered, by the clock."""
         part = "".join(f"{line}\n" for line in lines).encode()
         begun = time.perf_counter()
@@ -331,7 +332,7 @@ class Followed:
         self.child.wait()
 
 
-def measure_deck(bench: object, cards: list) -> None:
+def measure_deck(bench: Any, cards: Any) -> None:
     """What CLOSE takes of a punch with so many cards, which come to another user, and of one without any."""
     words = [f"01002000{'60' if number < CHAIN - 1 else '20'}000050" for number in range(CHAIN)]
     program = [
@@ -361,7 +362,7 @@ def measure_deck(bench: object, cards: list) -> None:
     )
 
 
-def measure_files(bench: object, others: object) -> None:
+def measure_files(bench: Any, others: Any) -> None:
     """What a user's own commands and reads take next to so many files of others."""
     users, own, times = [f"U{number}" for number in range(64)], 10, 200
     # each card is the line after its own
@@ -389,12 +390,12 @@ def measure_files(bench: object, others: object) -> None:
         read = session.do(["RUN U0 3", "SERVE U0 00C"] * own) / own
         session.end()
     notify(
-        f"beside {others} files of 63 others: QUERY FILES of {own + times} decks {asked:.1f} us, PURGE {purged:.2f} us, "
+        f"next to {others} files of 63 other users: QUERY FILES of {own + times} decks {asked:.1f} us, PURGE {purged:.2f} us, "
         f"a read and its units {read:.1f} us"
     )
 
 
-def measure_spool(bench: object, cards: list, files: list) -> None:
+def measure_spool(bench: Any, cards: Any, files: Any) -> None:
     """Decks of growing sizes, and files of others."""
     for size in sorted({min(item, int(cards)) for item in (CHAIN, 30 * CHAIN, 1000 * CHAIN)}):
         measure_deck(bench, size)

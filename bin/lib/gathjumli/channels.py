@@ -1,6 +1,7 @@
 """Channel words as text (docs/MACHINE.md, "Channel" and "Devices")."""
 from __future__ import annotations
 
+from typing import Any
 
 FLAGS = {0x80: "CD", 0x40: "CC", 0x20: "SLI", 0x10: "SKIP", 0x08: "PCI", 0x04: "IDA"}
 UNIT_STATUS = {
@@ -32,20 +33,20 @@ COMMANDS = {
 }  # fmt: skip
 
 
-def names(bits: object, table: object) -> str:
+def names(bits: Any, table: Any) -> str:
     return ", ".join(text for bit, text in table.items() if bits & bit)
 
 
-def is_jump(word: str) -> bool:
+def is_jump(word: Any) -> bool:
     """Whether a command word is a transfer in channel."""
     return word[0] & 15 == 8
 
 
-def address_in(word: str) -> object:
+def address_in(word: Any) -> Any:
     return int.from_bytes(word[1:4], "big")
 
 
-def command_text(word: str, kind: str) -> str:
+def command_text(word: Any, kind: Any) -> str:
     """A command word: its fields in hexadecimal, and what they say."""
     shown = (
         f"{word[0]:02X} {address_in(word):06X} {word[4]:02X} {int.from_bytes(word[6:8], 'big'):04X}"
@@ -58,7 +59,7 @@ def command_text(word: str, kind: str) -> str:
     return f"{shown}  {said}; {names(word[4], FLAGS)}".rstrip("; ")
 
 
-def status_text(word: str) -> str:
+def status_text(word: Any) -> str:
     """A channel status word: its fields in hexadecimal, and what they say."""
     said = "; ".join(
         item for item in (names(word[4], UNIT_STATUS), names(word[5], CHANNEL_STATUS)) if item
@@ -67,7 +68,7 @@ def status_text(word: str) -> str:
     return f"{shown}  {said}".rstrip()
 
 
-def chained(start: int, word_at: object) -> list:
+def chained(start: Any, word_at: Any) -> list:
     """The places of a program's words and the words, in the order in which chaining and transfers lead to them; of a transfer
     back what a status modifier leads to after it. word_at gives a word, or None where there is none.
     """

@@ -2,6 +2,7 @@
 crash in the midst of that is made good by the next start."""
 from __future__ import annotations
 
+from typing import Any
 from collections.abc import Callable
 import contextlib
 import fcntl
@@ -21,7 +22,7 @@ class Checkpoint:
     """Where the images of a session come to when it ends: a folder next to the recording, until they are in their places. Each
     start has another one, since a program whose command was killed may still write to its own."""
 
-    def __init__(self, record: object, directory: str, volumes: object) -> None:
+    def __init__(self, record: Any, directory: Any, volumes: Any) -> None:
         self.record = record
         self.directory = directory
         self.volumes = volumes
@@ -50,7 +51,7 @@ class Checkpoint:
             for place in range(1, len(self.volumes) + 1)
         ]
 
-    def begin(self) -> object:
+    def begin(self) -> Any:
         """The paths by which the program reads the volumes, and will save others."""
         self.forget()
         where, name = os.path.split(os.path.abspath(self.record))
@@ -76,7 +77,7 @@ class Checkpoint:
             is_settled=True,
         )
 
-    def saved_mark(self) -> object:
+    def saved_mark(self) -> Any:
         """The line of the recording that says that all is saved, once it is on the disk: in which folder, and the sums."""
         for path in self.paths():
             sync_file(path)
@@ -84,7 +85,7 @@ class Checkpoint:
         words = [os.path.basename(self.folder), *map(sum_of_file, self.paths())]
         return SAVED + " ".join(words).encode(errors="surrogateescape")
 
-    def set_aside(self, recording: object, notify: Callable) -> object:
+    def set_aside(self, recording: Any, notify: Callable) -> Any:
         """Puts the saved images in the places of the volumes, and returns the folder to which the recording goes with these as they
         were, and with the directory. What of this was done before a crash stays."""
         self.find(recording.last)
@@ -106,7 +107,7 @@ class Checkpoint:
         return aside
 
     def replace(
-        self, path: str, volume: object, known: object, name: str, aside: object, notify: Callable
+        self, path: str, volume: Any, known: Any, name: str, aside: Any, notify: Callable
     ) -> None:
         """Puts a saved image in the place of a volume whose sum is still as it is known, and keeps the old one aside. A volume
         that somebody else has changed stays as it is: the image follows to it."""
@@ -122,7 +123,7 @@ class Checkpoint:
             f"{volume} was changed by somebody else during the session, and stays as it is; the volume of the session is {copied}"
         )
 
-    def find(self, mark: object) -> None:
+    def find(self, mark: Any) -> None:
         """Finds the images that were saved, as the recording says."""
         words = (
             mark.removeprefix(SAVED)
@@ -140,7 +141,7 @@ class Checkpoint:
             )
 
 
-def keep(volume: object, aside: object) -> None:
+def keep(volume: Any, aside: Any) -> None:
     """Has an image under another name too, where that is not there yet."""
     if os.path.exists(aside):
         return
@@ -151,13 +152,13 @@ def keep(volume: object, aside: object) -> None:
         copy_whole(volume, aside)
 
 
-def put(path: str, volume: object) -> None:
+def put(path: Any, volume: Any) -> None:
     """Puts a file in the place of a volume, for the same people."""
     place = os.path.realpath(volume)
     copy_whole(path, place, os.stat(place))
 
 
-def copy_whole(path: str, to: object, owned: object = None) -> None:
+def copy_whole(path: str, to: Any, owned: Any = None) -> None:
     """A copy that is there whole or not at all, also after the host has crashed; whose it is, is reported by a file's state."""
     copied = f"{to}.new-{os.getpid()}"
     try:

@@ -4,6 +4,7 @@ An operator sends lines, each a command. What is sent to him are lines that begi
 at the end of each answer a dot and a number say whether the command was done, was refused, or ends the installation."""
 from __future__ import annotations
 
+from typing import Any
 import contextlib
 import os
 import socket
@@ -19,7 +20,7 @@ HAPPENS, ANSWER, END_OF_ANSWER = "+", "=", "."
 class Consoles:
     """The operators at a socket."""
 
-    def __init__(self, listener: object, operator: object, journal: object, loop: object) -> None:
+    def __init__(self, listener: Any, operator: Any, journal: Any, loop: Any) -> None:
         self.listener = listener
         self.operator = operator
         self.journal = journal
@@ -39,7 +40,7 @@ class Consoles:
             self.count += 1
             threading.Thread(target=self.serve, args=(connection,), daemon=True).start()
 
-    def serve(self, connection: object) -> None:
+    def serve(self, connection: Any) -> None:
         """Serves one operator until he goes."""
         outlet = Outlet(os.dup(connection.fileno()), prefix=HAPPENS)
         self.journal.add(outlet)
@@ -62,7 +63,7 @@ class Consoles:
             outlet.close()
             os.close(outlet.handle)
 
-    def do(self, text: str, outlet: object) -> None:
+    def do(self, text: str, outlet: Any) -> None:
         """Has a command done, whose answer is for this operator only."""
         self.operator.do(
             text,

@@ -1,7 +1,8 @@
 """Folders from which decks of cards are read in."""
 from __future__ import annotations
 
-from collections.abc import Callable, Iterator
+from typing import Any
+from collections.abc import Iterator
 import asyncio
 import contextlib
 import itertools
@@ -34,7 +35,7 @@ def wrong_text(data: bytes) -> str:
     return f"more than {MOST_CARDS} cards" if len(cards) > MOST_CARDS else ""
 
 
-def text_deck(data: bytes, user: str) -> object:
+def text_deck(data: bytes, user: str) -> Any:
     """A deck of characters as a line of a script and its cards."""
     cards = data.replace(b"\r\n", b"\n").removesuffix(b"\n").split(b"\n")
     return b"DECK %s %d\n" % (user.encode(), len(cards)) + b"".join(card + b"\n" for card in cards)
@@ -43,11 +44,11 @@ def text_deck(data: bytes, user: str) -> object:
 class Sender:
     """A user of the directory whose machine punches decks of any bytes for others. Nobody logs on to it."""
 
-    def __init__(self, name: str, punch: object) -> None:
+    def __init__(self, name: str, punch: Any) -> None:
         self.name = name
         self.punch = punch
 
-    def scripts(self, data: bytes, receiver: object) -> list:
+    def scripts(self, data: bytes, receiver: Any) -> list:
         return list(sent(cards_of(data), self.name, self.punch, receiver))
 
 
@@ -84,11 +85,11 @@ class DeckFolder:
                     name, state_of(os.stat(name, dir_fd=self.handle, follow_symlinks=False))
                 )
 
-    def changed(self) -> object:
+    def changed(self) -> Any:
         """When a name was last added or removed."""
         return os.fstat(self.handle).st_mtime_ns
 
-    def read(self, name: str) -> tuple:
+    def read(self, name: Any) -> tuple:
         """The bytes of a file, one more than a deck may have at most, and its state."""
         handle = os.open(name, OPEN_FILE, dir_fd=self.handle)
         with open(handle, "rb") as file:
@@ -97,7 +98,7 @@ class DeckFolder:
                 raise OSError(0, "the file has another name, or is no plain file")
             return file.read(MOST_BYTES + 1), state_of(found)
 
-    def move(self, name: str, inner: object, reason: object) -> None:
+    def move(self, name: str, inner: Any, reason: Any) -> None:
         """Moves a file to an inner folder under a name that is new there, next to it the reason why it is refused, if it is."""
         with contextlib.suppress(FileExistsError):
             os.mkdir(inner, dir_fd=self.handle)
@@ -120,9 +121,7 @@ class Folders:
     """A folder for each user; what is put into it is read in as a deck for him, and goes to `done` or `refused`. A file whose
     name ends with .deck has 80 bytes a card, any other is text, a line a card."""
 
-    def __init__(
-        self, folder: str, engine: object, readers: object, sender: object, notify: Callable
-    ) -> None:
+    def __init__(self, folder: Any, engine: Any, readers: Any, sender: Any, notify: Any) -> None:
         self.folder = folder
         self.engine = engine
         self.readers = readers
@@ -151,7 +150,7 @@ class Folders:
             self.failed = {key: failure for key, failure in self.failed.items() if key in found}
             await asyncio.sleep(SECONDS)
 
-    async def look_at(self, user: str, found: object) -> None:
+    async def look_at(self, user: Any, found: Any) -> None:
         """Reads in the files of a user that have not changed since the last round."""
         folder = DeckFolder(os.path.join(self.folder, user))
         try:
@@ -164,7 +163,7 @@ class Folders:
         finally:
             folder.close()
 
-    async def read(self, folder: str, file: object, user: str) -> None:
+    async def read(self, folder: Any, file: Any, user: Any) -> None:
         """Gives a user the deck of a file, and moves the file. If that fails the reason is reported once, and the file is skipped
         until it or its folder changes."""
         try:
@@ -179,7 +178,7 @@ class Folders:
                 )
             self.failed[key] = [(file.state, folder.changed()), (file.state, reason)]
 
-    async def give(self, folder: str, file: object, user: str) -> str:
+    async def give(self, folder: Any, file: Any, user: Any) -> Any:
         """Gives a user the deck of a file, once even if the host crashes before the file is moved; the reason if it is refused."""
         mark = DECK_READ + b"%s %d %d %d\n" % (user.encode(), *file.state)
         if mark in self.engine.recording.decks:
@@ -190,21 +189,21 @@ class Folders:
             await self.give_all([*map(Part, scripts[:-1]), Part(scripts[-1] + mark, is_kept=True)])
         return reason
 
-    def judged(self, folder: str, file: object, user: str) -> object:
+    def judged(self, folder: Any, file: Any, user: Any) -> Any:
         """Why the file is refused, or else the scripts that give it to the user."""
         data, state = folder.read(file.name)
         if state != file.state:
             raise OSError(0, "the file changes while it is read")
         return self.scripts_of(file.name, data, user)
 
-    async def read_in(self, name: str, data: bytes, user: str) -> object:
+    async def read_in(self, name: str, data: bytes, user: str) -> Any:
         """Gives a user a deck of these bytes; the reason if it is refused."""
         reason, scripts = self.scripts_of(name, data, user)
         if scripts:
             await self.give_all([*map(Part, scripts[:-1]), Part(scripts[-1], is_kept=True)])
         return reason
 
-    async def give_all(self, parts: object) -> None:
+    async def give_all(self, parts: Any) -> None:
         """Has the parts of a deck done. The sender punches one deck after the other."""
         async with self.giving:
             for part in parts:
@@ -228,11 +227,11 @@ class Folders:
         return "", self.sender.scripts(data, user)
 
 
-async def in_thread(work: str, *given: object) -> object:
+async def in_thread(work: Any, *given: Any) -> Any:
     """Does what waits for a disk without keeping anybody waiting."""
     return await asyncio.get_running_loop().run_in_executor(None, work, *given)
 
 
-def state_of(found: object) -> tuple:
+def state_of(found: Any) -> Any:
     """What differs as soon as a file has changed."""
     return found.st_ino, found.st_size, found.st_mtime_ns

@@ -1,6 +1,7 @@
 """Definitions and clauses of the repository: the names that a text uses, and where each is defined."""
 from __future__ import annotations
 
+from typing import Any
 from types import ModuleType
 import os
 import re
@@ -15,12 +16,12 @@ KEYWORDS = {"abbrev", "pub", "record", "data", "unfoldable", "opaque"}
 DECLARATION = r"^((?:///[^\n]*\n|#\[[^\n]*\n)*)((?:pub(?:\([a-z]+\))? )?(?:struct|enum) {}\b(?:[^;{{]*;|[^{{]*\{{.*?^\}}))"
 
 
-def read(path: str) -> object:
+def read(path: Any) -> Any:
     with open(path, encoding="utf-8") as file:
         return file.read()
 
 
-def bare(text: str) -> object:
+def bare(text: str) -> Any:
     """A text of definitions without its comments."""
     return re.sub(r"--.*", "", text)
 
@@ -40,7 +41,7 @@ def imports(text: str) -> tuple:
 class Definition:
     """A definition, with the comment above it; `within` is the line of the module with parameters in which it is."""
 
-    def __init__(self, place: object, name: str, text: str, within: object = None) -> None:
+    def __init__(self, place: Any, name: str, text: str, within: Any = None) -> None:
         self.place, self.name, self.text, self.within = place, name, text, within
 
     def words(self) -> list:
@@ -50,13 +51,13 @@ class Definition:
 class Module:
     """A file of definitions."""
 
-    def __init__(self, path: str, place: object) -> None:
+    def __init__(self, path: Any, place: Any) -> None:
         text = read(path)
         self.path, self.place, self.found = path, place, {}
         self.names, self.modules = imports(text)
         self._take(text.split("\n"), 0, None)
 
-    def _take(self, lines: list, indent: object, within: object) -> None:
+    def _take(self, lines: Any, indent: Any, within: Any) -> None:
         """Cuts lines into definitions: each begins at a line of this indent that no other of its name appears before."""
         comment, current, at = [], None, 0
         while at < len(lines):
@@ -101,10 +102,10 @@ class Module:
 class House:
     """All definitions of the repository, by the names of their modules."""
 
-    def __init__(self, top: object) -> None:
+    def __init__(self, top: Any) -> None:
         self.top, self.read = top, {}
 
-    def module(self, name: str) -> object:
+    def module(self, name: Any) -> Any:
         """The module of this name, or None where it is none of the repository's."""
         if name not in self.read:
             parts = name.split(".")
@@ -114,7 +115,7 @@ class House:
             )
         return self.read[name]
 
-    def find(self, module: ModuleType, name: str) -> object:
+    def find(self, module: Any, name: Any) -> Any:
         """The definition of a name of a module, or None where it is none of the repository's."""
         if ".specs.declared." in module:
             return self.declared(module, name)
@@ -125,7 +126,7 @@ class House:
             return there.found[name]
         return self.find(*there.names[name]) if name in there.names else None
 
-    def declared(self, module: ModuleType, name: str) -> object:
+    def declared(self, module: ModuleType, name: str) -> Any:
         """The declaration of a type in Rust, by the module that rattle makes of it."""
         _, crate, _, _, *parts = module.split(".")
         parts = parts[:-1] if parts[-1] == "TheVariants" else parts
@@ -141,7 +142,7 @@ class House:
             self.read[key] = self.of_rust(path, parts[-1]) or self.type_in(crate, parts[-1])
         return self.read[key]
 
-    def of_rust(self, path: str, name: str) -> object:
+    def of_rust(self, path: Any, name: Any) -> Any:
         """The declaration of a type, or of one that contracts see as another value this alone."""
         if not os.path.isfile(path):
             return None
@@ -161,7 +162,7 @@ class House:
         item.types = {} if model else self.types_of(text, path)
         return item
 
-    def types_of(self, text: str, path: str) -> object:
+    def types_of(self, text: str, path: str) -> Any:
         """The types that a file of Rust names of its own crate and of others: the file of each is looked for when it is needed."""
         crate = os.path.relpath(path, self.top).split(os.sep)[1]
         types = {
@@ -175,7 +176,7 @@ class House:
                 types[name] = crate if place == "crate" else place
         return types
 
-    def type_in(self, crate: str, name: str) -> object:
+    def type_in(self, crate: str, name: str) -> Any:
         """The declaration of a type of a crate, wherever it is there."""
         key = (crate, "type", name)
         if key not in self.read:
@@ -189,7 +190,7 @@ class House:
                         self.read[path, name] = self.read[key] = same
         return self.read[key]
 
-    def below(self, item: object) -> object:
+    def below(self, item: Any) -> Any:
         """The definitions that one names, in the order in which it names them."""
         if item.place.endswith(".antt"):
             module = self.of_file(item.place)
@@ -212,7 +213,7 @@ class House:
                 found.append(there)
         return found
 
-    def cited(self, tops: object) -> object:
+    def cited(self, tops: Any) -> Any:
         """All that these definitions stand on, a file of definitions or a type at a time, each after those that it names; those of a
         file stand as they stand there."""
         below, units, waiting = {}, {}, list(tops)
@@ -224,7 +225,7 @@ class House:
                 waiting += below[id(item)]
         order, seen = [], set()
 
-        def visit(unit: object) -> None:
+        def visit(unit: Any) -> None:
             if unit in seen:
                 return
             seen.add(unit)
@@ -239,10 +240,10 @@ class House:
         return order
 
     @staticmethod
-    def unit(item: object) -> object:
+    def unit(item: Any) -> Any:
         return item.place if item.place.endswith(".antt") else (item.place, item.name)
 
-    def in_order(self, items: object) -> object:
+    def in_order(self, items: Any) -> Any:
         """Definitions of one file as they stand there."""
         if not items[0].place.endswith(".antt"):
             return items
@@ -252,5 +253,5 @@ class House:
             if fromkey in items
         ]
 
-    def of_file(self, place: object) -> object:
+    def of_file(self, place: Any) -> Any:
         return self.module("Rattle." + place[len("crates/") : -len(".antt")].replace(os.sep, "."))

@@ -8,7 +8,7 @@ import re
 import subprocess
 import tempfile
 import threading
-from typing import NamedTuple
+from typing import Any, NamedTuple
 
 from gathjumli.machines import ScriptRefused, failure
 from gathjumli.cli import Failure, NO_MEMORY, WRONG_USE
@@ -74,7 +74,7 @@ class Answers:
                     yield answer
             place = stop
 
-    def take(self, line: bytes) -> object:
+    def take(self, line: bytes) -> Any:
         """Takes a line; the answer that it ends, or None."""
         if not line.startswith(b"> "):
             self.events.append(text_of(line))
@@ -105,7 +105,7 @@ def text_of(line: bytes) -> str:
 class Program:
     """A program that is given a script part by part; some of its answers may be still to come."""
 
-    def __init__(self, machines: object, *options: object) -> None:
+    def __init__(self, machines: Any, *options: Any) -> None:
         self.errors = tempfile.TemporaryFile()
         streams = {"stdin": subprocess.PIPE, "stdout": subprocess.PIPE, "stderr": self.errors}
         # an interrupt at the terminal is for the command alone
@@ -126,7 +126,7 @@ class Program:
                     self.answers.put(answer)
         self.answers.put(None)
 
-    def send(self, part: bytes) -> None:
+    def send(self, part: Any) -> None:
         """Gives it a part, whose answer is awaited later."""
         self.awaited += 1
         self.write(b"%d\n%s" % (len(part), part))
@@ -139,14 +139,14 @@ class Program:
             # it has ended, and its answer will tell why
             pass
 
-    def do(self, part: bytes) -> object:
+    def do(self, part: bytes) -> Any:
         """What appears of a part. If it is refused, nothing has happened."""
         self.send(part)
         while self.awaited > 1:
             self.answer()
         return self.answer()
 
-    def answer(self) -> object:
+    def answer(self) -> Any:
         """What came of the first part whose answer is awaited."""
         self.awaited -= 1
         answer = self.answers.get()
@@ -163,7 +163,7 @@ class Program:
         if self.process.wait():
             raise self.failed()
 
-    def failed(self) -> object:
+    def failed(self) -> Any:
         """Why the program has ended by itself."""
         status = self.process.wait()
         self.errors.seek(0)
@@ -186,15 +186,15 @@ class Program:
 class Follower(Program):
     """One that keeps the script which it was given."""
 
-    def __init__(self, machines: object) -> None:
+    def __init__(self, machines: Any) -> None:
         super().__init__(machines)
         self.script = b""
 
-    def send(self, part: bytes) -> None:
+    def send(self, part: Any) -> None:
         self.script += part
         super().send(part)
 
-    def do(self, part: bytes) -> object:
+    def do(self, part: bytes) -> Any:
         before = self.script
         try:
             return super().do(part)

@@ -5,6 +5,7 @@ bin/lib/guests. A longer run is compared with a shorter one. bin/bench-against c
     guests.py VM370 BARE370 ROUNDS SECONDS"""
 from __future__ import annotations
 
+from typing import Any
 import os
 import re
 import subprocess
@@ -49,7 +50,7 @@ GUESTS = [
 ]
 
 
-def assembled(guest: object) -> list:
+def assembled(guest: Any) -> list:
     """The addresses of a guest's storage and the bytes for each."""
     command = [f"{HERE}/../asm370", f"{HERE}/guests/{guest.source}.asm"]
     lines = subprocess.run(command, stdout=subprocess.PIPE, check=True).stdout.decode()
@@ -59,10 +60,10 @@ def assembled(guest: object) -> list:
 class Emulated:
     """A guest on the emulator."""
 
-    def __init__(self, guest: object, room: int) -> None:
+    def __init__(self, guest: Any, room: Any) -> None:
         self.guest, self.room = guest, room
 
-    def seconds(self, rounds: object) -> object:
+    def seconds(self, rounds: Any) -> Any:
         """The processor time of so many rounds."""
         conf, count = CONF, rounds
         if self.guest.reads:
@@ -80,11 +81,11 @@ class Emulated:
 class Ours:
     """A guest on a bare machine or as one user."""
 
-    def __init__(self, guest: object, bench: object, place: object) -> None:
+    def __init__(self, guest: Any, bench: Any, place: Any) -> None:
         self.guest, self.bench = guest, bench
         self.user, self.first = ("A", DIRECTORY) if place == "user" else ("BARE", "256K")
 
-    def script(self, rounds: object) -> object:
+    def script(self, rounds: Any) -> Any:
         """The script that does so many rounds."""
         decks = rounds // DECK
         count = decks if self.guest.reads else rounds
@@ -101,7 +102,7 @@ class Ours:
             lines[:-1] + [f"DECK {self.user} {DECK}", *[CARD] * DECK] * decks + lines[-1:] + dealt
         )
 
-    def seconds(self, rounds: object) -> object:
+    def seconds(self, rounds: Any) -> Any:
         """The processor time of so many rounds, after which the guest waits at its end."""
         script = self.script(rounds) + [f"LINE {self.user} DISPLAY PSW"]
         if f"{END:08X}" not in self.bench.output(self.first, script).splitlines()[-1]:
@@ -109,7 +110,7 @@ class Ours:
         return self.bench.seconds(self.first, script)
 
 
-def rate(machine: object, seconds: object) -> object:
+def rate(machine: Any, seconds: Any) -> Any:
     """Rounds a second: of a run of some seconds, what the least run does not take."""
     least = machine.guest.least
     begun, rounds = machine.seconds(least), 4 * least

@@ -1,12 +1,13 @@
 """What processes take of the host."""
 from __future__ import annotations
 
+from typing import Any
 import os
 
 MEGABYTE = 1 << 20
 
 
-def memory_of(process: object) -> object:
+def memory_of(process: Any) -> Any:
     """The bytes of memory that a process has, or 0 if it is gone."""
     try:
         with open(f"/proc/{process}/statm") as file:
@@ -15,7 +16,7 @@ def memory_of(process: object) -> object:
         return 0
 
 
-def processor_seconds(process: object) -> object:
+def processor_seconds(process: Any) -> Any:
     """The processor time that a process took until now, or 0 if it is gone."""
     try:
         with open(f"/proc/{process}/stat") as file:
@@ -25,6 +26,6 @@ def processor_seconds(process: object) -> object:
         return 0.0
 
 
-def usual_memory() -> object:
+def usual_memory() -> Any:
     """Half of the host's memory."""
     return os.sysconf("SC_PHYS_PAGES") * os.sysconf("SC_PAGE_SIZE") // 2

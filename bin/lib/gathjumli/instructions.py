@@ -1,6 +1,7 @@
 """Instructions as bin/asm370 takes them: the table of docs/MACHINE.md, and the text of an instruction's bytes."""
 from __future__ import annotations
 
+from typing import Any
 
 # operands of a form: what is where in the bytes
 RR = "{r1},{r2}"
@@ -39,12 +40,12 @@ INSTRUCTIONS = {
 ALIKE = {"9C01": "SIOF", "9E01": "HDV"}
 
 
-def length(first: int) -> object:
+def length(first: int) -> Any:
     """How many bytes an instruction has, by its first byte."""
     return (2, 4, 4, 6)[first >> 6]
 
 
-def text_of(code: int) -> tuple:
+def text_of(code: Any) -> tuple:
     """The name and the operands of an instruction's bytes; of an unknown code DC and the bytes."""
     code = code[: length(code[0])]
     if code[0] not in INSTRUCTIONS or len(code) < length(code[0]):
@@ -54,7 +55,7 @@ def text_of(code: int) -> tuple:
     return name, form.format(**fields(code))
 
 
-def fields(code: int) -> dict:
+def fields(code: Any) -> dict:
     """The fields of an instruction's bytes, by the names in the forms above."""
     code = code + bytes(6)
     second, third = int.from_bytes(code[2:4], "big"), int.from_bytes(code[4:6], "big")
@@ -72,7 +73,7 @@ def fields(code: int) -> dict:
     }
 
 
-def place_of(code: int, registers: object) -> object:
+def place_of(code: Any, registers: Any) -> Any:
     """The address of the storage operand of an instruction of forms RX and S, modulo 2^24."""
     name, form = INSTRUCTIONS[code[0]]
     found = fields(code)
@@ -82,7 +83,7 @@ def place_of(code: int, registers: object) -> object:
     return place & 0xFFFFFF
 
 
-def under_execute(code: int, target: object, registers: object) -> object:
+def under_execute(code: Any, target: Any, registers: Any) -> Any:
     """The target of EX as it is carried out."""
     register = code[1] >> 4
     joined = target[1] | (registers[register] & 255 if register else 0)

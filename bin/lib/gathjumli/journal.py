@@ -1,6 +1,7 @@
 """What happens in an installation, line by line, for everybody who wants to know."""
 from __future__ import annotations
 
+from typing import Any
 import contextlib
 import os
 import queue
@@ -16,7 +17,7 @@ class Outlet:
     """A file descriptor to which lines go, by a thread of its own. If nobody reads there nobody waits for that; how many lines are
     lost is said."""
 
-    def __init__(self, handle: object, time_format: object = TIME, prefix: str = "") -> None:
+    def __init__(self, handle: Any, time_format: Any = TIME, prefix: Any = "") -> None:
         self.handle = handle
         self.time_format = time_format
         self.prefix = prefix
@@ -25,7 +26,7 @@ class Outlet:
         self.thread = threading.Thread(target=self.write_all, daemon=True)
         self.thread.start()
 
-    def put(self, text: str, prefix: object = None) -> None:
+    def put(self, text: Any, prefix: Any = None) -> None:
         prefix = self.prefix if prefix is None else prefix
         try:
             if self.lost:
@@ -39,7 +40,7 @@ class Outlet:
         with contextlib.suppress(queue.Full):
             self.lines.put_nowait(line)
 
-    def now(self) -> object:
+    def now(self) -> Any:
         return time.strftime(self.time_format)
 
     def write_all(self) -> None:
@@ -69,10 +70,10 @@ class Journal:
         for outlet in list(self.outlets):
             outlet.put(text)
 
-    def add(self, outlet: object) -> None:
+    def add(self, outlet: Any) -> None:
         self.outlets.append(outlet)
 
-    def remove(self, outlet: object) -> None:
+    def remove(self, outlet: Any) -> None:
         with contextlib.suppress(ValueError):
             self.outlets.remove(outlet)
 

@@ -7,6 +7,7 @@ A drawn program has some hundred instructions of many kinds in a random order, a
     kinds.py VM370 BARE370 ROUNDS SECONDS [KIND]..."""
 from __future__ import annotations
 
+from typing import Any
 import os
 import random
 import shutil
@@ -268,7 +269,7 @@ class Loop:
     units: int
 
 
-def copies_of(kind: str) -> object:
+def copies_of(kind: str) -> Any:
     """What is in the loop of a kind, kind by kind."""
     if kind in KINDS:
         return [kind] * COPIES
@@ -276,7 +277,7 @@ def copies_of(kind: str) -> object:
     return random.Random(seed).choices(list(weights), list(weights.values()), k=DRAWN_COUNT)
 
 
-def loop_of(kind: str) -> object:
+def loop_of(kind: str) -> Any:
     """The loop that a kind has."""
     code, units = "", 1
     for each in copies_of(kind):
@@ -286,7 +287,7 @@ def loop_of(kind: str) -> object:
     return Loop(code + "4610A000" + f"8200{END:04X}", units)
 
 
-def stored(loop: object) -> list:
+def stored(loop: Any) -> list:
     """The addresses of storage and the bytes for each, at most sixteen at a time."""
     pieces = {**STORAGE, END: "0002000000000000"}
     return [
@@ -298,12 +299,12 @@ def stored(loop: object) -> list:
 class Emulator:
     """The emulator, started once for each run: by its commands' file, since it reads no input without a terminal."""
 
-    def __init__(self, room: int, conf: object = CONF) -> None:
+    def __init__(self, room: Any, conf: Any = CONF) -> None:
         self.room = room
         with open(f"{room}/conf", "w", encoding="utf-8") as file:
             file.write(conf)
 
-    def used(self, commands: object, text: str) -> object:
+    def used(self, commands: Any, text: Any) -> Any:
         """Seconds of processor time that it has used when its log has a text."""
         with open(f"{self.room}/commands", "w", encoding="utf-8") as file:
             file.write("".join(f"{command}\n" for command in commands))
@@ -329,7 +330,7 @@ class Emulator:
             child.send_signal(signal.SIGKILL)
             child.wait()
 
-    def rate(self, loop: object, seconds: object) -> object:
+    def rate(self, loop: Any, seconds: Any) -> Any:
         """Million instructions a second: of a run of some seconds, what a run of one round does not take."""
         begun = self.timed(loop, 1)
         rounds = 1000000
@@ -337,7 +338,7 @@ class Emulator:
             rounds = max(2 * rounds, int(rounds * 1.2 * seconds / max(taken, 0.05)))
         return rounds * loop.units / taken / 1e6
 
-    def timed(self, loop: object, rounds: object) -> object:
+    def timed(self, loop: Any, rounds: Any) -> Any:
         registers = [f"gpr {name}={value:08X}" for name, value in {**REGISTERS, 1: rounds}.items()]
         storage = [f"r {at:X}={data}" for at, data in stored(loop)]
         return self.used(
@@ -345,7 +346,7 @@ class Emulator:
         )
 
 
-def started(place: object, loop: object) -> tuple:
+def started(place: Any, loop: Any) -> tuple:
     """The directory or the storage of a bare machine or of one user, and the lines after which his machine runs the loop."""
     user, first = ("A", "USER A PW 256K\n") if place == "user" else ("BARE", "256K")
     typed = [
@@ -357,7 +358,7 @@ def started(place: object, loop: object) -> tuple:
     return user, first, [f"LINE {user} {line}" for line in typed]
 
 
-def our_rate(bench: object, place: object, loop: object, seconds: object) -> object:
+def our_rate(bench: Any, place: Any, loop: Any, seconds: Any) -> Any:
     """Million instructions a second of a bare machine or of one user."""
     user, first, ready = started(place, loop)
     units, runs = 1000000, 1
@@ -367,7 +368,7 @@ def our_rate(bench: object, place: object, loop: object, seconds: object) -> obj
     return runs * units / taken / 1e6
 
 
-def host_instructions(bench: object, place: object, loop: object) -> object:
+def host_instructions(bench: Any, place: Any, loop: Any) -> Any:
     """Instructions of the host that one takes."""
     user, first, ready = started(place, loop)
     less, more = (

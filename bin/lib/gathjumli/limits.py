@@ -2,7 +2,7 @@
 from __future__ import annotations
 
 import asyncio
-from typing import NamedTuple
+from typing import Any, NamedTuple
 
 from gathjumli.host import MEGABYTE
 
@@ -22,7 +22,7 @@ class Limits(NamedTuple):
 class Watch:
     """Looks each second at what users have written and at the program's memory."""
 
-    def __init__(self, installation: object) -> None:
+    def __init__(self, installation: Any) -> None:
         self.installation = installation
         self.engine = installation.engine
         self.limits = installation.limits

@@ -1,6 +1,7 @@
 """Sockets at a path of the file system."""
 from __future__ import annotations
 
+from typing import Any
 import os
 import socket
 import stat
@@ -8,7 +9,7 @@ import stat
 from gathjumli.cli import FILE_FAILED, Failure
 
 
-def unix_socket(path: str, mode: int = None) -> object:
+def unix_socket(path: str, mode: int = None) -> Any:
     """A socket that listens at a path, with these rights of its file. What a dead process left there is replaced; a living one
     keeps it."""
     found = socket.socket(socket.AF_UNIX, socket.SOCK_STREAM)

@@ -1,6 +1,7 @@
 """What a recording says of each user: his console, his cards, his files, and what his machine did at which moment."""
 from __future__ import annotations
 
+from typing import Any
 import collections
 import re
 
@@ -34,10 +35,10 @@ class Time:
         )
         self.clock = []
 
-    def add(self, user: str, kind: str, amount: object) -> None:
+    def add(self, user: Any, kind: Any, amount: Any) -> None:
         self.lanes[user][kind][self.now // self.width] += amount
 
-    def pass_by(self, moments: object) -> None:
+    def pass_by(self, moments: Any) -> None:
         self.now += moments
         while self.now // self.width >= 2 * STRETCHES:
             self.width *= 2
@@ -53,7 +54,7 @@ class Time:
             del self.clock[1::2]
 
 
-def halved(counts: object) -> object:
+def halved(counts: Any) -> Any:
     found = collections.Counter()
     for place, amount in counts.items():
         found[place // 2] += amount
@@ -71,16 +72,16 @@ class Life:
         self.connections = collections.deque(maxlen=MOST_CONNECTIONS)
         self.is_connected = False
 
-    def print(self, kind: str, text: str, when: object) -> None:
+    def print(self, kind: str, text: str, when: Any) -> None:
         self.lines += 1
         self.console.append((kind, text, when))
 
-    def connect(self, when: object, address: int) -> None:
+    def connect(self, when: Any, address: Any) -> None:
         self.disconnect(when)
         self.connections.append([when, "", address])
         self.is_connected = True
 
-    def disconnect(self, when: object) -> None:
+    def disconnect(self, when: Any) -> None:
         if self.is_connected:
             self.connections[-1][1] = when
         self.is_connected = False
@@ -89,13 +90,13 @@ class Life:
 class Story:
     """What a recording says, entry by entry."""
 
-    def __init__(self, users: list) -> None:
+    def __init__(self, users: Any) -> None:
         self.lives = {user: Life() for user in users}
         self.time = Time()
         self.files = []
         self.when = ""
 
-    def take(self, program: str, when: object, entries: object) -> None:
+    def take(self, program: Any, when: Any, entries: Any) -> None:
         """Has a program do the entries of a recording that have one time."""
         if when:
             self.when = when
@@ -117,12 +118,12 @@ class Story:
         elif words[1:2] == ["DISCONNECTED"] and words[2:] and words[2] in self.lives:
             self.lives[words[2]].disconnect(self.when)
 
-    def are_people(self) -> object:
+    def are_people(self) -> Any:
         """The users at whose terminals somebody was; all, if the recording is of before that was noted."""
         found = {name for name, life in self.lives.items() if life.connections}
         return found or set(self.lives)
 
-    def read_entry(self, entry: object) -> object:
+    def read_entry(self, entry: Any) -> Any:
         """Notes what is typed and given; who typed it, or None."""
         if typed := TYPED.fullmatch(entry):
             name = typed[1].decode()
@@ -135,7 +136,7 @@ class Story:
             self.lives[head.split(" ")[1]].decks.append(cards)
         return None
 
-    def read_event(self, event: object, typed: object) -> None:
+    def read_event(self, event: Any, typed: Any) -> None:
         name, colon, text = event.partition(": ")
         if colon and name in self.lives:
             self.lives[name].print(kind_of(text, name == typed), text, self.when)
@@ -150,5 +151,5 @@ class Story:
             self.time.add(was_absent[1], "lacks", 1)
 
 
-def kind_of(text: str, is_reply: object) -> str:
+def kind_of(text: str, is_reply: Any) -> str:
     return "other" if text.startswith("MSG FROM ") else "reply" if is_reply else "guest"

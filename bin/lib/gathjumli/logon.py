@@ -1,6 +1,7 @@
 """Who may log on, and whether a password is right."""
 from __future__ import annotations
 
+from typing import Any
 import hashlib
 import hmac
 import os
@@ -16,16 +17,16 @@ COSTS = {"n": 1 << 14, "r": 8, "p": 1, "dklen": 32}
 class Passwords:
     """The passwords of a directory, as sums that are good for this session alone."""
 
-    def __init__(self, passwords: object) -> None:
+    def __init__(self, passwords: Any) -> None:
         self.names = list(passwords)
         self.key = os.urandom(32)
         self.sums = {name: self.sum_of(password) for name, password in passwords.items()}
         self.other = os.urandom(32)
 
-    def sum_of(self, password: str) -> object:
+    def sum_of(self, password: str) -> Any:
         return hmac.digest(self.key, password.encode("latin-1"), hashlib.sha256)
 
-    def are_right(self, name: str, password: str) -> object:
+    def are_right(self, name: str, password: str) -> Any:
         """Whether this is the password of the user of this name; of a name that is not there it takes as long."""
         return (
             hmac.compare_digest(self.sum_of(password), self.sums.get(name, self.other))
@@ -42,7 +43,7 @@ class PasswordsFile:
         self.other = (os.urandom(16), os.urandom(32))
         read_entries(path)
 
-    def are_right(self, name: str, password: str) -> object:
+    def are_right(self, name: str, password: str) -> Any:
         """Whether this is the password of the user of this name; of a name that is not there it takes as long."""
         try:
             entries = read_entries(self.path)
@@ -52,12 +53,12 @@ class PasswordsFile:
         return hmac.compare_digest(salted(password, salt), wanted) and name in entries
 
 
-def salted(password: str, salt: object) -> object:
+def salted(password: str, salt: Any) -> Any:
     """The sum of a password, whose letters the desk makes capitals."""
     return hashlib.scrypt(password.upper().encode("latin-1"), salt=salt, **COSTS)
 
 
-def read_entries(path: str) -> object:
+def read_entries(path: str) -> Any:
     """The names of a passwords file with their salts and sums."""
     entries = {}
     for number, line in enumerate(read_file(path).splitlines(), 1):
@@ -71,5 +72,5 @@ def read_entries(path: str) -> object:
     return entries
 
 
-def entry_of(name: str, salt: object, wanted: object) -> str:
+def entry_of(name: str, salt: Any, wanted: Any) -> str:
     return f"{name} {salt.hex()} {wanted.hex()}\n"

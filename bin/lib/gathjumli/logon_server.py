@@ -7,6 +7,7 @@ MOST_BYTES and only while `may_send` is set, and `Desk.leave` reports that it ha
 """
 from __future__ import annotations
 
+from typing import Any
 from collections.abc import Callable
 import asyncio
 import collections
@@ -55,7 +56,7 @@ class Connection:
         self.minute = ""
         self.may_send = asyncio.Event()
 
-    def send(self, data: bytes) -> None:
+    def send(self, data: Any) -> None:
         """Gives it bytes."""
 
     def close(self) -> None:
@@ -65,7 +66,7 @@ class Connection:
 class SocketConnection(Connection):
     """A connection by telnet or plain."""
 
-    def __init__(self, writer: object, notify: Callable) -> None:
+    def __init__(self, writer: Any, notify: Callable) -> None:
         peer = writer.get_extra_info("peername")
         super().__init__(peer[0] if isinstance(peer, tuple) else "")
         self.writer = writer
@@ -78,7 +79,7 @@ class SocketConnection(Connection):
                 # one that goes without a word is found out some time
                 connection.setsockopt(socket.SOL_SOCKET, socket.SO_KEEPALIVE, 1)
 
-    def send(self, data: bytes) -> None:
+    def send(self, data: Any) -> None:
         if self.writer.is_closing():
             return
         self.writer.write(data)
@@ -86,7 +87,7 @@ class SocketConnection(Connection):
             self.notify(f"{self.user.name if self.user else 'a stranger'} does not read: closed")
             self.writer.transport.abort()
 
-    def unread(self) -> object:
+    def unread(self) -> Any:
         return self.writer.transport.get_write_buffer_size()
 
     def close(self) -> None:
@@ -102,7 +103,7 @@ class SocketConnection(Connection):
 class Terminal:
     """The terminal of a user, who logs on at the desk."""
 
-    def __init__(self, desk: object, number: int) -> None:
+    def __init__(self, desk: Any, number: int) -> None:
         self.desk = desk
         self.number = number
         self.connection = None
@@ -119,7 +120,7 @@ class Terminal:
         """Shows him a line, which is on the disk, if he is there."""
         self.desk.notify_soon("SHOW", self.number, encoded(text))
 
-    def turn(self, is_on: object, is_running: bool) -> None:
+    def turn(self, is_on: Any, is_running: bool) -> None:
         self.desk.ask("TURN", self.number, (1 + is_running) * is_on)
 
     def close(self) -> None:
@@ -130,11 +131,11 @@ class Terminal:
 class WrongPasswords:
     """Sums the wrong passwords, so that the journal has a line for many."""
 
-    def __init__(self, notify: Callable) -> None:
+    def __init__(self, notify: Any) -> None:
         self.notify = notify
         self.counts = collections.Counter()
 
-    def add(self, name: str, address: int) -> None:
+    def add(self, name: Any, address: int) -> None:
         if not self.counts:
             asyncio.get_running_loop().call_later(SECONDS_TO_SUM, self.notify_all)
         self.counts[name, address] += 1
@@ -151,7 +152,7 @@ class WrongPasswords:
 class LogonServer:
     """The program that is the desk, the connections at its places, and the people who log on."""
 
-    def __init__(self, engine: object, passwords: object, notify: Callable, program: str) -> None:
+    def __init__(self, engine: Any, passwords: Any, notify: Any, program: Any) -> None:
         self.engine = engine
         self.passwords = passwords
         self.notify = notify
@@ -193,12 +194,12 @@ class LogonServer:
 
     # --- the lines that pass (crates/logon_desk_cli/src: frame.rt, printing.rt) ---
 
-    def ask(self, word: str, *words: object) -> None:
+    def ask(self, word: Any, *words: Any) -> None:
         """Says the desk what has happened, and does what it says then."""
         self.pending.append(self.line(word, *words))
         self.flush()
 
-    def notify_soon(self, word: str, *words: object) -> None:
+    def notify_soon(self, word: str, *words: Any) -> None:
         """Gives the desk something with what follows, at the end of this turn at the latest."""
         self.pending.append(self.line(word, *words))
         if len(self.pending) == MOST_PENDING:
@@ -206,7 +207,7 @@ class LogonServer:
         elif len(self.pending) == 1:
             asyncio.get_running_loop().call_soon(self.flush)
 
-    def line(self, word: str, *words: object) -> object:
+    def line(self, word: str, *words: Any) -> Any:
         return (
             " ".join(
                 [word, f"{int(1000 * (time.monotonic() - self.begun)):X}", *map(written, words)]
@@ -238,30 +239,30 @@ class LogonServer:
                 return
             self.obey(word, *words)
 
-    def obey(self, word: str, number: int, *words: object) -> None:
+    def obey(self, word: Any, number: Any, *words: Any) -> None:
         number = int(number, 16)
         if word == "TYPE":
             self.start(self.give(self.people[number], number, read_bytes(words[0])))
         elif connection := self.places.get(number):
             getattr(self, f"obey_{word.lower()}")(connection, *words)
 
-    def obey_give(self, connection: object, data: bytes) -> None:
+    def obey_give(self, connection: Any, data: Any) -> None:
         connection.send(read_bytes(data))
 
-    def obey_back(self, connection: object, minute: str, text: str) -> None:
+    def obey_back(self, connection: Any, minute: str, text: str) -> None:
         """A line that he has seen before, and its minute where that is another one."""
         if minute != connection.minute:
             connection.send(b"-- %s UTC\r\n" % read_bytes(minute))
         connection.minute = minute
         connection.send(read_bytes(text) + b"\r\n")
 
-    def obey_read(self, connection: object) -> None:
+    def obey_read(self, connection: Any) -> None:
         connection.may_send.set()
 
-    def obey_asks(self, connection: object, name: str, password: str) -> None:
+    def obey_asks(self, connection: Any, name: Any, password: Any) -> None:
         self.start(self.judge(connection, name, password))
 
-    def obey_ends(self, connection: object) -> None:
+    def obey_ends(self, connection: Any) -> None:
         del self.places[connection.place]
         connection.place = None
         connection.may_send.set()
@@ -272,7 +273,7 @@ class LogonServer:
             self.engine.note(b"* DISCONNECTED %s\n" % user.name.encode())
             self.notify(f"{user.name} {'leaves his terminal' if user.is_on else 'is logged off'}")
 
-    def obey_note(self, connection: object, word: str, number: int) -> None:
+    def obey_note(self, connection: Any, word: str, number: Any) -> None:
         user = None if number == "-" else self.people[int(number, 16)]
         if word == "FAIL":
             self.wrong.add(user and user.name, connection.address)
@@ -284,11 +285,11 @@ class LogonServer:
 
     # --- what takes time ---
 
-    def start(self, work: str) -> None:
+    def start(self, work: Any) -> None:
         self.tasks.add(task := asyncio.get_running_loop().create_task(work))
         task.add_done_callback(self.tasks.discard)
 
-    async def give(self, user: str, number: int, text: str) -> None:
+    async def give(self, user: Any, number: int, text: Any) -> None:
         """Has a line done that is typed for a user."""
         was_on = user.is_on
         with contextlib.suppress(asyncio.CancelledError):
@@ -297,7 +298,7 @@ class LogonServer:
                 user.terminal.show(self.log_message)
             self.ask("DONE", number)
 
-    async def judge(self, connection: object, name: str, password: str) -> None:
+    async def judge(self, connection: Any, name: str, password: str) -> None:
         """Answers whether a name and a password are right."""
         given = [word.decode("latin-1") for word in map(read_bytes, (name, password))]
         is_right = await asyncio.get_running_loop().run_in_executor(
@@ -323,7 +324,7 @@ class LogonServer:
 
     # --- connections ---
 
-    def come(self, connection: object) -> bool:
+    def come(self, connection: Any) -> bool:
         """A connection has come; whether there is a place for it."""
         connection.place = next(
             (number for number in range(self.room) if number not in self.places), None
@@ -335,7 +336,7 @@ class LogonServer:
         self.ask("OPEN", connection.place, self.origin(connection.address))
         return connection.place is not None
 
-    def origin(self, address: int) -> object:
+    def origin(self, address: Any) -> Any:
         """A number for an address, which nobody outside can know; neighbours in a network of IPv6 have the same one."""
         parts = address.split(":")
         network = ":".join(parts[:4]) if len(parts) > 1 else address
@@ -343,18 +344,18 @@ class LogonServer:
             hashlib.blake2b(network.encode(), key=self.key, digest_size=7).digest(), "big"
         )
 
-    def receive(self, connection: object, data: bytes) -> None:
+    def receive(self, connection: Any, data: bytes) -> None:
         """Bytes have come at a connection."""
         if connection.place is not None:
             connection.may_send.clear()
             self.ask("CAME", connection.place, data.hex().upper())
 
-    def leave(self, connection: object) -> None:
+    def leave(self, connection: Any) -> None:
         """A connection has ended."""
         if connection.place is not None:
             self.ask("GONE", connection.place)
 
-    async def serve(self, reader: int, writer: object) -> None:
+    async def serve(self, reader: Any, writer: Any) -> None:
         """Serves a socket until it ends."""
         connection = SocketConnection(writer, self.notify)
         self.serving.add(asyncio.current_task())
@@ -392,7 +393,7 @@ class LogonServer:
             self.program.stdout.close()
 
 
-async def first_of(*events: object) -> None:
+async def first_of(*events: Any) -> None:
     """Waits until one of these happens."""
     tasks = [asyncio.ensure_future(event.wait()) for event in events]
     try:
@@ -407,9 +408,9 @@ def encoded(text: str) -> str:
     return text.encode(errors="surrogateescape").hex().upper() or "-"
 
 
-def written(word: str) -> object:
+def written(word: str) -> Any:
     return f"{word:X}" if isinstance(word, int) else word
 
 
-def read_bytes(word: str) -> object:
+def read_bytes(word: Any) -> Any:
     return b"" if word == "-" else bytes.fromhex(word)

@@ -1,6 +1,7 @@
 """The machines that a command drives: a program with its words, which runs a script and prints a transcript (docs/FORMATS.md)."""
 from __future__ import annotations
 
+from typing import Any
 from collections.abc import Iterator
 import os
 import re
@@ -27,7 +28,7 @@ STORAGE = re.compile("([1-9][0-9]{0,6})([KM])")
 class ScriptRefused(Failure):
     """A script that the program refuses, and the number of its first wrong line."""
 
-    def __init__(self, line: bytes, *lines: object) -> None:
+    def __init__(self, line: Any, *lines: Any) -> None:
         super().__init__(REFUSED, *lines)
         self.line = line
 
@@ -35,9 +36,7 @@ class ScriptRefused(Failure):
 class Machines:
     """A program, its words and the users whose machines it runs; `run` gives it a script."""
 
-    def __init__(
-        self, name: str, before: str, volumes: object, users: list, devices: object
-    ) -> None:
+    def __init__(self, name: Any, before: Any, volumes: Any, users: Any, devices: Any) -> None:
         self.name = name
         self.before = before
         self.volumes = volumes
@@ -52,7 +51,7 @@ class Machines:
     def close(self) -> None:
         self.folder.cleanup()
 
-    def words(self, script: str) -> list:
+    def words(self, script: Any) -> list:
         """The words after the program's name, for a script that is written for them."""
         path = os.path.join(self.folder.name, "script")
         with open(path, "wb") as file:
@@ -63,7 +62,7 @@ class Machines:
         """Those for a script that the program is given part by part."""
         return [*self.before[:-1], "--follow", "--", self.before[-1], *self.volumes]
 
-    def reason(self, script: str, line: bytes) -> list:
+    def reason(self, script: Any, line: Any) -> list:
         """Why a line of a script is refused, as a list of lines, which is empty where it cannot be found out."""
         is_bare = self.name == "bare370"
         directory = b"" if is_bare else read_file(self.before[-1])
@@ -72,10 +71,10 @@ class Machines:
         )
         return [found] if found else []
 
-    def crate(self) -> object:
+    def crate(self) -> Any:
         return self.name + "_cli"
 
-    def program(self) -> object:
+    def program(self) -> Any:
         self.path = self.path or ask_build("path", self.crate())
         return self.path
 
@@ -99,7 +98,7 @@ class Machines:
         self.is_built = True
         self.of_nothing = done.stdout
 
-    def run(self, script: str) -> object:
+    def run(self, script: Any) -> Any:
         """The transcript of a script, both as bytes."""
         if not self.is_built:
             self.build()
@@ -117,14 +116,14 @@ class Machines:
         raise failure(done.returncode, findings)
 
 
-def failure(status: object, findings: object) -> object:
+def failure(status: Any, findings: Any) -> Any:
     """The failure that a program's end with this status is, and what it reported."""
     if status < 0:
         return Failure(FILE_FAILED, f"the program was ended by signal {-status}")
     return Failure(status, *(item for item in findings if item))
 
 
-def read_storage(text: str) -> object:
+def read_storage(text: str) -> Any:
     """How many pages a size of storage has, as a directory or bare370 takes it."""
     found = STORAGE.fullmatch(text)
     kilobytes = int(found[1]) * (1024 if found[2] == "M" else 1) if found else 0
@@ -133,7 +132,7 @@ def read_storage(text: str) -> object:
     return kilobytes // 4
 
 
-def pages_of(text: str) -> object:
+def pages_of(text: str) -> Any:
     """How many pages a stated storage has, and none where the program refuses it."""
     try:
         return read_storage(text)
@@ -141,7 +140,7 @@ def pages_of(text: str) -> object:
         return 0
 
 
-def statements(directory: str) -> Iterator:
+def statements(directory: Any) -> Iterator:
     """The words of each statement of a directory."""
     for line in directory.decode("latin-1").split("\n"):
         words = [part for part in line.split(" ") if part]
@@ -149,7 +148,7 @@ def statements(directory: str) -> Iterator:
             yield words
 
 
-def stated(directory: str) -> tuple:
+def stated(directory: Any) -> tuple:
     """The users of a directory with their pages, and what is at each of their addresses; what is wrong the program says."""
     users, devices = {}, {}
     for words in statements(directory):
@@ -163,7 +162,7 @@ def stated(directory: str) -> tuple:
     return users, devices
 
 
-def of_bare(storage: object, volumes: object) -> object:
+def of_bare(storage: Any, volumes: Any) -> Any:
     """One machine of its own with its devices."""
     try:
         pages = read_storage(storage)
@@ -178,7 +177,7 @@ def of_bare(storage: object, volumes: object) -> object:
     return Machines("bare370", [storage], volumes, {BARE: pages}, {BARE: devices})
 
 
-def of_directory(directory: str, sizes: str, volumes: object) -> object:
+def of_directory(directory: Any, sizes: Any, volumes: Any) -> Any:
     """The machines of the users of a directory."""
     users, devices = stated(read_file(directory))
     if not users:
@@ -191,13 +190,13 @@ SIZE_OPTIONS = {"--frames": number(16, 4096), "--slots": number(0, 65536)}
 UNPROVED_OPTION = {"--unproved": None}
 
 
-def use_unproved(found: object) -> None:
+def use_unproved(found: Any) -> None:
     """Has this command, and those that it starts, run programs without proof where the option asks for it."""
     if found["--unproved"]:
         os.environ[UNPROVED] = "1"
 
 
-def read_machines(words: list[str], options: object, paths_after: object) -> tuple:
+def read_machines(words: list[str], options: Any, paths_after: Any) -> tuple:
     """The machines that the words name, the other options and the paths that stand after the first one."""
     found, paths = read_arguments(
         words, {"--bare": None} | UNPROVED_OPTION | SIZE_OPTIONS | options, 1 + paths_after, 1000
@@ -218,7 +217,7 @@ def read_machines(words: list[str], options: object, paths_after: object) -> tup
     return of_directory(first, sizes, volumes), found, trailing
 
 
-def room_for_all(machines: object) -> None:
+def room_for_all(machines: Any) -> None:
     """Frames and slots in which every page of every user has room, so that no event is ever reported that none is free."""
     pages = sum(machines.users.values())
     frames = min(4096, max(16, pages))
@@ -231,7 +230,7 @@ def room_for_all(machines: object) -> None:
     ]
 
 
-def choose_user(machines: object, name: str) -> object:
+def choose_user(machines: Any, name: str) -> Any:
     """The user of this name, or the first by default."""
     if name is None:
         return next(iter(machines.users))
@@ -240,7 +239,7 @@ def choose_user(machines: object, name: str) -> object:
     return name
 
 
-def parts(transcript: object) -> tuple:
+def parts(transcript: Any) -> tuple:
     """The lines of the events, and those of the files for the operator."""
     lines = transcript.decode(errors="surrogateescape").split("\n")[:-1]
     for place, line in enumerate(lines):

@@ -1,6 +1,7 @@
 """A user's minidisks with their tracks, as they were when the session began: the volumes of an installation change at its end only."""
 from __future__ import annotations
 
+from typing import Any
 import os
 import re
 import subprocess
@@ -17,7 +18,7 @@ VOLUME = re.compile(rb"VOLUME (\S+) CYLINDERS (\d+)")
 class Minidisks:
     """Finds out of which tracks minidisks have what, once for each volume."""
 
-    def __init__(self, directory: str, volumes: object) -> None:
+    def __init__(self, directory: Any, volumes: Any) -> None:
         self.volumes = volumes
         self.maps = None
         self.reading = threading.Lock()
@@ -29,7 +30,7 @@ class Minidisks:
             elif words[0] == "MDISK" and len(words) == 7:
                 self.stated.setdefault(user, []).append(words[1:])
 
-    def of(self, user: str) -> list:
+    def of(self, user: Any) -> list:
         """A user's minidisks: address, volume, right, cylinders, and of each track that is not blank its cylinder, its head, its
         records and the hundredths of it that are full."""
         with self.reading:
@@ -37,9 +38,7 @@ class Minidisks:
                 self.maps = dict(map(self.read, self.volumes))
         return [self.disk(*words) for words in self.stated.get(user, [])]
 
-    def disk(
-        self, address: int, _: int, first: int, count: int, serial: str, right: object
-    ) -> dict:
+    def disk(self, address: Any, _: Any, first: Any, count: Any, serial: Any, right: Any) -> dict:
         first, count = int(first), int(count)
         tracks = [
             (cylinder - first, *rest)
@@ -54,7 +53,7 @@ class Minidisks:
             "tracks": tracks,
         }
 
-    def read(self, volume: object) -> tuple:
+    def read(self, volume: Any) -> tuple:
         """The serial number of a volume, and its tracks."""
         if ask_build("tell", "volume_cli").endswith("not built"):
             raise OSError(0, "the program volume_cli is not built: run bin/trackmap once by hand")

@@ -1,6 +1,7 @@
 """What an operator of an installation types, and what is answered."""
 from __future__ import annotations
 
+from typing import Any
 import asyncio
 import contextlib
 import datetime
@@ -42,7 +43,7 @@ class NotDone(Exception):
 class Operator:
     """Does the commands of the operators."""
 
-    def __init__(self, installation: object, framemap: object) -> None:
+    def __init__(self, installation: Any, framemap: Any) -> None:
         self.installation = installation
         self.engine = installation.engine
         self.framemap = framemap
@@ -55,12 +56,12 @@ class Operator:
                          "logmsg": self.set_log_message, "logon": self.set_logon, "force": self.force, "suspend": self.suspend, "end": self.end,
                          "help": self.help}  # fmt: skip
 
-    def read(self, loop: object, lines: list) -> None:
+    def read(self, loop: Any, lines: list) -> None:
         """Takes commands from a stream as they come; answers go to everybody."""
         for line in lines:
             loop.call_soon_threadsafe(self.do, line.strip(), self.notify)
 
-    def do(self, line: bytes, reply: object, end: object = lambda how: None) -> None:
+    def do(self, line: Any, reply: Any, end: Any = lambda how: None) -> None:
         """Does a command. How it ended is reported when its answer is whole."""
         word, _, rest = line.partition(" ")
         if not word:
@@ -81,11 +82,11 @@ class Operator:
             how = NOT_DONE
         end(how or DONE)
 
-    def help(self, rest: str, reply: object) -> None:
+    def help(self, rest: str, reply: Any) -> None:
         for line in HELP.split("\n"):
             reply(line)
 
-    def named(self, name: str) -> object:
+    def named(self, name: str) -> Any:
         user = self.engine.users.get(name.upper())
         if not user:
             raise NotDone(f"there is no user {name}")
@@ -99,7 +100,7 @@ class Operator:
             if user.is_on and user is not self.installation.receiver
         ]
 
-    def status(self, rest: str, reply: object) -> None:
+    def status(self, rest: str, reply: Any) -> None:
         engine, desk, recording = self.engine, self.installation.desk, self.engine.recording
         reply(f"{len(self.on())} on, {desk.strangers} about to log on, {engine.parts} parts, "
               f"{'somebody computes' if engine.pace.is_busy else 'all wait'}; "
@@ -118,7 +119,7 @@ class Operator:
         for text in self.ending[:1]:
             reply(text)
 
-    def users(self, rest: str, reply: object) -> None:
+    def users(self, rest: str, reply: Any) -> None:
         for user in self.on():
             where = "" if user.terminal.is_there else ", at no terminal"
             reply(
@@ -126,14 +127,14 @@ class Operator:
             )
         reply(f"{len(self.on())} on")
 
-    def spool(self, rest: str, reply: object) -> None:
+    def spool(self, rest: str, reply: Any) -> None:
         printouts = self.engine.printouts.all
         for printout in printouts[-MOST_SPOOL_LINES:]:
             reply(f"{printout.name} {printout.lines} lines, {printout.state}")
         reply(f"{len(printouts)} files, the last {MOST_SPOOL_LINES} are shown" if len(printouts) > MOST_SPOOL_LINES
               else f"{len(printouts)} files")  # fmt: skip
 
-    def frames(self, reply: object, end: object) -> None:
+    def frames(self, reply: Any, end: Any) -> None:
         """Has bin/framemap do the recording as it is now, in parallel to all else."""
         if self.mapping and self.mapping.is_alive():
             reply("the frames are being looked for")
@@ -144,7 +145,7 @@ class Operator:
         )
         self.mapping.start()
 
-    def map_frames(self, script: str, reply: object, end: object) -> None:
+    def map_frames(self, script: str, reply: Any, end: Any) -> None:
         # a build would take minutes in silence
         if ask_build("tell", "frame_map").endswith("not built"):
             reply("the program frame_map is not built: run bin/framemap once by hand")
@@ -157,7 +158,7 @@ class Operator:
             reply(line)
         end(NOT_DONE if done.returncode else DONE)
 
-    def message(self, text: str, reply: object) -> None:
+    def message(self, text: str, reply: Any) -> None:
         """A line for the user whose name is the first word, else for each terminal."""
         word, _, rest = text.partition(" ")
         user = self.engine.users.get(word)
@@ -177,12 +178,12 @@ class Operator:
         for user in self.engine.users.values():
             user.terminal.show(f"OPERATOR: {plain(text)}")
 
-    def set_log_message(self, text: str, reply: object) -> None:
+    def set_log_message(self, text: str, reply: Any) -> None:
         if text:
             self.installation.set_log_message("" if text == "off" else plain(text))
         reply(self.installation.desk.log_message or "there is no log message")
 
-    def set_logon(self, text: str, reply: object) -> None:
+    def set_logon(self, text: str, reply: Any) -> None:
         desk = self.installation.desk
         if text not in ("", "open", "closed"):
             raise NotDone("logon closed or logon open")
@@ -190,7 +191,7 @@ class Operator:
             desk.is_closed = text == "closed"
         reply(f"logon is {'closed' if desk.is_closed else 'open'}")
 
-    def force(self, name: str, reply: object) -> None:
+    def force(self, name: str, reply: Any) -> None:
         user = self.named(name)
         if not self.installation.is_person(user):
             raise NotDone(f"nobody logs on as {user.name}")
@@ -198,12 +199,12 @@ class Operator:
             raise NotDone(f"{user.name} is not on")
         self.installation.force(user, "by the operator")
 
-    def suspend(self, rest: str, reply: object) -> object:
+    def suspend(self, rest: str, reply: Any) -> Any:
         self.notify("the installation is suspended")
         self.installation.stop()
         return ENDS
 
-    def end(self, rest: str, reply: object) -> object:
+    def end(self, rest: Any, reply: Any) -> Any:
         """Ends the session, now or later."""
         if rest == "cancel":
             return self.cancel()
@@ -223,7 +224,7 @@ class Operator:
         self.installation.stop(is_end=True)
         return ENDS
 
-    def end_at(self, hour: object, minute: str, reply: object) -> None:
+    def end_at(self, hour: Any, minute: Any, reply: Any) -> None:
         self.cancel()
         now = datetime.datetime.now()
         when = now.replace(hour=hour, minute=minute, second=0, microsecond=0)
@@ -246,7 +247,7 @@ class Operator:
         os.unlink(self.ending_path)
         self.notify(f"the session was to end at {text}, which is past: it goes on")
 
-    def plan_end(self, when: object) -> None:
+    def plan_end(self, when: Any) -> None:
         loop, left = asyncio.get_running_loop(), (when - datetime.datetime.now()).total_seconds()
         self.ending = [f"the session ends at {when:{MINUTE}}"]
         for minutes in WARNED_MINUTES:
@@ -263,12 +264,12 @@ class Operator:
             os.unlink(self.ending_path)
 
 
-def plain(text: str) -> str:
+def plain(text: str) -> Any:
     """A text without what a terminal takes for something else."""
     return "".join(item if " " <= item <= "~" else " " for item in text)
 
 
-def age(seconds: object) -> str:
+def age(seconds: Any) -> str:
     """A time span in words."""
     for unit, name in ((86400, "days"), (3600, "hours"), (60, "minutes")):
         if seconds >= 2 * unit:

@@ -1,6 +1,7 @@
 """Maps as pictures: SVG of squares, each with what it is as its title, and the same as text."""
 from __future__ import annotations
 
+from typing import Any
 from xml.sax.saxutils import escape
 
 
@@ -16,16 +17,16 @@ class Picture:
         self.parts = []
         self.width = self.height = 0
 
-    def grow(self, x: object, y: object) -> None:
+    def grow(self, x: Any, y: Any) -> None:
         self.width, self.height = max(self.width, x), max(self.height, y)
 
-    def square(self, x: object, y: object, color: object, title: object) -> None:
+    def square(self, x: Any, y: Any, color: Any, title: Any) -> None:
         self.grow(x + SIZE, y + SIZE)
         self.parts.append(
             f'<rect x="{x}" y="{y}" width="{SIZE - 1}" height="{SIZE - 1}" fill="{color}"><title>{escape(title)}</title></rect>'
         )
 
-    def text(self, x: object, y: object, text: str) -> None:
+    def text(self, x: Any, y: Any, text: str) -> None:
         self.grow(x + 7 * len(text), y + 4)
         self.parts.append(f'<text x="{x}" y="{y}">{escape(text)}</text>')
 
@@ -36,12 +37,12 @@ class Picture:
         return "\n".join([head, ground, *self.parts, "</svg>"])
 
 
-def color_of(place: object) -> str:
+def color_of(place: Any) -> str:
     """A color for each user, neighbours far apart on the circle."""
     return f"hsl({place * 137 % 360},65%,{45 + place * 7 % 25}%)"
 
 
-def shade_of(part: bytes) -> str:
+def shade_of(part: Any) -> str:
     """A color for how full something is: from light to dark."""
     return f"hsl(210,70%,{90 - round(65 * part)}%)"
 

@@ -1,6 +1,7 @@
 """Makes the pages of printouts in a process of its own, as fast as the host has time left: Printing is the other side of it."""
 from __future__ import annotations
 
+from typing import Any
 import json
 import os
 import subprocess
@@ -19,7 +20,7 @@ class Printing:
     def __init__(self) -> None:
         self.process = None
 
-    def write(self, path: str, heading: object, body: object) -> None:
+    def write(self, path: Any, heading: Any, body: Any) -> None:
         """Has a file written whole. An OSError says why that failed."""
         if not self.process or self.process.poll() is not None:
             streams = {"stdin": subprocess.PIPE, "stdout": subprocess.PIPE}
@@ -55,7 +56,7 @@ class Printing:
             self.process = None
 
 
-def write_pages(path: str, heading: object, body: object) -> object:
+def write_pages(path: str, heading: Any, body: Any) -> Any:
     """Writes the pages of a file; why that failed, or nothing."""
     try:
         text = page_text(HEADING.fullmatch(heading)[1], entries_in(body), PAGE_LENGTH)

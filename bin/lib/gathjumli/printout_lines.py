@@ -1,6 +1,7 @@
 """Files for the operator as pages and cards: what bin/printouts makes of a transcript."""
 from __future__ import annotations
 
+from typing import Any
 import re
 
 from gathjumli.cli import Failure, REFUSED
@@ -16,7 +17,7 @@ SKIPS = {0x89, 0x8B}
 class Paper:
     """Pages of lines, each line the texts that were printed over each other."""
 
-    def __init__(self, length: int) -> None:
+    def __init__(self, length: Any) -> None:
         self.length = length
         self.pages = [{}]
         self.line = 0
@@ -24,7 +25,7 @@ class Paper:
     def print(self, text: str) -> None:
         self.pages[-1].setdefault(self.line, []).append(text)
 
-    def space(self, lines: list) -> None:
+    def space(self, lines: Any) -> None:
         self.line += lines
         while self.line >= self.length:
             self.line -= self.length
@@ -46,7 +47,7 @@ class Paper:
         )
 
 
-def struck(texts: object) -> object:
+def struck(texts: Any) -> Any:
     """Texts that were printed over each other as one, or with carriage returns where two characters meet."""
     texts = [text for text in (text.rstrip(" ") for text in texts) if text]
     if len(texts) < 2:
@@ -60,7 +61,7 @@ def struck(texts: object) -> object:
     return merged
 
 
-def printed(lines: list, length: int) -> object:
+def printed(lines: Any, length: Any) -> Any:
     """The pages of a printer's entries."""
     paper = Paper(length)
     for line in lines:
@@ -76,7 +77,7 @@ def printed(lines: list, length: int) -> object:
     return paper.text()
 
 
-def files_of(lines: list) -> object:
+def files_of(lines: Any) -> Any:
     """Each file's kind, number and user, and its lines."""
     found = []
     for line in lines:
@@ -90,11 +91,11 @@ def files_of(lines: list) -> object:
     return found
 
 
-def page_text(kind: str, entries: object, length: int) -> object:
+def page_text(kind: str, entries: Any, length: int) -> Any:
     """A file's entries as they are printed on pages, or a line a card."""
     return printed(entries, length) if kind == "PRT" else "".join(f"{entry}\n" for entry in entries)
 
 
-def entries_in(body: object) -> list:
+def entries_in(body: Any) -> list:
     """The entries of a file as a program's answer has them."""
     return [line[3:] for line in body.decode(errors="surrogateescape").split("\n")[:-1]]

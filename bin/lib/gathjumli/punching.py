@@ -1,6 +1,7 @@
 """Lines of a script that have a machine punch a deck of cards of any bytes: a DECK line has characters only."""
 from __future__ import annotations
 
+from typing import Any
 from collections.abc import Iterator
 
 
@@ -19,7 +20,7 @@ def stores(address: int, data: bytes) -> Iterator:
         yield f"STORE {address + at:X} {data[at : at + 16].hex().upper()}"
 
 
-def punched(cards: list, punch: object) -> Iterator:
+def punched(cards: list, punch: Any) -> Iterator:
     """What is typed and done to punch some cards: one channel program, started and waited for."""
     yield from stores(CARDS_AT, b"".join(cards))
     words = b""
@@ -39,13 +40,13 @@ def punched(cards: list, punch: object) -> Iterator:
     yield "#CP"
 
 
-def all_punched(cards: list, punch: object) -> Iterator:
+def all_punched(cards: list, punch: Any) -> Iterator:
     """What is typed and done to punch all cards, in batches."""
     for at in range(0, len(cards), BATCH):
         yield from punched(cards[at : at + BATCH], punch)
 
 
-def script_line(line: bytes, user: str, punch: object) -> object:
+def script_line(line: Any, user: Any, punch: Any) -> Any:
     return {"RUN": f"RUN {user} 1", "SERVE": f"SERVE {user} {punch}"}.get(
         line, f"LINE {user} {line}"
     )
@@ -56,7 +57,7 @@ def cards_of(data: bytes) -> list:
     return [data[at : at + CARD] for at in range(0, len(data), CARD)]
 
 
-def sent(cards: list, sender: object, punch: object, receiver: object) -> Iterator:
+def sent(cards: Any, sender: Any, punch: Any, receiver: Any) -> Iterator:
     """The lines that have the machine of a user send a deck to another's reader, in pieces that take a moment each. It is on for
     that alone."""
     # what it had begun to punch when the host crashed goes to the operator, and not into this deck
@@ -74,5 +75,5 @@ def sent(cards: list, sender: object, punch: object, receiver: object) -> Iterat
     yield script_of([f"CLOSE {punch}", "LOGOFF"], sender, punch)
 
 
-def script_of(lines: list, sender: object, punch: object) -> bytes:
+def script_of(lines: Any, sender: Any, punch: Any) -> bytes:
     return "".join(f"{script_line(line, sender, punch)}\n" for line in lines).encode()

@@ -7,6 +7,7 @@ FAULT is that line; a file that the command does not have is empty, and STORAGE 
 be found out is left out."""
 from __future__ import annotations
 
+from typing import Any
 from collections.abc import Iterator
 import os
 import re
@@ -35,13 +36,13 @@ LAST_CYLINDER = 807
 MOST_CHARACTERS = 400
 
 
-def lines_of(data: bytes) -> object:
+def lines_of(data: Any) -> Any:
     """The lines of a text; each byte is a character."""
     lines = data.decode("latin-1").split("\n")
     return lines if lines[-1] else lines[:-1]
 
 
-def invisible(line: bytes) -> str | None:
+def invisible(line: Any) -> str | None:
     """What of a line a reader does not see, or None."""
     if line.startswith("\xef\xbb\xbf"):
         return "a byte order mark stands before the line: save the file without it"
@@ -62,7 +63,7 @@ def is_number(text: str, least: int, most: int) -> bool:
 class Users:
     """Who may be named in a script, and the addresses of each one's devices."""
 
-    def __init__(self, devices: object, whose: object) -> None:
+    def __init__(self, devices: Any, whose: Any) -> None:
         self.devices = devices
         self.whose = whose
 
@@ -71,7 +72,7 @@ class Users:
             return f"names of users are in upper case: {name.upper()}, and not {name}"
         return f"there is no user {name or '(no name)'}: {self.whose} {', '.join(self.devices)}"
 
-    def no_device(self, name: str, address: int) -> object:
+    def no_device(self, name: str, address: Any) -> Any:
         found = self.devices[name]
         if address.upper() in found:
             return f"addresses are in upper case: {address.upper()}, and not {address}"
@@ -80,7 +81,7 @@ class Users:
         )
 
 
-def users_of(directory: str) -> object:
+def users_of(directory: Any) -> Any:
     """The users of a directory."""
     devices = {}
     for words in (item.split() for item in lines_of(directory) if not item.startswith("*")):
@@ -91,7 +92,7 @@ def users_of(directory: str) -> object:
     return Users(devices, "the directory has")
 
 
-def bare_user(disks: object) -> object:
+def bare_user(disks: Any) -> Any:
     """The user of one machine of its own with so many disks."""
     return Users(
         {
@@ -118,7 +119,7 @@ def cards_before(lines: list, number: int) -> bool:
     return cards > 0
 
 
-def script_reason(lines: list, number: int, users: list) -> object:
+def script_reason(lines: list, number: int, users: list) -> Any:
     """Why a line of a script is refused."""
     line = lines[number - 1]
     if cards_before(lines, number):
@@ -136,7 +137,7 @@ def script_reason(lines: list, number: int, users: list) -> object:
     )
 
 
-def wrong_verb(line: bytes, first: int) -> object:
+def wrong_verb(line: Any, first: Any) -> Any:
     if line.lstrip().startswith("*") or line.startswith(("#", ";", "//")):
         return "a comment begins with * in the first column"
     if line.startswith((" ", "\t")):
@@ -161,7 +162,7 @@ def wrong_blanks(first: int, words: list[str]) -> str | None:
     )
 
 
-def wrong_operands(first: int, words: list[str], users: list, lines_after: object) -> object:
+def wrong_operands(first: Any, words: list[str], users: Any, lines_after: Any) -> Any:
     wanted = OPERANDS[first]
     if len(words) != len(wanted) and first != "LINE" or not words:
         return f"{first} is written: {first} {' '.join(wanted)}"
@@ -181,7 +182,7 @@ def wrong_operands(first: int, words: list[str], users: list, lines_after: objec
 # --- directories ---
 
 
-def directory_reason(lines: list, fault: object, numbers: object) -> object:
+def directory_reason(lines: list, fault: Any, numbers: Any) -> Any:
     """Why a line of a directory is refused."""
     number = numbers[-1]
     words = [part for part in lines[number - 1].split(" ") if part]
@@ -206,7 +207,7 @@ def extent_text(words: list[str]) -> str:
     return f"cylinders {start} to {start + count - 1}" if count else f"no cylinder from {start} on"
 
 
-def unknown_statement(line: bytes, first: int) -> str:
+def unknown_statement(line: Any, first: Any) -> str:
     if line.lstrip().startswith("*") or line.startswith(("#", ";", "//")):
         return "a comment begins with * in the first column"
     if first.upper() in STATEMENTS:
@@ -214,7 +215,7 @@ def unknown_statement(line: bytes, first: int) -> str:
     return f"a statement is USER, CONSOLE, SPOOL or MDISK, and not {first}"
 
 
-def wrong_statement(words: list[str], has_user: object) -> object:
+def wrong_statement(words: list[str], has_user: Any) -> Any:
     verb = words[0]
     if len(words) != len(STATEMENTS[verb].split(" READER")[0].split()) + (verb == "SPOOL"):
         return f"it is written: {STATEMENTS[verb]}"
@@ -251,7 +252,7 @@ def wrong_device(words: list[str]) -> str:
     return f"the mode is R or W, and not {words[6]}"
 
 
-def repeated(lines: list, fault: object, number: int, words: list[str]) -> str:
+def repeated(lines: list, fault: Any, number: int, words: list[str]) -> str:
     """Returns the reason of a statement that an earlier one excludes."""
     place, of_user = user_before(lines, number)
     if fault == "DuplicateUser":
@@ -270,7 +271,7 @@ def repeated(lines: list, fault: object, number: int, words: list[str]) -> str:
     return f"a user has one {kind}, and this is the second of {place}"
 
 
-def user_before(lines: list, number: int) -> tuple:
+def user_before(lines: Any, number: Any) -> tuple:
     """The user to whom a line belongs, and the lines with his devices before it, each with its number."""
     name, found = "", []
     for at, words in enumerate((line.split() for line in lines[: number - 1]), 1):
@@ -284,7 +285,7 @@ def user_before(lines: list, number: int) -> tuple:
 # --- texts of volumes ---
 
 
-def text_reason(lines: list, number: int) -> object:
+def text_reason(lines: list, number: int) -> Any:
     """Why a line of the text of a volume is refused."""
     line = lines[number - 1] if number <= len(lines) else ""
     words = line.split(" ")
@@ -313,7 +314,7 @@ def wrong_volume(words: list[str]) -> str:
     return f"a volume has 1 to {MOST_CYLINDERS} cylinders, a number of at most 7 digits, and not {words[2]}"
 
 
-def wrong_text_verb(line: bytes, first: int) -> str:
+def wrong_text_verb(line: Any, first: Any) -> str:
     if not line:
         return "the text of a volume has no empty lines"
     if line.startswith(("*", "#", ";")):
@@ -323,7 +324,7 @@ def wrong_text_verb(line: bytes, first: int) -> str:
     return f"a line begins with HOME or REC, and not with {first}"
 
 
-def wrong_track(words: list[str], cylinders: int) -> object:
+def wrong_track(words: list[str], cylinders: int) -> Any:
     if len(words) != {"HOME": 4, "REC": 6}[words[0]]:
         return (
             "it is written: "
@@ -354,7 +355,7 @@ def wrong_record(words: list[str]) -> str:
 # --- images and boots ---
 
 
-def image_reason(paths: object, fault: object) -> str | None:
+def image_reason(paths: Any, fault: Any) -> str | None:
     """Which image is refused, and why."""
     for path in paths:
         data = read(path)
@@ -366,7 +367,7 @@ def image_reason(paths: object, fault: object) -> str | None:
     return None
 
 
-def image_text(data: bytes, fault: object) -> str:
+def image_text(data: bytes, fault: Any) -> str:
     if data[:8] in (b"CKD_P370", b"CKD_C370"):
         return "it is an image of Hercules: bin/img2vol makes a volume of it"
     if data[:7] == b"VOLUME ":
@@ -392,7 +393,7 @@ def serial_of(path: str) -> str:
     return read(path)[4:10].decode("latin-1").rstrip(" ")
 
 
-def boot_reason(fault: object, directory: str, paths: object) -> str:
+def boot_reason(fault: Any, directory: Any, paths: Any) -> str:
     """Which serial number, which user."""
     kind, *rest = fault.split()
     if kind == "TooFewFrames":
@@ -423,7 +424,7 @@ def boot_reason(fault: object, directory: str, paths: object) -> str:
     return f"line {at} gives {rest[0]} {extent_text(words)} of {words[5]}, and {path} has cylinders 0 to {cylinders - 1}"
 
 
-def minidisks(directory: str) -> Iterator:
+def minidisks(directory: Any) -> Iterator:
     for at, words in enumerate((item.split() for item in lines_of(directory)), 1):
         if words[:1] == ["MDISK"] and len(words) == 7:
             yield at, words
@@ -432,7 +433,7 @@ def minidisks(directory: str) -> Iterator:
 # --- all faults ---
 
 
-def read(path: str) -> object:
+def read(path: Any) -> Any:
     """The bytes of a file; of what can be read only once there are none."""
     if not os.path.isfile(path):
         return b""
@@ -441,13 +442,13 @@ def read(path: str) -> object:
 
 
 def reason(
-    fault: object,
-    directory: bytes = b"",
-    script: bytes = b"",
-    text: bytes = b"",
+    fault: Any,
+    directory: Any = b"",
+    script: Any = b"",
+    text: Any = b"",
     is_bare: bool = False,
     images: tuple = (),
-) -> object:
+) -> Any:
     """Why, in words, or None where it cannot be found out; the texts are given as bytes."""
     found = find_reason(fault, directory, script, text, is_bare, images)
     return found and "".join(
@@ -457,8 +458,8 @@ def reason(
 
 
 def find_reason(
-    fault: object, directory: str, script: str, text: str, is_bare: object, images: object
-) -> object:
+    fault: Any, directory: Any, script: Any, text: Any, is_bare: Any, images: Any
+) -> Any:
     found = re.fullmatch("fault: (script|text) Line ([0-9]+)", fault)
     try:
         if found and found[1] == "script":
@@ -478,9 +479,7 @@ def find_reason(
         return None
 
 
-def main(
-    fault: object, directory: str, script: str, text: str, storage: object, *images: object
-) -> None:
+def main(fault: Any, directory: Any, script: Any, text: Any, storage: Any, *images: Any) -> None:
     sys.stdout.reconfigure(encoding="utf-8", errors="surrogateescape")
     found = reason(fault, read(directory), read(script), read(text), bool(storage), images)
     if found:

@@ -9,7 +9,7 @@ import hashlib
 import os
 import re
 import time
-from typing import NamedTuple
+from typing import Any, NamedTuple
 
 from gathjumli.machines import statements
 from gathjumli.cli import Failure, REFUSED
@@ -54,16 +54,16 @@ class Base(NamedTuple):
         return [TITLE, *(text.encode(errors="surrogateescape") for text in texts)]
 
 
-def read_whole(path: str) -> object:
+def read_whole(path: str) -> Any:
     with open(path, "rb") as file:
         return file.read()
 
 
-def sum_of(data: bytes) -> object:
+def sum_of(data: bytes) -> Any:
     return hashlib.sha256(data).hexdigest()[:SUM_DIGITS]
 
 
-def sum_of_file(path: str) -> object:
+def sum_of_file(path: str) -> Any:
     known = hashlib.sha256()
     with open(path, "rb") as file:
         while data := file.read(1 << 20):
@@ -82,7 +82,7 @@ def without_passwords(directory: str) -> bytes:
     return "".join(" ".join(item) + "\n" for item in stated).encode("latin-1")
 
 
-def entries_of(file: object) -> Iterator:
+def entries_of(file: Any) -> Iterator:
     """Each entry of a script that is there whole: a line, or a deck with its cards."""
     while (line := file.readline()).endswith(b"\n"):
         lines = [line]
@@ -93,12 +93,12 @@ def entries_of(file: object) -> Iterator:
         yield b"".join(lines)
 
 
-def stamp_in(entry: object) -> object:
+def stamp_in(entry: Any) -> Any:
     """The time and the sum of a stamp, or None."""
     return STAMP.fullmatch(entry) if entry.startswith(b"* ") and entry[2:3].isdigit() else None
 
 
-def stamped(file: object) -> Iterator:
+def stamped(file: Any) -> Iterator:
     """The entries of a recording in groups, each with the time of the stamp that follows it, or an empty time."""
     group = []
     for entry in entries_of(file):
@@ -113,13 +113,13 @@ def stamped(file: object) -> Iterator:
     yield "", group
 
 
-def known_part(line: bytes) -> object:
+def known_part(line: bytes) -> Any:
     """What of a first line is compared: not the path, nor after the sources' sum the version."""
     words = line.split(b" ", 3)
     return words[:3] if words[1] in (b"PROGRAM", b"DIRECTORY", b"VOLUME") else words
 
 
-def differing(found: object, wanted: object) -> str | None:
+def differing(found: Any, wanted: Any) -> str | None:
     """What the first lines of a recording tell otherwise than what it is to go on with, in words, or None."""
     if len(found) != len(wanted):
         return "it has another number of volumes"
@@ -140,7 +140,7 @@ class Recording:
     """A recording that goes on. Nobody else may write it meanwhile. Each part is followed by a stamp: the time, and the sum of all
     bytes before."""
 
-    def __init__(self, path: str) -> None:
+    def __init__(self, path: Any) -> None:
         self.path = path
         self.turns = 0
         self.stamped = self.written = time.monotonic()
@@ -190,7 +190,7 @@ class Recording:
         self.cut = len(torn)
         self.file.truncate(size)
 
-    def judge(self, entry: object) -> None:
+    def judge(self, entry: Any) -> None:
         """Refuses an entry that is not as it was written."""
         if not entry.startswith(SCRIPT_WORDS):
             raise self.edited(self.lines + 1, "is no line of a recording")
@@ -200,7 +200,7 @@ class Recording:
         if stamp:
             self.judge_stamp(stamp, self.lines + 1)
 
-    def judge_stamp(self, stamp: object, line: bytes) -> None:
+    def judge_stamp(self, stamp: Any, line: Any) -> None:
         if stamp[2] and stamp[2] != self.digits():
             first, last = self.right + 1, line - 1
             which = f"lines {first} to {last} are" if first < last else f"line {first} is"
@@ -213,7 +213,7 @@ class Recording:
         self.right = line
         self.until = stamp[1]
 
-    def edited(self, line: bytes, fault: object, findings: str = "") -> object:
+    def edited(self, line: Any, fault: Any, findings: str = "") -> Any:
         """The failure that a wrong line is, and what can be done."""
         findings = findings or f"line {line} {fault}"
         right = min(self.right, line - 1)
@@ -229,7 +229,7 @@ class Recording:
         self.sum.update(data)
         self.lines += data.count(b"\n")
 
-    def note(self, entry: object) -> None:
+    def note(self, entry: Any) -> None:
         if not self.begun and not entry.startswith(BEGUN):
             self.base.append(entry[:-1])
             return
@@ -240,7 +240,7 @@ class Recording:
         self.last = entry
         self.weight += weight_of(entry)
 
-    def note_comment(self, entry: object) -> None:
+    def note_comment(self, entry: Any) -> None:
         if entry.startswith(BEGUN):
             self.begun = self.begun or entry
             self.until = entry.removeprefix(BEGUN)[:19]
@@ -249,7 +249,7 @@ class Recording:
         elif entry.startswith(PRINTED):
             self.printed.add(entry.removeprefix(PRINTED).decode().rstrip("\n"))
 
-    def begin(self, base: object) -> object:
+    def begin(self, base: Any) -> Any:
         """Begins it on this base, or goes on if it has the same. What it says about that is for the operator."""
         wanted = base.lines()
         if self.base:
@@ -277,21 +277,21 @@ class Recording:
         """The sums of the volumes when the session began."""
         return [line.split(b" ")[2].decode() for line in self.base if line.startswith(b"* VOLUME ")]
 
-    def name(self) -> object:
+    def name(self) -> Any:
         """What this session is called among those of the same files: the time when it was begun."""
         return self.begun_at().translate({ord(" "): "-", ord(":"): None})
 
-    def begun_at(self) -> object:
+    def begun_at(self) -> Any:
         return self.begun.removeprefix(BEGUN).decode()[:19]
 
-    def seconds(self) -> object:
+    def seconds(self) -> Any:
         """How long ago it was begun."""
         return time.time() - calendar.timegm(time.strptime(self.begun_at(), "%Y-%m-%d %H:%M:%S"))
 
-    def size(self) -> object:
+    def size(self) -> Any:
         return os.fstat(self.file.fileno()).st_size
 
-    def free(self) -> object:
+    def free(self) -> Any:
         """The bytes that are free on its disk."""
         found = os.fstatvfs(self.file.fileno())
         return found.f_bavail * found.f_frsize
@@ -316,7 +316,7 @@ class Recording:
                 number += entry.count(b"\n")
         yield from ((line, when, text) for line, text in waiting)
 
-    def whole(self) -> object:
+    def whole(self) -> Any:
         """All that it has."""
         return read_whole(self.path)
 
@@ -335,7 +335,7 @@ class Recording:
             self.put(self.turns_line(), is_stamped=now - self.stamped >= SECONDS_TO_STAMP_TURNS)
             self.written = now
 
-    def turns_line(self) -> object:
+    def turns_line(self) -> Any:
         line = b"AUTO %d\n" % self.turns if self.turns else b""
         self.turns = 0
         return line
@@ -374,7 +374,7 @@ def begun_now() -> bytes:
     return time.strftime(f"{BEGUN.decode()}{TIME}\n", time.gmtime()).encode()
 
 
-def weight_of(entry: object) -> int:
+def weight_of(entry: Any) -> int:
     """About how much the program has to do for an entry, in turns."""
     turns = TURNS.fullmatch(entry) if entry.startswith(b"AUTO ") else None
     return int(turns[1]) if turns else 20

@@ -2,6 +2,7 @@
 opened with an address, gives bytes that are typed, gets bytes that are shown, and is closed."""
 from __future__ import annotations
 
+from typing import Any
 import asyncio
 import socket
 
@@ -18,14 +19,14 @@ class NoSocket:
 
     family = socket.AF_UNIX
 
-    def setsockopt(self, *_: object) -> None:
+    def setsockopt(self, *_: Any) -> None:
         pass
 
 
 class PageLine:
     """A connection in the form of a stream's reader and writer: what is typed appears as bytes, and what is shown goes as lines."""
 
-    def __init__(self, address: int, shown: object, unread: object) -> None:
+    def __init__(self, address: int, shown: Any, unread: Any) -> None:
         self.address = address
         self.shown = shown
         self.unread = unread
@@ -42,7 +43,7 @@ class PageLine:
         self.typed += line.translate(CLEAN) + b"\r\n"
         self.changed.set()
 
-    async def read(self, most: int) -> object:
+    async def read(self, most: int) -> Any:
         while not self.typed and not self.is_closed:
             self.changed.clear()
             await self.changed.wait()
@@ -55,13 +56,13 @@ class PageLine:
         for line in lines:
             self.shown(line.decode("latin-1"))
 
-    def get_write_buffer_size(self) -> object:
+    def get_write_buffer_size(self) -> Any:
         return self.unread()
 
-    def get_extra_info(self, name: str) -> object:
+    def get_extra_info(self, name: str) -> Any:
         return {"peername": (self.address, 0), "socket": NoSocket()}.get(name)
 
-    def is_closing(self) -> object:
+    def is_closing(self) -> Any:
         return self.is_closed
 
     def close(self) -> None:
@@ -71,7 +72,7 @@ class PageLine:
     abort = close
 
 
-async def serve(desk: object, line: bytes) -> None:
+async def serve(desk: Any, line: Any) -> None:
     """Has the desk serve a connection until one of both ends that."""
     try:
         await desk.serve(line, line)
@@ -85,10 +86,10 @@ def users_at(users: list) -> dict:
     return {user.terminal.connection.writer: user for user in there}
 
 
-def place_of(user: str) -> object:
+def place_of(user: Any) -> Any:
     """Where a user's terminal is, or None where he is at none."""
     return (user.terminal.connection.address or "here") if user.terminal.is_there else None
 
 
-def count_strangers(desk: object) -> object:
+def count_strangers(desk: Any) -> Any:
     return desk.strangers

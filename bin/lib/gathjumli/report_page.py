@@ -1,6 +1,7 @@
 """A page of what a recording says, one file without outside parts."""
 from __future__ import annotations
 
+from typing import Any
 from collections.abc import Iterator
 import html
 
@@ -39,7 +40,7 @@ PUNCHES |= {"/": (2, 3), "-": (1,), "&": (0,), ".": (0, 5, 10), ",": (2, 5, 10),
             "?": (2, 9, 10), '"': (9, 10)}  # fmt: skip
 
 
-def page(title: object, about: object, story: object, looks: object, pictures: object) -> str:
+def page(title: Any, about: Any, story: Any, looks: Any, pictures: Any) -> str:
     """The page: about has lines of its head, looks how many pages came until which moment, pictures titles and pictures."""
     pieces = [f"<!doctype html><html lang=en><meta charset=utf-8><title>{html.escape(title)}</title><style>{STYLE}</style>",
               f"<h1>GATHJUMLI</h1><table>{''.join(row(*cells) for cells in about)}</table>",
@@ -59,18 +60,18 @@ def page(title: object, about: object, story: object, looks: object, pictures: o
     return "\n".join(pieces)
 
 
-def place(title: object) -> object:
+def place(title: Any) -> Any:
     return html.escape(title.replace(" ", "-"))
 
 
-def index(users: list, titles: object) -> object:
+def index(users: list, titles: Any) -> Any:
     """Where on the page each user and each picture is."""
     return "<p>" + " · ".join(
         f'<a href="#{place(item)}">{html.escape(item)}</a>' for item in [*users, *titles]
     )
 
 
-def connections(life: object) -> str:
+def connections(life: Any) -> str:
     """When somebody was at a user's terminal, and from where."""
     rows = "".join(f"<tr><td>{begun} UTC<td>{ended + ' UTC' if ended else 'until the end'}<td>{html.escape(address)}"
                    for begun, ended, address in life.connections)  # fmt: skip
@@ -81,11 +82,11 @@ def connections(life: object) -> str:
     )
 
 
-def row(name: str, value: object) -> str:
+def row(name: str, value: Any) -> str:
     return f"<tr><td class=note>{html.escape(name)}<td>{html.escape(value)}"
 
 
-def line_of_time(story: object, looks: object) -> str:
+def line_of_time(story: Any, looks: Any) -> str:
     """A lane for each user, and one of page-ins."""
     time = story.time
     moments = max(1, time.now)
@@ -103,11 +104,11 @@ def line_of_time(story: object, looks: object) -> str:
     return f'<svg class=time width="{WIDTH}" height="{height}" viewBox="0 0 {WIDTH} {height}">{"".join(parts)}</svg>'
 
 
-def x_of(moment: object, moments: object) -> object:
+def x_of(moment: Any, moments: Any) -> Any:
     return LEFT + min(1, moment / moments) * (WIDTH - LEFT - 10)
 
 
-def lane(name: str, top: object, counts: object, width: object, moments: object) -> Iterator:
+def lane(name: str, top: Any, counts: Any, width: Any, moments: Any) -> Iterator:
     yield f'<text x="6" y="{top + 22}" font-size="13" font-family="monospace">{name}</text>'
     yield f'<path d="M{LEFT} {top + 26.5}H{WIDTH - 10}" stroke="#ddd5c0"/>'
     wide = max(1.0, width / moments * (WIDTH - LEFT - 10))
@@ -131,14 +132,12 @@ def lane(name: str, top: object, counts: object, width: object, moments: object)
             )
 
 
-def rectangle(
-    x: object, y: object, width: object, height: object, color: object, title: object
-) -> str:
+def rectangle(x: Any, y: Any, width: Any, height: Any, color: Any, title: Any) -> str:
     size = f'x="{x:.1f}" y="{y:.1f}" width="{width:.1f}" height="{height:.1f}"'
     return f'<rect {size} fill="{color}"><title>{html.escape(title)}</title></rect>'
 
 
-def page_ins(looks: object, top: object, moments: object) -> Iterator:
+def page_ins(looks: Any, top: Any, moments: Any) -> Iterator:
     """How many pages came in each stretch between looks."""
     yield f'<text x="6" y="{top + 22}" font-size="13" font-family="monospace">page-ins</text>'
     most = max((after[1] - before[1] for before, after in zip(looks, looks[1:])), default=0)
@@ -151,7 +150,7 @@ def page_ins(looks: object, top: object, moments: object) -> Iterator:
         )
 
 
-def clock(times: object, y: object, moments: object) -> Iterator:
+def clock(times: Any, y: Any, moments: Any) -> Iterator:
     free = 0
     for moment, text in times:
         x = x_of(moment, moments)
@@ -160,7 +159,7 @@ def clock(times: object, y: object, moments: object) -> Iterator:
             free = x + 70
 
 
-def console(life: object) -> str:
+def console(life: Any) -> str:
     """The console; where many lines are stored one after another they can be unfolded."""
     pieces, stores, shown = [], [], ""
     for kind, text, when in [*life.console, ("", "", "")]:
@@ -181,7 +180,7 @@ def console(life: object) -> str:
     return f'{more}<div class="console">{"".join(pieces)}</div>'
 
 
-def folded(stores: object) -> object:
+def folded(stores: Any) -> Any:
     if len(stores) <= 2 * FEW_STORES:
         return stores
     return [
@@ -189,7 +188,7 @@ def folded(stores: object) -> object:
     ]
 
 
-def deck_pieces(life: object) -> Iterator:
+def deck_pieces(life: Any) -> Iterator:
     for deck in life.decks:
         yield f"<p class=note>a deck from the operator, {len(deck)} cards</p>{cards(deck)}"
 
@@ -213,7 +212,7 @@ def file_pieces(files: list, user: str) -> Iterator:
         yield f"<p class=note>and {len(own) - MOST_FILES} more files</p>"
 
 
-def cards(lines: list) -> object:
+def cards(lines: list) -> Any:
     more = (
         f'<p class="note">and {len(lines) - MOST_CARDS} more cards</p>'
         if len(lines) > MOST_CARDS
@@ -222,7 +221,7 @@ def cards(lines: list) -> object:
     return "".join(map(card, lines[:MOST_CARDS])) + more
 
 
-def card(text: str) -> str:
+def card(text: str) -> Any:
     """A card with its holes and what they say above."""
     parts = []
     for column, character in enumerate(text.ljust(80)[:80]):

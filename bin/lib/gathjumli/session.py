@@ -2,12 +2,9 @@
 the script from its beginning each time."""
 from __future__ import annotations
 
-from typing import TYPE_CHECKING
+from typing import Any
 from gathjumli.following import Follower, NotFollowed
 from gathjumli.machines import ScriptRefused, headings_of, parts
-
-if TYPE_CHECKING:
-    from desk import Account
 
 
 class Replaying:
@@ -16,10 +13,10 @@ class Replaying:
     # whose machine started or stopped in the last part
     states = ()
 
-    def __init__(self, machines: object) -> None:
+    def __init__(self, machines: Any) -> None:
         self.machines = machines
 
-    def go_on(self, session: object, part: bytes) -> tuple:
+    def go_on(self, session: Any, part: bytes) -> tuple:
         """The lines of the transcript that come of a part after the session's script, and the headings of the files that it
         closes for the operator. If the program refuses or fails, nothing has happened."""
         try:
@@ -29,7 +26,7 @@ class Replaying:
         closed = [item for item in headings_of(files) if item not in session.headings]
         return events[len(session.events) :], closed
 
-    def settle(self, script: str, added: object, is_busy: object) -> None:
+    def settle(self, script: str, added: Any, is_busy: Any) -> None:
         """The last part was kept as these lines, which now end the script; whether only few of its turns were, since somebody does
         not wait."""
 
@@ -41,19 +38,19 @@ class Following:
     """One program does part after part; where it does not stand where the session does, another begins with its script. While
     somebody does not wait, of whose turns most are not kept, another one is held ready there."""
 
-    def __init__(self, machines: object) -> None:
+    def __init__(self, machines: Any) -> None:
         self.machines = machines
         self.follower = self.begun(b"")
         self.spare = None
         self.states = ()
 
-    def begun(self, script: str) -> object:
+    def begun(self, script: Any) -> Any:
         follower = Follower(self.machines)
         if script:
             follower.send(script)
         return follower
 
-    def go_on(self, session: object, part: bytes) -> tuple:
+    def go_on(self, session: Any, part: bytes) -> tuple:
         try:
             self.stand_at(session.script())
             came = self.follower.do(part)
@@ -75,7 +72,7 @@ class Following:
             self.close()
             self.follower = self.begun(script)
 
-    def settle(self, script: str, added: object, is_busy: object) -> None:
+    def settle(self, script: str, added: Any, is_busy: Any) -> None:
         self.follower.script = script
         if self.spare:
             self.spare.send(added)
@@ -89,7 +86,7 @@ class Following:
         self.follower = self.spare = None
 
 
-def find_way(machines: object) -> object:
+def find_way(machines: Any) -> Any:
     """How a program is brought to do what is typed."""
     way = Following(machines)
     try:
@@ -100,7 +97,7 @@ def find_way(machines: object) -> object:
         return Replaying(machines)
 
 
-def after(running: object, states: object) -> set:
+def after(running: Any, states: Any) -> set:
     """Whose machines run after these changes."""
     changed = {name: word == "RUNS" for word, name in states}
     return {name for name in running | set(changed) if changed.get(name, True)}
@@ -110,7 +107,7 @@ class Session:
     """The entries of a session, each the lines of a script that it added, how many lines and headings were there before it, and whose
     machines ran then; and the transcript as it is."""
 
-    def __init__(self, machines: object, user: Account, turns: int) -> None:
+    def __init__(self, machines: Any, user: Any, turns: Any) -> None:
         self.machines = machines
         self.user = user
         self.turns = turns
@@ -123,13 +120,13 @@ class Session:
     def close(self) -> None:
         self.way.close()
 
-    def script(self) -> str:
+    def script(self) -> Any:
         return b"".join(entry[0] for entry in self.entries)
 
-    def count_lines(self) -> object:
+    def count_lines(self) -> Any:
         return self.script().count(b"\n")
 
-    def do(self, lines: list, turns: int, kept: object = None) -> tuple:
+    def do(self, lines: list, turns: int, kept: Any = None) -> tuple:
         """Does these lines, and deals turns until nobody is ready, at most so many. If somebody is ready even then, only
         `kept` turns are dealt, where a number is given: so a guest that never waits does not make each later line slow. Gives
         the new lines of the transcript, and how many turns were dealt where somebody is still ready, else None. If the
@@ -150,7 +147,7 @@ class Session:
         self.way.settle(self.script(), added, is_busy)
         return new + closed, turns if turns and not idle else None
 
-    def dealt(self, added: object, turns: int) -> tuple:
+    def dealt(self, added: Any, turns: int) -> tuple:
         """What appears of these lines and so many turns, and how many of the turns did nothing, whose lines are left out."""
         new, closed = self.way.go_on(self, added + (b"AUTO %d\n" % turns if turns else b""))
         idle = 0
@@ -163,7 +160,7 @@ class Session:
         """Whether the user's machine ran before the last entry."""
         return self.user in self.entries[-1][3]
 
-    def undo(self) -> object:
+    def undo(self) -> Any:
         """Takes back the last entry, and gives its lines."""
         added, events, headings, self.running = self.entries.pop()
         del self.events[events:], self.headings[headings:]

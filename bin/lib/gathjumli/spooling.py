@@ -1,7 +1,7 @@
 """The files for the operator: each goes into a folder once, whole, when its user closes it."""
 from __future__ import annotations
 
-from collections.abc import Callable
+from typing import Any
 import collections
 import os
 import threading
@@ -19,7 +19,7 @@ WRITTEN, WAITS, WAITS_FOR_START, TOLD = "written", "waits", "waits for the next 
 class Printout:
     """A file for the operator, how many lines it has, and what has become of it."""
 
-    def __init__(self, heading: object, body: object) -> None:
+    def __init__(self, heading: Any, body: Any) -> None:
         kind, number, user = HEADING.fullmatch(heading).groups()
         self.name = f"{kind}{number}-{user}.txt"
         self.heading = heading
@@ -33,7 +33,7 @@ class Printouts:
     """Writes printouts one after another in a thread, and notes in the recording which are written. One that cannot be written
     waits, and those after it. Without a folder printouts are only reported."""
 
-    def __init__(self, folder: str, notify: Callable, noted: object) -> None:
+    def __init__(self, folder: Any, notify: Any, noted: Any) -> None:
         self.folder = folder
         self.notify = notify
         # how to note that a file is written, and the names of those that are noted
@@ -63,7 +63,7 @@ class Printouts:
                 while is_replay and self.size > MOST_WAITING // 2 and not self.trouble:
                     self.changed.wait(1)
 
-    def decide(self, printout: object, is_replay: object) -> None:
+    def decide(self, printout: Any, is_replay: Any) -> None:
         """Whether a printout is to be written."""
         if not self.folder:
             printout.state = TOLD
@@ -105,14 +105,14 @@ class Printouts:
                 self.notify(f"closed: {path}")
         printing.close()
 
-    def first(self) -> object:
+    def first(self) -> Any:
         """The printout that is to be written next, or None at the end."""
         with self.changed:
             while not self.waiting and not self.is_closing:
                 self.changed.wait()
             return None if not self.waiting or self.is_closing and self.trouble else self.waiting[0]
 
-    def wait_after(self, printout: object, reason: object) -> None:
+    def wait_after(self, printout: Any, reason: Any) -> None:
         """Waits a while after a failure, which is reported once."""
         if reason != self.trouble:
             self.notify(f"{printout.name} cannot be written, and waits: {reason}")
@@ -126,7 +126,7 @@ class Printouts:
         """The names of the files that are not written."""
         return [item.name for item in self.all if item.state in (WAITS, WAITS_FOR_START)]
 
-    def settle(self, seconds: object = SECONDS_TO_FINISH) -> None:
+    def settle(self, seconds: Any = SECONDS_TO_FINISH) -> None:
         """Waits until all is written, unless something cannot be."""
         with self.changed:
             self.changed.wait_for(lambda: not self.waiting or self.trouble, seconds)

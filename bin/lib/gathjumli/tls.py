@@ -1,6 +1,7 @@
 """Encryption of what passes between people and the installation, by Python's own library."""
 from __future__ import annotations
 
+from typing import Any
 import ssl
 
 from gathjumli.cli import FILE_FAILED, Failure, UsageError
@@ -9,12 +10,12 @@ from gathjumli.cli import FILE_FAILED, Failure, UsageError
 SECONDS_FOR_A_HANDSHAKE = 10
 
 
-def how(context: object) -> dict:
+def how(context: Any) -> dict:
     """The words of a server for its encryption."""
     return {"ssl": context, "ssl_handshake_timeout": SECONDS_FOR_A_HANDSHAKE} if context else {}
 
 
-def tls_of(certificate: object, key: str) -> object:
+def tls_of(certificate: Any, key: Any) -> Any:
     """The context of connections that are encrypted, or None."""
     if bool(certificate) != bool(key):
         raise UsageError("--certificate and --key go together")

@@ -5,7 +5,7 @@ from __future__ import annotations
 
 from collections.abc import Iterator
 import re
-from typing import NamedTuple
+from typing import Any, NamedTuple
 
 from gathjumli.channels import chained, command_text, status_text
 from gathjumli.instructions import length, place_of, text_of, under_execute
@@ -45,7 +45,7 @@ class Step(NamedTuple):
     device: str = ""
 
 
-def events_of(script: str) -> Iterator:
+def events_of(script: Any) -> Iterator:
     """The events of a script that is accepted, each with its cards."""
     lines = script.split(b"\n")
     while lines:
@@ -64,7 +64,7 @@ class Expansion:
     """The steps of a script: turns as the runs and the served devices that they were, and the runs of one user as single
     units, of which those from `first` on are traced, at most `most`."""
 
-    def __init__(self, machines: object, user: str, script: str, first: int, most: int) -> None:
+    def __init__(self, machines: Any, user: Any, script: Any, first: Any, most: Any) -> None:
         self.user = user
         self.first, self.most = first, most
         self.units = 0
@@ -83,7 +83,7 @@ class Expansion:
                 break
             self.expand(words, text)
 
-    def expand(self, words: list[str], text: str) -> None:
+    def expand(self, words: list[str], text: Any) -> None:
         if words[0] == "RUN":
             self.run(words[1], int(words[2]))
         elif words[0] == "SERVE":
@@ -109,7 +109,7 @@ class Expansion:
         _, user, _, device = self.ends.pop(0)
         self.add("serve", f"SERVE {user} {device}", user, device)
 
-    def add(self, kind: str, text: str, user: str, device: str = "") -> None:
+    def add(self, kind: Any, text: Any, user: Any, device: Any = "") -> None:
         if not self.is_cut:
             self.steps.append(Step(kind, text.encode() + b"\n", user, device))
 
@@ -133,7 +133,7 @@ class Expansion:
             self.add("run", f"RUN {user} {count - done}", user)
 
 
-def printed(findings: object) -> list:
+def printed(findings: Any) -> list:
     """The lines of a transcript that terminals show."""
     return [item for item in findings if not item.startswith("= ")]
 
@@ -141,7 +141,7 @@ def printed(findings: object) -> list:
 class Machine:
     """What is known of a machine after each number of steps: `ask` gives an answer, or None where it is yet to be asked."""
 
-    def __init__(self, machines: object, user: str, expansion: object) -> None:
+    def __init__(self, machines: Any, user: Any, expansion: Any) -> None:
         self.machines = machines
         self.user = user
         self.steps = steps = expansion.steps
@@ -157,7 +157,7 @@ class Machine:
             if step.kind != "line":
                 self.trailing[place + 1] = ends.pop(0)
 
-    def lines_after(self, place: object) -> object:
+    def lines_after(self, place: Any) -> Any:
         """How many lines the transcript has after so many steps; of a typed line a run of the script up to it says."""
         if place not in self.trailing:
             findings, _ = parts(
@@ -166,7 +166,7 @@ class Machine:
             self.trailing[place] = len(findings)
         return self.trailing[place]
 
-    def ask(self, place: object, what: str) -> object:
+    def ask(self, place: Any, what: Any) -> Any:
         answer = self.known.get((place, what))
         if answer is None:
             self.wanted.setdefault(place, {})[what] = True
@@ -194,19 +194,19 @@ class Machine:
                 self.known[place, what] = findings.pop(0).removeprefix(self.user + ": ")
         return True
 
-    def psw(self, place: object) -> object:
+    def psw(self, place: Any) -> Any:
         """The PSW as eight bytes."""
         answer = self.ask(place, "PSW")
         words = answer.split(" ") if answer else []
         return bytes.fromhex("".join(words[1:])) if words[:1] == ["PSW"] else None
 
-    def registers(self, place: object, names: list[bytes] = GENERAL) -> list | None:
+    def registers(self, place: Any, names: Any = GENERAL) -> list | None:
         answers = [self.ask(place, name) for name in names]
         if not all(answer and "=" in answer for answer in answers):
             return None
         return [int(answer.split(" ")[3], 16) for answer in answers]
 
-    def row(self, place: object, address: int) -> object:
+    def row(self, place: Any, address: int) -> Any:
         """Sixteen bytes of storage; none past its end."""
         answer = self.ask(place, f"{address:06X}")
         words = answer.split(" ") if answer else []
@@ -214,7 +214,7 @@ class Machine:
             return bytes.fromhex("".join(words[1:]))
         return None if answer is None else b""
 
-    def storage(self, place: object, address: int, count: int) -> object:
+    def storage(self, place: Any, address: int, count: int) -> Any:
         """Bytes of storage, fewer where it ends; None where some are yet to be asked."""
         rows = [
             self.row(place, number)
@@ -230,13 +230,13 @@ class Trace:
 
     def __init__(
         self,
-        machine: object,
-        expansion: object,
-        devices: object,
-        ranges: object,
-        stop_at: object,
-        stop_on: object,
-        names: list[bytes],
+        machine: Any,
+        expansion: Any,
+        devices: Any,
+        ranges: Any,
+        stop_at: Any,
+        stop_on: Any,
+        names: Any,
     ) -> None:
         self.machine = machine
         self.expansion = expansion
@@ -247,7 +247,7 @@ class Trace:
         self.names = names
         self.started = {}
 
-    def lines(self) -> object:
+    def lines(self) -> Any:
         while True:
             found = list(self.pass_over())
             if not self.machine.learn():
@@ -297,7 +297,7 @@ class Trace:
                 return
         yield f"STOP after {self.expansion.most} units" if self.expansion.is_cut else "END of the script"
 
-    def stop(self, place: object) -> object:
+    def stop(self, place: Any) -> Any:
         """What of that on which the trace stops a unit has changed."""
         for what in self.stop_on:
             if isinstance(what, str):
@@ -313,7 +313,7 @@ class Trace:
                 return name
         return None
 
-    def unit(self, place: object, number: int) -> Iterator:
+    def unit(self, place: Any, number: Any) -> Iterator:
         machine = self.machine
         before, after = machine.psw(place), machine.psw(place + 1)
         registers, later = machine.registers(place), machine.registers(place + 1)
@@ -353,7 +353,7 @@ class Trace:
             if kind == "io":
                 yield f"CSW {said[1:]} {status_text(low[1][CSW - 0x10 : CSW - 8])}"
 
-    def target(self, place: object, code: int, registers: object) -> object:
+    def target(self, place: Any, code: Any, registers: Any) -> Any:
         """The target of EX as it is carried out; empty for another instruction, None where it is yet to be asked."""
         if code[:1] != b"\x44" or len(code) < 4:
             return b""
@@ -364,13 +364,13 @@ class Trace:
 
     def changes(
         self,
-        place: object,
-        code: int,
-        before: str,
-        after: object,
-        registers: object,
-        later: object,
-        kind: str,
+        place: Any,
+        code: Any,
+        before: Any,
+        after: Any,
+        registers: Any,
+        later: Any,
+        kind: Any,
     ) -> str:
         """What a unit has changed of registers, condition code and PSW."""
         said = [
@@ -393,7 +393,7 @@ class Trace:
                 said.append(f"CC={after[4] >> 4 & 3}")
         return " ".join(said)
 
-    def changed_bytes(self, place: object, bounds: object) -> object:
+    def changed_bytes(self, place: Any, bounds: Any) -> Any:
         """The changed bytes of a range, run by run."""
         low, high = bounds
         old, new = (self.machine.storage(item, low, high - low + 1) for item in (place, place + 1))
@@ -409,9 +409,7 @@ class Trace:
             at = end + 1
         return said
 
-    def channel(
-        self, place: object, code: int, registers: object, after: object, kind: str
-    ) -> Iterator:
+    def channel(self, place: Any, code: Any, registers: Any, after: Any, kind: str) -> Iterator:
         """What an instruction of the channel did."""
         if kind or len(code) < 4 or code[0] not in (0x9C, 0x9D, 0x9E):
             return
@@ -424,7 +422,7 @@ class Trace:
         elif said == 1:
             yield f"CSW {device} {status_text(words[:8])}"
 
-    def program(self, place: object, step: object) -> Iterator:
+    def program(self, place: Any, step: Any) -> Iterator:
         """The words of the program of a device that is served, as they stand before."""
         if step.user != self.machine.user:
             return
@@ -433,14 +431,14 @@ class Trace:
             return
         yield from self.words(step.device, place, self.started.pop(step.device))
 
-    def words(self, device: str, place: object, start: int) -> Iterator:
+    def words(self, device: Any, place: Any, start: int) -> Iterator:
         kind = self.devices.get(device, "")
         for at, word in chained(start, lambda item: self.word(place, item)):
             yield f"CCW {device} {at:06X} " + (
                 "stands past storage" if not word else command_text(word, kind)
             )
 
-    def loading(self, place: object, user: str, device: str) -> Iterator:
+    def loading(self, place: Any, user: Any, device: Any) -> Iterator:
         """The words of a program that has loaded the machine: the implied first one, and those that it read, as they stand then."""
         if user != self.machine.user:
             return
@@ -449,7 +447,7 @@ class Trace:
             yield f"CCW {device} ------ {command_text(bytes.fromhex('0200000060000018'), self.devices.get(device, ''))}"
             yield from self.words(device, place + 1, 8)
 
-    def word(self, place: object, address: int) -> object:
+    def word(self, place: Any, address: int) -> Any:
         """A command word; None where there is none, or where it is yet to be asked."""
         word = self.machine.storage(place, address, 8)
         if word is None:
@@ -457,13 +455,11 @@ class Trace:
         return word if word and len(word) == 8 else None
 
 
-def text_lines(step: object) -> object:
+def text_lines(step: Any) -> Any:
     return step.text.decode("latin-1").split("\n")[:-1]
 
 
-def interruption(
-    before: str, after: object, old_low: object, new_low: object, is_call: object
-) -> object:
+def interruption(before: str, after: Any, old_low: Any, new_low: Any, is_call: Any) -> Any:
     """Which interruption a unit ended in, and the old PSW that it stored; None where it ended in none."""
     found = []
     for kind, (old, new) in INTERRUPTIONS.items():

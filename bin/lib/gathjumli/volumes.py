@@ -2,7 +2,7 @@
 from __future__ import annotations
 
 from collections.abc import Iterator
-from typing import NamedTuple
+from typing import Any, NamedTuple
 
 from gathjumli.cli import Failure, REFUSED
 
@@ -28,11 +28,11 @@ class Record(NamedTuple):
     key: bytes
     data: bytes
 
-    def cost(self) -> object:
+    def cost(self) -> Any:
         """What it takes of its track."""
         return 191 + len(self.key) + len(self.data) if self.key else 135 + len(self.data)
 
-    def whole(self) -> object:
+    def whole(self) -> Any:
         return (
             self.id
             + bytes([len(self.key)])
@@ -55,21 +55,21 @@ class Volume(NamedTuple):
     serial: str
     tracks: list
 
-    def cylinders(self) -> object:
+    def cylinders(self) -> Any:
         return len(self.tracks) // HEADS
 
 
-def own_home(cylinder: int, head: int) -> object:
+def own_home(cylinder: int, head: int) -> Any:
     """The home address of a track that was never given another."""
     return bytes([0]) + cylinder.to_bytes(2, "big") + head.to_bytes(2, "big")
 
 
-def record_zero(cylinder: int, head: int) -> object:
+def record_zero(cylinder: int, head: int) -> Any:
     """Record zero of a track as it is formatted."""
     return Record(own_home(cylinder, head)[1:] + b"\0", b"", bytes(8))
 
 
-def places(tracks: list[Track]) -> object:
+def places(tracks: list[Track]) -> Any:
     """Each track with its cylinder and head."""
     return ((place // HEADS, place % HEADS, track) for place, track in enumerate(tracks))
 
@@ -80,7 +80,7 @@ def is_serial(text: str) -> bool:
     )
 
 
-def refused(fault: object) -> object:
+def refused(fault: Any) -> Any:
     return Failure(REFUSED, f"fault: image {fault}")
 
 
@@ -91,17 +91,17 @@ class Reader:
         self.data = data
         self.at = 0
 
-    def take(self, count: int) -> object:
+    def take(self, count: int) -> Any:
         if self.at + count > len(self.data):
             raise refused("Truncated")
         self.at += count
         return self.data[self.at - count : self.at]
 
-    def number(self, count: int) -> object:
+    def number(self, count: int) -> Any:
         return int.from_bytes(self.take(count), "big")
 
 
-def read_volume(data: bytes) -> object:
+def read_volume(data: bytes) -> Any:
     """The volume of an image, which is judged as the programs judge it."""
     reader = Reader(data)
     magic, serial, cylinders = reader.take(4), reader.take(6), reader.number(2)
@@ -124,12 +124,12 @@ def read_volume(data: bytes) -> object:
     return Volume(serial, tracks)
 
 
-def read_record(reader: int) -> object:
+def read_record(reader: Any) -> Any:
     id, key, length = reader.take(5), reader.number(1), reader.number(2)
     return Record(id, reader.take(key), reader.take(length))
 
 
-def image_of(volume: object) -> bytes:
+def image_of(volume: Any) -> bytes:
     """The image of a volume, version 2."""
     image = bytearray(
         b"CKD2" + volume.serial.encode().ljust(6) + volume.cylinders().to_bytes(2, "big")
@@ -141,7 +141,7 @@ def image_of(volume: object) -> bytes:
     return bytes(image + sum(len(track.records) for track in volume.tracks).to_bytes(4, "big"))
 
 
-def text_of(volume: object) -> Iterator:
+def text_of(volume: Any) -> Iterator:
     """The lines of a text that states a volume, as bin/mkvol takes it."""
     yield f"VOLUME {volume.serial} {volume.cylinders()}"
     for cylinder, head, track in places(volume.tracks):
@@ -158,7 +158,7 @@ class Faults:
     def __init__(self) -> None:
         self.lines = []
 
-    def add(self, cylinder: int, head: int, text: str) -> None:
+    def add(self, cylinder: int, head: int, text: Any) -> None:
         self.lines.append(f"cylinder {cylinder} head {head}: {text}")
 
     def end(self) -> None:
@@ -169,7 +169,7 @@ class Faults:
             raise Failure(REFUSED, *self.lines)
 
 
-def read_emulated(data: bytes, serial: str) -> object:
+def read_emulated(data: Any, serial: Any) -> Any:
     """The volume of an image CKD_P370; serial is its serial number, or None where its label says."""
     tracks = emulated_tracks(data)
     faults = Faults()
@@ -223,7 +223,7 @@ def emulated_tracks(data: bytes) -> list:
     return [data[number : number + size] for number in range(HEADER, len(data), size)]
 
 
-def parsed_track(track: object, cylinder: int, head: int) -> object:
+def parsed_track(track: Any, cylinder: int, head: int) -> Any:
     """The records of a track but its record zero; ValueError says what cannot be held."""
     records, at = [], 5
     while track[at : at + 8] != END:
@@ -253,7 +253,7 @@ def labelled(tracks: list[Track]) -> str | None:
     return None
 
 
-def emulated(volume: object, has_alternates: object) -> Iterator:
+def emulated(volume: Any, has_alternates: Any) -> Iterator:
     """The image CKD_P370 of a volume, as its parts; with alternate cylinders where that is asked for."""
     faults = Faults()
     yield KIND + HEADS.to_bytes(4, "little") + TRACK_SIZE.to_bytes(4, "little") + bytes(

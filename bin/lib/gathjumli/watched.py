@@ -4,6 +4,8 @@ What the program prints is passed on as it appears. After two seconds a line at 
 of the script's events are done: a turn counts as one. Whatever ends the program, all that it had printed is passed on."""
 from __future__ import annotations
 
+from typing import Any
+
 import os
 import re
 import selectors
@@ -21,7 +23,7 @@ ERASE = b"\r\x1b[K"
 ENDED = re.compile(rb"^= (?:IDLE$|\S+ (?:(\d)|(?:(S|I|F)[A-Z]+)))", re.M)
 
 
-def turns_in(script: str) -> int:
+def turns_in(script: Any) -> int:
     """How many runs, serves and turns a script has, or 0 if it cannot be read before the program reads it."""
     if not os.path.isfile(script):
         return 0
@@ -40,7 +42,7 @@ def turns_in(script: str) -> int:
     return count
 
 
-def number_at_end(text: str) -> int:
+def number_at_end(text: Any) -> int:
     found = re.search(rb"[0-9]{1,7}\s*$", text)
     return int(found[0]) if found else 0
 

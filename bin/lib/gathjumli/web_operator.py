@@ -1,6 +1,7 @@
 """The operator's page: what happens, who is on, and the commands of bin/operator (docs/OPERATING.md), to whoever has the token."""
 from __future__ import annotations
 
+from typing import Any
 import asyncio
 import contextlib
 import os
@@ -24,11 +25,11 @@ TOKEN_BYTES = 24
 class PageOutlet:
     """An outlet of the journal that leads to a page; any thread may put a line."""
 
-    def __init__(self, page: object, loop: object) -> None:
+    def __init__(self, page: Any, loop: Any) -> None:
         self.page = page
         self.loop = loop
 
-    def put(self, text: str, prefix: object = None) -> None:
+    def put(self, text: Any, prefix: Any = None) -> None:
         now = round(time.time() * 1000)
         try:
             self.loop.call_soon_threadsafe(
@@ -45,17 +46,17 @@ class PageOutlet:
 class OperatorPage:
     """One page of an operator: nothing is sent to it before its token was right."""
 
-    def __init__(self, pages: object, address: int, outbox: object) -> None:
+    def __init__(self, pages: Any, address: int, outbox: Any) -> None:
         self.pages = pages
         self.address = address
         self.outbox = outbox
         self.is_known = False
         self.outlet = PageOutlet(self, pages.loop)
 
-    def is_somebody(self) -> object:
+    def is_somebody(self) -> Any:
         return self.is_known
 
-    def put(self, message: str) -> None:
+    def put(self, message: Any) -> None:
         if len(self.outbox.messages) < MOST_UNSENT:
             self.outbox.put(message)
 
@@ -75,7 +76,7 @@ class OperatorPage:
             self.pages.all.discard(self)
             self.pages.journal.remove(self.outlet)
 
-    async def take(self, message: str) -> None:
+    async def take(self, message: Any) -> None:
         """Obeys a message. Each has the token."""
         kind = str(message.get("is"))
         try:
@@ -95,7 +96,7 @@ class OperatorPage:
         except Refused as reason:
             self.put({"is": "refused", "what": plain(kind)[:20], "why": str(reason)})
 
-    def command(self, text: str, number: int) -> None:
+    def command(self, text: Any, number: Any) -> None:
         """Has a command done; its answer appears in lines, and how it ended last."""
         self.pages.operator.do(
             text,
@@ -103,27 +104,27 @@ class OperatorPage:
             lambda how: self.from_thread({"is": "end", "number": number, "how": how}),
         )
 
-    def sender(self, kind: str, number: int) -> object:
+    def sender(self, kind: Any, number: int) -> Any:
         return lambda text: self.from_thread({"is": kind, "number": number, "text": plain(text)})
 
     def frames(self) -> None:
         """Has the frames looked for, and sends the map as a whole."""
         lines, begun = [], time.monotonic()
 
-        def end(how: object) -> None:
+        def end(how: Any) -> None:
             took = round(time.monotonic() - begun, 2)
             self.from_thread({"is": "frames", "lines": lines, "done": how == DONE, "took": took})
 
         self.pages.operator.do("frames", lines.append, end)
 
-    def from_thread(self, message: str) -> None:
+    def from_thread(self, message: Any) -> None:
         self.pages.loop.call_soon_threadsafe(self.put, message)
 
 
 class OperatorPages:
     """All pages of operators."""
 
-    def __init__(self, installation: object, loop: object) -> None:
+    def __init__(self, installation: Any, loop: Any) -> None:
         self.installation = installation
         self.operator = installation.operator
         self.journal = installation.journal
@@ -134,7 +135,7 @@ class OperatorPages:
         self.path = f"{installation.options['record']}.web-token"
         self.token = self.read_token()
 
-    def read_token(self) -> object:
+    def read_token(self) -> Any:
         """The token of the file next to the recording, which only its owner can read; it is made if it is not there, or was for others
         to read."""
         with contextlib.suppress(FileNotFoundError):
@@ -163,7 +164,7 @@ class OperatorPages:
             "unwritten": len(engine.printouts.unwritten()), "ending": self.operator.ending[:1],
         }  # fmt: skip
 
-    def user(self, user: str) -> dict:
+    def user(self, user: Any) -> dict:
         return {
             "name": user.name,
             "on": user.is_on,

@@ -4,6 +4,7 @@ A page logs on at a connection of its own to the desk, as a terminal does: it se
 nothing once he is not. If the browser's connection drops, the page keeps the desk's for a while, with the lines that were not seen."""
 from __future__ import annotations
 
+from typing import Any
 import asyncio
 import base64
 import collections
@@ -45,14 +46,14 @@ class Outbox:
         self.emptied = asyncio.Event()
         self.is_closed = False
 
-    def put(self, message: str) -> None:
+    def put(self, message: Any) -> None:
         if message["is"] == "lines" and self.messages and self.messages[-1]["is"] == "lines":
             self.messages[-1]["lines"] += message["lines"]
         else:
             self.messages.append(message)
         self.changed.set()
 
-    async def taken(self) -> object:
+    async def taken(self) -> Any:
         """All that waits, once something does."""
         await self.changed.wait()
         self.changed.clear()
@@ -78,7 +79,7 @@ class Rate:
         self.left = float(MESSAGES_AT_ONCE)
         self.when = time.monotonic()
 
-    def wait(self) -> object:
+    def wait(self) -> Any:
         """Counts a message; how many seconds it waits."""
         now = time.monotonic()
         self.left = min(MESSAGES_AT_ONCE, self.left + (now - self.when) * MESSAGES_A_SECOND) - 1
@@ -89,7 +90,7 @@ class Rate:
 class UserPage:
     """A user's page: one connection to the desk, and the browser's connection while there is one."""
 
-    def __init__(self, pages: object, address: int) -> None:
+    def __init__(self, pages: Any, address: Any) -> None:
         self.pages = pages
         self.address = address
         self.name = secrets.token_urlsafe(12)
@@ -111,7 +112,7 @@ class UserPage:
 
     # --- the browser's connection ---
 
-    def attach(self, outbox: object) -> None:
+    def attach(self, outbox: Any) -> None:
         self.outbox = outbox
         self.findings = None
         if self.lines:
@@ -124,27 +125,27 @@ class UserPage:
         if not self.line:
             self.pages.forget(self)
 
-    def put(self, message: str) -> None:
+    def put(self, message: Any) -> None:
         if self.outbox:
             self.outbox.put(message)
 
     # --- what the desk shows ---
 
-    def show(self, text: str) -> None:
+    def show(self, text: Any) -> None:
         self.number += 1
         self.size += len(text) + LINE_COST
         entry = (self.number, round(time.time() * 1000), text)
         self.lines.append(entry)
         self.put({"is": "lines", "lines": [entry]})
 
-    def unread(self) -> object:
+    def unread(self) -> Any:
         return self.size
 
     def seen(self, number: int) -> None:
         while self.lines and self.lines[0][0] <= number:
             self.size -= len(self.lines.popleft()[2]) + LINE_COST
 
-    def user(self) -> object:
+    def user(self) -> Any:
         """The user who is logged on at this page's connection to the desk."""
         return self.pages.users_at().get(self.line) if self.line else None
 
@@ -152,7 +153,7 @@ class UserPage:
         """Whether somebody was on here when that was last looked at."""
         return bool(self.findings) and self.findings["is"] == "on"
 
-    def look(self, user: str) -> None:
+    def look(self, user: Any) -> None:
         """Sends the browser who is on, and whether his machine runs, if that has changed."""
         found = (
             {"is": "on", "user": user.name, "running": user.is_running} if user else {"is": "off"}
@@ -188,7 +189,7 @@ class UserPage:
 
     # --- what the browser sends ---
 
-    async def take(self, message: str) -> None:
+    async def take(self, message: Any) -> None:
         """Obeys a message."""
         kind = str(message.get("is"))
         try:
@@ -200,7 +201,7 @@ class UserPage:
         except Refused as reason:
             self.put({"is": "refused", "what": plain(kind)[:20], "why": str(reason)})
 
-    async def log_on(self, message: str) -> None:
+    async def log_on(self, message: Any) -> None:
         name, password = (
             text_in(message, field).encode("latin-1", "replace") for field in ("name", "password")
         )
@@ -224,18 +225,18 @@ class UserPage:
             raise Refused("there is no such key")
         await self.type_line(KEYS[key])
 
-    async def type_line(self, line: bytes) -> None:
+    async def type_line(self, line: Any) -> None:
         self.logged_on()
         await self.line.type(line)
 
-    def logged_on(self) -> object:
+    def logged_on(self) -> Any:
         """The user who is on, without whom nothing is done."""
         user = self.user()
         if not user:
             raise Refused(NO_LINE)
         return user
 
-    async def put_cards(self, message: str) -> None:
+    async def put_cards(self, message: Any) -> None:
         """Takes a piece of a deck, and after the last one reads it in for the user who is on."""
         user, name = self.logged_on(), plain(text_in(message, "name"))[:80]
         try:
@@ -254,7 +255,7 @@ class UserPage:
             findings = await self.pages.read_in(name, bytes(data), user.name)
             self.put({"is": "deck", "name": name, "told": findings})
 
-    async def list_files(self, message: str) -> None:
+    async def list_files(self, message: Any) -> None:
         user = self.logged_on()
         files = [printout for printout in self.pages.printouts.all if printout.user == user.name][
             -MOST_FILES:
@@ -265,7 +266,7 @@ class UserPage:
         ]
         self.put({"is": "files", "files": findings, "kept": bool(self.pages.printouts.folder)})
 
-    async def show_file(self, message: str) -> None:
+    async def show_file(self, message: Any) -> None:
         """Sends a piece of one of the user's own files."""
         user, name, place = self.logged_on(), text_in(message, "name"), number_in(message, "at")
         if not any(
@@ -295,7 +296,7 @@ class UserPage:
             }
         )
 
-    async def show_disks(self, message: str) -> None:
+    async def show_disks(self, message: Any) -> None:
         user = self.logged_on()
         try:
             disks = await in_thread(self.pages.minidisks.of, user.name)
@@ -321,7 +322,7 @@ CHANGING = {"logon", "line", "key", "deck", "leave"}
 class Pages:
     """All users' pages, and what they need of the installation."""
 
-    def __init__(self, installation: object, minidisks: object) -> None:
+    def __init__(self, installation: Any, minidisks: Any) -> None:
         self.desk = installation.desk
         self.engine = installation.engine
         self.folders = installation.folders
@@ -331,11 +332,11 @@ class Pages:
         self.all = {}
         self.opened = asyncio.Event()
 
-    def users_at(self) -> object:
+    def users_at(self) -> Any:
         """Each connection to the desk at which a user is logged on, with that user."""
         return users_at(self.engine.users.values())
 
-    def open(self, message: str, address: int) -> tuple:
+    def open(self, message: Any, address: int) -> tuple:
         """The page that a browser's first message asks for, and the answer."""
         if message.get("is") == "resume":
             page = self.all.get(str(message.get("page")))
@@ -350,7 +351,7 @@ class Pages:
         self.opened.set()
         return page, {"is": "new", "page": page.name, "token": page.token}
 
-    def forget(self, page: object) -> None:
+    def forget(self, page: Any) -> None:
         self.all.pop(page.name, None)
 
     async def watch(self) -> None:
@@ -369,34 +370,34 @@ class Pages:
                     page.close()
                     self.forget(page)
 
-    async def read_in(self, name: str, data: bytes, user: str) -> object:
+    async def read_in(self, name: str, data: bytes, user: str) -> Any:
         """Reads in a deck for a user; how that went."""
         reason = await self.folders.read_in(name, data, user)
         self.notify(f"deck {name} for {user}, from a page: {reason or 'read in'}")
         return reason or "read in"
 
 
-def is_token(found: object, token: object) -> object:
+def is_token(found: Any, token: Any) -> Any:
     return isinstance(found, str) and hmac.compare_digest(
         found.encode(errors="replace"), token.encode()
     )
 
 
-def text_in(message: str, name: str) -> object:
+def text_in(message: Any, name: Any) -> Any:
     text = message.get(name)
     if not isinstance(text, str):
         raise Refused(f"{name} is a text")
     return text
 
 
-def number_in(message: str, name: str) -> object:
+def number_in(message: Any, name: Any) -> Any:
     number = message.get(name)
     if type(number) is not int or not 0 <= number < 1 << 53:
         raise Refused(f"{name} is a number")
     return number
 
 
-def piece_of(path: str, place: object) -> tuple:
+def piece_of(path: str, place: Any) -> tuple:
     """The bytes of a file from a place on, whole lines if a line ends in them, and the size of the file."""
     with open(path, "rb") as file:
         size = os.fstat(file.fileno()).st_size
@@ -406,5 +407,5 @@ def piece_of(path: str, place: object) -> tuple:
     return data[: end or len(data)], size
 
 
-async def in_thread(work: str, *given: object) -> object:
+async def in_thread(work: Any, *given: Any) -> Any:
     return await asyncio.get_running_loop().run_in_executor(None, work, *given)

@@ -1,6 +1,7 @@
 """What a browser may ask for: the files of the folder web, and WebSockets from pages of the same origin."""
 from __future__ import annotations
 
+from typing import Any
 import http
 import ipaddress
 import os
@@ -24,7 +25,7 @@ HEADERS = {"Content-Security-Policy": POLICY, "X-Content-Type-Options": "nosniff
            "Cross-Origin-Opener-Policy": "same-origin", "Cross-Origin-Resource-Policy": "same-origin", "Cache-Control": "no-store"}  # fmt: skip
 
 
-def is_own_host(host: object) -> bool:
+def is_own_host(host: Any) -> bool:
     """Whether a page may be asked for by this name: an address, or a name of this host. By any other name another site could have a
     browser take it for its own."""
     name, _, port = (
@@ -38,7 +39,7 @@ def is_own_host(host: object) -> bool:
         return name in ("localhost", socket.gethostname().lower(), socket.getfqdn().lower())
 
 
-def answer_to(path: str, host: object, origin: str, is_secure: object, files: list) -> tuple | None:
+def answer_to(path: Any, host: Any, origin: Any, is_secure: Any, files: Any) -> tuple | None:
     """What a request gets: the status, the type and the bytes of an answer, or None where it is a WebSocket that may be opened."""
     path = path.partition("?")[0]
     if not is_own_host(host):
@@ -52,7 +53,7 @@ def answer_to(path: str, host: object, origin: str, is_secure: object, files: li
     return http.HTTPStatus.OK, *files[path]
 
 
-def read_files() -> object:
+def read_files() -> Any:
     """The types and the bytes of the files, by the paths under which they are asked for."""
     found = {}
     for path, (name, kind) in FILES.items():

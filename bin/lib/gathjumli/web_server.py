@@ -2,6 +2,7 @@
 the protocol; what the messages mean is in bin/lib/gathjumli/web_pages.py and bin/lib/gathjumli/web_operator.py."""
 from __future__ import annotations
 
+from typing import Any
 import asyncio
 import collections
 import json
@@ -35,12 +36,12 @@ class Connection(WebSocketServerProtocol):
     crowd = None
     page = None
 
-    def connection_made(self, transport: object) -> None:
+    def connection_made(self, transport: Any) -> None:
         super().connection_made(transport)
         self.crowd.add(self)
         self.loop.call_later(SECONDS_TO_ASK, self.give_up)
 
-    def connection_lost(self, error: object) -> None:
+    def connection_lost(self, error: Any) -> None:
         super().connection_lost(error)
         self.crowd.discard(self)
 
@@ -52,7 +53,7 @@ class Connection(WebSocketServerProtocol):
         """Whether nobody is logged on here."""
         return not (self.page and self.page.is_somebody())
 
-    def address(self) -> object:
+    def address(self) -> Any:
         return (self.remote_address or [""])[0]
 
 
@@ -62,7 +63,7 @@ class Crowd:
     def __init__(self) -> None:
         self.all = {}
 
-    def add(self, connection: object) -> None:
+    def add(self, connection: Any) -> None:
         self.all[connection] = None
         if len(self.all) > MOST_CONNECTIONS:
             strangers = [other for other in self.all if other.is_stranger()]
@@ -72,14 +73,14 @@ class Crowd:
             self.discard(gone)
             gone.transport.abort()
 
-    def discard(self, connection: object) -> None:
+    def discard(self, connection: Any) -> None:
         self.all.pop(connection, None)
 
 
 class Web:
     """The server of pages."""
 
-    def __init__(self, installation: object, tls: object) -> None:
+    def __init__(self, installation: Any, tls: Any) -> None:
         self.installation = installation
         self.tls = tls
         self.files = read_files()
@@ -89,7 +90,7 @@ class Web:
         self.crowd = Crowd()
         self.tasks = [loop.create_task(pages.watch()) for pages in (self.pages, self.operators)]
 
-    async def listen(self, where: object) -> None:
+    async def listen(self, where: Any) -> None:
         address, _, port = where.rpartition(":")
         logger = logging.Logger("web", logging.CRITICAL + 1)
         kind = type("OwnConnection", (Connection,), {"crowd": self.crowd})
@@ -111,7 +112,7 @@ class Web:
             f"pages are at {scheme}://{where}/, the operator's at /operator with the token in {self.operators.path}"
         )
 
-    async def answer(self, path: str, headers: object) -> tuple | None:
+    async def answer(self, path: str, headers: Any) -> tuple | None:
         # of a header that is there twice none is taken
         host, origin = (
             found[0] if len(found := headers.get_all(name)) == 1 else ""
@@ -132,7 +133,7 @@ class Web:
             body,
         )
 
-    async def serve(self, connection: object) -> None:
+    async def serve(self, connection: Any) -> None:
         """Serves the page of a connection until that ends."""
         outbox = Outbox()
         sender = asyncio.create_task(send_all(connection, outbox))
@@ -153,7 +154,7 @@ class Web:
         finally:
             sender.cancel()
 
-    def page_of(self, connection: object, outbox: object, message: str) -> object:
+    def page_of(self, connection: Any, outbox: Any, message: str) -> Any:
         page, answer = self.pages.open(message, connection.address())
         connection.page = page
         if page.connection:
@@ -164,7 +165,7 @@ class Web:
         page.attach(outbox)
         return page
 
-    async def converse_with_user(self, connection: object, page: object, outbox: object) -> None:
+    async def converse_with_user(self, connection: Any, page: Any, outbox: Any) -> None:
         rate = Rate()
         try:
             while True:
@@ -176,7 +177,7 @@ class Web:
                 page.connection = None
                 page.detach()
 
-    async def converse_with_operator(self, connection: object, outbox: object) -> None:
+    async def converse_with_operator(self, connection: Any, outbox: Any) -> None:
         page = connection.page = OperatorPage(self.operators, connection.address(), outbox)
         try:
             while True:
@@ -202,7 +203,7 @@ def allow_more_files() -> None:
         resource.setrlimit(resource.RLIMIT_NOFILE, (most, hard))
 
 
-async def received(connection: object) -> object:
+async def received(connection: Any) -> Any:
     """The next message of a page, an object. What is none is a ValueError."""
     text = await connection.recv()
     if isinstance(text, bytes):
@@ -213,7 +214,7 @@ async def received(connection: object) -> object:
     return found
 
 
-async def send_all(connection: object, outbox: object) -> None:
+async def send_all(connection: Any, outbox: Any) -> None:
     """Sends a page its messages, as fast as the browser takes them."""
     try:
         while True:
