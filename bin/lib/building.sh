@@ -453,6 +453,50 @@ try_held() {
     : <> "$held"
 }
 
+# make_programs CRATE..: makes each of these programs; those without proof are compiled side by side, as many as there are places
+make_programs() {
+    read_unproved
+    if [ -z "$without_proof" ]; then
+        for crate in "$@"; do
+            make_program "$crate"
+        done
+        return
+    fi
+    free=$(places)
+    compilers=
+    trap 'stop_compilers 129' HUP
+    trap 'stop_compilers 130' INT
+    trap 'stop_compilers 143' TERM
+    for crate in "$@"; do
+        [ "$free" -gt 0 ] || wait_for_compiler
+        (make_program "$crate") &
+        compilers="$compilers $!"
+        free=$((free - 1))
+    done
+    while [ -n "$compilers" ]; do
+        wait_for_compiler
+    done
+    trap - HUP INT TERM
+}
+
+# waits for the compiler that began first; one that fails has said why
+wait_for_compiler() {
+    # shellcheck disable=SC2086
+    set -- $compilers
+    wait "$1" || exit "$?"
+    shift
+    compilers=$*
+    free=$((free + 1))
+}
+
+# stop_compilers STATUS: ends what is under way
+stop_compilers() {
+    # shellcheck disable=SC2086
+    [ -z "$compilers" ] || kill $compilers 2> /dev/null || true
+    wait
+    exit "$1"
+}
+
 # stop_compiling STATUS: ends what is under way
 stop_compiling() {
     [ -z "$trying" ] || kill "$trying" 2> /dev/null || true

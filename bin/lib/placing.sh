@@ -4,15 +4,17 @@
 file_failed=3
 # the programs, and the commands that need a checkout with its sources
 programs="vm370_cli bare370_cli volume_cli frame_map logon_desk_cli"
-of_checkout=" bench bench-against book plant install package "
+of_checkout=" bench bench-against book build plant install package "
 version_number=$(cat -- "$root/VERSION")
 
 # Builds all programs, and says in $proof_of_all whether they are proved.
 build_all() {
     [ ! -d "$root/programs" ] || fail "$file_failed" "this is an installation; install from a checkout"
+    # shellcheck disable=SC2086
+    make_programs $programs
     proof_of_all=proved
     for crate in $programs; do
-        make_program "$crate"
+        find_program "$crate"
         [ "$(state_of_program)" = proved ] || proof_of_all='not proved'
     done
 }
