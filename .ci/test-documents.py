@@ -213,8 +213,8 @@ def lost_sections_of_sources() -> Iterator:
 
 
 def page_words(path: pathlib.Path) -> list[str]:
-    """The words of a page: what has a letter or a digit, and is no line of a table."""
-    return [word for word in path.read_text().split() if any(map(str.isalnum, word))]
+    """The words of a page: what has a letter. Figures are none, nor are the lines of a table."""
+    return [word for word in path.read_text().split() if any(map(str.isalpha, word))]
 
 
 def crates_in_no_table() -> list:
