@@ -19,6 +19,7 @@ use machine_panel::Mode;
 use s370_num::DevAddr;
 use s370_store::PlainStorage;
 use s370_subchannels::Subchannel;
+use saved_bytes::Input;
 use session_script::ScriptEvent;
 use sessions::{Installation, Refused};
 use std::alloc::{AllocError, Global};
@@ -146,6 +147,14 @@ impl Installation for OneMachine {
             }
             _ => ask(alloc, &mut self.machine, event),
         }
+    }
+
+    fn save(&self, _out: &mut Vec<u8>) -> Result<bool, AllocError> {
+        Ok(false)
+    }
+
+    fn restore(self, _input: &mut Input<'_>) -> Option<OneMachine> {
+        None
     }
 }
 

@@ -36,6 +36,7 @@ mod events;
 mod lines;
 mod loan;
 mod ready;
+mod saved;
 mod serving;
 mod system;
 mod user_machine;

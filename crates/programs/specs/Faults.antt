@@ -53,6 +53,7 @@ fault_text (failures.Unsaved error path) = image_text error
 fault_text (failures.File count) = codes "fault: file Device " ++ decimal count
 fault_text failures.Memory = codes "fault: memory Memory"
 fault_text failures.Spent = codes "fault: memory Spent"
+fault_text failures.State = codes "fault: state Refused"
 fault_text failures.Usage = codes "usage: vm370 DIRECTORY SCRIPT [VOLUME]..."
 
 -- a directory that is refused is refused input, unless memory was
@@ -69,6 +70,7 @@ status_of (failures.Script line) = 1
 status_of (failures.Unsaved error path) = image_status error
 status_of (failures.File count) = 3
 status_of failures.Memory = 4
+status_of failures.State = 1
 status_of failures.Spent = 4
 status_of failures.Usage = 2
 

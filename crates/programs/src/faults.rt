@@ -29,6 +29,8 @@ pub enum Failure {
     Memory,
     /// An earlier event was refused memory, and the system does no more.
     Spent,
+    /// A state was not what the program would have written.
+    State,
     /// The words are not those of the program.
     Usage,
 }
@@ -107,6 +109,7 @@ pub fn fault_line(alloc: Global, failure: &Failure) -> Result<String, AllocError
         Failure::File(count) => format!(in alloc; "fault: file Device {count}"),
         Failure::Memory => String::from_str(alloc, "fault: memory Memory"),
         Failure::Spent => String::from_str(alloc, "fault: memory Spent"),
+        Failure::State => String::from_str(alloc, "fault: state Refused"),
         Failure::Usage => String::from_str(alloc, "usage: vm370 DIRECTORY SCRIPT [VOLUME]..."),
     }
 }
@@ -148,6 +151,7 @@ pub fn status(failure: &Failure) -> u8
         Failure::Unsaved(error, _) => ckd_image::status(*error),
         Failure::File(_) => 3,
         Failure::Memory => 4,
+        Failure::State => 1,
         Failure::Spent => 4,
         Failure::Usage => 2,
     }

@@ -48,6 +48,10 @@ pub enum Left<I> {
 pub(crate) enum Next {
     /// A part of the script.
     Part(Vec<u8>),
+    /// The state is asked for.
+    Save,
+    /// The state from which to go on.
+    State(Vec<u8>),
     /// The end is asked for.
     End,
     /// Nothing more.
@@ -75,6 +79,8 @@ pub fn follow_parts<R: HostReader, W: HostWriter, I: Installation + Drop>(
     for _ in 0..u64::MAX {
         match next_part(alloc, reader)? {
             Next::Part(part) => follower = follow_part(alloc, follower, detail, &part, writer)?,
+            Next::Save => save(alloc, &follower, writer)?,
+            Next::State(bytes) => follower = restore(alloc, follower, &bytes, writer)?,
             Next::End => return Ok(Left::Ended(follower.close(alloc, writer)?)),
             Next::Nothing => return Ok(Left::Cut(follower.close(alloc, writer)?)),
         }
@@ -168,6 +174,18 @@ fn next_part<R: HostReader>(alloc: Global, reader: &mut R) -> Result<Next, HostF
     let Some(word) = next_size(alloc, reader)? else {
         return Ok(Next::Nothing);
     };
+    if word.as_slice() == b"SAVE".as_slice() {
+        return Ok(Next::Save);
+    }
+    if word.as_slice() == b"STATE".as_slice() {
+        let Some(word) = next_size(alloc, reader)? else {
+            return Err(BROKEN);
+        };
+        return match decimal_of(MOST_DIGITS, &word) {
+            Some(size) => Ok(Next::State(next_state(alloc, reader, size)?)),
+            None => Err(BROKEN),
+        };
+    }
     if word.as_slice() == b"END".as_slice() {
         return Ok(Next::End);
     }
@@ -215,6 +233,62 @@ fn next_bytes<R: HostReader>(
         }
     }
     Ok(bytes)
+}
+
+/// The next bytes, so many, many at once.
+fn next_state<R: HostReader>(
+    alloc: Global,
+    reader: &mut R,
+    count: u32,
+) -> Result<Vec<u8>, HostFault> {
+    let mut bytes = Vec::new(alloc);
+    let mut buffer = [0u8; 4096];
+    let mut left = count as usize;
+    'reads: while left > 0 {
+        let most = left.min(4096);
+        let got = reader.read(&mut buffer[..most])?;
+        if got == 0 {
+            return Err(BROKEN);
+        }
+        bytes.extend_from_slice(&buffer[..got])?;
+        left -= got;
+    }
+    Ok(bytes)
+}
+
+/// Tells the state.
+fn save<W: HostWriter, I: Installation + Drop>(
+    alloc: Global,
+    follower: &Follower<I>,
+    writer: &mut W,
+) -> Result<(), Failure> {
+    let mut bytes = Vec::new(alloc);
+    if !follower.save(&mut bytes)? {
+        tell(writer, b"> REFUSED 0\n")?;
+        return Ok(());
+    }
+    let size = bytes.len();
+    let told = format!(in alloc; "> STATE {size}\n")?;
+    write_all(writer, told.as_bytes())?;
+    write_all(writer, &bytes)?;
+    tell(writer, b"> DONE\n")?;
+    Ok(())
+}
+
+/// Goes on from a state.
+fn restore<W: HostWriter, I: Installation + Drop>(
+    alloc: Global,
+    follower: Follower<I>,
+    bytes: &[u8],
+    writer: &mut W,
+) -> Result<Follower<I>, Failure> {
+    match follower.restored(alloc, bytes)? {
+        Some(follower) => {
+            tell(writer, b"> DONE\n")?;
+            Ok(follower)
+        }
+        None => Err(Failure::State),
+    }
 }
 
 /// The next byte, or none at the end of the input.

@@ -28,6 +28,7 @@ use crate::transcript::names;
 use cp_dispatch::{Policy, Ready};
 use machine_panel::Mode;
 use s370_num::host::HostWriter;
+use saved_bytes::Input;
 use session_script::{ScriptError, ScriptEvent, reads_grammar};
 use std::alloc::{AllocError, Global};
 use std::marker::Model;
@@ -143,6 +144,54 @@ impl<I: Installation + Drop> Follower<I> {
     {
         close(alloc, &self.installation, writer)?;
         Ok(self.installation)
+    }
+
+    /// Appends its state, and tells whether it has one.
+    pub fn save(&self, out: &mut Vec<u8>) -> Result<bool, AllocError> {
+        if !self.installation.save(out)? {
+            return Ok(false);
+        }
+        self.policy.save(out)?;
+        Ok(true)
+    }
+
+    /// What these bytes say, in the place of this one, to which nothing has happened; `None` where they are not what it
+    /// would be saved as.
+    pub fn restored(self, alloc: Global, bytes: &[u8]) -> Result<Option<Follower<I>>, AllocError> {
+        let Some(follower) = self.read(alloc, &mut Input::new(bytes)) else {
+            return Ok(None);
+        };
+        let mut again = Vec::new(alloc);
+        if !follower.save(&mut again)? {
+            return Ok(None);
+        }
+        if again.as_slice() == bytes {
+            Ok(Some(follower))
+        } else {
+            Ok(None)
+        }
+    }
+
+    /// What comes next, in the place of this one.
+    fn read(self, alloc: Global, input: &mut Input<'_>) -> Option<Follower<I>> {
+        let Follower {
+            installation,
+            policy: _,
+            detail,
+        } = self;
+        let installation = installation.restore(input)?;
+        let users = installation.users();
+        let policy = Policy::read(alloc, users, input)?;
+        for program in policy.programs() {
+            if !installation.has_device(program.user, program.device.get()) {
+                return None;
+            }
+        }
+        Some(Follower {
+            installation,
+            policy,
+            detail,
+        })
     }
 
     /// The lines of the files that were closed for the operator since there were so many files, as the answer to a part

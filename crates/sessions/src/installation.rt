@@ -10,6 +10,7 @@ ghost use Rattle.sessions.specs.Schedule.{IsEvent, ready_in};
 use machine_devices::{FileNote, Reply, SeenDevices};
 use machine_panel::Mode;
 use s370_subchannels::Subchannel;
+use saved_bytes::Input;
 use session_script::ScriptEvent;
 use std::alloc::{AllocError, Global};
 use thiserror::Error;
@@ -100,4 +101,10 @@ pub trait Installation {
         ensures users { ((goes).seen self.new).users ≡ ((goes).seen self.old).users }
         ensures alive { OnOk result ((goes).is_spent self.new ≡ false) }
         ensures spent { result ≡ Err Refused.Spent → (goes).is_spent self.old ≡ true };
+
+    /// Appends its state, and tells whether it has one.
+    fn save(&self, out: &mut Vec<u8>) -> Result<bool, AllocError>;
+
+    /// The state that comes next, in the place of this one, to which nothing has happened.
+    fn restore(self, input: &mut Input<'_>) -> Option<Self>;
 }

@@ -17,6 +17,7 @@ use machine_devices::{FileNote, Reply, SeenDevices};
 use machine_panel::Mode;
 use s370_num::DevAddr;
 use s370_subchannels::Subchannel;
+use saved_bytes::Input;
 use session_script::ScriptEvent;
 use sessions::{Installation, Refused};
 use std::alloc::{AllocError, Global};
@@ -134,6 +135,19 @@ impl Installation for SharedMachines {
             return Err(Refused::Memory);
         };
         ask(&mut self.system, event, &cards)
+    }
+
+    fn save(&self, out: &mut Vec<u8>) -> Result<bool, AllocError> {
+        self.system.save(out)?;
+        Ok(true)
+    }
+
+    fn restore(self, input: &mut Input<'_>) -> Option<SharedMachines> {
+        let SharedMachines { system } = self;
+        match system.restore(input) {
+            Some(system) => Some(SharedMachines { system }),
+            None => None,
+        }
     }
 }
 
