@@ -11,3 +11,4 @@ pub mod Owned
 pub mod Lending
 pub mod Reused
 mod Keeping
+mod SystemCodes

@@ -20,3 +20,4 @@ pub mod Sizes
 pub mod Owners
 pub mod Lending
 pub mod Keeps
+pub mod Saved

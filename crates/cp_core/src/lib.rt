@@ -48,4 +48,5 @@ pub use boot::Sizes;
 pub use cp_frames::{FRAME_SIZE, FrameNo};
 pub use cp_volumes::SeenDisk;
 pub use events::{BootError, CpError, Event};
+pub use saved::one_by_saved;
 pub use system::{System, each_is_bare};

@@ -1,131 +1,333 @@
-//! A system as bytes, and back.
+//! A system as the bytes of a saved state, and back.
+//!
+//! What is saved is exact: no two systems of one directory have the same bytes, but for the programs that they keep.
+//! What is restored is lawful whatever the bytes are, and whoever saves it again sees whether it is what was saved.
+ghost use Rattle.std.specs.Prelude.{◌≡◌, ◌++◌, ℕ, IfSome, List, OnOk, length, map, option_copied, true};
+ghost use Rattle.saved_bytes.specs.Codes.{each, number};
+ghost use Rattle.ckd_saved.specs.Saved.{volume_bytes};
+ghost use Rattle.cp_volumes.specs.Saved.{disk_bytes};
+ghost use Rattle.cp_volumes.specs.Shared.{AreThere, stands_of, volume_or_none};
+ghost use Rattle.machine_devices.specs.Saved.{delivery_bytes, note_bytes};
+ghost use Rattle.cp_core.specs.Saved.{AreAsLarge, HasSameBase, IsOneBySaved, IsSaved, base_of, devices_part_bytes, lists_bytes, saved_user, seat_bytes};
+
 use crate::system::System;
 use crate::user_machine::UserMachine;
 use ckd_saved::{put_volume, volume_of};
+use ckd_volume::Volume;
 use cp_spool::Queues;
-use cp_volumes::Volumes;
+use cp_volumes::{SharedDisk, Volumes};
 use machine_devices::saved::{delivery_of, note_of, put_delivery, put_note};
+use machine_devices::{Delivery, FileNote};
 use s370_num::StorageKey;
 use saved_bytes::{Input, put_flag, put_number, put_one, put_zero};
 use std::alloc::{AllocError, Global};
 
+/// Appends minidisks.
+fn put_minidisks(out: &mut Vec<u8>, minidisks: &[SharedDisk]) -> Result<(), AllocError>
+    ensures { OnOk result (out.new.items ≡ out.old.items ++ each disk_bytes minidisks.now) }
+{
+    for disk in minidisks {
+        put_one(out)?;
+        disk.save(out)?;
+    }
+    put_zero(out)
+}
+
+/// Takes the arms and the sense that come next.
+fn restore_minidisks(minidisks: &mut [SharedDisk], input: &mut Input<'_>) -> Option<()>
+    ensures { stands_of minidisks.new ≡ stands_of minidisks.old }
+{
+    for disk in minidisks.iter_mut() {
+        if !input.flag()? {
+            return None;
+        }
+        disk.restore(input)?;
+    }
+    if input.flag()? { None } else { Some(()) }
+}
+
+/// Appends storage keys.
+#[tactic(auto, using(saved_bytes::proofs::Codes::each_on))]
+fn put_keys(out: &mut Vec<u8>, keys: &[StorageKey]) -> Result<(), AllocError>
+    ensures { OnOk result (out.new.items ≡ out.old.items ++ each number keys.now) }
+{
+    for key in keys {
+        put_one(out)?;
+        put_number(out, u64::from(key.get()))?;
+    }
+    put_zero(out)
+}
+
+/// Takes the storage keys that come next, as many as these.
+fn restore_keys(keys: &mut [StorageKey], input: &mut Input<'_>) -> Option<()>
+    ensures { length keys.new ≡ length keys.old }
+{
+    for key in keys.iter_mut() {
+        if !input.flag()? {
+            return None;
+        }
+        *key = StorageKey::new(input.small()?);
+    }
+    if input.flag()? { None } else { Some(()) }
+}
+
+/// Appends what was delivered to a user.
+fn put_deliveries(out: &mut Vec<u8>, deliveries: &[Delivery]) -> Result<(), AllocError>
+    ensures { OnOk result (out.new.items ≡ out.old.items ++ each delivery_bytes deliveries.now) }
+{
+    for delivery in deliveries {
+        put_one(out)?;
+        put_delivery(out, delivery)?;
+    }
+    put_zero(out)
+}
+
+/// Takes the deliveries that come next.
+fn deliveries_of(alloc: Global, input: &mut Input<'_>) -> Option<Vec<Delivery>> {
+    let mut deliveries = Vec::new(alloc);
+    for _ in 0..u64::MAX {
+        if !input.flag()? {
+            break;
+        }
+        deliveries.push(delivery_of(input)?).ok()?;
+    }
+    Some(deliveries)
+}
+
 impl UserMachine {
-    /// Appends all of it but its storage and its cylinders.
-    fn save(&self, queues: &Queues, out: &mut Vec<u8>) -> Result<(), AllocError> {
+    /// Appends the machine, the devices and their files.
+    fn put_devices(&self, queues: &Queues, out: &mut Vec<u8>) -> Result<(), AllocError>
+        ensures { OnOk result (out.new.items
+            ≡ out.old.items ++ devices_part_bytes (saved_user queues.now self.now)) }
+    {
         self.machine.save(out)?;
         self.devices.save(out)?;
-        queues.save(self.devices.user(), out)?;
-        for disk in &self.minidisks {
-            put_one(out)?;
-            disk.save(out)?;
-        }
-        put_zero(out)?;
-        for key in &self.keys {
-            put_one(out)?;
-            put_number(out, u64::from(key.get()))?;
-        }
-        put_zero(out)?;
-        for delivery in &self.deliveries {
-            put_one(out)?;
-            put_delivery(out, delivery)?;
-        }
-        put_zero(out)
+        queues.save(self.devices.user(), out)
     }
 
-    /// What comes next, in the place of this one, which was never switched on.
-    fn restore(&mut self, alloc: Global, queues: &mut Queues, input: &mut Input<'_>) -> Option<()> {
+    /// Appends the minidisks, the storage keys and what was delivered.
+    fn put_lists(&self, out: &mut Vec<u8>) -> Result<(), AllocError>
+        ensures { OnOk result (out.new.items
+            ≡ out.old.items ++ (each disk_bytes self.now.minidisks
+            ++ (each number self.now.keys ++ each delivery_bytes self.now.deliveries))) }
+    {
+        put_minidisks(out, &self.minidisks)?;
+        put_keys(out, &self.keys)?;
+        put_deliveries(out, &self.deliveries)
+    }
+
+    /// Appends all of it but its storage, its cylinders and the programs that are kept.
+    fn save(&self, queues: &Queues, out: &mut Vec<u8>) -> Result<(), AllocError>
+        ensures { OnOk result (out.new.items ≡ out.old.items ++ seat_bytes queues.now self.now) }
+    {
+        // Exhaustive: a new field fails to compile here.
+        let UserMachine {
+            machine: _,
+            devices: _,
+            minidisks: _,
+            keys: _,
+            deliveries: _,
+            reuse: _,
+        } = self;
+        self.put_devices(queues, out)?;
+        self.put_lists(out)
+    }
+
+    /// Takes what comes next, in the place of a machine that was never switched on. Whose it is stays, whatever comes.
+    fn restore(&mut self, alloc: Global, queues: &mut Queues, input: &mut Input<'_>) -> Option<()>
+        ensures base { base_of self.new ≡ base_of self.old }
+        ensures queues { length queues.new.users ≡ length queues.old.users }
+    {
         self.machine.restore(input)?;
         self.devices.restore(alloc, input)?;
         queues.restore(alloc, self.devices.user(), input)?;
-        for disk in self.minidisks.iter_mut() {
-            if !input.flag()? {
-                return None;
-            }
-            disk.restore(input)?;
-        }
-        if input.flag()? {
-            return None;
-        }
-        for key in self.keys.iter_mut() {
-            if !input.flag()? {
-                return None;
-            }
-            *key = StorageKey::new(input.small()?);
-        }
-        if input.flag()? {
-            return None;
-        }
-        for _ in 0..u64::MAX {
-            if !input.flag()? {
-                break;
-            }
-            self.deliveries.push(delivery_of(input)?).ok()?;
-        }
+        restore_minidisks(&mut self.minidisks, input)?;
+        restore_keys(&mut self.keys, input)?;
+        self.deliveries = deliveries_of(alloc, input)?;
         Some(())
     }
 }
 
-impl System {
-    /// Appends all of it but its directory.
-    pub fn save(&self, out: &mut Vec<u8>) -> Result<(), AllocError> {
-        for index in 0..self.volumes.count() {
-            if let Some(volume) = self.volumes.volume(index) {
-                put_one(out)?;
-                put_volume(out, volume)?;
-            }
-        }
-        put_zero(out)?;
-        for user in &self.users {
-            put_one(out)?;
-            user.save(&self.queues, out)?;
-        }
-        put_zero(out)?;
-        self.frames.save(out)?;
-        for note in &self.files {
-            put_one(out)?;
-            put_note(out, *note)?;
-        }
-        put_zero(out)?;
-        put_flag(out, self.is_spent)
+/// Appends the users.
+fn put_users(out: &mut Vec<u8>, users: &[UserMachine], queues: &Queues) -> Result<(), AllocError>
+    ensures { OnOk result (out.new.items ≡ out.old.items ++ each (seat_bytes queues.now) users.now) }
+{
+    for user in users {
+        put_one(out)?;
+        user.save(queues, out)?;
     }
+    put_zero(out)
+}
 
-    /// What comes next, in the place of this one, to which nothing has happened.
-    pub fn restore(mut self, input: &mut Input<'_>) -> Option<System> {
-        let alloc = self.alloc;
-        let mut volumes = Vec::new(alloc);
-        for _ in 0..u64::MAX {
-            if !input.flag()? {
-                break;
-            }
-            volumes.push(volume_of(alloc, input)?).ok()?;
-        }
-        if volumes.len() != self.volumes.count() {
+/// Takes the users that come next, as many as these.
+fn restore_users(
+    alloc: Global,
+    users: &mut [UserMachine],
+    queues: &mut Queues,
+    input: &mut Input<'_>,
+) -> Option<()>
+    ensures bases { map base_of users.new ≡ map base_of users.old }
+    ensures queues { length queues.new.users ≡ length queues.old.users }
+{
+    for user in users.iter_mut() {
+        if !input.flag()? {
             return None;
         }
-        for (index, volume) in volumes.iter().enumerate() {
-            let old = self.volumes.volume(index)?;
-            if old.count() != volume.count() || old.volser() != volume.volser() {
-                return None;
-            }
+        user.restore(alloc, queues, input)?;
+    }
+    if input.flag()? { None } else { Some(()) }
+}
+
+/// Appends the notes of files.
+fn put_notes(out: &mut Vec<u8>, notes: &[FileNote]) -> Result<(), AllocError>
+    ensures { OnOk result (out.new.items ≡ out.old.items ++ each note_bytes notes.now) }
+{
+    for note in notes {
+        put_one(out)?;
+        put_note(out, *note)?;
+    }
+    put_zero(out)
+}
+
+/// Takes the notes that come next.
+fn notes_of(alloc: Global, input: &mut Input<'_>) -> Option<Vec<FileNote>> {
+    let mut notes = Vec::new(alloc);
+    for _ in 0..u64::MAX {
+        if !input.flag()? {
+            break;
         }
-        self.volumes = Volumes::new(alloc, volumes).ok()?;
-        for user in self.users.iter_mut() {
-            if !input.flag()? {
-                return None;
-            }
-            user.restore(alloc, &mut self.queues, input)?;
+        notes.push(note_of(input)?).ok()?;
+    }
+    Some(notes)
+}
+
+/// Appends the volumes.
+fn put_volumes(out: &mut Vec<u8>, volumes: &Volumes) -> Result<(), AllocError>
+    requires { AreThere volumes.now }
+    ensures { OnOk result (out.new.items ≡ out.old.items ++ each volume_bytes volumes.now) }
+{
+    for index in 0..volumes.count() {
+        put_one(out)?;
+        match volumes.volume(index) {
+            Some(volume) => put_volume(out, volume)?,
+            None => unreachable!(),
         }
-        if input.flag()? {
-            return None;
+    }
+    put_zero(out)
+}
+
+/// Takes the volumes that come next.
+fn volumes_of(alloc: Global, input: &mut Input<'_>) -> Option<Vec<Volume>> {
+    let mut volumes = Vec::new(alloc);
+    for _ in 0..u64::MAX {
+        if !input.flag()? {
+            break;
         }
-        self.frames.restore(alloc, input)?;
-        for _ in 0..u64::MAX {
-            if !input.flag()? {
-                break;
-            }
-            self.files.push(note_of(input)?).ok()?;
-        }
-        self.is_spent = input.flag()?;
-        Some(self)
+        volumes.push(volume_of(alloc, input)?).ok()?;
+    }
+    Some(volumes)
+}
+
+/// Whether a volume has the size and the serial number of another, if that is there.
+fn is_alike(volume: &Volume, old: Option<&Volume>) -> bool
+    ensures { result ≡ true
+        → length volume.now.cylinders ≡ length (volume_or_none (option_copied old)).cylinders }
+{
+    match old {
+        Some(old) => old.count() == volume.count() && old.volser() == volume.volser(),
+        None => false,
     }
 }
+
+/// Whether volumes have the sizes and the serial numbers of these, in their order.
+fn are_alike(volumes: &[Volume], old: &Volumes) -> bool
+    ensures { result ≡ true → AreAsLarge old.now volumes.now }
+{
+    if volumes.len() != old.count() {
+        return false;
+    }
+    for index in 0..volumes.len() {
+        if !is_alike(&volumes[index], old.volume(index)) {
+            return false;
+        }
+    }
+    true
+}
+
+/// Takes the volumes that come next, if they have the sizes and the serial numbers of these.
+fn restored_volumes(alloc: Global, old: &Volumes, input: &mut Input<'_>) -> Option<Volumes>
+    ensures there { IfSome result (λ made. AreThere made) }
+    ensures large { IfSome result (λ made. AreAsLarge old.now made) }
+{
+    let volumes = volumes_of(alloc, input)?;
+    if !are_alike(&volumes, old) {
+        return None;
+    }
+    match Volumes::new(alloc, volumes) {
+        Ok(made) => Some(made),
+        Err(_) => None,
+    }
+}
+
+impl System {
+    /// Appends the bytes of its state. Its directory and the programs that it keeps are not in them.
+    pub fn save(&self, out: &mut Vec<u8>) -> Result<(), AllocError>
+        ensures { OnOk result
+            ((bytes : List ℕ) × IsSaved self.now bytes × (out.new.items ≡ out.old.items ++ bytes)) }
+    {
+        // Exhaustive: a new field fails to compile here.
+        let System {
+            alloc: _,
+            directory: _,
+            users,
+            frames,
+            files,
+            queues,
+            volumes,
+            is_spent,
+        } = self;
+        put_volumes(out, volumes)?;
+        put_users(out, users, queues)?;
+        frames.save(out)?;
+        put_notes(out, files)?;
+        put_flag(out, *is_spent)
+    }
+
+    /// Takes the state that comes next in the place of this one, to which nothing has happened. None for other bytes.
+    ///
+    /// What is restored is lawful whatever the bytes are. Whoever saves it again sees whether it is what was saved.
+    pub fn restore(self, input: &mut Input<'_>) -> Option<System>
+        ensures { IfSome result (λ made. HasSameBase self made) }
+    {
+        let System {
+            alloc,
+            directory,
+            mut users,
+            mut frames,
+            files: _,
+            mut queues,
+            volumes,
+            is_spent: _,
+        } = self;
+        let volumes = restored_volumes(alloc, &volumes, input)?;
+        restore_users(alloc, &mut users, &mut queues, input)?;
+        frames.restore(alloc, input)?;
+        let files = notes_of(alloc, input)?;
+        let is_spent = input.flag()?;
+        Some(System {
+            alloc,
+            directory,
+            users,
+            frames,
+            files,
+            queues,
+            volumes,
+            is_spent,
+        })
+    }
+}
+
+/// States that bytes are those of one system of a directory, but for the programs that it keeps.
+pub fn one_by_saved()
+    ensures { IsOneBySaved }
+{}
