@@ -10,5 +10,6 @@ pub mod Loans
 pub mod Owned
 pub mod Lending
 pub mod Reused
+pub mod Unkept
 mod Keeping
 mod SystemCodes

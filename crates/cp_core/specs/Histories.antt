@@ -6,7 +6,6 @@ use Rattle.cp_core.specs.Local.{IsApplied, Step, local}
 use Rattle.cp_core.specs.Supply.{IsSupplied}
 use Rattle.cp_volumes.specs.Shared.{IsConfined}
 use Rattle.cp_core.specs.Events.{user_of}
-use Rattle.cp_core.specs.Keeps.{EventKeeps}
 use Rattle.cp_core.specs.System.{SystemView, stands_at, user_at}
 use Rattle.cp_core.specs.Told.{IsTold}
 
@@ -16,14 +15,13 @@ pub record IsReplied (old : SystemView) (step : Step) : Type 0 where
   pub told : IsTold old step
   pub supplied : IsSupplied old step.event step.reply.ended step.seen
 
--- and the directory and the places of minidisks are as they were; of the volumes only cylinders changed that its user may write; and
--- programs are kept as the event says
+-- and the directory and the places of minidisks are as they were, and of the volumes only cylinders changed that its user may write.
+-- Which programs are kept is no part of a history: a system that was restored keeps none (`System::apply`, clause `kept`, says it).
 pub record IsStep (old : SystemView) (step : Step) : Type 0 where
   pub replied : IsReplied old step
   pub directory : step.seen.directory ≡ old.directory
   pub stands : step.seen.stands ≡ old.stands
   pub confined : IsConfined (stands_at old (user_of step.event)) old.volumes step.seen.volumes
-  pub kept : EventKeeps old step.event step.reply.ended step.seen
 
 abbrev pub IsHistory : SystemView → List Step → SystemView → Type 0
 IsHistory first [] last = last ≡ first
