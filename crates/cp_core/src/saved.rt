@@ -58,6 +58,16 @@ fn put_keys(out: &mut Vec<u8>, keys: &[StorageKey]) -> Result<(), AllocError>
     put_zero(out)
 }
 
+/// Takes the storage key that comes next.
+fn key_of(input: &mut Input<'_>) -> Option<StorageKey> {
+    let key = input.small()?;
+    if key < 32 {
+        Some(StorageKey::new(key))
+    } else {
+        None
+    }
+}
+
 /// Takes the storage keys that come next, as many as these.
 fn restore_keys(keys: &mut [StorageKey], input: &mut Input<'_>) -> Option<()>
     ensures { length keys.new ≡ length keys.old }
@@ -66,12 +76,13 @@ fn restore_keys(keys: &mut [StorageKey], input: &mut Input<'_>) -> Option<()>
         if !input.flag()? {
             return None;
         }
-        *key = StorageKey::new(input.small()?);
+        *key = key_of(input)?;
     }
     if input.flag()? { None } else { Some(()) }
 }
 
 /// Appends what was delivered to a user.
+#[tactic(auto, using(saved_bytes::proofs::Codes::each_got))]
 fn put_deliveries(out: &mut Vec<u8>, deliveries: &[Delivery]) -> Result<(), AllocError>
     ensures { OnOk result (out.new.items ≡ out.old.items ++ each delivery_bytes deliveries.now) }
 {
@@ -229,12 +240,12 @@ fn volumes_of(alloc: Global, input: &mut Input<'_>) -> Option<Vec<Volume>> {
 }
 
 /// Whether a volume has the size and the serial number of another, if that is there.
-fn is_alike(volume: &Volume, old: Option<&Volume>) -> bool
+fn is_alike(volume: &Volume, other: Option<&Volume>) -> bool
     ensures { result ≡ true
-        → length volume.now.cylinders ≡ length (volume_or_none (option_copied old)).cylinders }
+        → length volume.now.cylinders ≡ length (volume_or_none (option_copied other.entry)).cylinders }
 {
-    match old {
-        Some(old) => old.count() == volume.count() && old.volser() == volume.volser(),
+    match other {
+        Some(other) => other.count() == volume.count() && other.volser() == volume.volser(),
         None => false,
     }
 }
