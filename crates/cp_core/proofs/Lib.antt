@@ -13,3 +13,4 @@ pub mod Reused
 pub mod Unkept
 mod Keeping
 mod SystemCodes
+mod Restored

@@ -1,23 +1,32 @@
 -- Bytes are those of one system, but for the programs that it keeps.
-use Rattle.std.specs.Prelude.{ℕ, ◌≡◌, refl, List, map}
-use Rattle.std.proofs.Common.{sym, ◌∙◌, ap}
+use Rattle.std.specs.Prelude.{ℕ, ◌≡◌, refl, Bool, List, [], ◌∷◌, ◌++◌, map}
+use Rattle.std.proofs.Common.{sym, ◌∙◌, ap, subst, append_assoc}
 use Rattle.saved_bytes.specs.Codes.{both, each, flag, number, IsCode}
 use Rattle.saved_bytes.proofs.Codes.{both_code, each_code, flag_code, number_code, of_parts, one_value}
 use Rattle.ckd_saved.specs.Saved.{volume_bytes}
 use Rattle.ckd_saved.proofs.VolumeCodes.{volume_code}
+use Rattle.ckd_volume.specs.Volume.{VolumeFormat}
 use Rattle.cp_directory.specs.Users.{DirectoryUser}
+use Rattle.cp_frames.specs.Layout.{Pool}
 use Rattle.cp_frames.specs.Saved.{pool_bytes}
 use Rattle.cp_frames.proofs.PoolCodes.{pool_code}
+use Rattle.cp_spool.specs.Queues.{QueuesValue}
 use Rattle.cp_spool.specs.Saved.{files_bytes}
 use Rattle.cp_spool.proofs.FileCodes.{files_code}
 use Rattle.cp_volumes.specs.Saved.{disk_bytes}
 use Rattle.cp_volumes.proofs.DiskCodes.{disk_code}
+use Rattle.cp_volumes.specs.Shared.{Stand, stands_of}
 use Rattle.machine_panel.specs.Saved.{saved_parts_bytes}
 use Rattle.machine_panel.proofs.MachineCodes.{saved_parts_code}
+use Rattle.machine_devices.specs.Equipped.{Equipped}
 use Rattle.machine_devices.specs.Saved.{delivery_bytes, devices_bytes, note_bytes}
 use Rattle.machine_devices.proofs.DeviceCodes.{delivery_code, devices_code, note_code}
-use Rattle.cp_core.specs.System.{SystemView}
-use Rattle.cp_core.specs.Saved.{IsOneBySaved, SavedSystem, SavedUser, system_bytes, user_bytes, view_of}
+use Rattle.machine_devices.specs.declared.files.FileNote.{FileNote}
+use Rattle.machine_devices.specs.declared.reply.Delivery.{Delivery}
+use Rattle.cp_core.specs.System.{SystemView, deliveries_of, stands_among, users_of}
+use Rattle.cp_core.specs.UserMachines.{SeatParts, seat_on, seats_on, user_with}
+use Rattle.cp_core.specs.Saved.{IsOneBySaved, IsSaved, SavedSystem, SavedUser, saved_user, system_bytes, user_bytes, user_of, view_of}
+use Rattle.cp_core.proofs.Systems.{seen}
 
 pub user_code : IsCode user_bytes
 user_code =
@@ -56,3 +65,50 @@ one_system one other bytes base is are =
     ∙ ap (λ (p : SavedSystem). view_of p other.directory other.kept) same
     ∙ ap (λ (d : List DirectoryUser). view_of is.parts d other.kept) base.directory
     ∙ ap (λ (s : SystemView). record s { kept = other.kept }) (sym is.seen)
+
+-- ---- what is written
+
+-- the code of what each becomes
+pub each_mapped : {A B : Type 0} (code : B → List ℕ) (f : A → B) (list : List A) → each (λ a. code (f a)) list ≡ each code (map f list)
+each_mapped code f [] = refl
+each_mapped code f (a ∷ list) = ap (λ (l : List ℕ). 1 ∷ (code (f a) ++ l)) (each_mapped code f list)
+
+-- a user's machine is as before, but for room on the console and the programs that are kept
+users_again : (q : QueuesValue) (seats : List SeatParts) (volumes : List VolumeFormat) (storages : List (List ℕ)) → users_of (map user_of (map (saved_user q) seats)) volumes storages ≡ users_of (seats_on q seats) volumes storages
+users_again q [] volumes storages = refl
+users_again q (s ∷ seats) volumes [] = refl
+users_again q (s ∷ seats) volumes (bytes ∷ storages) =
+    ap (λ (us : List Equipped). user_with (seat_on q s) volumes bytes ∷ us) (users_again q seats volumes storages)
+
+deliveries_again : (q : QueuesValue) (seats : List SeatParts) → deliveries_of (map user_of (map (saved_user q) seats)) ≡ deliveries_of (seats_on q seats)
+deliveries_again q [] = refl
+deliveries_again q (s ∷ seats) = ap (λ (ds : List (List Delivery)). s.deliveries ∷ ds) (deliveries_again q seats)
+
+stands_again : (q : QueuesValue) (seats : List SeatParts) → stands_among (map user_of (map (saved_user q) seats)) ≡ stands_among (seats_on q seats)
+stands_again q [] = refl
+stands_again q (s ∷ seats) = ap (λ (ss : List (List Stand)). stands_of s.minidisks ∷ ss) (stands_again q seats)
+
+-- what is saved of a system
+abbrev pub parts_in : QueuesValue → List SeatParts → List VolumeFormat → Pool → List FileNote → Bool → SavedSystem
+parts_in q seats volumes pool files is_spent =
+    record { volumes = volumes; users = map (saved_user q) seats; pool = pool; files = files; is_spent = is_spent }
+
+module _ (q : QueuesValue) (seats : List SeatParts) (volumes : List VolumeFormat) (pool : Pool) (directory : List DirectoryUser) (files : List FileNote) (is_spent : Bool) where
+  seen_again : (let s = seen (seats_on q seats) volumes pool.storages directory pool.supply files is_spent in s ≡ view_of (parts_in q seats volumes pool files is_spent) s.directory s.kept)
+  seen_again =
+      rw (users_again q seats volumes pool.storages, deliveries_again q seats, stands_again q seats) refl
+
+  pub saved_is : (view : SystemView) (bytes : List ℕ) → seen (seats_on q seats) volumes pool.storages directory pool.supply files is_spent ≡ view → bytes ≡ system_bytes (parts_in q seats volumes pool files is_spent) → IsSaved view bytes
+  saved_is view bytes is code = record {
+    parts = parts_in q seats volumes pool files is_spent;
+    seen = subst (λ (s : SystemView). s ≡ view_of (parts_in q seats volumes pool files is_spent) s.directory s.kept) is seen_again;
+    code = code;
+  }
+
+-- what was appended part by part was appended as a whole
+pub as_whole : (out v u p n f : List ℕ) → ((((out ++ v) ++ u) ++ p) ++ n) ++ f ≡ out ++ ((v ++ u) ++ (p ++ (n ++ f)))
+as_whole out v u p n f =
+    append_assoc (((out ++ v) ++ u) ++ p) n f
+    ∙ append_assoc ((out ++ v) ++ u) p (n ++ f)
+    ∙ ap (λ (l : List ℕ). l ++ (p ++ (n ++ f))) (append_assoc out v u)
+    ∙ append_assoc out (v ++ u) (p ++ (n ++ f))
