@@ -1,7 +1,7 @@
 //! A system as the bytes of a saved state, and back.
 //!
-//! What is saved is exact: no two systems of one directory have the same bytes, but for the programs that they keep.
-//! What is restored is lawful whatever the bytes are, and whoever saves it again sees whether it is what was saved.
+//! Bytes are those of one system of a directory, but for the programs that it keeps ([`one_by_saved`]). A system that is
+//! restored keeps its invariant whatever the bytes are. Nothing else is proved of it: save it again, and compare.
 ghost use Rattle.std.specs.Prelude.{◌≡◌, ◌++◌, ℕ, IfSome, List, OnOk, length, map, option_copied, true};
 ghost use Rattle.saved_bytes.specs.Codes.{each, number};
 ghost use Rattle.ckd_saved.specs.Saved.{volume_bytes};
@@ -33,7 +33,7 @@ fn put_minidisks(out: &mut Vec<u8>, minidisks: &[SharedDisk]) -> Result<(), Allo
     put_zero(out)
 }
 
-/// Takes the arms and the sense that come next.
+/// Restores the arm and the sense of each of these minidisks.
 fn restore_minidisks(minidisks: &mut [SharedDisk], input: &mut Input<'_>) -> Option<()>
     ensures { stands_of minidisks.new ≡ stands_of minidisks.old }
 {
@@ -58,7 +58,7 @@ fn put_keys(out: &mut Vec<u8>, keys: &[StorageKey]) -> Result<(), AllocError>
     put_zero(out)
 }
 
-/// Takes the storage key that comes next.
+/// Reads a storage key.
 fn key_of(input: &mut Input<'_>) -> Option<StorageKey> {
     let key = input.small()?;
     if key < 32 {
@@ -68,7 +68,7 @@ fn key_of(input: &mut Input<'_>) -> Option<StorageKey> {
     }
 }
 
-/// Takes the storage keys that come next, as many as these.
+/// Restores each of these storage keys.
 fn restore_keys(keys: &mut [StorageKey], input: &mut Input<'_>) -> Option<()>
     ensures { length keys.new ≡ length keys.old }
 {
@@ -93,7 +93,7 @@ fn put_deliveries(out: &mut Vec<u8>, deliveries: &[Delivery]) -> Result<(), Allo
     put_zero(out)
 }
 
-/// Takes the deliveries that come next.
+/// Reads a list of deliveries.
 fn deliveries_of(alloc: Global, input: &mut Input<'_>) -> Option<Vec<Delivery>> {
     let mut deliveries = Vec::new(alloc);
     for _ in 0..u64::MAX {
@@ -127,7 +127,7 @@ impl UserMachine {
         put_deliveries(out, &self.deliveries)
     }
 
-    /// Appends all of it but its storage, its cylinders and the programs that are kept.
+    /// Appends all but the storage, the cylinders, and the programs that are kept.
     fn save(&self, queues: &Queues, out: &mut Vec<u8>) -> Result<(), AllocError>
         ensures { OnOk result (out.new.items ≡ out.old.items ++ seat_bytes queues.now self.now) }
     {
@@ -144,7 +144,8 @@ impl UserMachine {
         self.put_lists(out)
     }
 
-    /// Takes what comes next, in the place of a machine that was never switched on. Whose it is stays, whatever comes.
+    /// Restores a machine that was never switched on. Its user, the places of its minidisks and the number of its keys
+    /// stay the same, whatever the bytes are.
     fn restore(&mut self, alloc: Global, queues: &mut Queues, input: &mut Input<'_>) -> Option<()>
         ensures base { base_of self.new ≡ base_of self.old }
         ensures queues { length queues.new.users ≡ length queues.old.users }
@@ -170,7 +171,7 @@ fn put_users(out: &mut Vec<u8>, users: &[UserMachine], queues: &Queues) -> Resul
     put_zero(out)
 }
 
-/// Takes the users that come next, as many as these.
+/// Restores each of these users.
 fn restore_users(
     alloc: Global,
     users: &mut [UserMachine],
@@ -200,7 +201,7 @@ fn put_notes(out: &mut Vec<u8>, notes: &[FileNote]) -> Result<(), AllocError>
     put_zero(out)
 }
 
-/// Takes the notes that come next.
+/// Reads a list of notes.
 fn notes_of(alloc: Global, input: &mut Input<'_>) -> Option<Vec<FileNote>> {
     let mut notes = Vec::new(alloc);
     for _ in 0..u64::MAX {
@@ -227,7 +228,7 @@ fn put_volumes(out: &mut Vec<u8>, volumes: &Volumes) -> Result<(), AllocError>
     put_zero(out)
 }
 
-/// Takes the volumes that come next.
+/// Reads a list of volumes.
 fn volumes_of(alloc: Global, input: &mut Input<'_>) -> Option<Vec<Volume>> {
     let mut volumes = Vec::new(alloc);
     for _ in 0..u64::MAX {
@@ -239,7 +240,7 @@ fn volumes_of(alloc: Global, input: &mut Input<'_>) -> Option<Vec<Volume>> {
     Some(volumes)
 }
 
-/// Whether a volume has the size and the serial number of another, if that is there.
+/// Returns whether a volume has the size and the serial number of another. There may be no other.
 fn is_alike(volume: &Volume, other: Option<&Volume>) -> bool
     ensures { result ≡ true
         → length volume.now.cylinders ≡ length (volume_or_none (option_copied other.entry)).cylinders }
@@ -250,7 +251,7 @@ fn is_alike(volume: &Volume, other: Option<&Volume>) -> bool
     }
 }
 
-/// Whether volumes have the sizes and the serial numbers of these, in their order.
+/// Returns whether volumes have the sizes and the serial numbers of others, in the same order.
 fn are_alike(volumes: &[Volume], old: &Volumes) -> bool
     ensures { result ≡ true → AreAsLarge old.now volumes.now }
 {
@@ -265,7 +266,7 @@ fn are_alike(volumes: &[Volume], old: &Volumes) -> bool
     true
 }
 
-/// Takes the volumes that come next, if they have the sizes and the serial numbers of these.
+/// Reads volumes that have the sizes and the serial numbers of these.
 fn restored_volumes(alloc: Global, old: &Volumes, input: &mut Input<'_>) -> Option<Volumes>
     ensures there { IfSome result (λ made. AreThere made) }
     ensures large { IfSome result (λ made. AreAsLarge old.now made) }
@@ -281,7 +282,9 @@ fn restored_volumes(alloc: Global, old: &Volumes, input: &mut Input<'_>) -> Opti
 }
 
 impl System {
-    /// Appends the bytes of its state. Its directory and the programs that it keeps are not in them.
+    /// Appends the bytes of its state.
+    ///
+    /// The directory and the programs that are kept are not in them.
     pub fn save(&self, out: &mut Vec<u8>) -> Result<(), AllocError>
         ensures { OnOk result
             ((bytes : List ℕ) × IsSaved self.now bytes × (out.new.items ≡ out.old.items ++ bytes)) }
@@ -304,9 +307,10 @@ impl System {
         put_flag(out, *is_spent)
     }
 
-    /// Takes the state that comes next in the place of this one, to which nothing has happened. None for other bytes.
+    /// Restores the state that the next bytes are, in a system to which no event was applied. It is None if they are no
+    /// state of such a system, or if there is no memory for it.
     ///
-    /// What is restored is lawful whatever the bytes are. Whoever saves it again sees whether it is what was saved.
+    /// Nothing is proved of what the bytes hold: save the system again, and compare. It keeps no programs.
     pub fn restore(self, input: &mut Input<'_>) -> Option<System>
         ensures { IfSome result (λ made. HasSameBase self made) }
     {
