@@ -156,6 +156,8 @@ impl Installation for OneMachine {
     fn restore(self, _input: &mut Input<'_>) -> Option<OneMachine> {
         None
     }
+
+    fn one_by_saved() {}
 }
 
 /// The addresses of these devices.

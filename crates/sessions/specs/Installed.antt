@@ -38,13 +38,16 @@ abbrev pub IsLineStated : List KnownUser → List Program → Type 0
 IsLineStated users line = list_all (is_stated users) line ≡ true
 
 -- How an installation goes on: what is seen of it; what an event that a script says leaves of it, and what it replies; which event may
--- want memory, and what that may leave; and whether it has ended it.
+-- want memory, and what that may leave; and whether it has ended it. And as which bytes it is saved, and which others are of one base
+-- with it: what they were booted from is the same, and only what events have left of that may differ.
 pub record Installation (W : Type 0) : Type 1 where
   pub seen : W → Installed
   pub Happens : W → Said → Reply → W → Type 0
   pub May : W → Said → Type 0
   pub Lacks : W → Said → W → Type 0
   pub is_spent : W → Bool
+  pub IsSaved : W → List ℕ → Type 0
+  pub HasSameBase : W → W → Type 0
 
 -- an event that was said, the reply, and what it has left
 pub record Step (W : Type 0) : Type 0 where

@@ -7,3 +7,5 @@ pub mod News
 pub mod Alike
 pub mod Follow
 pub mod Fair
+pub mod Saved
+pub mod Runs

@@ -2,7 +2,7 @@
 //!
 //! What was written since the beginning is the transcript of all that was done, as if it had been one script: parts that
 //! are joined are followed as one, and one that was followed to its end is a session ([`parts_are_a_session`]).
-ghost use Rattle.std.specs.Prelude.{◌≡◌, ◌⊎◌, ℕ, All, Bool, [], Err, IfErr, IfOk, Ok, OnErr, OnOk, length, map, true};
+ghost use Rattle.std.specs.Prelude.{◌≡◌, ◌⊎◌, ℕ, All, Bool, [], Err, IfErr, IfOk, IfSome, Ok, OnErr, OnOk, length, map, true};
 ghost use Rattle.std.specs.Io.KnownBytes.{Appends};
 ghost use Rattle.s370_num.specs.Host.{AppendsFront};
 ghost use Rattle.sessions.specs.Files.{closing_lines, lines_since};
@@ -10,8 +10,9 @@ ghost use Rattle.session_script.specs.Script.{IsOfDevice, IsOfUser, IsRefusal, s
 ghost use Rattle.sessions.specs.Follow.{Became, BeginsWithNothing, EndsAsSession, HasWholeLines, IsFollowedPartly, PartsJoin, part_of, unended_line};
 ghost use Rattle.std.specs.List.{list_any};
 ghost use Rattle.cp_dispatch.specs.Policy.{is_ready};
-ghost use Rattle.sessions.specs.Installed.{names_of};
+ghost use Rattle.sessions.specs.Installed.{IsLineStated, is_stated, names_of};
 ghost use Rattle.sessions.specs.News.{changed_lines, is_idle, modes_of};
+ghost use Rattle.sessions.specs.Runs.{AppendsScene, IsRestored, IsSceneSaved};
 ghost use Rattle.sessions.specs.Schedule.{Scene};
 ghost use Rattle.sessions.specs.Session.{Accounts, at_first};
 ghost use Rattle.sessions.specs.Transcript.{ended};
@@ -25,7 +26,7 @@ use crate::news::{modes, print_changes};
 use crate::schedule::{Detail, first_policy, ready_users};
 use crate::session::{close, play};
 use crate::transcript::names;
-use cp_dispatch::{Policy, Ready};
+use cp_dispatch::{Policy, Program, Ready};
 use machine_panel::Mode;
 use s370_num::host::HostWriter;
 use saved_bytes::Input;
@@ -146,46 +147,64 @@ impl<I: Installation + Drop> Follower<I> {
         Ok(self.installation)
     }
 
-    /// Appends its state, and tells whether it has one.
-    pub fn save(&self, out: &mut Vec<u8>) -> Result<bool, AllocError> {
-        if !self.installation.save(out)? {
-            return Ok(false);
+    /// Appends its state, and returns whether its installation has states.
+    pub fn save(&self, out: &mut Vec<u8>) -> Result<bool, AllocError>
+        ensures { IfOk result (λ is. AppendsScene I.goes self.now is out.old.items out.new.items) }
+    {
+        // Exhaustive: a new field fails to compile here. The detail is the program's, and not the state's.
+        let Follower {
+            installation,
+            policy,
+            detail: _,
+        } = self;
+        let front = out.len();
+        policy.save(out)?;
+        let has_states = installation.save(out)?;
+        if !has_states {
+            out.truncate(front);
         }
-        self.policy.save(out)?;
-        Ok(true)
+        Ok(has_states)
     }
 
-    /// What these bytes say, in the place of this one, to which nothing has happened; `None` where they are not what it
-    /// would be saved as.
-    pub fn restored(self, alloc: Global, bytes: &[u8]) -> Result<Option<Follower<I>>, AllocError> {
+    /// Returns what these bytes restore in the place of this one, to which nothing has happened; `None` if that is not saved
+    /// as these bytes.
+    pub fn restored(self, alloc: Global, bytes: &[u8]) -> Result<Option<Follower<I>>, AllocError>
+        ensures { IfOk result (λ found. IfSome found (IsRestored I.goes self bytes.now)) }
+    {
         let Some(follower) = self.read(alloc, &mut Input::new(bytes)) else {
             return Ok(None);
         };
-        let mut again = Vec::new(alloc);
-        if !follower.save(&mut again)? {
-            return Ok(None);
-        }
-        if again.as_slice() == bytes {
+        if follower.is_saved_as(alloc, bytes)? {
             Ok(Some(follower))
         } else {
             Ok(None)
         }
     }
 
-    /// What comes next, in the place of this one.
-    fn read(self, alloc: Global, input: &mut Input<'_>) -> Option<Follower<I>> {
+    /// Returns whether it is saved as these bytes.
+    fn is_saved_as(&self, alloc: Global, bytes: &[u8]) -> Result<bool, AllocError>
+        ensures { IfOk result (λ is. is ≡ true → IsSceneSaved I.goes self.now bytes.now) }
+    {
+        let mut again = Vec::new(alloc);
+        let has_states = self.save(&mut again)?;
+        Ok(has_states && again.as_slice() == bytes)
+    }
+
+    /// Takes what comes next in the place of this one.
+    fn read(self, alloc: Global, input: &mut Input<'_>) -> Option<Follower<I>>
+        ensures base { IfSome result (λ made. I.goes.HasSameBase self.world made.world) }
+        ensures users { IfSome result (λ made. (I.goes.seen made.world).users ≡ (I.goes.seen self.world).users) }
+        ensures detail { IfSome result (λ made. made.detail ≡ self.detail) }
+    {
         let Follower {
             installation,
             policy: _,
             detail,
         } = self;
+        let policy = Policy::read(alloc, installation.users(), input)?;
         let installation = installation.restore(input)?;
-        let users = installation.users();
-        let policy = Policy::read(alloc, users, input)?;
-        for program in policy.programs() {
-            if !installation.has_device(program.user, program.device.get()) {
-                return None;
-            }
+        if !are_stated(&installation, policy.programs()) {
+            return None;
         }
         Some(Follower {
             installation,
@@ -230,6 +249,23 @@ impl<I: Installation + Drop> Follower<I> {
         let ready = ready_users(&self.installation);
         self.policy.programs().is_empty() && !has_ready(self.policy.users(), &ready)
     }
+}
+
+/// Returns whether each of these programs is of a device of its user.
+fn are_stated<I: Installation>(installation: &I, programs: &[Program]) -> bool
+    ensures { result ≡ true → IsLineStated (I.goes.seen installation.now).users programs.now }
+{
+    programs
+        .iter()
+        .all(|program| is_stated(installation, *program))
+}
+
+/// Returns whether a program is of a device of its user.
+fn is_stated<I: Installation>(installation: &I, program: Program) -> bool
+    ensures { result ≡ is_stated (I.goes.seen installation.now).users program }
+{
+    program.user.index() < installation.users()
+        && installation.has_device(program.user, program.device.get())
 }
 
 /// The events that a part names for the users of an installation and their devices. The last line of a part is ended too.

@@ -1,10 +1,11 @@
 //! What a session needs of the machines that its script speaks to.
-ghost use Rattle.std.specs.Prelude.{◌≡◌, ◌<◌, ◌≤◌, ◌⊎◌, Bool, true, false, Err, IfOk, OnErr, OnOk, length, slice_get};
+ghost use Rattle.std.specs.Prelude.{◌≡◌, ◌<◌, ◌≤◌, ◌⊎◌, Bool, true, false, Err, IfOk, IfSome, OnErr, OnOk, length, slice_get};
 ghost use Rattle.std.specs.Option.{option_map};
 ghost use Rattle.session_script.specs.Script.{IsOfDevice, IsOfUser, said};
 ghost use Rattle.session_script.specs.Users.{devices_of, has_device};
 ghost use Rattle.user_names.specs.Users.{name_of};
 ghost use Rattle.sessions.specs.Installed.{Installation as Goings, machine_at, names_of, subchannels_at, user_at};
+ghost use Rattle.sessions.specs.Saved.{AppendsState, IsOneBySaved, KeepsBase};
 ghost use Rattle.sessions.specs.Schedule.{IsEvent, ready_in};
 
 use machine_devices::{FileNote, Reply, SeenDevices};
@@ -102,9 +103,18 @@ pub trait Installation {
         ensures alive { OnOk result ((goes).is_spent self.new ≡ false) }
         ensures spent { result ≡ Err Refused.Spent → (goes).is_spent self.old ≡ true };
 
-    /// Appends its state, and tells whether it has one.
-    fn save(&self, out: &mut Vec<u8>) -> Result<bool, AllocError>;
+    /// Appends its state, and returns whether it has states.
+    fn save(&self, out: &mut Vec<u8>) -> Result<bool, AllocError>
+        ensures { IfOk result (λ is. AppendsState (goes) self.now is out.old.items out.new.items) };
 
-    /// The state that comes next, in the place of this one, to which nothing has happened.
-    fn restore(self, input: &mut Input<'_>) -> Option<Self>;
+    /// Takes the state that comes next in the place of this one, to which nothing has happened. (What is restored is lawful
+    /// whatever the bytes are; whoever saves it again sees whether it is what was saved.)
+    fn restore(self, input: &mut Input<'_>) -> Option<Self>
+        ensures base { IfSome result (λ made. (goes).HasSameBase self made) }
+        ensures users { IfSome result (λ made. ((goes).seen made).users ≡ ((goes).seen self).users) };
+
+    /// States that bytes are those of one state of a base, and that no event changes the base.
+    fn one_by_saved()
+        ensures base { KeepsBase (goes) }
+        ensures saved { IsOneBySaved (goes) };
 }

@@ -2,7 +2,8 @@
 //!
 //! What a session writes is what the installation answered to the events that the script names and to the slices and
 //! serves that its turns deal ([`session::session`]). After any failure it is a beginning of that. A script may also be
-//! given part by part, and is followed ([`follow::Follower`]): the parts joined are one session.
+//! given part by part, and is followed ([`follow::Follower`]): the parts joined are one session. A session also goes on from
+//! a saved state ([`restored_sessions_go_on`]).
 //!
 //! A script's bytes name events exactly where they are a text of the grammar of docs/FORMATS.md, and any other text is
 //! refused at its first line that the grammar does not have ([`session_script::reads_grammar`] carries that law,
@@ -41,6 +42,6 @@ pub use alike::transcripts_agree;
 pub use faults::{PlayError, SessionError};
 pub use follow::{Follower, Part, parts_are_a_session};
 pub use installation::{Installation, Refused};
-pub use laws::sessions_are_fair;
+pub use laws::{restored_sessions_go_on, sessions_are_fair};
 pub use schedule::Detail;
 pub use transcript::cuts_back;

@@ -149,6 +149,8 @@ impl Installation for SharedMachines {
             None => None,
         }
     }
+
+    fn one_by_saved() {}
 }
 
 /// How many users a system has.
