@@ -62,8 +62,17 @@ MayRefuse old (Serve user device) = LacksMemory device old.machine
 MayRefuse old (Deck user cards) = Unit {0}
 MayRefuse old (Auto turns) = ⊥
 
+-- it has no saved states
 abbrev pub machine_goes : Installation Alone
-machine_goes = record { seen = seen_in; Happens = HasHappened; May = MayRefuse; Lacks = MayLack; is_spent = λ a. false }
+machine_goes = record {
+  seen = seen_in;
+  Happens = HasHappened;
+  May = MayRefuse;
+  Lacks = MayLack;
+  is_spent = λ a. false;
+  IsSaved = λ a bytes. ⊥;
+  HasSameBase = λ a b. Unit {0};
+}
 
 -- console, reader, punch and printer are at 009, 00C, 00D and 00E
 abbrev pub usual_places : Places

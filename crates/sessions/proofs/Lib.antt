@@ -16,3 +16,5 @@ pub mod SameLines
 pub mod Told
 pub mod Whole
 pub mod Fair
+pub mod Restored
+pub mod Runs

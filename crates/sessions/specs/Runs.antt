@@ -43,7 +43,7 @@ IsFollowedAs i text old new written = IsFollowed i text old new (Some []) (Some 
 
 -- a run of the program: the scene that it was booted to, the state that it was given, the scene that it went on from, the script that it
 -- followed from there, what it wrote of that, and the scene that it came to
-pub record Run (W : Type 0) : Type 0 where
+pub record ProgramRun (W : Type 0) : Type 0 where
   pub booted : Scene W
   pub state : List ℕ
   pub begun : Scene W
@@ -53,7 +53,7 @@ pub record Run (W : Type 0) : Type 0 where
 
 -- it was booted from the same base, with the same lines of turns, and given a state as which this scene is saved; it has restored that,
 -- and followed whole lines
-pub record IsRunFrom {W : Type 0} (i : Installation W) (first here : Scene W) (run : Run W) : Type 0 where
+pub record IsRunFrom {W : Type 0} (i : Installation W) (first here : Scene W) (run : ProgramRun W) : Type 0 where
   pub base : i.HasSameBase first.world run.booted.world
   pub detail : run.booted.detail ≡ first.detail
   pub saved : IsSceneSaved i here run.state
@@ -62,21 +62,21 @@ pub record IsRunFrom {W : Type 0} (i : Installation W) (first here : Scene W) (r
   pub followed : IsFollowedAs i run.text run.begun run.left run.written
 
 -- runs of which each went on where the one before it had come to
-abbrev pub AreRuns : {W : Type 0} → Installation W → Scene W → Scene W → List (Run W) → Type 0
+abbrev pub AreRuns : {W : Type 0} → Installation W → Scene W → Scene W → List (ProgramRun W) → Type 0
 AreRuns i first here [] = Unit {0}
 AreRuns i first here (run ∷ runs) = IsRunFrom i first here run × AreRuns i first run.left runs
 
 -- what they followed, and what they wrote
-abbrev pub texts_of : {W : Type 0} → List (Run W) → List ℕ
+abbrev pub texts_of : {W : Type 0} → List (ProgramRun W) → List ℕ
 texts_of [] = []
 texts_of (run ∷ runs) = run.text ++ texts_of runs
 
-abbrev pub written_of : {W : Type 0} → List (Run W) → List ℕ
+abbrev pub written_of : {W : Type 0} → List (ProgramRun W) → List ℕ
 written_of [] = []
 written_of (run ∷ runs) = run.written ++ written_of runs
 
 -- what the last of them came to, or this where there are none
-abbrev pub left_by : {W : Type 0} → Scene W → List (Run W) → Scene W
+abbrev pub left_by : {W : Type 0} → Scene W → List (ProgramRun W) → Scene W
 left_by here [] = here
 left_by here (run ∷ runs) = left_by run.left runs
 
@@ -95,6 +95,6 @@ GoesOn {W} i = (one other : List ℕ) (first middle again last : Scene W) (writt
 -- however often the program was started anew, the scripts of its runs are one script that was followed, whose transcript is what they
 -- wrote
 abbrev pub RunsAreASession : {W : Type 0} → Installation W → Type 0
-RunsAreASession {W} i = (text : List ℕ) (first middle : Scene W) (written : List ℕ) (runs : List (Run W)) → HasWholeLines text →
+RunsAreASession {W} i = (text : List ℕ) (first middle : Scene W) (written : List ℕ) (runs : List (ProgramRun W)) → HasWholeLines text →
     IsFollowedAs i text first middle written → AreRuns i first middle runs →
     (end : Scene W) × IsFollowedAs i (text ++ texts_of runs) first end (written ++ written_of runs) × ContinuesAs i end (left_by middle runs)

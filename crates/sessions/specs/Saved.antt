@@ -13,11 +13,11 @@ pub record GoesOnAs {W : Type 0} (i : Installation W) (one other : W) : Type 0 w
 abbrev pub IsOneBySaved : {W : Type 0} → Installation W → Type 0
 IsOneBySaved {W} i = (one other : W) (bytes : List ℕ) → i.HasSameBase one other → i.IsSaved one bytes → i.IsSaved other bytes → GoesOnAs i one other
 
--- each is of one base with itself, which is mutual and passes on; and no event changes the base
+-- to be of one base is an equivalence, and no event changes the base
 pub record KeepsBase {W : Type 0} (i : Installation W) : Type 0 where
-  pub own : (one : W) → i.HasSameBase one one
-  pub mutual : (one other : W) → i.HasSameBase one other → i.HasSameBase other one
-  pub passed_on : (one other last : W) → i.HasSameBase one other → i.HasSameBase other last → i.HasSameBase one last
+  pub reflexive : (one : W) → i.HasSameBase one one
+  pub symmetric : (one other : W) → i.HasSameBase one other → i.HasSameBase other one
+  pub transitive : (one other last : W) → i.HasSameBase one other → i.HasSameBase other last → i.HasSameBase one last
   pub kept : (old new : W) (said : Said) (reply : Reply) → i.Happens old said reply new → i.HasSameBase old new
 
 -- what saving an installation appends: bytes as which it is saved if it has states, and otherwise nothing

@@ -8,9 +8,9 @@ ghost use Rattle.s370_num.specs.Host.{AppendsFront};
 ghost use Rattle.sessions.specs.Files.{closing_lines, lines_since};
 ghost use Rattle.session_script.specs.Script.{IsOfDevice, IsOfUser, IsRefusal, said, script_of};
 ghost use Rattle.sessions.specs.Follow.{Became, BeginsWithNothing, EndsAsSession, HasWholeLines, IsFollowedPartly, PartsJoin, part_of, unended_line};
-ghost use Rattle.std.specs.List.{list_any};
+ghost use Rattle.std.specs.List.{list_all, list_any};
 ghost use Rattle.cp_dispatch.specs.Policy.{is_ready};
-ghost use Rattle.sessions.specs.Installed.{IsLineStated, is_stated, names_of};
+ghost use Rattle.sessions.specs.Installed.{is_stated, names_of};
 ghost use Rattle.sessions.specs.News.{changed_lines, is_idle, modes_of};
 ghost use Rattle.sessions.specs.Runs.{AppendsScene, IsRestored, IsSceneSaved};
 ghost use Rattle.sessions.specs.Schedule.{Scene};
@@ -253,7 +253,7 @@ impl<I: Installation + Drop> Follower<I> {
 
 /// Returns whether each of these programs is of a device of its user.
 fn are_stated<I: Installation>(installation: &I, programs: &[Program]) -> bool
-    ensures { result ≡ true → IsLineStated (I.goes.seen installation.now).users programs.now }
+    ensures { result ≡ list_all (is_stated (I.goes.seen installation.now).users) programs.now }
 {
     programs
         .iter()

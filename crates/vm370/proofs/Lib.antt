@@ -1,2 +1,3 @@
 pub mod Stated
 mod Refused
+mod Restored

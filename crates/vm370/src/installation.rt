@@ -11,7 +11,7 @@ ghost use Rattle.sessions.specs.Installed.{names_of};
 ghost use Rattle.sessions.specs.Schedule.{IsEvent};
 ghost use Rattle.vm370.specs.Goes.{GivesCards, HasCards, HasHappened, IsSpent, MayRefuse, as_said, known_users, seen_in, system_goes};
 
-use cp_core::{CpError, Event, System};
+use cp_core::{CpError, Event, System, one_by_saved};
 use cp_directory::{Minidisk, User, UserDevices};
 use machine_devices::{FileNote, Reply, SeenDevices};
 use machine_panel::Mode;
@@ -138,6 +138,8 @@ impl Installation for SharedMachines {
     }
 
     fn save(&self, out: &mut Vec<u8>) -> Result<bool, AllocError> {
+        // There are as many machines as users of the directory.
+        let _users = self.system.users();
         self.system.save(out)?;
         Ok(true)
     }
@@ -150,7 +152,9 @@ impl Installation for SharedMachines {
         }
     }
 
-    fn one_by_saved() {}
+    fn one_by_saved() {
+        one_by_saved();
+    }
 }
 
 /// How many users a system has.

@@ -1,0 +1,12 @@
+use Rattle.sessions.proofs.Restored.{restored}
+use Rattle.sessions.proofs.Runs.{goes_on, runs_are_a_session}
+use Rattle.sessions.proofs.laws.restored_sessions_go_on.Goals as goal
+
+pub returns-clause-restored : goal.returns-clause-restored
+returns-clause-restored g c = restored g.I.Installation.goes c.one_by_saved.ensures.base c.one_by_saved.ensures.saved
+
+pub returns-clause-join : goal.returns-clause-join
+returns-clause-join g c = goes_on c.reads_grammar.ensures g.I.Installation.goes
+
+pub returns-clause-runs : goal.returns-clause-runs
+returns-clause-runs g c = runs_are_a_session c.reads_grammar.ensures g.I.Installation.goes c.one_by_saved.ensures.base c.one_by_saved.ensures.saved
