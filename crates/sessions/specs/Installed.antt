@@ -38,8 +38,8 @@ abbrev pub IsLineStated : List KnownUser → List Program → Type 0
 IsLineStated users line = list_all (is_stated users) line ≡ true
 
 -- How an installation goes on: what is seen of it; what an event that a script says leaves of it, and what it replies; which event may
--- want memory, and what that may leave; and whether it has ended it. And as which bytes it is saved, and which others are of one base
--- with it: what they were booted from is the same, and only what events have left of that may differ.
+-- want memory, and what that may leave; and whether it has ended it. And as which bytes it is saved; and
+-- which others are of one base with it, booted from the same.
 pub record Installation (W : Type 0) : Type 1 where
   pub seen : W → Installed
   pub Happens : W → Said → Reply → W → Type 0

@@ -8,21 +8,26 @@ use Rattle.sessions.specs.Schedule.{Scene}
 
 -- ---- a scene
 
--- a scene in which no turn is under way is saved as these bytes: those of queue and line, and after them those of the installation
-pub record IsSceneSaved {W : Type 0} (i : Installation W) (scene : Scene W) (bytes : List ℕ) : Type 0 where
+-- a scene in which no turn is under way is saved as these bytes: those of queue and line, and after
+-- them those of the installation
+pub record IsSceneSaved {W : Type 0} (i : Installation W) (scene : Scene W)
+    (bytes : List ℕ) : Type 0 where
   pub between : scene.had_slice ≡ false
   pub rest : List ℕ
   pub world : i.IsSaved scene.world rest
   pub written : bytes ≡ lines_bytes scene.lines ++ rest
 
--- what saving a scene appends: bytes as which it is saved if its installation has states, and otherwise nothing
+-- what saving a scene appends: bytes as which it is saved if its installation has states, and
+-- otherwise nothing
 abbrev pub AppendsScene : {W : Type 0} → Installation W → Scene W → Bool → List ℕ → List ℕ → Type 0
-AppendsScene i scene true old new = (bytes : List ℕ) × IsSceneSaved i scene bytes × (new ≡ old ++ bytes)
+AppendsScene i scene true old new =
+    (bytes : List ℕ) × IsSceneSaved i scene bytes × (new ≡ old ++ bytes)
 AppendsScene i scene false old new = new ≡ old
 
--- the scene that these bytes restore in the place of another: it is saved as these bytes, is of the same base, has the same users, and
--- its transcript has the same lines of turns
-pub record IsRestored {W : Type 0} (i : Installation W) (old : Scene W) (bytes : List ℕ) (new : Scene W) : Type 0 where
+-- the scene that these bytes restore in the place of another: it is saved as these bytes, is of the
+-- same base, has the same users, and its transcript has the same lines of turns
+pub record IsRestored {W : Type 0} (i : Installation W) (old : Scene W)
+    (bytes : List ℕ) (new : Scene W) : Type 0 where
   pub saved : IsSceneSaved i new bytes
   pub base : i.HasSameBase old.world new.world
   pub users : (i.seen new.world).users ≡ (i.seen old.world).users
@@ -35,14 +40,34 @@ pub record ContinuesAs {W : Type 0} (i : Installation W) (one other : Scene W) :
   pub detail : one.detail ≡ other.detail
   pub had_slice : one.had_slice ≡ other.had_slice
 
--- ---- sessions that go on
+-- a scene that was saved goes on as each that was restored from its bytes on the same base
+abbrev pub RestoredContinue : {W : Type 0} → Installation W → Type 0
+RestoredContinue {W} i = (one start other : Scene W) (bytes : List ℕ) →
+    i.HasSameBase one.world start.world → one.detail ≡ start.detail →
+    IsSceneSaved i one bytes → IsRestored i start bytes other → ContinuesAs i one other
+
+-- ---- scripts that go on
 
 -- a script was followed, and this is its transcript
-abbrev pub IsFollowedAs : {W : Type 0} → Installation W → List ℕ → Scene W → Scene W → List ℕ → Type 0
+abbrev pub IsFollowedAs : {W : Type 0} → Installation W → List ℕ → Scene W → Scene W → List ℕ
+    → Type 0
 IsFollowedAs i text old new written = IsFollowed i text old new (Some []) (Some written)
 
--- a run of the program: the scene that it was booted to, the state that it was given, the scene that it went on from, the script that it
--- followed from there, what it wrote of that, and the scene that it came to
+-- a script that was followed to a scene that goes on as another, and one that was followed from
+-- that other, are one script that was followed. Its transcript is theirs joined, and the scene that
+-- it leads to goes on as that which the second led to
+abbrev pub GoesOn : {W : Type 0} → Installation W → Type 0
+GoesOn {W} i = (one other : List ℕ) (first middle again last : Scene W) (written more : List ℕ) →
+    HasWholeLines one → IsFollowedAs i one first middle written →
+    ContinuesAs i middle again → IsFollowedAs i other again last more →
+    (end : Scene W) × IsFollowedAs i (one ++ other) first end (written ++ more)
+    × ContinuesAs i end last
+
+-- ---- runs of the program
+
+-- a run of the program: the scene that it was booted to, the state that it was given, the scene
+-- that it restored from that, the script that it followed from there, what it wrote of that, and
+-- the scene that the script led to
 pub record ProgramRun (W : Type 0) : Type 0 where
   pub booted : Scene W
   pub state : List ℕ
@@ -51,9 +76,10 @@ pub record ProgramRun (W : Type 0) : Type 0 where
   pub written : List ℕ
   pub left : Scene W
 
--- it was booted from the same base, with the same lines of turns, and given a state as which this scene is saved; it has restored that,
--- and followed whole lines
-pub record IsRunFrom {W : Type 0} (i : Installation W) (first here : Scene W) (run : ProgramRun W) : Type 0 where
+-- it was booted on the same base, with the same lines of turns, and given a state as which this
+-- scene is saved; it has restored that, and followed whole lines
+pub record IsRunFrom {W : Type 0} (i : Installation W) (first here : Scene W)
+    (run : ProgramRun W) : Type 0 where
   pub base : i.HasSameBase first.world run.booted.world
   pub detail : run.booted.detail ≡ first.detail
   pub saved : IsSceneSaved i here run.state
@@ -61,8 +87,9 @@ pub record IsRunFrom {W : Type 0} (i : Installation W) (first here : Scene W) (r
   pub lines : HasWholeLines run.text
   pub followed : IsFollowedAs i run.text run.begun run.left run.written
 
--- runs of which each went on where the one before it had come to
-abbrev pub AreRuns : {W : Type 0} → Installation W → Scene W → Scene W → List (ProgramRun W) → Type 0
+-- runs of which each went on from what the one before it left
+abbrev pub AreRuns : {W : Type 0} → Installation W → Scene W → Scene W → List (ProgramRun W)
+    → Type 0
 AreRuns i first here [] = Unit {0}
 AreRuns i first here (run ∷ runs) = IsRunFrom i first here run × AreRuns i first run.left runs
 
@@ -75,26 +102,16 @@ abbrev pub written_of : {W : Type 0} → List (ProgramRun W) → List ℕ
 written_of [] = []
 written_of (run ∷ runs) = run.written ++ written_of runs
 
--- what the last of them came to, or this where there are none
+-- what the last of them left, or this if there are none
 abbrev pub left_by : {W : Type 0} → Scene W → List (ProgramRun W) → Scene W
 left_by here [] = here
 left_by here (run ∷ runs) = left_by run.left runs
 
--- a scene that was saved goes on as each that was restored from its bytes on the same base
-abbrev pub RestoredContinue : {W : Type 0} → Installation W → Type 0
-RestoredContinue {W} i = (one start other : Scene W) (bytes : List ℕ) → i.HasSameBase one.world start.world → one.detail ≡ start.detail →
-    IsSceneSaved i one bytes → IsRestored i start bytes other → ContinuesAs i one other
-
--- a script that was followed to a scene that goes on as another, and one that was followed from that other, are one script that was
--- followed, whose transcript is theirs joined; the scene to which it leads goes on as that to which the second led
-abbrev pub GoesOn : {W : Type 0} → Installation W → Type 0
-GoesOn {W} i = (one other : List ℕ) (first middle again last : Scene W) (written more : List ℕ) → HasWholeLines one →
-    IsFollowedAs i one first middle written → ContinuesAs i middle again → IsFollowedAs i other again last more →
-    (end : Scene W) × IsFollowedAs i (one ++ other) first end (written ++ more) × ContinuesAs i end last
-
--- however often the program was started anew, the scripts of its runs are one script that was followed, whose transcript is what they
--- wrote
+-- however often the program is started anew, the scripts of its runs are one script that was
+-- followed from the first scene, and what they wrote is its transcript
 abbrev pub RunsAreASession : {W : Type 0} → Installation W → Type 0
-RunsAreASession {W} i = (text : List ℕ) (first middle : Scene W) (written : List ℕ) (runs : List (ProgramRun W)) → HasWholeLines text →
-    IsFollowedAs i text first middle written → AreRuns i first middle runs →
-    (end : Scene W) × IsFollowedAs i (text ++ texts_of runs) first end (written ++ written_of runs) × ContinuesAs i end (left_by middle runs)
+RunsAreASession {W} i = (text : List ℕ) (first middle : Scene W) (written : List ℕ)
+    (runs : List (ProgramRun W)) →
+    HasWholeLines text → IsFollowedAs i text first middle written → AreRuns i first middle runs →
+    (end : Scene W) × IsFollowedAs i (text ++ texts_of runs) first end (written ++ written_of runs)
+    × ContinuesAs i end (left_by middle runs)

@@ -151,7 +151,7 @@ impl<I: Installation + Drop> Follower<I> {
     pub fn save(&self, out: &mut Vec<u8>) -> Result<bool, AllocError>
         ensures { IfOk result (λ is. AppendsScene I.goes self.now is out.old.items out.new.items) }
     {
-        // Exhaustive: a new field fails to compile here. The detail is the program's, and not the state's.
+        // Exhaustive: a new field fails to compile here. The detail is no part of a state.
         let Follower {
             installation,
             policy,
@@ -166,8 +166,8 @@ impl<I: Installation + Drop> Follower<I> {
         Ok(has_states)
     }
 
-    /// Returns what these bytes restore in the place of this one, to which nothing has happened; `None` if that is not saved
-    /// as these bytes.
+    /// Returns what these bytes restore in the place of this one, to which nothing has happened;
+    /// `None` if that is not saved as these bytes.
     pub fn restored(self, alloc: Global, bytes: &[u8]) -> Result<Option<Follower<I>>, AllocError>
         ensures { IfOk result (λ found. IfSome found (IsRestored I.goes self bytes.now)) }
     {
@@ -193,7 +193,8 @@ impl<I: Installation + Drop> Follower<I> {
     /// Takes what comes next in the place of this one.
     fn read(self, alloc: Global, input: &mut Input<'_>) -> Option<Follower<I>>
         ensures base { IfSome result (λ made. I.goes.HasSameBase self.world made.world) }
-        ensures users { IfSome result (λ made. (I.goes.seen made.world).users ≡ (I.goes.seen self.world).users) }
+        ensures users { IfSome result
+            (λ made. (I.goes.seen made.world).users ≡ (I.goes.seen self.world).users) }
         ensures detail { IfSome result (λ made. made.detail ≡ self.detail) }
     {
         let Follower {

@@ -107,11 +107,13 @@ pub trait Installation {
     fn save(&self, out: &mut Vec<u8>) -> Result<bool, AllocError>
         ensures { IfOk result (λ is. AppendsState (goes) self.now is out.old.items out.new.items) };
 
-    /// Takes the state that comes next in the place of this one, to which nothing has happened. (What is restored is lawful
-    /// whatever the bytes are; whoever saves it again sees whether it is what was saved.)
+    /// Takes the state that comes next in the place of this one, to which nothing has happened.
+    /// (What is restored is lawful whatever the bytes are; whoever saves it again sees whether it
+    /// was saved so.)
     fn restore(self, input: &mut Input<'_>) -> Option<Self>
         ensures base { IfSome result (λ made. (goes).HasSameBase self made) }
-        ensures users { IfSome result (λ made. ((goes).seen made).users ≡ ((goes).seen self).users) };
+        ensures users { IfSome result
+            (λ made. ((goes).seen made).users ≡ ((goes).seen self).users) };
 
     /// States that bytes are those of one state of a base, and that no event changes the base.
     fn one_by_saved()

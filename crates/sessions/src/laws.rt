@@ -16,9 +16,9 @@ pub fn sessions_are_fair<I: Installation>()
     is_fair();
 }
 
-/// States that a session goes on from a saved state: however often the program is started anew, each time with the state
-/// that its last run saved, the scripts of its runs are one script that was followed, and what they wrote is its
-/// transcript.
+/// States that a session goes on from a saved state: however often the program is started anew,
+/// each time with a state that the run before saved, the scripts of its runs are one script that
+/// was followed, and what they wrote is its transcript.
 pub fn restored_sessions_go_on<I: Installation>()
     ensures restored { RestoredContinue I.goes }
     ensures join { GoesOn I.goes }
