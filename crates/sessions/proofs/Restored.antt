@@ -1,12 +1,12 @@
 -- A scene that was restored goes on as the one that was saved.
-use Rattle.std.proofs.Common.{◌≡◌, ℕ, Bool, true, false, List, [], ◌∷◌, ◌++◌, Some, None, refl, ap, sym, ◌∙◌, subst}
+use Rattle.std.proofs.Common.{◌≡◌, ℕ, Bool, true, false, List, [], ◌∷◌, Some, None, refl, ap, sym, ◌∙◌, subst}
 use Rattle.cp_dispatch.specs.Policy.{Lines}
 use Rattle.cp_dispatch.specs.Turns.{IsDealt}
 use Rattle.cp_dispatch.proofs.LineCodes.{lines_code}
 use Rattle.session_script.specs.Script.{Said}
 use Rattle.session_script.specs.Script as said
 use Rattle.sessions.specs.Installed.{Installation, Installed, Step}
-use Rattle.sessions.specs.Runs.{ContinuesAs, IsSceneSaved, RestoredContinue}
+use Rattle.sessions.specs.Runs.{ContinuesAs, RestoredContinue}
 use Rattle.sessions.specs.Saved.{GoesOnAs, IsOneBySaved, KeepsBase}
 use Rattle.sessions.specs.Schedule.{Act, Applies, Slices, Serves, AreDone, Entry, Answered, Dealt, Passed, Idle}
 use Rattle.sessions.specs.Schedule.{IsApplied, IsDone, IsNoSlice, IsServe, IsSlice, Scene, line_after, lines_after}

@@ -1,5 +1,5 @@
 -- Scripts that go on from saved states, and runs of the program one after another.
-use Rattle.std.proofs.Common.{◌≡◌, ℕ, inl, inr, List, [], ◌∷◌, ◌++◌, Some, Ok, refl, ap, sym, ◌∙◌, subst}
+use Rattle.std.proofs.Common.{◌≡◌, ℕ, inl, inr, List, [], ◌∷◌, ◌++◌, Some, Ok, ap, sym, ◌∙◌, subst}
 use Rattle.std.proofs.Common.{append_assoc, append-nil}
 use Rattle.cp_dispatch.specs.Policy.{Lines}
 use Rattle.session_script.specs.Grammar.{ReadsGrammar}
