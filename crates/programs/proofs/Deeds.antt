@@ -52,7 +52,7 @@ opened_more done after path a b c e h k =
 
 -- ---- images
 
--- the path at a place, and those behind it
+-- the path at a place, and those after it
 pub drop_get : (k : ℕ) (paths rest : List (List ℕ)) (path : List ℕ) → drop k paths ≡ path ∷ rest → Some path ≡ slice_get paths k
 drop_get zero [] rest path e = cc
 drop_get zero (p ∷ ps) rest path e = cc

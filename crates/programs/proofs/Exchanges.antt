@@ -22,8 +22,9 @@ use Rattle.sessions.specs.declared.faults.PlayError.TheVariants as plays
 use Rattle.sessions.specs.declared.schedule.Detail.{Detail}
 use Rattle.sessions.proofs.Histories.{front_after}
 use Rattle.programs.specs.Faults.{play_failure}
-use Rattle.programs.specs.declared.parts.Next.{Next}
-use Rattle.programs.specs.Parts.{Answers, AreExchanges, Exchange, IsAnsweredPartly, IsExchange, GivesNext, InputAccounts, IsBegun, IsBrokenOff, IsFollowedTo, IsSoFar, answers_of, news_lines, news_since, read_of, refused_line}
+use Rattle.programs.specs.declared.requests.Next.{Next}
+use Rattle.programs.specs.Requests.{GivesNext}
+use Rattle.programs.specs.Parts.{AnswersPart, AreExchanges, Exchange, IsExchange, IsPartAnsweredPartly, InputAccounts, IsBegun, IsBrokenOff, IsFollowedTo, IsSoFar, answers_of, news_lines, news_since, read_of, refused_line}
 use Rattle.programs.specs.declared.faults.Failure.{Failure}
 use Rattle.programs.specs.declared.faults.Failure.TheVariants as failures
 
@@ -36,7 +37,7 @@ alone i old new part a b f =
     record { script = f.script; accepted = f.accepted; played = record { entries = p.entries; done = p.done; written = refl; users = p.users; detail = p.detail; dealing = p.dealing } }
 
 -- it was done, and the news were told
-pub done : {W : Type 0} (i : Installation W) (old new : Scene W) (part : List ℕ) (a b c : Option (List ℕ)) → HasWholeLines part → IsFollowed i part old new a b → Appends b c (ended (news_lines i old new)) → (answer : List ℕ) × Answers i old part answer new × Appends a c answer
+pub done : {W : Type 0} (i : Installation W) (old new : Scene W) (part : List ℕ) (a b c : Option (List ℕ)) → HasWholeLines part → IsFollowed i part old new a b → Appends b c (ended (news_lines i old new)) → (answer : List ℕ) × AnswersPart i old part answer new × Appends a c answer
 done i old new part a b c whole f w =
     let p = f.played in
     let text = transcript i old.detail (names_of (i.seen old.world)) p.entries in
@@ -44,7 +45,7 @@ done i old new part a b c whole f w =
     (text ++ news, inl (record { whole = whole; text = text; followed = alone i old new part a b f; told = refl }), Appends-trans a b c text news p.written w)
 
 -- it was done, and a beginning of the news was told
-pub done_front : {W : Type 0} (i : Installation W) (old new : Scene W) (part : List ℕ) (a b c : Option (List ℕ)) → HasWholeLines part → IsFollowed i part old new a b → AppendsFront b c (ended (news_lines i old new)) → IsAnsweredPartly i old part a c
+pub done_front : {W : Type 0} (i : Installation W) (old new : Scene W) (part : List ℕ) (a b c : Option (List ℕ)) → HasWholeLines part → IsFollowed i part old new a b → AppendsFront b c (ended (news_lines i old new)) → IsPartAnsweredPartly i old part a c
 done_front i old new part a b c whole f w =
     let p = f.played in
     let text = transcript i old.detail (names_of (i.seen old.world)) p.entries in
@@ -52,16 +53,16 @@ done_front i old new part a b c whole f w =
     inr (inr (text ++ news, new, inl (record { whole = whole; text = text; followed = alone i old new part a b f; told = refl }), front_after a b c text news p.written w))
 
 -- it was done, and there were no news
-pub done_untold : {W : Type 0} (i : Installation W) (old new : Scene W) (part : List ℕ) (a b : Option (List ℕ)) → HasWholeLines part → IsFollowed i part old new a b → IsAnsweredPartly i old part a b
+pub done_untold : {W : Type 0} (i : Installation W) (old new : Scene W) (part : List ℕ) (a b : Option (List ℕ)) → HasWholeLines part → IsFollowed i part old new a b → IsPartAnsweredPartly i old part a b
 done_untold i old new part a b whole f = done_front i old new part a b b whole f (0, omega arith, Appends-nil b)
 
 -- it was refused, and that was told
-pub refused : {W : Type 0} (i : Installation W) (old new : Scene W) (part : List ℕ) (line : ℕ) (a b c : Option (List ℕ)) → part_of (i.seen old.world).users part ≡ Err line → new ≡ old → b ≡ a → Appends b c (ended (refused_line line ∷ [])) → (answer : List ℕ) × Answers i old part answer new × Appends a c answer
+pub refused : {W : Type 0} (i : Installation W) (old new : Scene W) (part : List ℕ) (line : ℕ) (a b c : Option (List ℕ)) → part_of (i.seen old.world).users part ≡ Err line → new ≡ old → b ≡ a → Appends b c (ended (refused_line line ∷ [])) → (answer : List ℕ) × AnswersPart i old part answer new × Appends a c answer
 refused i old new part line a b c e same kept w =
     let text = ended (refused_line line ∷ []) in
     (text, inr (record { line = line; refused = e; same = same; told = refl }), subst (λ (o : Option (List ℕ)). Appends o c text) kept w)
 
-pub refused_front : {W : Type 0} (i : Installation W) (old new : Scene W) (part : List ℕ) (line : ℕ) (a b c : Option (List ℕ)) → part_of (i.seen old.world).users part ≡ Err line → new ≡ old → b ≡ a → AppendsFront b c (ended (refused_line line ∷ [])) → IsAnsweredPartly i old part a c
+pub refused_front : {W : Type 0} (i : Installation W) (old new : Scene W) (part : List ℕ) (line : ℕ) (a b c : Option (List ℕ)) → part_of (i.seen old.world).users part ≡ Err line → new ≡ old → b ≡ a → AppendsFront b c (ended (refused_line line ∷ [])) → IsPartAnsweredPartly i old part a c
 refused_front i old new part line a b c e same kept w =
     let text = ended (refused_line line ∷ []) in
     inr (inr (text, new, inr (record { line = line; refused = e; same = same; told = refl }), subst (λ (o : Option (List ℕ)). AppendsFront o c text) kept w))
@@ -106,15 +107,15 @@ so_far_more i first mid r s t w x y it h one read written = record {
   written = subst (Appends w y) (sym (answers_more h.exchanges it)) (Appends-trans w x y (answers_of h.exchanges) it.answer h.written written);
 }
 
-pub followed_to : {W : Type 0} (i : Installation W) (detail : Detail) (old new : W) (last : Scene W) (behind : List ℕ) (r s t w x y : Option (List ℕ)) → IsSoFar i (at_first i detail old) last r s w x → new ≡ last.world → Consumes s t behind → Appends x y (ended (closing_lines (i.seen last.world))) → IsFollowedTo i detail old new behind r t w y
-followed_to {W} i detail old new last behind r s t w x y h left read closed =
+pub followed_to : {W : Type 0} (i : Installation W) (detail : Detail) (old new : W) (last : Scene W) (end : List ℕ) (r s t w x y : Option (List ℕ)) → IsSoFar i (at_first i detail old) last r s w x → new ≡ last.world → Consumes s t end → Appends x y (ended (closing_lines (i.seen last.world))) → IsFollowedTo i detail old new end r t w y
+followed_to {W} i detail old new last end r s t w x y h left read closed =
     let lines = subst (λ (v : W). Appends x y (ended (closing_lines (i.seen v)))) (sym left) closed in
     record {
       exchanges = h.exchanges;
       last = last;
       answered = h.answered;
       left = left;
-      read = Consumes-trans r s t (read_of h.exchanges) behind h.read read;
+      read = Consumes-trans r s t (read_of h.exchanges) end h.read read;
       written = Appends-trans w x y (answers_of h.exchanges) (ended (closing_lines (i.seen new))) h.written lines;
     }
 

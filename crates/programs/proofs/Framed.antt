@@ -5,7 +5,7 @@ use Rattle.std.specs.Io.KnownBytes.{Consumes}
 use Rattle.std.proofs.KnownBytes.{Consumes-trans}
 use Rattle.s370_num.specs.Host.{ReadsFront}
 use Rattle.text_words.specs.Numbers.{decimal_of}
-use Rattle.programs.specs.Parts.{GivesByte, GivesLine, IsFramed}
+use Rattle.programs.specs.Requests.{GivesByte, GivesLine, GivesSized, IsFramed}
 
 pub reads_more : (a b c : Option (List ℕ)) (bs : List ℕ) → Consumes a b bs → ReadsFront b c → ReadsFront a c
 reads_more a b c bs read more = (bs ++ more.0, Consumes-trans a b c bs more.0 read more.1)
@@ -17,8 +17,8 @@ a_byte byte is a b e h = subst (λ (o : Option ℕ). GivesByte o a b) e h
 pub a_line : (line : Option (List ℕ)) (is : List ℕ) (a b : Option (List ℕ)) → line ≡ Some is → GivesLine line a b → Consumes a b (is ++ 10 ∷ [])
 a_line line is a b e h = subst (λ (o : Option (List ℕ)). GivesLine o a b) e h
 
--- a part behind its size
-pub framed : (digits part : List ℕ) (size : ℕ) (a b c : Option (List ℕ)) → decimal_of 9 digits ≡ Some size → length part ≡ size → Consumes a b (digits ++ 10 ∷ []) → Consumes b c part → (read : List ℕ) × IsFramed read part × Consumes a c read
-framed digits part size a b c e is line bytes =
-    let whole : (digits ++ 10 ∷ []) ++ part ≡ digits ++ 10 ∷ part = append_assoc digits (10 ∷ []) part in
-    (digits ++ 10 ∷ part, record { digits = digits; size = e ∙ ap Some (sym is); line = refl }, subst (Consumes a c) whole (Consumes-trans a b c (digits ++ 10 ∷ []) part line bytes))
+-- bytes after their size
+pub sized : (digits bytes : List ℕ) (a b c : Option (List ℕ)) → decimal_of 9 digits ≡ Some (length bytes) → Consumes a b (digits ++ 10 ∷ []) → Consumes b c bytes → GivesSized bytes a c
+sized digits bytes a b c size line read =
+    let whole : (digits ++ 10 ∷ []) ++ bytes ≡ digits ++ 10 ∷ bytes = append_assoc digits (10 ∷ []) bytes in
+    (digits ++ 10 ∷ bytes, record { digits = digits; size = size; line = refl }, subst (Consumes a c) whole (Consumes-trans a b c (digits ++ 10 ∷ []) bytes line read))

@@ -21,6 +21,7 @@ session_failure (sessions.Line line) = failures.Script line
 session_failure (sessions.Device count) = failures.File count
 session_failure sessions.Spent = failures.Spent
 
+-- the failure of a script that was not played to its end
 abbrev pub play_failure : PlayError → Failure
 play_failure plays.Memory = failures.Memory
 play_failure (plays.Device count) = failures.File count

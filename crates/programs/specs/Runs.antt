@@ -117,6 +117,7 @@ pub record IsUnsavedFollowing {W : Type 0} (i : Installation W) (volumes : W →
   pub followed : IsLeft i detail first (lefts.Ended last) reader_old reader_new writer_old writer_new
   pub unsaved : IsUnsaved saved (volumes last) deeds_old deeds_new failure
 
+-- a script was not followed to its end, or an image was not saved
 abbrev pub IsFailedFollowing : {W : Type 0} → Installation W → (W → List VolumeFormat) → Detail → List (List ℕ) → W → Option (List Deed) → Option (List Deed) → Option (List ℕ) → Option (List ℕ) → Option (List ℕ) → Option (List ℕ) → Failure → Type 0
 IsFailedFollowing i volumes detail saved first deeds_old deeds_new reader_old reader_new writer_old writer_new failure =
     IsCutFollowing i detail first deeds_old deeds_new reader_old reader_new writer_old writer_new

@@ -18,6 +18,7 @@ pub mod files;
 mod images;
 pub mod parts;
 pub mod program;
+mod requests;
 pub mod words;
 
 pub use boot_faults::BootFault;

@@ -1,10 +1,13 @@
-//! The parts of a script as they come to the program, and what it writes behind the lines of each.
+//! The requests of an input, and what the program writes for each.
 //!
-//! A part is a line with the decimal number of its bytes, and then these, whole lines of a script; the line `END` in the
-//! place of a number asks for the end. Behind the lines that come of a part stand lines that begin with `>`, as none of an
-//! event does: the files that it has closed for the operator, each with its entries behind `> |`; who has logged on or off
-//! and whose machine was started or stopped; and that it is done; or that a line of it is refused, and nothing of it was
-//! done.
+//! A part of a script is a line with the decimal number of its bytes, and then these, whole lines of a script. After the
+//! lines that come of a part follow lines that begin with `>`, as none of an event does: the files that it has closed for
+//! the operator, each with its entries after `> |`; who has logged on or off and whose machine was started or stopped; and
+//! that the part is done; or that a line of it is refused, and nothing of it was done.
+//!
+//! The line `END` asks for the end. The line `SAVE` asks for the state of the session: the answer is a line with its size,
+//! its bytes, and the line `> DONE`. The line `STATE`, a line with a size and these bytes let the session go on from that
+//! state.
 //!
 //! ```text
 //! 13
@@ -16,25 +19,19 @@
 //! > ON A
 //! > DONE
 //! ```
-ghost use Rattle.std.specs.Prelude.{◌≡◌, ℕ, List, [], IfOk, OnErr, OnOk, length, option_map};
-ghost use Rattle.std.specs.Io.KnownBytes.{Appends, Consumes};
-ghost use Rattle.s370_num.specs.Host.{AppendsFront, Counts, ReadsFront};
-ghost use Rattle.sessions.specs.Schedule.{Scene};
+ghost use Rattle.std.specs.Prelude.{◌≡◌, ◌++◌, ◌∷◌, ℕ, List, [], IfOk, OnErr, OnOk, length};
+ghost use Rattle.std.specs.Io.KnownBytes.{Appends};
+ghost use Rattle.s370_num.specs.Host.{AppendsFront, Counts};
+ghost use Rattle.sessions.specs.Runs.{IsRestored};
 ghost use Rattle.sessions.specs.Transcript.{ended};
-ghost use Rattle.programs.specs.Parts.{Answers, GivesByte, GivesLine, GivesNext, InputAccounts, IsAnsweredPartly, IsBrokenOff, IsLeft, PartAccounts, ReadAccounts, idle_lines, news_since};
+ghost use Rattle.programs.specs.Parts.{Answers, AnswersPart, InputAccounts, IsAnsweredPartly, IsBrokenOff, IsLeft, IsPartAnsweredPartly, IsRestoredPartly, IsSavedAs, IsSavedPartly, PartAccounts, done_line, idle_lines, news_since};
 
 use crate::faults::Failure;
+use crate::requests::{Next, Request, next_input};
 use machine_panel::Mode;
 use s370_num::host::{HostFault, HostReader, HostWriter, write_all};
 use sessions::{Detail, Follower, Installation, Part};
 use std::alloc::{AllocError, Global};
-use text_words::numbers::decimal_of;
-
-/// The most decimal digits of the size of a part.
-const MOST_DIGITS: usize = 9;
-
-/// What is told of an input with a size that is no number, or a part that is cut off: it has failed once.
-const BROKEN: HostFault = HostFault::Device(1);
 
 /// What is left of an input that was followed.
 pub enum Left<I> {
@@ -44,22 +41,13 @@ pub enum Left<I> {
     Cut(I),
 }
 
-/// What an input has next.
-pub(crate) enum Next {
-    /// A part of the script.
-    Part(Vec<u8>),
-    /// The state is asked for.
-    Save,
-    /// The state from which to go on.
-    State(Vec<u8>),
-    /// The end is asked for.
-    End,
-    /// Nothing more.
-    Nothing,
-}
-
-/// Follows the parts of a script that an input has until its end is asked for, or there are no more, and gives the
-/// installation then. What comes of each part is written, and not held back, before the next one is read.
+/// Answers the requests of an input until it asks for the end, or has no more, and returns the installation then. Each
+/// answer is written, and not held back, before the next request is read.
+///
+/// # Errors
+///
+/// A file that fails and refused memory end it, and so do an input that has no requests (`File(1)`) and a state that is
+/// not one of this installation (`State`). What was answered before is written.
 pub fn follow_parts<R: HostReader, W: HostWriter, I: Installation + Drop>(
     alloc: Global,
     installation: I,
@@ -77,10 +65,8 @@ pub fn follow_parts<R: HostReader, W: HostWriter, I: Installation + Drop>(
 {
     let mut follower = Follower::begin(alloc, installation, detail)?;
     for _ in 0..u64::MAX {
-        match next_part(alloc, reader)? {
-            Next::Part(part) => follower = follow_part(alloc, follower, detail, &part, writer)?,
-            Next::Save => save(alloc, &follower, writer)?,
-            Next::State(bytes) => follower = restore(alloc, follower, &bytes, writer)?,
+        match next_input(alloc, reader)? {
+            Next::Asked(request) => follower = answer(alloc, follower, detail, request, writer)?,
             Next::End => return Ok(Left::Ended(follower.close(alloc, writer)?)),
             Next::Nothing => return Ok(Left::Cut(follower.close(alloc, writer)?)),
         }
@@ -89,7 +75,76 @@ pub fn follow_parts<R: HostReader, W: HostWriter, I: Installation + Drop>(
     Err(Failure::File(1))
 }
 
-/// Follows a part, and writes behind its lines what became of it.
+/// Answers a request.
+fn answer<W: HostWriter, I: Installation + Drop>(
+    alloc: Global,
+    follower: Follower<I>,
+    detail: Detail,
+    request: Request,
+    writer: &mut W,
+) -> Result<Follower<I>, Failure>
+    requires { follower.detail ≡ detail }
+    ensures ok { IfOk result (λ left. (answer : List ℕ) × Answers I.goes follower request answer left
+        × Appends (W.contents writer.old) (W.contents writer.new) answer) }
+    ensures detail { IfOk result (λ left. left.detail ≡ detail) }
+    ensures flushed { OnOk result (W.held writer.new ≡ []) }
+    ensures err { OnErr result (IsAnsweredPartly I.goes follower request (W.contents writer.old) (W.contents writer.new)) }
+    ensures why { PartAccounts result (W.HostFile.failures writer.old) (W.HostFile.failures writer.new) }
+{
+    match request {
+        Request::Part(part) => follow_part(alloc, follower, detail, &part, writer),
+        Request::Save => {
+            save(alloc, &follower, writer)?;
+            Ok(follower)
+        }
+        Request::State(state) => go_on(alloc, follower, &state, writer),
+    }
+}
+
+/// Writes the state between the line with its size and the line that it is whole, or that there is none.
+fn save<W: HostWriter, I: Installation + Drop>(
+    alloc: Global,
+    follower: &Follower<I>,
+    writer: &mut W,
+) -> Result<(), Failure>
+    ensures ok { OnOk result ((answer : List ℕ) × IsSavedAs I.goes follower.now answer
+        × Appends (W.contents writer.old) (W.contents writer.new) answer) }
+    ensures flushed { OnOk result (W.held writer.new ≡ []) }
+    ensures err { OnErr result (IsSavedPartly I.goes follower.now (W.contents writer.old) (W.contents writer.new)) }
+    ensures why { PartAccounts result (W.HostFile.failures writer.old) (W.HostFile.failures writer.new) }
+{
+    let mut state = Vec::new(alloc);
+    if !follower.save(&mut state)? {
+        tell(writer, b"> REFUSED 0\n")?;
+        return Ok(());
+    }
+    let size = state.len();
+    let head = format!(in alloc; "> STATE {size}\n")?;
+    tell_all(writer, head.as_bytes(), &state, b"> DONE\n")?;
+    Ok(())
+}
+
+/// Goes on from a state, and writes that this is done.
+fn go_on<W: HostWriter, I: Installation + Drop>(
+    alloc: Global,
+    follower: Follower<I>,
+    state: &[u8],
+    writer: &mut W,
+) -> Result<Follower<I>, Failure>
+    ensures ok { IfOk result (λ left. IsRestored I.goes follower state.now left
+        × Appends (W.contents writer.old) (W.contents writer.new) (ended (done_line ∷ []))) }
+    ensures flushed { OnOk result (W.held writer.new ≡ []) }
+    ensures err { OnErr result (IsRestoredPartly I.goes follower state.now (W.contents writer.old) (W.contents writer.new)) }
+    ensures why { PartAccounts result (W.HostFile.failures writer.old) (W.HostFile.failures writer.new) }
+{
+    let Some(follower) = follower.restored(alloc, state)? else {
+        return Err(Failure::State);
+    };
+    tell(writer, b"> DONE\n")?;
+    Ok(follower)
+}
+
+/// Follows a part, and writes after its lines what became of it.
 fn follow_part<W: HostWriter, I: Installation + Drop>(
     alloc: Global,
     follower: Follower<I>,
@@ -98,11 +153,11 @@ fn follow_part<W: HostWriter, I: Installation + Drop>(
     writer: &mut W,
 ) -> Result<Follower<I>, Failure>
     requires { follower.detail ≡ detail }
-    ensures ok { IfOk result (λ left. (answer : List ℕ) × Answers I.goes follower part.now answer left
+    ensures ok { IfOk result (λ left. (answer : List ℕ) × AnswersPart I.goes follower part.now answer left
         × Appends (W.contents writer.old) (W.contents writer.new) answer) }
     ensures detail { IfOk result (λ left. left.detail ≡ detail) }
     ensures flushed { OnOk result (W.held writer.new ≡ []) }
-    ensures err { OnErr result (IsAnsweredPartly I.goes follower part.now (W.contents writer.old) (W.contents writer.new)) }
+    ensures err { OnErr result (IsPartAnsweredPartly I.goes follower part.now (W.contents writer.old) (W.contents writer.new)) }
     ensures why { PartAccounts result (W.HostFile.failures writer.old) (W.HostFile.failures writer.new) }
 {
     // There are as many users as machines.
@@ -165,141 +220,21 @@ fn tell<W: HostWriter>(writer: &mut W, told: &[u8]) -> Result<(), HostFault>
     writer.flush()
 }
 
-/// What comes next: a part behind its size, the word for the end, or nothing.
-fn next_part<R: HostReader>(alloc: Global, reader: &mut R) -> Result<Next, HostFault>
-    ensures ok { IfOk result (λ next. GivesNext next (R.remaining reader.old) (R.remaining reader.new)) }
-    ensures err { OnErr result (ReadsFront (R.remaining reader.old) (R.remaining reader.new)) }
-    ensures why { ReadAccounts result (R.HostFile.failures reader.old) (R.HostFile.failures reader.new) }
-{
-    let Some(word) = next_size(alloc, reader)? else {
-        return Ok(Next::Nothing);
-    };
-    if word.as_slice() == b"SAVE".as_slice() {
-        return Ok(Next::Save);
-    }
-    if word.as_slice() == b"STATE".as_slice() {
-        let Some(word) = next_size(alloc, reader)? else {
-            return Err(BROKEN);
-        };
-        return match decimal_of(MOST_DIGITS, &word) {
-            Some(size) => Ok(Next::State(next_state(alloc, reader, size)?)),
-            None => Err(BROKEN),
-        };
-    }
-    if word.as_slice() == b"END".as_slice() {
-        return Ok(Next::End);
-    }
-    match decimal_of(MOST_DIGITS, &word) {
-        Some(size) => Ok(Next::Part(next_bytes(alloc, reader, size)?)),
-        None => Err(BROKEN),
-    }
-}
-
-/// The line before a part, without its end, or none at the end of the input.
-fn next_size<R: HostReader>(alloc: Global, reader: &mut R) -> Result<Option<Vec<u8>>, HostFault>
-    ensures ok { IfOk result (λ line. GivesLine (option_map (λ line. line.items) line) (R.remaining reader.old)
-        (R.remaining reader.new)) }
-    ensures err { OnErr result (ReadsFront (R.remaining reader.old) (R.remaining reader.new)) }
-    ensures why { ReadAccounts result (R.HostFile.failures reader.old) (R.HostFile.failures reader.new) }
-{
-    let mut line = Vec::new(alloc);
-    for _ in 0..=MOST_DIGITS {
-        match next_byte(reader)? {
-            Some(b'\n') => return Ok(Some(line)),
-            Some(byte) => line.extend_from_slice(&[byte])?,
-            None if line.is_empty() => return Ok(None),
-            None => return Err(BROKEN),
-        }
-    }
-    Err(BROKEN)
-}
-
-/// The next bytes, so many.
-fn next_bytes<R: HostReader>(
-    alloc: Global,
-    reader: &mut R,
-    count: u32,
-) -> Result<Vec<u8>, HostFault>
-    ensures ok { IfOk result (λ bytes. Consumes (R.remaining reader.old) (R.remaining reader.new) bytes.items) }
-    ensures count { IfOk result (λ bytes. length bytes.items ≡ count) }
-    ensures err { OnErr result (ReadsFront (R.remaining reader.old) (R.remaining reader.new)) }
-    ensures why { ReadAccounts result (R.HostFile.failures reader.old) (R.HostFile.failures reader.new) }
-{
-    let mut bytes = Vec::new(alloc);
-    for _ in 0..count {
-        match next_byte(reader)? {
-            Some(byte) => bytes.extend_from_slice(&[byte])?,
-            None => return Err(BROKEN),
-        }
-    }
-    Ok(bytes)
-}
-
-/// The next bytes, so many, many at once.
-fn next_state<R: HostReader>(
-    alloc: Global,
-    reader: &mut R,
-    count: u32,
-) -> Result<Vec<u8>, HostFault> {
-    let mut bytes = Vec::new(alloc);
-    let mut buffer = [0u8; 4096];
-    let mut left = count as usize;
-    'reads: while left > 0 {
-        let most = left.min(4096);
-        let got = reader.read(&mut buffer[..most])?;
-        if got == 0 {
-            return Err(BROKEN);
-        }
-        bytes.extend_from_slice(&buffer[..got])?;
-        left -= got;
-    }
-    Ok(bytes)
-}
-
-/// Tells the state.
-fn save<W: HostWriter, I: Installation + Drop>(
-    alloc: Global,
-    follower: &Follower<I>,
+/// Writes three texts one after another, and holds nothing back.
+fn tell_all<W: HostWriter>(
     writer: &mut W,
-) -> Result<(), Failure> {
-    let mut bytes = Vec::new(alloc);
-    if !follower.save(&mut bytes)? {
-        tell(writer, b"> REFUSED 0\n")?;
-        return Ok(());
-    }
-    let size = bytes.len();
-    let told = format!(in alloc; "> STATE {size}\n")?;
-    write_all(writer, told.as_bytes())?;
-    write_all(writer, &bytes)?;
-    tell(writer, b"> DONE\n")?;
-    Ok(())
-}
-
-/// Goes on from a state.
-fn restore<W: HostWriter, I: Installation + Drop>(
-    alloc: Global,
-    follower: Follower<I>,
-    bytes: &[u8],
-    writer: &mut W,
-) -> Result<Follower<I>, Failure> {
-    match follower.restored(alloc, bytes)? {
-        Some(follower) => {
-            tell(writer, b"> DONE\n")?;
-            Ok(follower)
-        }
-        None => Err(Failure::State),
-    }
-}
-
-/// The next byte, or none at the end of the input.
-fn next_byte<R: HostReader>(reader: &mut R) -> Result<Option<u8>, HostFault>
-    ensures ok { IfOk result (λ byte. GivesByte byte (R.remaining reader.old) (R.remaining reader.new)) }
-    ensures err { OnErr result (ReadsFront (R.remaining reader.old) (R.remaining reader.new)) }
-    ensures counts { Counts (R.HostFile.failures reader.old) (R.HostFile.failures reader.new) result }
+    first: &[u8],
+    second: &[u8],
+    third: &[u8],
+) -> Result<(), HostFault>
+    ensures ok { OnOk result (Appends (W.contents writer.old) (W.contents writer.new)
+        (first.now ++ second.now ++ third.now)) }
+    ensures err { OnErr result (AppendsFront (W.contents writer.old) (W.contents writer.new)
+        (first.now ++ second.now ++ third.now)) }
+    ensures flushed { OnOk result (W.held writer.new ≡ []) }
+    ensures counts { Counts (W.HostFile.failures writer.old) (W.HostFile.failures writer.new) result }
 {
-    let mut byte = [0u8; 1];
-    if reader.read(&mut byte)? == 0 {
-        return Ok(None);
-    }
-    Ok(Some(byte[0]))
+    write_all(writer, first)?;
+    write_all(writer, second)?;
+    tell(writer, third)
 }

@@ -1,10 +1,11 @@
-use Rattle.std.proofs.Common.{◌≡◌, ◌∙◌, inl, inr, true, List, ℕ, [], refl, subst}
+use Rattle.std.proofs.Common.{◌∙◌, inl, inr, true, [], refl}
 use Rattle.std.proofs.KnownBytes.{Consumes-nil}
 use Rattle.sessions.specs.Session.{at_first}
 use Rattle.sessions.proofs.Histories.{on_err}
 use Rattle.programs.specs.Faults.{play_failure}
-use Rattle.programs.specs.Parts.{Answers, Exchange, IsAnsweredPartly, IsExchange, end_line}
-use Rattle.programs.specs.declared.parts.Next.TheVariants as nexts
+use Rattle.programs.specs.Parts.{Exchange, IsExchange}
+use Rattle.programs.specs.Requests.{end_line}
+use Rattle.programs.specs.declared.requests.Next.TheVariants as nexts
 use Rattle.programs.proofs.Exchanges.{broken_off, closed_why, followed_to, is_next, so_far_more, so_far_none, why_of}
 use Rattle.programs.proofs.parts.follow_parts.Goals as goal
 
@@ -16,116 +17,114 @@ returns-in_err-follower-clause-err g c =
     let first = at_first i c.args.detail c.args.installation in
     on_err c.from_residual.result (broken_off i c.args.detail c.args.installation first [] r r r w w w (so_far_none i first r w) (Consumes-nil r) (inl refl))
 
-pub returns-in_err-part-clause-err : goal.returns-in_err-part-clause-err
-returns-in_err-part-clause-err g c =
+pub returns-in_err-request-clause-err : goal.returns-in_err-request-clause-err
+returns-in_err-request-clause-err g c =
     let i = g.I.Installation.goes in
     let left = g.R.HostReader.remaining in
     let w = g.W.HostWriter.contents c.args.writer.now in
     let x = g.W.HostWriter.contents c.loop.writer in
-    let read = c.in_err-part.ensures.err in
-    on_err c.from_residual-in_err-part.result (broken_off i c.args.detail c.args.installation c.loop.follower read.0 (left c.args.reader.now) (left c.loop.reader) (left c.next_part.new.reader) w x x c.loop.invariant.so_far read.1 (inl refl))
+    let read = c.in_err-request.ensures.err in
+    on_err c.from_residual-in_err-request.result (broken_off i c.args.detail c.args.installation c.loop.follower read.0 (left c.args.reader.now) (left c.loop.reader) (left c.next_input.new.reader) w x x c.loop.invariant.so_far read.1 (inl refl))
 
-pub returns-in_err-follower-in-Part-clause-err : goal.returns-in_err-follower-in-Part-clause-err
-returns-in_err-follower-in-Part-clause-err g c =
+pub returns-in_err-follower-in-Asked-clause-err : goal.returns-in_err-follower-in-Asked-clause-err
+returns-in_err-follower-in-Asked-clause-err g c =
     let i = g.I.Installation.goes in
     let left = g.R.HostReader.remaining in
     let s = left c.loop.reader in
-    let t = left c.next_part.new.reader in
+    let t = left c.next_input.new.reader in
     let w = g.W.HostWriter.contents c.args.writer.now in
     let x = g.W.HostWriter.contents c.loop.writer in
-    let y = g.W.HostWriter.contents c.follow_part.new.writer in
+    let y = g.W.HostWriter.contents c.answer.new.writer in
     let last = c.loop.follower in
-    let next = is_next c.in_ok-part.field-0 (nexts.Part c.in-Part.part) s t c.in-Part.is c.in_ok-part.ensures.ok in
-    let partly = subst (λ (p : List ℕ). IsAnsweredPartly i last p x y) c.deref.ensures.value c.in_err-follower-in-Part.ensures.err in
-    on_err c.from_residual-in_err-follower-in-Part.result (broken_off i c.args.detail c.args.installation last next.0 (left c.args.reader.now) s t w x y c.loop.invariant.so_far next.2 (inr (inl (c.in-Part.part.items, next.1, partly))))
+    let next = is_next c.in_ok-request.field-0 (nexts.Asked c.in-Asked.request) s t c.in-Asked.is c.in_ok-request.ensures.ok in
+    on_err c.from_residual-in_err-follower-in-Asked.result (broken_off i c.args.detail c.args.installation last next.0 (left c.args.reader.now) s t w x y c.loop.invariant.so_far next.2 (inr (inl (c.in-Asked.request, next.1, c.in_err-follower-in-Asked.ensures.err))))
 
 pub returns-in_err-close-in-End-clause-err : goal.returns-in_err-close-in-End-clause-err
 returns-in_err-close-in-End-clause-err g c =
     let i = g.I.Installation.goes in
     let left = g.R.HostReader.remaining in
     let s = left c.loop.reader in
-    let t = left c.next_part.new.reader in
+    let t = left c.next_input.new.reader in
     let w = g.W.HostWriter.contents c.args.writer.now in
     let x = g.W.HostWriter.contents c.loop.writer in
     let y = g.W.HostWriter.contents c.close.new.writer in
-    let read = is_next c.in_ok-part.field-0 nexts.End s t c.in-End.is c.in_ok-part.ensures.ok in
+    let read = is_next c.in_ok-request.field-0 nexts.End s t c.in-End.is c.in_ok-request.ensures.ok in
     on_err c.from_residual-in_err-close-in-End.result (broken_off i c.args.detail c.args.installation c.loop.follower end_line (left c.args.reader.now) s t w x y c.loop.invariant.so_far read (inr (inr (inl refl, c.in_err-close-in-End.ensures.err))))
 
 pub returns-in_err-close-in-End-clause-why : goal.returns-in_err-close-in-End-clause-why
 returns-in_err-close-in-End-clause-why g c =
     let e = c.in_err-close-in-End.field-0.0 in
-    why_of (play_failure e) c.from_residual-in_err-close-in-End.result _ _ _ _ c.from_residual-in_err-close-in-End.ensures.1 (closed_why g.row.I.Denot e _ _ _ _ _ (c.in_ok-part.ensures.why ∙ c.loop.invariant.read) c.loop.invariant.written (c.in_err-close-in-End.ensures.why true))
+    why_of (play_failure e) c.from_residual-in_err-close-in-End.result _ _ _ _ c.from_residual-in_err-close-in-End.ensures.1 (closed_why g.row.I.Denot e _ _ _ _ _ (c.in_ok-request.ensures.why ∙ c.loop.invariant.read) c.loop.invariant.written (c.in_err-close-in-End.ensures.why true))
 
 pub returns-in-End-clause-ok : goal.returns-in-End-clause-ok
 returns-in-End-clause-ok g c =
     let i = g.I.Installation.goes in
     let left = g.R.HostReader.remaining in
     let s = left c.loop.reader in
-    let t = left c.next_part.new.reader in
+    let t = left c.next_input.new.reader in
     let w = g.W.HostWriter.contents c.args.writer.now in
     let x = g.W.HostWriter.contents c.loop.writer in
     let y = g.W.HostWriter.contents c.close.new.writer in
-    let read = is_next c.in_ok-part.field-0 nexts.End s t c.in-End.is c.in_ok-part.ensures.ok in
+    let read = is_next c.in_ok-request.field-0 nexts.End s t c.in-End.is c.in_ok-request.ensures.ok in
     followed_to i c.args.detail c.args.installation c.in_ok-close-in-End.field-0 c.loop.follower end_line (left c.args.reader.now) s t w x y c.loop.invariant.so_far c.in_ok-close-in-End.ensures.installation read c.in_ok-close-in-End.ensures.ok
 
 pub returns-in-End-clause-why : goal.returns-in-End-clause-why
 returns-in-End-clause-why g c =
-    (c.in_ok-part.ensures.why ∙ c.loop.invariant.read, (c.in_ok-close-in-End.ensures.why true).0 ∙ c.loop.invariant.written)
+    (c.in_ok-request.ensures.why ∙ c.loop.invariant.read, (c.in_ok-close-in-End.ensures.why true).0 ∙ c.loop.invariant.written)
 
 pub returns-in_err-close-in-Nothing-clause-err : goal.returns-in_err-close-in-Nothing-clause-err
 returns-in_err-close-in-Nothing-clause-err g c =
     let i = g.I.Installation.goes in
     let left = g.R.HostReader.remaining in
     let s = left c.loop.reader in
-    let t = left c.next_part.new.reader in
+    let t = left c.next_input.new.reader in
     let w = g.W.HostWriter.contents c.args.writer.now in
     let x = g.W.HostWriter.contents c.loop.writer in
     let y = g.W.HostWriter.contents c.close-in-Nothing.new.writer in
-    let read = is_next c.in_ok-part.field-0 nexts.Nothing s t c.in-Nothing.is c.in_ok-part.ensures.ok in
+    let read = is_next c.in_ok-request.field-0 nexts.Nothing s t c.in-Nothing.is c.in_ok-request.ensures.ok in
     on_err c.from_residual-in_err-close-in-Nothing.result (broken_off i c.args.detail c.args.installation c.loop.follower [] (left c.args.reader.now) s t w x y c.loop.invariant.so_far read.0 (inr (inr (inr refl, c.in_err-close-in-Nothing.ensures.err))))
 
 pub returns-in_err-close-in-Nothing-clause-why : goal.returns-in_err-close-in-Nothing-clause-why
 returns-in_err-close-in-Nothing-clause-why g c =
     let e = c.in_err-close-in-Nothing.field-0.0 in
-    why_of (play_failure e) c.from_residual-in_err-close-in-Nothing.result _ _ _ _ c.from_residual-in_err-close-in-Nothing.ensures.1 (closed_why g.row.I.Denot e _ _ _ _ _ (c.in_ok-part.ensures.why ∙ c.loop.invariant.read) c.loop.invariant.written (c.in_err-close-in-Nothing.ensures.why true))
+    why_of (play_failure e) c.from_residual-in_err-close-in-Nothing.result _ _ _ _ c.from_residual-in_err-close-in-Nothing.ensures.1 (closed_why g.row.I.Denot e _ _ _ _ _ (c.in_ok-request.ensures.why ∙ c.loop.invariant.read) c.loop.invariant.written (c.in_err-close-in-Nothing.ensures.why true))
 
 pub returns-in-Nothing-clause-ok : goal.returns-in-Nothing-clause-ok
 returns-in-Nothing-clause-ok g c =
     let i = g.I.Installation.goes in
     let left = g.R.HostReader.remaining in
     let s = left c.loop.reader in
-    let t = left c.next_part.new.reader in
+    let t = left c.next_input.new.reader in
     let w = g.W.HostWriter.contents c.args.writer.now in
     let x = g.W.HostWriter.contents c.loop.writer in
     let y = g.W.HostWriter.contents c.close-in-Nothing.new.writer in
-    let read = is_next c.in_ok-part.field-0 nexts.Nothing s t c.in-Nothing.is c.in_ok-part.ensures.ok in
+    let read = is_next c.in_ok-request.field-0 nexts.Nothing s t c.in-Nothing.is c.in_ok-request.ensures.ok in
     (followed_to i c.args.detail c.args.installation c.in_ok-close-in-Nothing.field-0 c.loop.follower [] (left c.args.reader.now) s t w x y c.loop.invariant.so_far c.in_ok-close-in-Nothing.ensures.installation read.0 c.in_ok-close-in-Nothing.ensures.ok, read.1)
 
 pub returns-in-Nothing-clause-why : goal.returns-in-Nothing-clause-why
 returns-in-Nothing-clause-why g c =
-    (c.in_ok-part.ensures.why ∙ c.loop.invariant.read, (c.in_ok-close-in-Nothing.ensures.why true).0 ∙ c.loop.invariant.written)
+    (c.in_ok-request.ensures.why ∙ c.loop.invariant.read, (c.in_ok-close-in-Nothing.ensures.why true).0 ∙ c.loop.invariant.written)
 
 pub loop-preserved : goal.loop-preserved
 loop-preserved g c =
     let i = g.I.Installation.goes in
     let left = g.R.HostReader.remaining in
     let s = left c.loop.reader in
-    let t = left c.next_part.new.reader in
+    let t = left c.next_input.new.reader in
     let w = g.W.HostWriter.contents c.args.writer.now in
     let x = g.W.HostWriter.contents c.loop.writer in
-    let y = g.W.HostWriter.contents c.follow_part.new.writer in
+    let y = g.W.HostWriter.contents c.answer.new.writer in
     let old = c.loop.follower in
-    let new = c.in_ok-follower-in-Part.follower in
-    let part = c.in-Part.part.items in
-    let next = is_next c.in_ok-part.field-0 (nexts.Part c.in-Part.part) s t c.in-Part.is c.in_ok-part.ensures.ok in
-    let told = c.in_ok-follower-in-Part.ensures.ok in
-    let it : Exchange g.row.I.Denot = record { read = next.0; part = part; answer = told.0; left = new } in
-    let one : IsExchange i old it = record { framed = next.1; answered = subst (λ (p : List ℕ). Answers i old p told.0 new) c.deref.ensures.value told.1 } in
+    let new = c.in_ok-follower-in-Asked.follower in
+    let next = is_next c.in_ok-request.field-0 (nexts.Asked c.in-Asked.request) s t c.in-Asked.is c.in_ok-request.ensures.ok in
+    let told = c.in_ok-follower-in-Asked.ensures.ok in
+    let exchange : Exchange g.row.I.Denot = record { read = next.0; request = c.in-Asked.request; answer = told.0; left = new } in
+    let one : IsExchange i old exchange = record { asked = next.1; answered = told.1 } in
     record {
-      so_far = so_far_more i (at_first i c.args.detail c.args.installation) old (left c.args.reader.now) s t w x y it c.loop.invariant.so_far one next.2 told.2;
-      detail = c.in_ok-follower-in-Part.ensures.detail;
-      read = c.in_ok-part.ensures.why ∙ c.loop.invariant.read;
-      written = c.in_ok-follower-in-Part.ensures.why ∙ c.loop.invariant.written;
+      so_far = so_far_more i (at_first i c.args.detail c.args.installation) old (left c.args.reader.now) s t w x y exchange c.loop.invariant.so_far one next.2 told.2;
+      detail = c.in_ok-follower-in-Asked.ensures.detail;
+      read = c.in_ok-request.ensures.why ∙ c.loop.invariant.read;
+      written = c.in_ok-follower-in-Asked.ensures.why ∙ c.loop.invariant.written;
     }
 
 pub returns-clause-err : goal.returns-clause-err

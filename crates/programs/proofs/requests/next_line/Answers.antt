@@ -1,6 +1,6 @@
 use Rattle.sessions.proofs.Histories.{on_err}
 use Rattle.programs.proofs.Framed.{a_byte, reads_more}
-use Rattle.programs.proofs.parts.next_size.Goals as goal
+use Rattle.programs.proofs.requests.next_line.Goals as goal
 
 pub returns-in_err-next_byte-clause-err : goal.returns-in_err-next_byte-clause-err
 returns-in_err-next_byte-clause-err g c =
