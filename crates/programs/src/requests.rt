@@ -54,9 +54,7 @@ pub(crate) fn next_input<R: HostReader>(alloc: Global, reader: &mut R) -> Result
     if word.as_slice() == b"STATE".as_slice() {
         return Ok(Next::Asked(Request::State(next_state(alloc, reader)?)));
     }
-    Ok(Next::Asked(Request::Part(next_sized(
-        alloc, reader, &word,
-    )?)))
+    Ok(Next::Asked(Request::Part(next_sized(alloc, reader, &word)?)))
 }
 
 /// Reads the bytes of a state, after the line with their number.
