@@ -99,10 +99,14 @@ read_arguments() {
     [ -z "$awaited" ] || usage_error "no value follows --$awaited"
 }
 
-# set_option NAME VALUE: of an option that is known
+# set_option NAME VALUE: of an option that is known; --save-state is option_save_state
 set_option() {
-    eval "[ -z \"\${option_$1+given}\" ]" || usage_error "--$1 is given twice"
-    eval "option_$1=\$2"
+    case $1 in
+    *-*) variable=option_$(printf '%s' "$1" | tr - _) ;;
+    *) variable=option_$1 ;;
+    esac
+    eval "[ -z \"\${$variable+given}\" ]" || usage_error "--$1 is given twice"
+    eval "$variable=\$2"
 }
 
 # need_paths NAME..: whether so many words are there next to the options; a last NAME [..] may be any number of them

@@ -33,7 +33,19 @@ read_run_arguments() {
     directory=$path1
     check_readable "$directory"
     [ -n "${option_follow-}" ] || check_readable "$script"
+    check_states
     check_volumes "$number"
+}
+
+# whether states go with the other words, and their files can be read and written
+check_states() {
+    states=
+    [ -n "${option_state+given}${option_save_state+given}" ] || return 0
+    [ -z "${option_follow-}" ] || usage_error '--state and --save-state are for scripts'
+    [ -z "${option_state+given}" ] || check_readable "$option_state"
+    [ -z "${option_save_state+given}" ] || check_writable "$option_save_state"
+    command -v python3 > /dev/null || fail "$no_python" "states need python3, which is not there"
+    states=true
 }
 
 # the words of a command over one machine: read_bare_arguments MORE_OPTIONS WORD..
@@ -146,7 +158,9 @@ run_program() {
     trap 'stop_program 129' HUP
     trap 'stop_program 130' INT
     trap 'stop_program 143' TERM
-    if [ -n "${watches-}" ] && [ -t 2 ] && [ -z "${option_follow-}" ] && command -v python3 > /dev/null; then
+    if [ -n "${states-}" ]; then
+        PYTHONDONTWRITEBYTECODE=1 python3 "$root/bin/lib/run.py" state_runs "$name" "$program" "$@" <&4 2> "$errors" &
+    elif [ -n "${watches-}" ] && [ -t 2 ] && [ -z "${option_follow-}" ] && command -v python3 > /dev/null; then
         PYTHONDONTWRITEBYTECODE=1 python3 "$root/bin/lib/run.py" watched "$name" "$script" "$program" "$@" <&4 3>&2 2> "$errors" &
     else
         "$program" "$@" <&4 2> "$errors" &

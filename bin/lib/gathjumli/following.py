@@ -1,7 +1,7 @@
 """A program that goes on from where a script has led it (docs/COMMAND_LINE.md, "Parts of a script")."""
 from __future__ import annotations
 
-from collections.abc import Iterator
+from collections.abc import Iterable, Iterator
 import os
 import queue
 import re
@@ -17,6 +17,7 @@ STATES = (b"ON", b"RUNS", b"STOPS", b"OFF")
 # the end of a file's entries: a line end that no further entry follows
 FILE_ENDS = re.compile(rb"\n(?!> \|)")
 CHUNK = 1 << 20
+STATE_REFUSED = "fault: state Refused"
 
 
 class NotFollowed(Exception):
@@ -25,6 +26,10 @@ class NotFollowed(Exception):
 
 class Died(Failure):
     """The program was killed, or the host refused it memory: another one may go on."""
+
+
+class StateRefused(Failure):
+    """A state that the program refuses."""
 
 
 class PartResult(NamedTuple):
@@ -47,6 +52,15 @@ class Refused(NamedTuple):
     line: int
 
 
+class SavedState(NamedTuple):
+    """The bytes of a state, in pieces as they arrived."""
+
+    pieces: list[bytes]
+
+    def size(self) -> int:
+        return sum(map(len, self.pieces))
+
+
 class Answers:
     """Cuts what a program writes into answers as it arrives. A file's entries stay as they are, since a listing may have millions
     of lines, and whoever handles each of them keeps others waiting."""
@@ -57,13 +71,32 @@ class Answers:
 
     def begin(self) -> None:
         self.events, self.files, self.states, self.is_idle = [], [], [], False
+        # of a state: its pieces, and how many bytes are still to arrive
+        self.pieces, self.awaited = None, 0
 
     def feed(self, data: bytes) -> Iterator:
         """The answers that these bytes end."""
         data = self.left + data
-        place, end = 0, data.rfind(b"\n") + 1
-        self.left = data[end:]
-        while place < end:
+        self.left = b""
+        while data:
+            place = self.take_piece(data) if self.awaited else 0
+            place, answers = self.take_lines(data, place, data.rfind(b"\n") + 1)
+            yield from answers
+            if not self.awaited:
+                self.left = data[place:]
+                return
+            data = data[place:]
+
+    def take_piece(self, data: bytes) -> int:
+        """Takes what these bytes have of a state; where that ends."""
+        self.pieces.append(data[: self.awaited])
+        self.awaited -= len(self.pieces[-1])
+        return len(self.pieces[-1])
+
+    def take_lines(self, data: bytes, place: int, end: int) -> tuple[int, list]:
+        """Takes whole lines until a state begins; where that is, and the answers that they end."""
+        answers = []
+        while place < end and not self.awaited:
             if self.files and data.startswith(b"> |", place):
                 stop = FILE_ENDS.search(data, place, end).end()
                 self.files[-1][1].append(data[place:stop])
@@ -71,8 +104,9 @@ class Answers:
                 stop = data.index(b"\n", place) + 1
                 answer = self.take(data[place : stop - 1])
                 if answer:
-                    yield answer
+                    answers.append(answer)
             place = stop
+        return place, answers
 
     def take(self, line: bytes) -> Any:
         """Takes a line; the answer that it ends, or None."""
@@ -86,16 +120,20 @@ class Answers:
             self.states.append((text_of(word), text_of(rest)))
         elif word == b"IDLE":
             self.is_idle = True
+        elif word == b"STATE":
+            self.pieces, self.awaited = [], int(rest)
         elif word in (b"DONE", b"REFUSED"):
-            files = [(heading, b"".join(pieces)) for heading, pieces in self.files]
-            answer = (
-                Refused(int(rest))
-                if rest
-                else PartResult(self.events, files, self.states, self.is_idle)
-            )
+            answer = Refused(int(rest)) if rest else self.done()
             self.begin()
             return answer
         return None
+
+    def done(self) -> PartResult | SavedState:
+        """The answer that ends here."""
+        if self.pieces is not None:
+            return SavedState(self.pieces)
+        files = [(heading, b"".join(pieces)) for heading, pieces in self.files]
+        return PartResult(self.events, files, self.states, self.is_idle)
 
 
 def text_of(line: bytes) -> str:
@@ -156,6 +194,25 @@ class Program:
             raise ScriptRefused(answer.line)
         return answer
 
+    def save(self) -> SavedState | None:
+        """The state where all that was given has led, or None if the program has none."""
+        while self.awaited:
+            self.answer()
+        self.awaited += 1
+        self.write(b"SAVE\n")
+        try:
+            return self.answer()
+        except ScriptRefused:
+            return None
+
+    def restore(self, size: int, pieces: Iterable[bytes]) -> None:
+        """Has it go on from a state of so many bytes. It comes before the first part."""
+        self.awaited += 1
+        self.write(b"STATE\n%d\n" % size)
+        for piece in pieces:
+            self.write(piece)
+        self.answer()
+
     def finish(self) -> None:
         """Ends the session, which saves volumes if the program was reported to."""
         self.is_ending = True
@@ -170,6 +227,8 @@ class Program:
         findings = self.errors.read().decode(errors="surrogateescape").splitlines()
         if status == WRONG_USE:
             return NotFollowed()
+        if findings[:1] == [STATE_REFUSED]:
+            return StateRefused(status, *findings)
         found = failure(status, findings)
         return Died(found.status, *found.lines) if status < 0 or status == NO_MEMORY else found
 

@@ -1,0 +1,117 @@
+"""State files: a state of the machines with what it is of, and the sum of all that (docs/FORMATS.md, "State files")."""
+from __future__ import annotations
+
+from collections.abc import Iterator
+from typing import Any, BinaryIO, NamedTuple
+import contextlib
+import hashlib
+import json
+import os
+
+from gathjumli.cli import Failure, REFUSED
+from gathjumli.following import SavedState
+from gathjumli.recording import Base, SUM_DIGITS, differing, sync_folder
+
+TITLE = b"* GATHJUMLI STATE 1"
+NOTES = b"* NOTES "
+BYTES = b"* BYTES "
+SUM = b"* SUM "
+# the program reads the sizes of states, as those of parts, with nine digits
+MOST_BYTES = 999_999_999
+USUAL_SIZES = {"--frames": "64", "--slots": "256"}
+CHUNK = 1 << 20
+
+
+class StateFile(NamedTuple):
+    """A state file that is whole: what it is of, what is noted of the users, where its state is, and its sum."""
+
+    path: str
+    base: list[bytes]
+    notes: dict[str, Any]
+    place: int
+    size: int
+    sum: str
+
+    def pieces(self) -> Iterator[bytes]:
+        """The bytes of the state."""
+        with open(self.path, "rb") as file:
+            file.seek(self.place)
+            left = self.size
+            while left and (data := file.read(min(left, CHUNK))):
+                left -= len(data)
+                yield data
+
+
+def base_of(machines: Any) -> list[bytes]:
+    """What a state of these machines is of: the program, the directory and the sizes."""
+    *words, directory = machines.before
+    sizes = USUAL_SIZES | dict(zip(words[::2], words[1::2]))
+    return [TITLE, *Base(machines.made_of(), " ".join(sizes.values()), directory, []).lines()[1:]]
+
+
+def write_state(path: str, base: list[bytes], notes: dict[str, Any], saved: SavedState) -> str:
+    """Writes a state file that is there whole or not at all, also after the host has crashed; its sum."""
+    known = hashlib.sha256()
+    head = [*base, NOTES + json.dumps(notes).encode(), BYTES + b"%d" % saved.size()]
+    path, written = os.path.realpath(path), f"{os.path.realpath(path)}.new"
+    # it has the storages of guests, and is for its owner alone
+    with open(written, "wb", opener=lambda name, flags: os.open(name, flags, 0o600)) as file:
+        for piece in (b"".join(line + b"\n" for line in head), *saved.pieces):
+            known.update(piece)
+            file.write(piece)
+        digits = known.hexdigest()[:SUM_DIGITS]
+        file.write(b"\n" + SUM + digits.encode() + b"\n")
+        file.flush()
+        os.fsync(file.fileno())
+    os.replace(written, path)
+    sync_folder(path)
+    return digits
+
+
+def remove_state(path: str) -> None:
+    """Removes a state file, and what was written of it before a crash."""
+    for name in (path, f"{path}.new"):
+        with contextlib.suppress(FileNotFoundError):
+            os.unlink(name)
+
+
+def read_state(path: str) -> StateFile:
+    """A state file that is whole: it is as long as it says, and its sum is right."""
+    with open(path, "rb") as file:
+        base, notes, size = read_head(path, file)
+        place, known = file.tell(), hashlib.sha256()
+        file.seek(0)
+        left = place + size
+        while left and (data := file.read(min(left, CHUNK))):
+            known.update(data)
+            left -= len(data)
+        digits = known.hexdigest()[:SUM_DIGITS]
+        if left or file.read() != b"\n" + SUM + digits.encode() + b"\n":
+            raise Failure(REFUSED, f"{path} is not as it was written")
+    return StateFile(path, base, notes, place, size, digits)
+
+
+def read_head(path: str, file: BinaryIO) -> tuple[list[bytes], dict[str, Any], int]:
+    """What a state file is of, its notes, and how many bytes follow."""
+    base = [file.readline(CHUNK).rstrip(b"\n")]
+    if base != [TITLE]:
+        raise Failure(REFUSED, f"{path} is no state file")
+    try:
+        while not (line := file.readline()).startswith(NOTES):
+            if not line.startswith(b"* "):
+                raise ValueError
+            base.append(line.rstrip(b"\n"))
+        notes, size = json.loads(line.removeprefix(NOTES)), file.readline(CHUNK)
+        if not isinstance(notes, dict) or not size.startswith(BYTES):
+            raise ValueError
+        return base, notes, int(size.removeprefix(BYTES))
+    except ValueError:
+        raise Failure(REFUSED, f"{path} is not as it was written") from None
+
+
+def state_of(path: str, machines: Any) -> StateFile:
+    """The state in a file, from which these machines can go on."""
+    found = read_state(path)
+    if differs := differing(found.base, base_of(machines)):
+        raise Failure(REFUSED, f"{path}: {differs}")
+    return found

@@ -1,0 +1,146 @@
+"""Runs a script from a state, or saves the state at its end: state_runs.py NAME PROGRAM WORD.., as bin/lib/program.sh calls it."""
+from __future__ import annotations
+
+from typing import Any
+import os
+import sys
+
+from gathjumli import cli
+from gathjumli.cli import FILE_FAILED, Failure, REFUSED, last, read_arguments, read_file
+from gathjumli.following import Answers, CHUNK, Program, StateRefused
+from gathjumli.machines import SIZE_OPTIONS, ScriptRefused, of_directory
+from gathjumli.state_files import MOST_BYTES, StateFile, base_of, state_of, write_state
+
+OPTIONS = {"--save": None, "--state": str, "--save-state": str} | SIZE_OPTIONS
+NOBODY = {"on": [], "running": []}
+OTHER_VOLUMES = "the state is of other volumes, or not as the program writes it"
+
+
+class Output:
+    """Standard output. After a failure nothing more is written, which is reported at the end."""
+
+    def __init__(self) -> None:
+        self.failure = None
+
+    def write(self, data: bytes) -> None:
+        if self.failure:
+            return
+        try:
+            sys.stdout.buffer.write(data)
+        except OSError as error:
+            self.failure = error
+
+
+class PrintedAnswers(Answers):
+    """Answers of which the lines of the transcript are printed as they arrive, and files at the end of the session."""
+
+    def __init__(self, output: Output) -> None:
+        super().__init__()
+        self.output = output
+
+    def take(self, line: bytes) -> Any:
+        if not line.startswith(b"> "):
+            self.output.write(line + b"\n")
+            return None
+        return super().take(line)
+
+    def done(self) -> Any:
+        sys.stdout.flush()
+        return super().done()
+
+
+class Script(Program):
+    """A program whose transcript is printed."""
+
+    def __init__(self, machines: Any, *options: str) -> None:
+        self.output = Output()
+        super().__init__(machines, *options)
+
+    def listen(self) -> None:
+        answers = PrintedAnswers(self.output)
+        with self.process.stdout as output:
+            while data := os.read(output.fileno(), CHUNK):
+                if self.is_ending:
+                    self.output.write(data)
+                    continue
+                for answer in answers.feed(data):
+                    self.answers.put(answer)
+        self.answers.put(None)
+
+    def finish(self) -> None:
+        super().finish()
+        while self.answers.get() is not None:
+            pass
+        if self.output.failure:
+            raise self.output.failure
+
+
+def restore(program: Program, state: StateFile) -> None:
+    """Has a program go on from a state."""
+    try:
+        program.restore(state.size, state.pieces())
+    except StateRefused as refused:
+        raise StateRefused(refused.status, *refused.lines, OTHER_VOLUMES) from None
+
+
+def after(noted: dict[str, Any], changes: list[tuple[str, str]]) -> dict[str, Any]:
+    """Who is on and whose machine runs after these changes."""
+    found = {word: dict.fromkeys(noted[word]) for word in NOBODY}
+    words = {"ON": ("on", True), "OFF": ("on", False)} | {
+        "RUNS": ("running", True),
+        "STOPS": ("running", False),
+    }
+    for change, name in changes:
+        word, holds = words[change]
+        found[word].pop(name, None)
+        found[word] |= {name: None} if holds else {}
+    return {word: sorted(names) for word, names in found.items()}
+
+
+def save_state(program: Program, path: str, base: list[bytes], notes: dict[str, Any]) -> None:
+    """Writes the state of a program into a file."""
+    saved = program.save()
+    if saved is None:
+        raise Failure(REFUSED, "a machine of its own has no state")
+    if saved.size() > MOST_BYTES:
+        raise Failure(
+            FILE_FAILED, f"the state has {saved.size()} bytes, and at most {MOST_BYTES} can be read"
+        )
+    write_state(path, base, notes, saved)
+
+
+def run(program: Program, script: bytes, state: StateFile | None) -> dict[str, Any]:
+    """Does a script, from a state if there is one; who is on and whose machine runs then."""
+    if state:
+        restore(program, state)
+    try:
+        result = program.do(script)
+    except ScriptRefused as refused:
+        raise Failure(REFUSED, f"fault: script Line {refused.line}") from None
+    return after(state.notes if state else NOBODY, result.states)
+
+
+def command(words: list[str]) -> None:
+    path, *words = words
+    found, (directory, script, *volumes) = read_arguments(words, OPTIONS, 2, 1000)
+    sizes = [word for option in SIZE_OPTIONS for value in found[option] for word in (option, str(value))]
+    machines = of_directory(directory, sizes, volumes)
+    machines.path = path
+    given, to = last(found["--state"], None), last(found["--save-state"], None)
+    state, lines = given and state_of(given, machines), read_file(script)
+    # a part is whole lines
+    lines += b"\n" * (lines[-1:] not in (b"", b"\n"))
+    program = Script(machines, *(["--save"] if found["--save"] else []))
+    try:
+        notes = run(program, lines, state)
+        if to:
+            save_state(program, to, base_of(machines), notes)
+        program.finish()
+    finally:
+        program.close()
+        machines.close()
+
+
+if __name__ == "__main__":
+    del sys.argv[0]
+    cli.run(command, "")
