@@ -7,6 +7,7 @@ import concurrent.futures
 import collections
 import atexit
 import contextlib
+import json
 import os
 import re
 import resource
@@ -306,6 +307,21 @@ class StandIn:
     def last_lines(self) -> list[str]:
         return [line for file in self.files for line in file]
 
+    def save(self) -> None:
+        """Answers SAVE."""
+        state = json.dumps([self.users, self.files]).encode()
+        sys.stdout.buffer.write(b"> STATE %d\n%s> DONE\n" % (len(state), state))
+        sys.stdout.flush()
+
+    def restore(self) -> None:
+        """Takes the bytes of a state."""
+        size = int(sys.stdin.buffer.readline())
+        try:
+            self.users, self.files = json.loads(sys.stdin.buffer.read(size))
+        except ValueError:
+            sys.exit("fault: state Refused")
+        print("> DONE", flush=True)
+
 
 def became(before: str, now: str) -> list[str]:
     """The states that are reported of a user."""
@@ -326,6 +342,9 @@ def stand_in(words: list[str]) -> None:
         sys.stdout.write("".join(f"{line}\n" for line in lines))
         return
     while (size := sys.stdin.buffer.readline()) not in (b"", b"END\n"):
+        if size in (b"SAVE\n", b"STATE\n"):
+            program.save() if size == b"SAVE\n" else program.restore()
+            continue
         time.sleep(float(os.environ.get("PEOPLE_SLOW", "0")))
         findings = program.part(sys.stdin.buffer.read(int(size)))
         findings = ["> REFUSED 1"] if findings is None else [*findings, "> DONE"]

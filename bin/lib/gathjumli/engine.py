@@ -9,11 +9,13 @@ import re
 import time
 from typing import Any, NamedTuple
 
-from gathjumli.following import Died, NotFollowed, PartResult, Program
+from gathjumli.following import Died, NotFollowed, PartResult, Program, StateRefused
 from gathjumli.host import memory_of, processor_seconds
 from gathjumli.machines import ScriptRefused
 from gathjumli.cli import Failure, FILE_FAILED, REFUSED
-from gathjumli.recording import PRINTED, TURNS, TYPED, sum_of_file, weight_of
+from gathjumli.recording import PRINTED, StateMark, TURNS, TYPED, sum_of_file, weight_of
+from gathjumli.state_files import StateFile
+from gathjumli.states import States, notes_of, take_notes
 
 # lines that one who appears back sees again
 KEPT_LINES = 24
@@ -31,22 +33,18 @@ NO_ROOM = "NOT DONE: NO ROOM FOR A PAGE, TYPE IT AGAIN"
 
 
 class Unattended:
-    """Stands for a user's terminal where there is no desk, and keeps the lines that the desk will want."""
+    """Stands for a user's terminal where there is no desk."""
 
     is_there = False
 
-    def __init__(self) -> None:
-        self.lines = collections.deque(maxlen=KEPT_LINES)
-
     def keep(self, text: str, minute: str) -> None:
-        self.lines.append((minute, text))
+        pass
 
     def show(self, text: str) -> None:
         pass
 
     def turn(self, is_on: Any, is_running: bool) -> None:
-        if not is_on:
-            self.lines.clear()
+        pass
 
 
 class User:
@@ -57,6 +55,8 @@ class User:
         self.is_on = False
         self.is_running = False
         self.terminal = Unattended()
+        # the last lines of his terminal, each with its minute
+        self.lines = collections.deque(maxlen=KEPT_LINES)
         # whether he is being logged off
         self.is_forced = False
         # bytes that he typed, and his guests printed, since LOGON
@@ -65,7 +65,9 @@ class User:
     def keep(self, text: str, when: Any = None) -> None:
         """Keeps a line for when he appears back, with the minute of its time."""
         self.written += len(text) + 1
-        self.terminal.keep(text, when or time.strftime(MINUTE, time.gmtime()))
+        minute = when or time.strftime(MINUTE, time.gmtime())
+        self.lines.append((minute, text))
+        self.terminal.keep(text, minute)
 
     def show(self, text: str, when: Any = None) -> None:
         self.keep(text, when)
@@ -76,6 +78,8 @@ class User:
             self.is_on = state == "ON"
         else:
             self.is_running = state == "RUNS"
+        if not self.is_on:
+            self.lines.clear()
         if state == "OFF":
             self.written = 0
             self.is_forced = False
@@ -168,6 +172,7 @@ class Engine:
         users: Any,
         aim: Any,
         printouts: Any,
+        states: States,
         notify: Any,
     ) -> None:
         self.machines = machines
@@ -178,6 +183,9 @@ class Engine:
         self.receiver = None
         self.pace = Pace(aim)
         self.printouts = printouts
+        self.states = states
+        # whether a state is being saved
+        self.is_saving = False
         self.program = self.begun()
         self.thread = concurrent.futures.ThreadPoolExecutor(1)
         self.waiting = []
@@ -196,9 +204,13 @@ class Engine:
     def begun(self) -> Any:
         return Program(self.machines, "--terminals", "--save")
 
-    def seconds(self) -> Any:
-        """The processor time that the program took since the session began: about what a start takes."""
+    def seconds(self) -> float:
+        """The processor time that the program took."""
         return processor_seconds(self.program.process.pid)
+
+    def seconds_to_start(self) -> float:
+        """About what a start takes: the reading of the last state, and what was computed after it."""
+        return self.states.reading + self.seconds() - self.states.at
 
     def memory(self) -> Any:
         """The bytes of memory that the program has."""
@@ -232,6 +244,8 @@ class Engine:
                 await self.do_waiting()
             if self.pace.is_busy and not self.is_stopping:
                 await self.deal()
+            if self.states.is_due(self.seconds()) and not self.is_stopping:
+                await self.loop.run_in_executor(self.thread, self.save_state, self.notes())
         for _, done in self.waiting:
             done.cancel()
 
@@ -310,6 +324,26 @@ class Engine:
             self.notify("the program goes on")
             return self.checked(self.program.do, part.lines)
 
+    def notes(self) -> dict[str, Any]:
+        """What is noted with a state, while no part is under way."""
+        return notes_of(self.users, self.printouts)
+
+    def save_state(self, notes: dict[str, Any]) -> None:
+        """Saves the state of all that was done and shown. Everybody waits meanwhile."""
+        if not self.is_whole or not self.states.can_save(self.seconds()):
+            return
+        self.is_saving = True
+        try:
+            if self.marks:
+                self.recording.add(self.take_marks())
+            self.states.save(self.program, notes)
+        except Died:
+            if not self.is_stopping:
+                self.restart()
+        finally:
+            self.is_saving = False
+        self.states.saved(self.seconds())
+
     def restart(self) -> None:
         """Has another program do the recording: all that anybody was shown is in it."""
         self.recording.put(self.recording.turns_line())
@@ -322,6 +356,7 @@ class Engine:
         self.do_recording(
             lambda share: self.notify(f"the program is started again: {100 * share:.0f}% done"),
             lambda *_: None,
+            lambda _: None,
         )
 
     def checked(self, ask: Any, *given: Any, line: Any = None) -> Any:
@@ -361,21 +396,45 @@ class Engine:
             self.take(part, came, when)
             self.printouts.put(came.files, is_replay=True)
 
-        self.do_recording(notify, take)
+        def take_state(state: StateFile) -> None:
+            take_notes(state.notes, self.users, self.printouts)
+            self.notify(f"begins with {state.path}")
 
-    def do_recording(self, notify: Any, take: Any) -> None:
-        """Has the program do all that the recording has, and takes the effect of each part."""
-        self.is_whole = False
+        self.do_recording(notify, take, take_state)
+
+    def restore(self) -> tuple[StateMark | None, StateFile | None]:
+        """Has the program go on from the last state that it takes, or else be at the beginning; where that is in the recording."""
+        for mark, state in self.states.found():
+            before = self.seconds()
+            try:
+                self.checked(self.program.restore, state.size, state.pieces())
+            except (StateRefused, Died) as failure:
+                self.notify(f"{state.path} is not taken: {failure.lines[0]}")
+                self.program.close()
+                self.program = self.begun()
+                continue
+            self.states.goes_on(self.seconds(), self.seconds() - before, state)
+            return mark, state
         # it has read the volumes when it has answered
         self.checked(self.program.do, b"")
-        progress, sent = Progress(self.recording.weight, notify), collections.deque()
+        self.states.goes_on(self.seconds(), 0.0, None)
+        return None, None
+
+    def do_recording(self, notify: Any, take: Any, take_state: Any) -> None:
+        """Has the program do all that the recording has, from the last state on, and takes the effect of each part."""
+        self.is_whole = False
+        mark, state = self.restore()
+        if state:
+            take_state(state)
+        left = self.recording.weight - (mark.weight if mark else 0)
+        progress, sent = Progress(left, notify), collections.deque()
 
         def take_first() -> None:
             part, number, when = sent.popleft()
             take(part, self.checked(self.program.answer, line=number), when.decode()[:16])
             progress.add(weight_of(part.lines))
 
-        for number, when, entry in self.recording.entries():
+        for number, when, entry in self.recording.entries(mark):
             if self.is_stopping:
                 return
             part = part_of(entry)

@@ -53,7 +53,10 @@ class Watch:
 
     def look_at_memory(self) -> None:
         """If the program has too much memory, the user who took most of it lately goes: who wrote most in the last second, else one
-        whose machine runs, since what is printed is seen when the file is closed."""
+        whose machine runs, since what is printed is seen when the file is closed. A state that is being saved is nobody's.
+        """
+        if self.engine.is_saving:
+            return
         memory = self.engine.memory()
         self.bound = max(self.limits.memory, min(self.bound, memory + self.limits.memory // STEP))
         candidates = self.candidates()

@@ -186,9 +186,9 @@ class LogonServer:
         self.room = MOST_STRANGERS + 1 + len(self.people)
         self.ask("ROOM", self.room)
         for number, user in enumerate(self.people):
-            before, user.terminal = user.terminal, Terminal(self, number)
+            user.terminal = Terminal(self, number)
             user.terminal.turn(user.is_on, user.is_running)
-            for minute, text in before.lines:
+            for minute, text in user.lines:
                 user.terminal.keep(text, minute)
         self.flush()
 

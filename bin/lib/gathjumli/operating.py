@@ -22,7 +22,7 @@ MINUTE = "%Y-%m-%d %H:%M"
 HELP = """\
 status             who is on, memory, sizes, the age of the session, how long a start takes
 users              who is on, and how much each has written since LOGON
-frames             in which frames pages are; this takes as long as a start
+frames             in which frames pages are; the whole recording is done for it
 spool              the files that users closed for the operator, the last ones
 message TEXT       a line for each terminal; message USER TEXT for one user
 logmsg TEXT        a line for everybody who logs on; logmsg alone shows it, logmsg off ends it
@@ -104,7 +104,8 @@ class Operator:
         engine, desk, recording = self.engine, self.installation.desk, self.engine.recording
         reply(f"{len(self.on())} on, {desk.strangers} about to log on, {engine.parts} parts, "
               f"{'somebody computes' if engine.pace.is_busy else 'all wait'}; "
-              f"a start that goes on from here takes about {engine.seconds():.0f} s")  # fmt: skip
+              f"a start that goes on from here takes about {engine.seconds_to_start():.0f} s")  # fmt: skip
+        reply(state_text(engine))
         most = self.installation.limits.memory // MEGABYTE
         reply(
             f"memory: command {memory_of(os.getpid()) // MEGABYTE} MB, program {engine.memory() // MEGABYTE} MB of {most} MB"
@@ -262,6 +263,16 @@ class Operator:
         self.ending = []
         with contextlib.suppress(FileNotFoundError):
             os.unlink(self.ending_path)
+
+
+def state_text(engine: Any) -> str:
+    """The last state that was saved: how old it is, how long it is, and how long everybody waited for it."""
+    last = engine.states.last
+    if not last:
+        return "no state is saved yet"
+    waited = f", for which all waited {last.waited:.2f} s" if last.waited else ""
+    ago = engine.seconds() - engine.states.at
+    return f"the last state has {last.size / MEGABYTE:.1f} MB and is {ago:.0f} s of computing old{waited}"
 
 
 def plain(text: str) -> Any:

@@ -19,6 +19,7 @@ BEGUN = b"* BEGUN "
 END = b"* END"
 SAVED = b"* SAVED "
 DECK_READ = b"* DECK "
+STATE = b"* STATE "
 PRINTED = b"* PRINTED "
 MOST_TURNS = 100000
 SUM_DIGITS = 32
@@ -33,6 +34,18 @@ TYPED = re.compile(rb"LINE ([A-Z0-9]+) ?(.*)\n")
 STAMP = re.compile(rb"\* (\d{4}-\d\d-\d\d \d\d:\d\d:\d\d) UTC(?: ([0-9a-f]{8}))?\n", re.M)
 STAMPED = re.compile(rb"^" + STAMP.pattern, re.M)
 SCRIPT_WORDS = (b"LINE ", b"AUTO ", b"*", b"DECK ", b"RUN ", b"SERVE ", b"TICK ", b"\n")
+
+
+class StateMark(NamedTuple):
+    """Where a recording says that a state was saved: the name and the sum of its file, how many bytes and lines come before what
+    follows, the time, and how much of the recording's weight is done."""
+
+    name: str
+    sum: str
+    place: int
+    lines: int
+    until: bytes
+    weight: int
 
 
 class Base(NamedTuple):
@@ -152,6 +165,10 @@ class Recording:
         self.printed = set()
         self.weight = 0
         self.lines = 0
+        self.bytes = 0
+        # the marks of states, and whether anything was done after the last one
+        self.states = []
+        self.is_past_state = False
         self.cut = 0
         self.sum = hashlib.sha256()
         self.has_sums = False
@@ -186,7 +203,7 @@ class Recording:
             raise self.edited(self.lines + 1, "has more cards than follow it")
         if not self.begun:
             # not even its first lines were written: nothing was done
-            size, self.base, self.lines, self.sum = 0, [], 0, hashlib.sha256()
+            size, self.base, self.lines, self.bytes, self.sum = 0, [], 0, 0, hashlib.sha256()
         self.cut = len(torn)
         self.file.truncate(size)
 
@@ -227,6 +244,7 @@ class Recording:
 
     def count(self, data: bytes) -> None:
         self.sum.update(data)
+        self.bytes += len(data)
         self.lines += data.count(b"\n")
 
     def note(self, entry: Any) -> None:
@@ -237,6 +255,8 @@ class Recording:
             if stamp_in(entry):
                 return
             self.note_comment(entry)
+        else:
+            self.is_past_state = True
         self.last = entry
         self.weight += weight_of(entry)
 
@@ -246,8 +266,16 @@ class Recording:
             self.until = entry.removeprefix(BEGUN)[:19]
         elif entry.startswith(DECK_READ):
             self.decks.add(entry)
+        elif entry.startswith(STATE):
+            self.note_state(entry)
         elif entry.startswith(PRINTED):
             self.printed.add(entry.removeprefix(PRINTED).decode().rstrip("\n"))
+
+    def note_state(self, entry: bytes) -> None:
+        name, _, digits = entry.removeprefix(STATE).decode(errors="replace").strip().partition(" ")
+        mark = StateMark(name, digits, self.bytes, self.lines, self.until, self.weight)
+        self.states.append(mark)
+        self.is_past_state = False
 
     def begin(self, base: Any) -> Any:
         """Begins it on this base, or goes on if it has the same. What it says about that is for the operator."""
@@ -300,10 +328,13 @@ class Recording:
         """The folder to which it goes when the session ends."""
         return f"{self.path}.{self.name()}"
 
-    def entries(self) -> Iterator:
-        """What was done until now: each entry with the number of its line, and the time of the stamp that follows it."""
+    def entries(self, state: StateMark | None = None) -> Iterator:
+        """What was done until now, or since a state: each entry with the number of its line, and the time of the stamp that follows it."""
         number, waiting, when = 1, [], self.begun.removeprefix(BEGUN)[:19]
+        if state:
+            number, when = state.lines + 1, state.until
         with open(self.path, "rb") as file:
+            file.seek(state.place if state else 0)
             for entry in entries_of(file):
                 stamp = stamp_in(entry)
                 if stamp:
@@ -324,12 +355,14 @@ class Recording:
         """Adds lines that were done; they need not be on the disk yet."""
         self.put(self.turns_line() + part, is_stamped=True)
         self.written = time.monotonic()
+        self.is_past_state = True
 
     def add_turns(self, turns: int) -> None:
         """Adds turns that were done; those that follow each other are one line, which is written each second."""
         if self.turns + turns > MOST_TURNS:
             self.put(self.turns_line())
         self.turns += turns
+        self.is_past_state = True
         now = time.monotonic()
         if now - self.written >= 1:
             self.put(self.turns_line(), is_stamped=now - self.stamped >= SECONDS_TO_STAMP_TURNS)
@@ -365,6 +398,14 @@ class Recording:
         self.put(self.turns_line() + line + b"\n", is_stamped=True)
         self.settle()
         self.last = line + b"\n"
+
+    def mark_state(self, name: str, digits: str) -> None:
+        """Says that the state of all before is saved."""
+        line = STATE + f"{name} {digits}\n".encode()
+        self.put(self.turns_line() + line)
+        self.note_state(line)
+        self.put(b"", is_stamped=True)
+        self.settle()
 
     def close(self) -> None:
         self.file.close()

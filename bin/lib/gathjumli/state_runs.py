@@ -123,7 +123,9 @@ def run(program: Program, script: bytes, state: StateFile | None) -> dict[str, A
 def command(words: list[str]) -> None:
     path, *words = words
     found, (directory, script, *volumes) = read_arguments(words, OPTIONS, 2, 1000)
-    sizes = [word for option in SIZE_OPTIONS for value in found[option] for word in (option, str(value))]
+    sizes = [
+        word for option in SIZE_OPTIONS for value in found[option] for word in (option, str(value))
+    ]
     machines = of_directory(directory, sizes, volumes)
     machines.path = path
     given, to = last(found["--state"], None), last(found["--save-state"], None)

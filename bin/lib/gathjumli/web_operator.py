@@ -160,7 +160,7 @@ class OperatorPages:
             "strangers": count_strangers(installation.desk), "parts": engine.parts, "busy": engine.pace.is_busy,
             "command": memory_of(os.getpid()) // MEGABYTE, "program": engine.memory() // MEGABYTE,
             "most": installation.limits.memory // MEGABYTE, "lines": recording.lines, "size": recording.size(), "begun": recording.begun_at(),
-            "start": round(engine.seconds(), 1), "free": recording.free() // MEGABYTE, "printouts": len(engine.printouts.all),
+            "start": round(engine.seconds_to_start(), 1), "free": recording.free() // MEGABYTE, "printouts": len(engine.printouts.all),
             "unwritten": len(engine.printouts.unwritten()), "ending": self.operator.ending[:1],
         }  # fmt: skip
 

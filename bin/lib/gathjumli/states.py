@@ -1,0 +1,170 @@
+"""The states that an installation saves of its machines, so that a start computes only what came after the last one."""
+from __future__ import annotations
+
+from collections.abc import Iterator
+from typing import Any, NamedTuple
+import glob
+import time
+
+from gathjumli.cli import Failure
+from gathjumli.following import Died, Program
+from gathjumli.recording import StateMark
+from gathjumli.spooling import Printout, TOLD, WRITTEN
+from gathjumli.state_files import (
+    MOST_BYTES,
+    StateFile,
+    TITLE,
+    read_state,
+    remove_state,
+    write_state,
+)
+
+# the last one, and the one before where the last cannot be read
+KEPT = 2
+SECONDS_TO_TRY_AGAIN = 1
+
+
+class LastState(NamedTuple):
+    """What is reported of the last state: its bytes, and how long everybody waited while it was saved."""
+
+    size: int
+    waited: float
+
+
+class States:
+    """Saves states next to the recording, which has a mark for each, and finds those from which a start can go on."""
+
+    def __init__(self, recording: Any, printouts: Any, every: int, notify: Any) -> None:
+        self.recording = recording
+        self.printouts = printouts
+        self.every = every
+        self.notify = notify
+        self.is_off = not every
+        # the engine's seconds at the last state, and when the next one is due
+        self.at = 0.0
+        self.due = float("inf")
+        # how many of these seconds the reading of a state takes, as far as that is known
+        self.reading = 0.0
+        self.last = None
+        self.trouble = ""
+
+    # --- saving ---
+
+    def goes_on(self, seconds: float, reading: float, state: StateFile | None) -> None:
+        """The program is where a state was, or at the beginning, after so many seconds."""
+        self.at, self.due = seconds, seconds + self.every
+        if state:
+            self.reading, self.last = reading, LastState(state.size, 0.0)
+
+    def is_due(self, seconds: float) -> bool:
+        return not self.is_off and seconds >= self.due
+
+    def can_save(self, seconds: float) -> bool:
+        """Whether a state would have all. The recording says what is printed, and a state does not: what waits is not printed yet."""
+        self.due = seconds + SECONDS_TO_TRY_AGAIN
+        return not self.is_off and self.recording.is_past_state and not self.printouts.unwritten()
+
+    def save(self, program: Program, notes: dict[str, Any]) -> None:
+        """Saves the state where the recording ends, which is on the disk before."""
+        begun = time.monotonic()
+        self.recording.settle()
+        try:
+            saved = program.save()
+        except Died:
+            self.stop("the program has died while it was saved")
+            raise
+        if saved is None or saved.size() > MOST_BYTES:
+            why = f"it has more than {MOST_BYTES} bytes" if saved else "the program refuses it"
+            self.stop(why)
+            return
+        try:
+            self.put(notes, saved)
+        except OSError as error:
+            self.report(error.strerror)
+            return
+        self.trouble = ""
+        self.last = LastState(saved.size(), time.monotonic() - begun)
+
+    def put(self, notes: dict[str, Any], saved: Any) -> None:
+        """Writes a state, and then the mark that says so; only two files are kept."""
+        name = f"state-{self.recording.lines}"
+        digits = write_state(self.path(name), self.base(), notes, saved)
+        self.recording.mark_state(name, digits)
+        self.forget_before(KEPT)
+
+    def saved(self, seconds: float) -> None:
+        """The program has taken so many seconds until a state was saved."""
+        self.at, self.due = seconds, seconds + self.every
+
+    def stop(self, why: str) -> None:
+        self.is_off = True
+        self.report(f"{why}; no further one is tried until the next start")
+
+    def report(self, why: str) -> None:
+        """Says once why no state is saved."""
+        if why != self.trouble:
+            self.notify(f"no state is saved: {why}")
+        self.trouble = why
+
+    # --- files ---
+
+    def base(self) -> list[bytes]:
+        """What states of this session are of: the program, the directory and the sizes, as the recording has them."""
+        return [TITLE, *self.recording.base[1:4]]
+
+    def path(self, name: str) -> str:
+        return f"{self.recording.path}.{name}"
+
+    def forget_before(self, count: int) -> None:
+        """Removes all files but those of so many last marks."""
+        kept = {self.path(mark.name) for mark in self.recording.states[-count:]} if count else set()
+        for path in glob.glob(glob.escape(self.path("state-")) + "*"):
+            if path not in kept:
+                remove_state(path)
+
+    # --- going on ---
+
+    def found(self) -> Iterator[tuple[StateMark, StateFile]]:
+        """The states from which the program can go on, the last one first."""
+        for mark in reversed(self.recording.states[-KEPT:]):
+            try:
+                state = read_state(self.path(mark.name))
+                if (state.sum, state.base) != (mark.sum, self.base()):
+                    raise Failure(0, f"{state.path} is another one than the recording says")
+            except Failure as failure:
+                self.notify(failure.lines[0])
+            except OSError as error:
+                self.notify(f"{error.filename}: {error.strerror}")
+            else:
+                if self.has_printed(state):
+                    yield mark, state
+
+    def has_printed(self, state: StateFile) -> bool:
+        """Whether all that was closed before a state is written, if it is to be."""
+        names = {Printout(heading, b"").name for heading, _ in state.notes["printouts"]}
+        return not self.printouts.folder or names <= self.printouts.noted
+
+
+def notes_of(users: dict[str, Any], printouts: Any) -> dict[str, Any]:
+    """What is noted with a state: who is on and whose machine runs, what users who appear back are shown, and what was closed."""
+    people = users.values()
+    return {
+        "on": [user.name for user in people if user.is_on],
+        "running": [user.name for user in people if user.is_running],
+        "lines": {user.name: list(user.lines) for user in people},
+        "written": {user.name: user.written for user in people},
+        "printouts": [(printout.heading, printout.lines) for printout in printouts.all],
+    }
+
+
+def take_notes(notes: dict[str, Any], users: dict[str, Any], printouts: Any) -> None:
+    """Has users and printouts be as was noted with a state."""
+    for user in users.values():
+        user.is_on = user.name in notes["on"]
+        user.is_running = user.name in notes["running"]
+        user.written = notes["written"].get(user.name, 0)
+        user.lines.extend((minute, text) for minute, text in notes["lines"].get(user.name, []))
+    for heading, lines in notes["printouts"]:
+        printout = Printout(heading, b"")
+        printout.lines, printout.state = lines, WRITTEN if printouts.folder else TOLD
+        printouts.all.append(printout)
