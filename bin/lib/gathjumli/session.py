@@ -3,8 +3,10 @@ the script from its beginning each time."""
 from __future__ import annotations
 
 from typing import Any
+from gathjumli.cli import Failure, REFUSED
 from gathjumli.following import Follower, NotFollowed
 from gathjumli.machines import ScriptRefused, headings_of, parts
+from gathjumli.state_files import NOBODY, StateFile, after, restore, save_state, state_of
 
 
 class Replaying:
@@ -30,6 +32,17 @@ class Replaying:
         """The last part was kept as these lines, which now end the script; whether only few of its turns were, since somebody does
         not wait."""
 
+    def replayed(self, script: bytes) -> tuple[list, list]:
+        """The lines of the transcript of a script, and the headings of the files that it closes."""
+        events, files = parts(self.machines.run(script))
+        return events, headings_of(files)
+
+    def begin_from(self, state: StateFile) -> None:
+        raise Failure(REFUSED, "the program goes on from no state")
+
+    def program_at(self, script: bytes) -> Follower:
+        raise Failure(REFUSED, "the program saves no state")
+
     def close(self) -> None:
         pass
 
@@ -40,15 +53,51 @@ class Following:
 
     def __init__(self, machines: Any) -> None:
         self.machines = machines
+        # where scripts begin, if not at the beginning
+        self.state = None
         self.follower = self.begun(b"")
         self.spare = None
         self.states = ()
 
     def begun(self, script: Any) -> Any:
         follower = Follower(self.machines)
-        if script:
-            follower.send(script)
+        try:
+            if self.state:
+                restore(follower, self.state)
+            if script:
+                follower.send(script)
+        except BaseException:
+            follower.close()
+            raise
         return follower
+
+    def begin_from(self, state: StateFile) -> None:
+        """Has scripts begin where a state was. If it is refused, nothing has happened."""
+        before, self.state = self.state, state
+        try:
+            follower = self.begun(b"")
+        except BaseException:
+            self.state = before
+            raise
+        self.close()
+        self.follower = follower
+
+    def program_at(self, script: bytes) -> Follower:
+        """The program where this script has led it."""
+        self.stand_at(script)
+        return self.follower
+
+    def replayed(self, script: bytes) -> tuple[list, list]:
+        """What another program makes of a script."""
+        if not self.state:
+            events, files = parts(self.machines.run(script))
+            return events, headings_of(files)
+        other = self.begun(b"")
+        try:
+            came = other.do(script)
+            return came.events, came.headings()
+        finally:
+            other.close()
 
     def go_on(self, session: Any, part: bytes) -> tuple:
         try:
@@ -97,22 +146,16 @@ def find_way(machines: Any) -> Any:
         return Replaying(machines)
 
 
-def after(running: Any, states: Any) -> set:
-    """Whose machines run after these changes."""
-    changed = {name: word == "RUNS" for word, name in states}
-    return {name for name in running | set(changed) if changed.get(name, True)}
-
-
 class Session:
-    """The entries of a session, each the lines of a script that it added, how many lines and headings were there before it, and whose
-    machines ran then; and the transcript as it is."""
+    """The entries of a session, each the lines of a script that it added, how many lines and headings were there before it, and who was
+    on and whose machines ran then; and the transcript as it is."""
 
     def __init__(self, machines: Any, user: Any, turns: Any) -> None:
         self.machines = machines
         self.user = user
         self.turns = turns
         self.entries = []
-        self.running = set()
+        self.people = NOBODY
         self.events, files = parts(machines.run(b""))
         self.headings = headings_of(files)
         self.way = find_way(machines)
@@ -140,8 +183,8 @@ class Session:
         # turns in which nothing happens are not kept
         if turns - idle:
             added += b"AUTO %d\n" % (turns - idle)
-        self.entries.append((added, len(self.events), len(self.headings), self.running))
-        self.running = after(self.running, self.way.states)
+        self.entries.append((added, len(self.events), len(self.headings), self.people))
+        self.people = after(self.people, self.way.states)
         self.events += new
         self.headings += closed
         self.way.settle(self.script(), added, is_busy)
@@ -158,15 +201,26 @@ class Session:
 
     def was_running(self) -> bool:
         """Whether the user's machine ran before the last entry."""
-        return self.user in self.entries[-1][3]
+        return self.user in self.entries[-1][3]["running"]
 
     def undo(self) -> Any:
         """Takes back the last entry, and gives its lines."""
-        added, events, headings, self.running = self.entries.pop()
+        added, events, headings, self.people = self.entries.pop()
         del self.events[events:], self.headings[headings:]
         return added
 
     def replays(self) -> bool:
         """Whether the script as it is leads to what was shown."""
-        events, files = parts(self.machines.run(self.script()))
-        return (events, headings_of(files)) == (self.events, self.headings)
+        return self.way.replayed(self.script()) == (self.events, self.headings)
+
+    def save_state(self, path: str) -> None:
+        """Saves the state where the session is."""
+        program = self.way.program_at(self.script())
+        save_state(program, path, self.machines, self.people)
+
+    def begin_from(self, path: str) -> None:
+        """Begins anew where a state was saved. If that is refused, nothing has happened."""
+        state = state_of(path, self.machines)
+        self.way.begin_from(state)
+        self.entries, self.events, self.headings = [], [], []
+        self.people = {word: state.notes[word] for word in NOBODY}

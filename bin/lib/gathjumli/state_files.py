@@ -8,8 +8,8 @@ import hashlib
 import json
 import os
 
-from gathjumli.cli import Failure, REFUSED
-from gathjumli.following import SavedState
+from gathjumli.cli import FILE_FAILED, Failure, REFUSED
+from gathjumli.following import Program, SavedState, StateRefused
 from gathjumli.recording import Base, SUM_DIGITS, differing, sync_folder
 
 TITLE = b"* GATHJUMLI STATE 1"
@@ -20,6 +20,10 @@ SUM = b"* SUM "
 MOST_BYTES = 999_999_999
 USUAL_SIZES = {"--frames": "64", "--slots": "256"}
 CHUNK = 1 << 20
+# who is on, and whose machine runs
+NOBODY = {"on": [], "running": []}
+NO_STATE = "a machine of its own has no state"
+OTHER_VOLUMES = "the state is of other volumes, or not as the program writes it"
 
 
 class StateFile(NamedTuple):
@@ -44,6 +48,8 @@ class StateFile(NamedTuple):
 
 def base_of(machines: Any) -> list[bytes]:
     """What a state of these machines is of: the program, the directory and the sizes."""
+    if machines.name == "bare370":
+        raise Failure(REFUSED, NO_STATE)
     *words, directory = machines.before
     sizes = USUAL_SIZES | dict(zip(words[::2], words[1::2]))
     return [TITLE, *Base(machines.made_of(), " ".join(sizes.values()), directory, []).lines()[1:]]
@@ -115,3 +121,40 @@ def state_of(path: str, machines: Any) -> StateFile:
     if differs := differing(found.base, base_of(machines)):
         raise Failure(REFUSED, f"{path}: {differs}")
     return found
+
+
+# --- programs ---
+
+
+def restore(program: Program, state: StateFile) -> None:
+    """Has a program go on from a state."""
+    try:
+        program.restore(state.size, state.pieces())
+    except StateRefused as refused:
+        raise StateRefused(refused.status, *refused.lines, OTHER_VOLUMES) from None
+
+
+def save_state(program: Program, path: str, machines: Any, notes: dict[str, Any]) -> None:
+    """Writes the state of a program into a file."""
+    base, saved = base_of(machines), program.save()
+    if saved is None:
+        raise Failure(REFUSED, NO_STATE)
+    if saved.size() > MOST_BYTES:
+        raise Failure(
+            FILE_FAILED, f"the state has {saved.size()} bytes, and at most {MOST_BYTES} can be read"
+        )
+    write_state(path, base, notes, saved)
+
+
+def after(noted: dict[str, Any], changes: list[tuple[str, str]]) -> dict[str, Any]:
+    """Who is on and whose machine runs after these changes."""
+    found = {word: dict.fromkeys(noted[word]) for word in NOBODY}
+    words = {"ON": ("on", True), "OFF": ("on", False)} | {
+        "RUNS": ("running", True),
+        "STOPS": ("running", False),
+    }
+    for change, name in changes:
+        word, holds = words[change]
+        found[word].pop(name, None)
+        found[word] |= {name: None} if holds else {}
+    return {word: sorted(names) for word, names in found.items()}

@@ -6,14 +6,12 @@ import os
 import sys
 
 from gathjumli import cli
-from gathjumli.cli import FILE_FAILED, Failure, REFUSED, last, read_arguments, read_file
-from gathjumli.following import Answers, CHUNK, Program, StateRefused
+from gathjumli.cli import Failure, REFUSED, last, read_arguments, read_file
+from gathjumli.following import Answers, CHUNK, Program
 from gathjumli.machines import SIZE_OPTIONS, ScriptRefused, of_directory
-from gathjumli.state_files import MOST_BYTES, StateFile, base_of, state_of, write_state
+from gathjumli.state_files import NOBODY, StateFile, after, restore, save_state, state_of
 
 OPTIONS = {"--save": None, "--state": str, "--save-state": str} | SIZE_OPTIONS
-NOBODY = {"on": [], "running": []}
-OTHER_VOLUMES = "the state is of other volumes, or not as the program writes it"
 
 
 class Output:
@@ -75,40 +73,6 @@ class Script(Program):
             raise self.output.failure
 
 
-def restore(program: Program, state: StateFile) -> None:
-    """Has a program go on from a state."""
-    try:
-        program.restore(state.size, state.pieces())
-    except StateRefused as refused:
-        raise StateRefused(refused.status, *refused.lines, OTHER_VOLUMES) from None
-
-
-def after(noted: dict[str, Any], changes: list[tuple[str, str]]) -> dict[str, Any]:
-    """Who is on and whose machine runs after these changes."""
-    found = {word: dict.fromkeys(noted[word]) for word in NOBODY}
-    words = {"ON": ("on", True), "OFF": ("on", False)} | {
-        "RUNS": ("running", True),
-        "STOPS": ("running", False),
-    }
-    for change, name in changes:
-        word, holds = words[change]
-        found[word].pop(name, None)
-        found[word] |= {name: None} if holds else {}
-    return {word: sorted(names) for word, names in found.items()}
-
-
-def save_state(program: Program, path: str, base: list[bytes], notes: dict[str, Any]) -> None:
-    """Writes the state of a program into a file."""
-    saved = program.save()
-    if saved is None:
-        raise Failure(REFUSED, "a machine of its own has no state")
-    if saved.size() > MOST_BYTES:
-        raise Failure(
-            FILE_FAILED, f"the state has {saved.size()} bytes, and at most {MOST_BYTES} can be read"
-        )
-    write_state(path, base, notes, saved)
-
-
 def run(program: Program, script: bytes, state: StateFile | None) -> dict[str, Any]:
     """Does a script, from a state if there is one; who is on and whose machine runs then."""
     if state:
@@ -136,7 +100,7 @@ def command(words: list[str]) -> None:
     try:
         notes = run(program, lines, state)
         if to:
-            save_state(program, to, base_of(machines), notes)
+            save_state(program, to, machines, notes)
         program.finish()
     finally:
         program.close()
