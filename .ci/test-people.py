@@ -32,6 +32,7 @@ import desk
 import installation
 import installation_faults
 import installation_operators
+import installation_states
 import page_tables
 import watching
 
@@ -940,6 +941,9 @@ def test_installation(repository: str, work: str) -> None:
     installation_operators.try_operating(
         check, f"{repository}/bin/installation", f"{work}/operators"
     )
+    installation_states.try_states(
+        check, f"{repository}/bin/installation", program, f"{work}/states"
+    )
     del os.environ["PEOPLE_STAND_IN"]
 
 
@@ -1274,6 +1278,7 @@ def try_over_programs(repository: str, folder: str) -> None:
     installation_operators.try_commands(
         check, installation.make_site(command, f"{folder}/commands")
     )
+    installation_states.try_over_program(check, command, program, f"{folder}/states")
 
 
 def main() -> None:

@@ -57,20 +57,31 @@ def base_of(machines: Any) -> list[bytes]:
 
 def write_state(path: str, base: list[bytes], notes: dict[str, Any], saved: SavedState) -> str:
     """Writes a state file that is there whole or not at all, also after the host has crashed; its sum."""
-    known = hashlib.sha256()
     head = [*base, NOTES + json.dumps(notes).encode(), BYTES + b"%d" % saved.size()]
     path, written = os.path.realpath(path), f"{os.path.realpath(path)}.new"
+    try:
+        digits = write_summed(written, [b"".join(line + b"\n" for line in head), *saved.pieces])
+        os.replace(written, path)
+    except OSError:
+        with contextlib.suppress(OSError):
+            os.unlink(written)
+        raise
+    sync_folder(path)
+    return digits
+
+
+def write_summed(path: str, pieces: list[bytes]) -> str:
+    """Writes bytes and their sum, which is returned, onto the disk."""
+    known = hashlib.sha256()
     # it has the storages of guests, and is for its owner alone
-    with open(written, "wb", opener=lambda name, flags: os.open(name, flags, 0o600)) as file:
-        for piece in (b"".join(line + b"\n" for line in head), *saved.pieces):
+    with open(path, "wb", opener=lambda name, flags: os.open(name, flags, 0o600)) as file:
+        for piece in pieces:
             known.update(piece)
             file.write(piece)
         digits = known.hexdigest()[:SUM_DIGITS]
         file.write(b"\n" + SUM + digits.encode() + b"\n")
         file.flush()
         os.fsync(file.fileno())
-    os.replace(written, path)
-    sync_folder(path)
     return digits
 
 

@@ -1,0 +1,349 @@
+#!/usr/bin/env python3
+"""States of an installation: what a start takes and refuses, and kills between the steps of saving. Called by .ci/test-people.py.
+installation_states.py --killed STEP COMMAND WORD.. runs a command that dies at a step."""
+from __future__ import annotations
+
+from collections.abc import Callable
+import asyncio
+import errno
+import itertools
+import os
+import re
+import runpy
+import signal
+import sys
+
+from installation import (
+    Site,
+    make_site,
+    names_in,
+    on,
+    read,
+    replayed,
+    run,
+    until_so,
+    without_sums,
+    write,
+    write_text,
+)
+
+Check = Callable[..., None]
+
+# what comes after each step of saving
+STEPS = {
+    "the file is written": "fsync",
+    "the file is on the disk": "replace",
+    "the file has its name": "sync_folder",
+    "the name is on the disk": "mark_state",
+    "the mark is written": "marked",
+}
+# of people who appear back
+NUMBERS = itertools.count(100)
+# what the stand-in refuses
+WRONG = b"no state"
+
+
+# --- a command that dies at a step ---
+
+
+class Instead:
+    """A module with one function that is another."""
+
+    def __init__(self, module: object, name: str, function: Callable) -> None:
+        self.module = module
+        setattr(self, name, function)
+
+    def __getattr__(self, name: str) -> object:
+        return getattr(self.module, name)
+
+
+def die(*_: object) -> None:
+    os.kill(os.getpid(), signal.SIGKILL)
+
+
+def fail(*_: object) -> None:
+    raise OSError(errno.ENOSPC, os.strerror(errno.ENOSPC))
+
+
+def die_before(name: str) -> None:
+    """Has the command die where it calls a function of this name to save a state."""
+    from gathjumli import recording, state_files, states
+
+    if name in ("fsync", "replace"):
+        state_files.os = Instead(os, name, die)
+    elif name == "mark_state":
+        recording.Recording.mark_state = die
+    elif name == "sync_folder":
+        state_files.sync_folder = die
+    elif name == "marked":
+        mark = recording.Recording.mark_state
+        recording.Recording.mark_state = lambda *given: (mark(*given), die())
+    elif name == "full":
+        state_files.os = Instead(os, "fsync", fail)
+    elif name == "bound":
+        states.MOST_BYTES = 10
+
+
+def run_killed(step: str, command: str, *words: str) -> None:
+    sys.path.insert(0, f"{os.path.dirname(command)}/lib")
+    if step:
+        die_before(step)
+    sys.argv = [command, *words]
+    runpy.run_path(command, run_name="__main__")
+
+
+def killed_site(command: str, folder: str, *words: str) -> Site:
+    """An installation that dies at the step which the environment names."""
+    site = make_site(f"{folder}/installation", folder, *words)
+    own = os.path.realpath(__file__)
+    text = (
+        f'#!/bin/sh\nexec "{sys.executable}" -B "{own}" --killed "$PEOPLE_STEP" "{command}" "$@"\n'
+    )
+    write_text(site.command, text)
+    os.chmod(site.command, 0o755)
+    os.environ["PEOPLE_STEP"] = ""
+    return site
+
+
+# --- what people do ---
+
+
+async def stored(site: Site, value: int) -> None:
+    """Somebody stores a value, and goes."""
+    alice = await on(site)
+    alice.type(f"STORE G1 {value:08X}", "DISPLAY G1")
+    await alice.until(f"GPR 1 = {value:08X}")
+    alice.go()
+
+
+async def shown(site: Site) -> list[str]:
+    """What somebody who appears back sees, and what the register has."""
+    alice = await on(site)
+    # no line from before looks like it
+    last = next(NUMBERS)
+    alice.type("DISPLAY G1", f"STORE G2 {last:08X}", "DISPLAY G2")
+    await alice.until(f"GPR 2 = {last:08X}")
+    alice.go()
+    return alice.lines
+
+
+def value_in(lines: list[str]) -> int:
+    return int([line for line in lines if line.startswith("GPR 1 = ")][-1].split()[-1], 16)
+
+
+def state_names(site: Site) -> list[str]:
+    return [name for name in names_in(site.folder) if name.startswith("recording.state-")]
+
+
+def last_state(site: Site) -> str:
+    """The path of the state that the recording names last."""
+    name = re.findall(rb"^\* STATE (\S+)", read(site.record), re.M)[-1].decode()
+    return f"{site.record}.{name}"
+
+
+def begun_with(site: Site) -> str:
+    """The state with which the last start began, or nothing."""
+    found = re.search(r"begins with (\S+)", site.since_start())
+    return found[1] if found else ""
+
+
+# --- tests ---
+
+
+def try_going_on(check: Check, site: Site, program: str) -> None:
+    """A suspension saves a state, from which the next start goes on; nothing of what was shown or stored is lost."""
+    site.online()
+    run(stored(site, 1))
+    check("it is suspended", site.stop() == 0 and len(state_names(site)) == 1, *site.findings)
+    path = last_state(site)
+    check("a state is for its owner alone", os.stat(path).st_mode & 0o777 == 0o600)
+    site.online()
+    lines = run(shown(site))
+    check("a start goes on from the state", begun_with(site) == path, *site.findings)
+    holds = value_in(lines) == 1 and "STORE G1 00000001" in lines and "STORED" in lines
+    check("and who appears back sees his lines", holds and "RECONNECTED" in lines, *lines)
+    site.operate("status")
+    check("status tells of it", site.await_message("the last state has"), *site.findings)
+    os.kill(site.program(), signal.SIGKILL)
+    check("a program that dies goes on from it", value_in(run(shown(site))) == 1, *site.findings)
+    site.kill(is_all=True)
+    site.online()
+    check("also after a kill", value_in(run(shown(site))) == 1 and begun_with(site) == path)
+    for value in (2, 3):
+        run(stored(site, value))
+        check("it is suspended again", site.stop() == 0, *site.findings)
+        site.online()
+    check("two states are kept", len(state_names(site)) == 2, *state_names(site))
+    check("it ends", site.stop() == 0)
+    done, seen = replayed(program, site.paths[0], site.record)
+    check("the recording is a script as before", done.returncode == 0, done.stderr)
+    values = [line for line in seen["ALICE"] if line.startswith("GPR 1 = ")]
+    check(
+        "which shows the same", values == [f"GPR 1 = {n:08X}" for n in (1, 1, 1, 1, 2, 3)], *values
+    )
+
+
+def try_seconds(check: Check, site: Site) -> None:
+    """While a guest computes states are saved, and none without the option."""
+    for words, is_saved in ((["--state-every", "0"], False), (["--state-every", "1"], True)):
+        site.online(*words)
+
+        async def computes() -> None:
+            alice = await on(site)
+            alice.type("STORE G1 00000000", "STORE 100 4111000147F00100", "BEGIN 100")
+            if is_saved:
+                await until_so(lambda: state_names(site))
+            else:
+                await asyncio.sleep(3)
+            alice.type("#CP")
+            alice.go()
+
+        run(computes())
+        check(f"with {words} states are saved: {is_saved}", bool(state_names(site)) == is_saved)
+        if is_saved:
+            site.kill(is_all=True)
+            site.online()
+            check("a start goes on from one", begun_with(site) != "", *site.findings)
+        check("it is suspended", site.stop() == 0, *site.findings)
+        check("a suspension without them saves none", bool(state_names(site)) == is_saved)
+
+
+def try_steps(check: Check, site: Site) -> None:
+    """A kill between each two steps of saving loses nothing, and leaves no file that nobody removes."""
+    site.online()
+    run(stored(site, 1))
+    check("it is suspended", site.stop() == 0, *site.findings)
+    before = last_state(site)
+    for value, (what, step) in enumerate(STEPS.items(), 2):
+        os.environ["PEOPLE_STEP"] = step
+        site.online()
+        run(stored(site, value))
+        check(f"it is killed when {what}", site.stop() == -signal.SIGKILL, *site.findings)
+        os.environ["PEOPLE_STEP"] = ""
+        is_marked = last_state(site) != before
+        check(f"when {what} there is a mark: {is_marked}", is_marked == (step == "marked"))
+        site.online()
+        check(f"a start goes on when {what}", begun_with(site) == last_state(site), *site.findings)
+        check(f"nothing is lost when {what}", value_in(run(shown(site))) == value, *site.findings)
+        check("it is suspended", site.stop() == 0, *site.findings)
+        before = last_state(site)
+        names = state_names(site)
+        is_clean = len(names) == 2 and not any(name.endswith(".new") for name in names)
+        check(f"two states are kept when {what}", is_clean, *names)
+
+
+def spoil(path: str) -> None:
+    data = bytearray(read(path))
+    data[-60] ^= 1
+    write(path, bytes(data))
+
+
+def put_wrong_state(site: Site) -> None:
+    """Has the last state be one that the program refuses, with all sums right."""
+    from gathjumli.following import SavedState
+    from gathjumli.state_files import read_state, write_state
+
+    known = read_state(last_state(site))
+    digits = write_state(known.path, known.base, known.notes, SavedState([WRONG]))
+    text = read(site.record).replace(known.sum.encode(), digits.encode())
+    write(site.record, without_sums(text))
+
+
+def try_wrong_states(check: Check, site: Site) -> None:
+    """A state that is not as it was written, or that the program refuses, is reported, and the one before is taken, or none."""
+    for value in (1, 2):
+        site.online()
+        run(stored(site, value))
+        check("it is suspended", site.stop() == 0, *site.findings)
+    one, other = sorted(
+        (f"{site.folder}/{name}" for name in state_names(site)), key=os.path.getmtime
+    )
+    kept = read(one), read(other), read(site.record)
+
+    def begins(what: str, *findings: str, path: str) -> None:
+        site.online()
+        holds = all(text in site.since_start() for text in findings) and begun_with(site) == path
+        check(what, holds, *site.findings)
+        check(f"{what}: nothing is lost", value_in(run(shown(site))) == 2, *site.findings)
+        site.kill(is_all=True)
+        for name, data in zip((one, other, site.record), kept):
+            write(name, data)
+
+    spoil(other)
+    begins("a state that was changed", f"{other} is not as it was written", path=one)
+    spoil(one)
+    spoil(other)
+    begins("two that were changed", "is not as it was written", path="")
+    os.unlink(other)
+    begins("one that is gone", f"{other}: No such file", path=one)
+    write(other, read(one))
+    begins("another one", "is another one than the recording says", path=one)
+    write(other, read(other)[:100])
+    begins("one that is cut", f"{other} is not as it was written", path=one)
+    put_wrong_state(site)
+    begins("one that the program refuses", f"{other} is not taken", "state Refused", path=one)
+
+
+def try_no_state(check: Check, site: Site) -> None:
+    """Where no state can be saved that is reported once, and the installation goes on."""
+    for step, reported in (
+        ("bound", "it has more than 10 bytes"),
+        ("full", "No space left on device"),
+    ):
+        os.environ["PEOPLE_STEP"] = step
+        site.online()
+        run(stored(site, 1))
+        holds = site.stop() == 0 and site.since_start().count("no state is saved: " + reported) == 1
+        check(f"a state that cannot be saved: {reported}", holds, *site.findings)
+        check("leaves nothing", not state_names(site), *state_names(site))
+    os.environ["PEOPLE_STEP"] = ""
+
+
+def try_printouts(check: Check, site: Site) -> None:
+    """A printout that is not written yet keeps a state from being saved, and is written by the next start."""
+    prints = f"{site.folder}/prints"
+    os.makedirs(prints)
+
+    async def prints_one() -> None:
+        alice = await on(site)
+        alice.type("PRINT HELLO", "DISPLAY G1")
+        await alice.until("GPR 1 = 00000000")
+        alice.go()
+
+    site.online("--printouts", prints)
+    write_text(f"{prints}/{site.session()}", "in the way\n")
+    run(prints_one())
+    check("it waits", site.await_message("cannot be written"), *site.findings)
+    check("no state is saved meanwhile", site.stop() == 0 and not state_names(site))
+    os.unlink(f"{prints}/{site.session()}")
+    site.online("--printouts", prints)
+    name = f"{prints}/{site.session()}/PRT0001-ALICE.txt"
+    check("then it is written", site.await_message(f"closed: {name}"), *site.findings)
+    check("and a state is saved", site.stop() == 0 and bool(state_names(site)), *site.findings)
+    site.online("--printouts", prints)
+    site.operate("spool")
+    holds = site.await_message("PRT0001-ALICE.txt 1 lines, written") and begun_with(site)
+    check("of which the spool has it", holds, *site.findings)
+    check("it is suspended", site.stop() == 0)
+
+
+def try_states(check: Check, command: str, program: str, folder: str) -> None:
+    """All that is tried in seconds, over a stand-in for the program."""
+    try_going_on(check, make_site(command, f"{folder}/going on"), program)
+    try_seconds(check, make_site(command, f"{folder}/seconds"))
+    try_wrong_states(check, make_site(command, f"{folder}/wrong"))
+    try_printouts(check, make_site(command, f"{folder}/printouts"))
+    try_no_state(check, killed_site(command, f"{folder}/none"))
+    try_steps(check, killed_site(command, f"{folder}/steps"))
+
+
+def try_over_program(check: Check, command: str, program: str, folder: str) -> None:
+    """What of these needs no stand-in."""
+    try_going_on(check, make_site(command, f"{folder}/going on"), program)
+    try_seconds(check, make_site(command, f"{folder}/seconds"))
+    try_wrong_states(check, make_site(command, f"{folder}/wrong"))
+    try_steps(check, killed_site(command, f"{folder}/steps"))
+
+
+if __name__ == "__main__" and sys.argv[1:2] == ["--killed"]:
+    run_killed(*sys.argv[2:])
