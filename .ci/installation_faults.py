@@ -254,6 +254,10 @@ ANSWERS = b"""A: STORED
 > IDLE
 > DONE
 > REFUSED 3
+> STATE 17
+AB
+> DONE
+> STATE> DONE
 A: LAST
 > == PRT 0003 A
 > |01
@@ -263,12 +267,13 @@ A: LAST
 
 def try_answers(check: Callable) -> None:
     """What a program answers is understood wherever it is cut."""
-    from gathjumli.following import Answers, PartResult, Refused
+    from gathjumli.following import Answers, PartResult, Refused, SavedState
 
     wanted = [
         PartResult(["A: STORED", "= A 12 WAIT"], [("== PRT 0001 A", b"> |09 HELLO\n> |09 > == PRT 0002 A\n"), ("== PUN 0002 B", b"")],
              [("ON", "A")], True),
         Refused(3),
+        b"AB\n> DONE\n> STATE",
         PartResult(["A: LAST"], [("== PRT 0003 A", b"> |01\n")], [], False),
     ]  # fmt: skip
     for size in (1, 2, 3, 7, 20, 50, len(ANSWERS)):
@@ -277,6 +282,11 @@ def try_answers(check: Callable) -> None:
             answer
             for at in range(0, len(ANSWERS), size)
             for answer in answers.feed(ANSWERS[at : at + size])
+        ]
+        # a state is in pieces as it arrived
+        found = [
+            b"".join(answer.pieces) if isinstance(answer, SavedState) else answer
+            for answer in found
         ]
         check(f"answers in pieces of {size} bytes", found == wanted, *map(str, found))
 

@@ -28,12 +28,14 @@ os.environ.pop("GATHJUMLI_UNPROVED", None)
 PEOPLE = f"{TOP}/.ci/people"
 RECORDING = f"{PEOPLE}/recording"
 sys.path[:0] = [f"{TOP}/bin/lib", f"{TOP}/.ci"]
+import broken
 import desk
 import installation
 import installation_faults
 import installation_operators
 import installation_states
 import page_tables
+import state_commands
 import watching
 
 if TYPE_CHECKING:
@@ -1281,6 +1283,14 @@ def try_over_programs(repository: str, folder: str) -> None:
     installation_states.try_over_program(check, command, program, f"{folder}/states")
 
 
+def try_states(repository: str, folder: str) -> None:
+    """Scripts that are broken off, states that are spoiled, and the commands for states."""
+    programs = [f"{TOP}/crates/{name}/out/{name}" for name in ("vm370_cli", "bare370_cli")]
+    state_commands.try_commands(check, repository, programs, folder)
+    broken.try_broken(check, programs[0], broken.EVERY, broken.SCRIPTS, 1)
+    broken.try_spoiled(check, programs[0], broken.STATES, 1)
+
+
 def main() -> None:
     if sys.argv[1:2] == ["--play"]:
         play(sys.argv[2], sys.argv[3:])
@@ -1298,6 +1308,7 @@ def main() -> None:
         repository = make_repository(folder.name, BUILT)
         installation.try_all(check, repository, f"{folder.name}/sites", is_stand_in=False)
         try_over_programs(repository, folder.name)
+        try_states(repository, f"{folder.name}/state commands")
         print(f"{passed} passed, {failed} failed")
         sys.exit(failed != 0)
     for test in [item for name, item in globals().items() if name.startswith("test_")]:

@@ -1,0 +1,177 @@
+"""Commands that save states and begin from them, over programs that were built. Called by .ci/test-people.py."""
+from __future__ import annotations
+
+from collections.abc import Callable
+import os
+import subprocess
+
+from broken import example, read, write
+
+Check = Callable[..., None]
+
+# examples of disks, pages and decks, and at which part each is broken off
+EXAMPLES = {"two-on-a-volume": 5, "more-pages-than-frames": 9, "decks-for-three": 4}
+# what is typed at a terminal, and what is shown at the end
+TYPED = """\
+LOGON
+STORE G1 0000000A
+:save-state {folder}/typed
+STORE G1 0000000B
+:undo
+DISPLAY G1
+:state {folder}/typed
+DISPLAY G1
+STORE G1 0000000C
+:save {folder}/saved
+:undo
+DISPLAY G1
+:undo
+:undo
+:undo
+:state {folder}/nothing
+:state
+:state {folder}/directory
+DISPLAY G1
+"""
+SHOWN = ["LOGON OK", "STORED", "(the state is in {folder}/typed)", "STORED", "(taken back: LINE A STORE G1 0000000B)",
+         "GPR 1 = 0000000A", "(on: A)", "GPR 1 = 0000000A", "STORED", "(2 lines)", "(taken back: LINE A STORE G1 0000000C)",
+         "GPR 1 = 0000000A", "(taken back: LINE A DISPLAY G1)", "(taken back: LINE A DISPLAY G1)", "? there is nothing to take back",
+         "? {folder}/nothing: No such file or directory", "? a file is to be named", "? {folder}/directory is no state file",
+         "GPR 1 = 0000000A"]  # fmt: skip
+
+
+def done(*words: str, given: str = "") -> subprocess.CompletedProcess:
+    return subprocess.run(words, input=given.encode(), capture_output=True)
+
+
+def findings_of(done: subprocess.CompletedProcess) -> tuple:
+    return f"status {done.returncode}", done.stdout.decode(), done.stderr.decode()
+
+
+def try_script(check: Check, command: str, folder: str, name: str, place: int) -> None:
+    """A script in two runs writes what it writes in one, and the same volumes."""
+    case = example(name)
+    os.makedirs(folder)
+    write(f"{folder}/directory", case.directory)
+    # a last line without an end is a line
+    write(f"{folder}/one", b"".join(case.parts[:place]).rstrip(b"\n"))
+    write(f"{folder}/two", b"".join(case.parts[place:]))
+    write(f"{folder}/whole", b"".join(case.parts))
+    volumes = [f"{folder}/volume-{number}" for number in range(len(case.images))]
+
+    def run(script: str, *words: str) -> subprocess.CompletedProcess:
+        for path, image in zip(volumes, case.images):
+            write(path, image)
+        return done(
+            command, *case.sizes, *words, f"{folder}/directory", f"{folder}/{script}", *volumes
+        )
+
+    whole, images = run("whole", "--save"), list(map(read, volumes))
+    first = run("one", "--save-state", f"{folder}/state")
+    second = run("two", "--save", "--state", f"{folder}/state", f"--save-state={folder}/state")
+    events = first.stdout[: first.stdout.find(b"== ")] if b"== " in first.stdout else first.stdout
+    holds = whole.returncode == first.returncode == second.returncode == 0
+    check(f"{name} in two runs", holds and events + second.stdout == whole.stdout == case.transcript,
+          *findings_of(first), *findings_of(second))  # fmt: skip
+    check(f"{name} in two runs: its volumes", list(map(read, volumes)) == images)
+
+
+def refuse_states(check: Check, command: str, folder: str) -> None:
+    """What is no state of these machines is refused, with a reason, and a script that is refused leaves none."""
+    os.makedirs(folder)
+    write(f"{folder}/directory", b"USER A PW 8K\n")
+    write(f"{folder}/other", b"USER B PW 8K\n")
+    write(f"{folder}/script", b"LINE A LOGON\n")
+    write(f"{folder}/wrong", b"LINE A DISPLAY G1\nBAD\n")
+    named = [f"{folder}/directory", f"{folder}/script"]
+    check(
+        "a state is saved", done(command, "--save-state", f"{folder}/state", *named).returncode == 0
+    )
+    state = read(f"{folder}/state")
+    write(f"{folder}/changed", state.replace(b'"A"', b'"B"'))
+    write(f"{folder}/cut", state[:-70])
+    write(f"{folder}/longer", state + b"\n")
+    cases = {
+        "of another directory": (1, "it is of another directory", [f"{folder}/other", named[1]], "state"),
+        "of other sizes": (1, "it is of other numbers of --frames and --slots", ["--frames", "99", *named], "state"),
+        "that was changed": (1, "changed is not as it was written", named, "changed"),
+        "that was cut": (1, "cut is not as it was written", named, "cut"),
+        "with more behind": (1, "longer is not as it was written", named, "longer"),
+        "that is none": (1, "script is no state file", named, "script"),
+        "that is not there": (3, "nothing is not there", named, "nothing"),
+        "with --follow": (2, "--state and --save-state are for scripts", ["--follow", named[0]], "state"),
+    }  # fmt: skip
+    for what, (status, text, words, name) in cases.items():
+        found = done(command, "--state", f"{folder}/{name}", *words)
+        holds = found.returncode == status and text in found.stderr.decode() and not found.stdout
+        check(f"a state {what}", holds, *findings_of(found))
+    found = done(
+        command,
+        "--state",
+        f"{folder}/state",
+        "--save-state",
+        f"{folder}/none",
+        named[0],
+        f"{folder}/wrong",
+    )
+    holds = (
+        found.returncode == 1
+        and b"fault: script Line 2\n" in found.stderr
+        and b"line 2 is: BAD" in found.stderr
+    )
+    check(
+        "a script that is refused",
+        holds and not os.path.exists(f"{folder}/none"),
+        *findings_of(found),
+    )
+
+
+def type_states(check: Check, repository: str, folder: str) -> None:
+    """A terminal saves states and begins from them, and what it saves as a script goes on from there."""
+    os.makedirs(folder)
+    write(f"{folder}/directory", b"USER A PW 8K\n")
+    found = done(
+        f"{repository}/bin/terminal", f"{folder}/directory", given=TYPED.format(folder=folder)
+    )
+    shown = [line.format(folder=folder) for line in SHOWN]
+    check("states at a terminal", found.stdout.decode().splitlines() == shown, *findings_of(found))
+    words = ["--state", f"{folder}/typed", f"{folder}/directory", f"{folder}/saved"]
+    found = done(f"{repository}/bin/vm370", *words)
+    check(
+        "a script from there",
+        found.stdout == b"A: GPR 1 = 0000000A\nA: STORED\n",
+        *findings_of(found),
+    )
+    found = done(
+        f"{repository}/bin/terminal",
+        "--bare",
+        "8K",
+        given=f":save-state {folder}/bare\n:state {folder}/typed\n",
+    )
+    is_refused = found.stdout == b"? a machine of its own has no state\n" * 2
+    check("a machine of its own has none", is_refused, *findings_of(found))
+
+
+def refuse_words(check: Check, program: str, one_machine: str, folder: str) -> None:
+    """What the programs answer to SAVE and STATE that cannot be done."""
+    write(f"{folder}/directory", b"USER A PW 8K\n")
+    cases = {
+        "a machine of its own is saved": ([one_machine, "--follow", "8K"], b"SAVE\n", 0, b"> REFUSED 0\n", b""),
+        "a machine of its own goes on": ([one_machine, "--follow", "8K"], b"STATE\n1\nx", 1, b"", b"fault: state Refused\n"),
+        "a state of no bytes": ([program, "--follow", f"{folder}/directory"], b"STATE\n0\n", 1, b"", b"fault: state Refused\n"),
+        "a state that is cut": ([program, "--follow", f"{folder}/directory"], b"STATE\n9\nx", 3, b"", b"fault: file Device 1\n"),
+        "a state without a size": ([program, "--follow", f"{folder}/directory"], b"STATE\nx\n", 3, b"", b"fault: file Device 1\n"),
+    }  # fmt: skip
+    for what, (words, given, status, out, errors) in cases.items():
+        found = subprocess.run(words, input=given, capture_output=True)
+        holds = (found.returncode, found.stdout, found.stderr) == (status, out, errors)
+        check(what, holds, *findings_of(found))
+
+
+def try_commands(check: Check, repository: str, programs: tuple[str, str], folder: str) -> None:
+    os.makedirs(folder)
+    for name, place in EXAMPLES.items():
+        try_script(check, f"{repository}/bin/vm370", f"{folder}/{name}", name, place)
+    refuse_states(check, f"{repository}/bin/vm370", f"{folder}/refused")
+    type_states(check, repository, f"{folder}/typed")
+    refuse_words(check, *programs, folder)
