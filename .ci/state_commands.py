@@ -96,7 +96,7 @@ def refuse_states(check: Check, command: str, folder: str) -> None:
         "of other sizes": (1, "it is of other numbers of --frames and --slots", ["--frames", "99", *named], "state"),
         "that was changed": (1, "changed is not as it was written", named, "changed"),
         "that was cut": (1, "cut is not as it was written", named, "cut"),
-        "with more behind": (1, "longer is not as it was written", named, "longer"),
+        "with more at its end": (1, "longer is not as it was written", named, "longer"),
         "that is none": (1, "script is no state file", named, "script"),
         "that is not there": (3, "nothing is not there", named, "nothing"),
         "with --follow": (2, "--state and --save-state are for scripts", ["--follow", named[0]], "state"),

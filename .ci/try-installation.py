@@ -400,6 +400,8 @@ def part_load(folder: str, options: object) -> None:
     asyncio.run(all_live())
     town.operate("status")
     town.await_message("a start that goes on")
+    town.await_message("the last state")
+    notify(f"load: {re.search('the last state.*', town.since_start())[0]}")
     notify(
         f"load: {re.search('a start that.*', town.since_start())[0]}; the recording has {os.path.getsize(town.record)} bytes"
     )
@@ -418,8 +420,8 @@ def part_load(folder: str, options: object) -> None:
 
 def part_kills(folder: str, options: object) -> None:
     """Kills at random moments, each other one of the program too, each fifth with a torn end, next to six people whose guests
-    count."""
-    town = Town(f"{folder}/kills", 6).online()
+    count; a state is saved after each second of computing."""
+    town = Town(f"{folder}/kills", 6, "--state-every", "1").online()
     chance = random.Random(7)
     seen = {user: [] for user in town.users}
     counts = dict.fromkeys(town.users, 0)
@@ -482,6 +484,9 @@ def part_kills(folder: str, options: object) -> None:
     check("it is suspended", town.stop() == 0)
     lines = sum(len(connection) for connections in seen.values() for connection in connections)
     connections = sum(map(len, seen.values()))
+    count = read(town.record).count(b"\n* STATE ")
+    check("states were saved", count > 0)
+    notify(f"kills: {count} states were saved")
     notify(f"kills: {options['kills']}, {connections} connections, {lines} lines seen; seconds until six people were back: "
          f"{min(took):.1f} to {max(took):.1f}; the recording has {os.path.getsize(town.record)} bytes")  # fmt: skip
     shown = check_machines(town, replays(town))
