@@ -336,13 +336,13 @@ class Engine:
         try:
             if self.marks:
                 self.recording.add(self.take_marks())
-            self.states.save(self.program, notes)
+            is_saved = self.states.save(self.program, notes)
+            self.states.tried(self.seconds(), is_saved)
         except Died:
             if not self.is_stopping:
                 self.restart()
         finally:
             self.is_saving = False
-        self.states.saved(self.seconds())
 
     def restart(self) -> None:
         """Has another program do the recording: all that anybody was shown is in it."""

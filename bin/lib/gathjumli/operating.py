@@ -272,7 +272,7 @@ def state_text(engine: Any) -> str:
         return "no state is saved yet"
     waited = f", for which all waited {last.waited:.2f} s" if last.waited else ""
     ago = engine.seconds() - engine.states.at
-    return f"the last state has {last.size / MEGABYTE:.1f} MB and is {ago:.0f} s of computing old{waited}"
+    return f"the last state has {last.size / MEGABYTE:.2f} MB and is {ago:.0f} s of computing old{waited}"
 
 
 def plain(text: str) -> Any:

@@ -60,12 +60,13 @@ class States:
         return not self.is_off and seconds >= self.due
 
     def can_save(self, seconds: float) -> bool:
-        """Whether a state would have all. The recording says what is printed, and a state does not: what waits is not printed yet."""
+        """Whether a state may be saved now, which else is tried again soon. A printout that waits would be lost with what is before
+        a state."""
         self.due = seconds + SECONDS_TO_TRY_AGAIN
         return not self.is_off and self.recording.is_past_state and not self.printouts.unwritten()
 
-    def save(self, program: Program, notes: dict[str, Any]) -> None:
-        """Saves the state where the recording ends, which is on the disk before."""
+    def save(self, program: Program, notes: dict[str, Any]) -> bool:
+        """Saves the state where the recording ends, which is on the disk before. Says whether it is saved, or else reports why not."""
         begun = time.monotonic()
         self.recording.settle()
         try:
@@ -76,14 +77,15 @@ class States:
         if saved is None or saved.size() > MOST_BYTES:
             why = f"it has more than {MOST_BYTES} bytes" if saved else "the program refuses it"
             self.stop(why)
-            return
+            return False
         try:
             self.put(notes, saved)
         except OSError as error:
             self.report(error.strerror)
-            return
+            return False
         self.trouble = ""
         self.last = LastState(saved.size(), time.monotonic() - begun)
+        return True
 
     def put(self, notes: dict[str, Any], saved: Any) -> None:
         """Writes a state, and then the mark that says so; only two files are kept."""
@@ -92,9 +94,11 @@ class States:
         self.recording.mark_state(name, digits)
         self.forget_before(KEPT)
 
-    def saved(self, seconds: float) -> None:
-        """The program has taken so many seconds until a state was saved."""
-        self.at, self.due = seconds, seconds + self.every
+    def tried(self, seconds: float, is_saved: bool) -> None:
+        """The program has taken so many seconds until a state was saved, or was not."""
+        self.due = seconds + self.every
+        if is_saved:
+            self.at = seconds
 
     def stop(self, why: str) -> None:
         self.is_off = True
