@@ -400,8 +400,8 @@ def part_load(folder: str, options: object) -> None:
     asyncio.run(all_live())
     town.operate("status")
     town.await_message("a start that goes on")
-    town.await_message("the last state")
-    notify(f"load: {re.search('the last state.*', town.since_start())[0]}")
+    town.await_message("printouts: ")
+    notify(f"load: {re.search('(the last|no) state.*', town.since_start())[0]}")
     notify(
         f"load: {re.search('a start that.*', town.since_start())[0]}; the recording has {os.path.getsize(town.record)} bytes"
     )
