@@ -1,21 +1,20 @@
 -- A system whose parts were restored, each in the place of one with the same base.
 use Rattle.std.specs.Prelude.{slice_get, Some}
-use Rattle.std.proofs.Common.{◌≡◌, ◌∙◌, Bool, ℕ, zero, suc, ◌<◌, List, [], ◌∷◌, false, length, replicate, get_or, map, drop, refl, sym, ap, subst, arith}
+use Rattle.std.proofs.Common.{◌≡◌, ◌∙◌, Bool, ℕ, zero, suc, List, [], ◌∷◌, false, length, replicate, get_or, map, drop, refl, sym, ap, subst, arith}
 use Rattle.std.proofs.Math.ListN.{get_or-map}
 use Rattle.std.proofs.lemmas.List.{length-map}
 use Rattle.ckd_volume.specs.Volume.{VolumeFormat}
 use Rattle.cp_dat.specs.Supplied.{IsBetweenUnits}
 use Rattle.cp_directory.specs.Users.{DirectoryUser}
 use Rattle.cp_frames.specs.Layout.{FrameSupply, Pool}
-use Rattle.cp_resident.specs.Reuse.{ReuseValue}
 use Rattle.cp_spool.specs.Queues.{QueuesValue}
 use Rattle.cp_volumes.specs.Shared.{AllLeaveBe, AreThere, IsUsers, Stand, stands_of}
 use Rattle.cp_volumes.proofs.Seats.{users_on}
 use Rattle.machine_devices.specs.declared.files.FileNote.{FileNote}
 use Rattle.cp_core.specs.Owners.{AreOwners}
 use Rattle.cp_core.specs.Saved.{AreAsLarge, HasSameBase, SeatBase, base_of}
-use Rattle.cp_core.specs.System.{SystemView, stands_among, users_of}
-use Rattle.cp_core.specs.UserMachines.{SeatParts, UserParts, seats_on}
+use Rattle.cp_core.specs.System.{SystemView, stands_among}
+use Rattle.cp_core.specs.UserMachines.{SeatParts, seats_on}
 use Rattle.cp_core.specs.Whole.{AreSeated, IsSystem, IsWhole, no_user}
 use Rattle.cp_core.proofs.Owned.{length-seats}
 use Rattle.cp_core.proofs.Systems.{get-stands, length-users, seen}

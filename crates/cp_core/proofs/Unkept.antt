@@ -13,8 +13,8 @@ use Rattle.machine_devices.specs.declared.reply.Reply.{Reply}
 use Rattle.cp_resident.specs.Reuse.{ReuseValue}
 use Rattle.cp_core.specs.declared.events.Event.{Event}
 use Rattle.cp_core.specs.declared.events.Event.TheVariants.{Run, Line, Tick, Deck, Serve}
-use Rattle.cp_core.specs.Histories.{IsReplied, IsStep}
-use Rattle.cp_core.specs.Local.{IsApplied, Step, comes_to, coming, local, local_event, own_part}
+use Rattle.cp_core.specs.Histories.{IsStep}
+use Rattle.cp_core.specs.Local.{IsApplied, Step, comes_to, coming, local, local_event}
 use Rattle.cp_core.specs.Saved.{AgreeButKept}
 use Rattle.cp_core.specs.Supply.{IsBroughtBy, IsSupplied, MayBring, gives_back}
 use Rattle.cp_core.specs.System.{SystemView, user_at}

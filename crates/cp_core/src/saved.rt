@@ -310,7 +310,7 @@ impl System {
     /// Restores the state that the next bytes are, in a system to which no event was applied. It is None if they are no
     /// state of such a system, or if there is no memory for it.
     ///
-    /// Nothing is proved of what the bytes hold: save the system again, and compare. It keeps no programs.
+    /// Nothing is proved of what the bytes hold: save the system again, and compare.
     pub fn restore(self, input: &mut Input<'_>) -> Option<System>
         ensures { IfSome result (λ made. HasSameBase self made) }
     {
