@@ -1,6 +1,7 @@
 """What gives the program one part after another, and shows each user the effect of it."""
 from __future__ import annotations
 
+from collections.abc import Callable
 import asyncio
 import collections
 import concurrent.futures
@@ -420,7 +421,7 @@ class Engine:
         self.states.goes_on(self.seconds(), 0.0, None)
         return None, None
 
-    def do_recording(self, notify: Any, take: Any, take_state: Any) -> None:
+    def do_recording(self, notify: Any, take: Any, take_state: Callable[[StateFile], None]) -> None:
         """Has the program do all that the recording has, from the last state on, and takes the effect of each part."""
         self.is_whole = False
         mark, state = self.restore()

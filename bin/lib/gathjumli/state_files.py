@@ -10,6 +10,7 @@ import os
 
 from gathjumli.cli import FILE_FAILED, Failure, REFUSED
 from gathjumli.following import Program, SavedState, StateRefused
+from gathjumli.machines import Machines
 from gathjumli.recording import Base, SUM_DIGITS, differing, sync_folder
 
 TITLE = b"* GATHJUMLI STATE 1"
@@ -46,7 +47,7 @@ class StateFile(NamedTuple):
                 yield data
 
 
-def base_of(machines: Any) -> list[bytes]:
+def base_of(machines: Machines) -> list[bytes]:
     """What a state of these machines is of: the program, the directory and the sizes."""
     if machines.name == "bare370":
         raise Failure(REFUSED, NO_STATE)
@@ -126,7 +127,7 @@ def read_head(path: str, file: BinaryIO) -> tuple[list[bytes], dict[str, Any], i
         raise Failure(REFUSED, f"{path} is not as it was written") from None
 
 
-def state_of(path: str, machines: Any) -> StateFile:
+def state_of(path: str, machines: Machines) -> StateFile:
     """The state in a file, from which these machines can go on."""
     found = read_state(path)
     if differs := differing(found.base, base_of(machines)):
@@ -145,7 +146,7 @@ def restore(program: Program, state: StateFile) -> None:
         raise StateRefused(refused.status, *refused.lines, OTHER_VOLUMES) from None
 
 
-def save_state(program: Program, path: str, machines: Any, notes: dict[str, Any]) -> None:
+def save_state(program: Program, path: str, machines: Machines, notes: dict[str, Any]) -> None:
     """Writes the state of a program into a file."""
     base, saved = base_of(machines), program.save()
     if saved is None:

@@ -8,7 +8,7 @@ import sys
 from gathjumli import cli
 from gathjumli.cli import Failure, REFUSED, last, read_arguments, read_file
 from gathjumli.following import Answers, CHUNK, Program
-from gathjumli.machines import SIZE_OPTIONS, ScriptRefused, of_directory
+from gathjumli.machines import Machines, SIZE_OPTIONS, ScriptRefused, of_directory
 from gathjumli.state_files import NOBODY, StateFile, after, restore, save_state, state_of
 
 OPTIONS = {"--save": None, "--state": str, "--save-state": str} | SIZE_OPTIONS
@@ -50,7 +50,7 @@ class PrintedAnswers(Answers):
 class Script(Program):
     """A program whose transcript is printed."""
 
-    def __init__(self, machines: Any, *options: str) -> None:
+    def __init__(self, machines: Machines, *options: str) -> None:
         self.output = Output()
         super().__init__(machines, *options)
 

@@ -1,15 +1,15 @@
 """The states that an installation saves of its machines, so that a start computes only what came after the last one."""
 from __future__ import annotations
 
-from collections.abc import Iterator
-from typing import Any, NamedTuple
+from collections.abc import Callable, Iterator
+from typing import TYPE_CHECKING, Any, NamedTuple
 import glob
 import time
 
 from gathjumli.cli import Failure
 from gathjumli.following import Died, Program
-from gathjumli.recording import StateMark
-from gathjumli.spooling import Printout, TOLD, WRITTEN
+from gathjumli.recording import Recording, StateMark
+from gathjumli.spooling import Printout, Printouts, TOLD, WRITTEN
 from gathjumli.state_files import (
     MOST_BYTES,
     StateFile,
@@ -18,6 +18,9 @@ from gathjumli.state_files import (
     remove_state,
     write_state,
 )
+
+if TYPE_CHECKING:
+    from gathjumli.engine import User
 
 # the last one, and the one before where the last cannot be read
 KEPT = 2
@@ -34,7 +37,9 @@ class LastState(NamedTuple):
 class States:
     """Saves states next to the recording, which has a mark for each, and finds those from which a start can go on."""
 
-    def __init__(self, recording: Any, printouts: Any, every: int, notify: Any) -> None:
+    def __init__(
+        self, recording: Recording, printouts: Printouts, every: int, notify: Callable[[str], None]
+    ) -> None:
         self.recording = recording
         self.printouts = printouts
         self.every = every
@@ -78,21 +83,17 @@ class States:
             why = f"it has more than {MOST_BYTES} bytes" if saved else "the program refuses it"
             self.stop(why)
             return False
+        name = f"state-{self.recording.lines}"
         try:
-            self.put(notes, saved)
+            digits = write_state(self.path(name), self.base(), notes, saved)
         except OSError as error:
             self.report(error.strerror)
             return False
+        self.recording.mark_state(name, digits)
+        self.forget_before(KEPT)
         self.trouble = ""
         self.last = LastState(saved.size(), time.monotonic() - begun)
         return True
-
-    def put(self, notes: dict[str, Any], saved: Any) -> None:
-        """Writes a state, and then the mark that says so; only two files are kept."""
-        name = f"state-{self.recording.lines}"
-        digits = write_state(self.path(name), self.base(), notes, saved)
-        self.recording.mark_state(name, digits)
-        self.forget_before(KEPT)
 
     def tried(self, seconds: float, is_saved: bool) -> None:
         """The program has taken so many seconds until a state was saved, or was not."""
@@ -149,7 +150,7 @@ class States:
         return not self.printouts.folder or names <= self.printouts.noted
 
 
-def notes_of(users: dict[str, Any], printouts: Any) -> dict[str, Any]:
+def notes_of(users: dict[str, User], printouts: Printouts) -> dict[str, Any]:
     """What is noted with a state: who is on and whose machine runs, what users who appear back are shown, and what was closed."""
     people = users.values()
     return {
@@ -161,7 +162,7 @@ def notes_of(users: dict[str, Any], printouts: Any) -> dict[str, Any]:
     }
 
 
-def take_notes(notes: dict[str, Any], users: dict[str, Any], printouts: Any) -> None:
+def take_notes(notes: dict[str, Any], users: dict[str, User], printouts: Printouts) -> None:
     """Has users and printouts be as was noted with a state."""
     for user in users.values():
         user.is_on = user.name in notes["on"]
