@@ -143,7 +143,7 @@ def last_state(site: Site) -> str:
 
 def begun_with(site: Site) -> str:
     """The state with which the last start began, or nothing."""
-    found = re.search(r"begins with (\S+)", site.since_start())
+    found = re.search(r"begins with (.*)", site.since_start())
     return found[1] if found else ""
 
 
