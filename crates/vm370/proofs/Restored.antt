@@ -1,5 +1,5 @@
 -- A system that was restored goes on as the one that was saved.
-use Rattle.std.proofs.Common.{◌≡◌, ℕ, List, length, refl, ap, sym, ◌∙◌}
+use Rattle.std.proofs.Common.{List, length, refl, ap, sym, ◌∙◌}
 use Rattle.cp_core.proofs.Unkept.{step_unkept}
 use Rattle.cp_core.specs.Saved.{AgreeButKept, HasSameBase, IsOneBySaved as IsOneSystem}
 use Rattle.cp_core.specs.System.{SystemView}
