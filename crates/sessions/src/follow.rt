@@ -190,7 +190,7 @@ impl<I: Installation + Drop> Follower<I> {
         Ok(has_states && again.as_slice() == bytes)
     }
 
-    /// Takes what comes next in the place of this one.
+    /// Takes what is next in the input, in the place of this one.
     fn read(self, alloc: Global, input: &mut Input<'_>) -> Option<Follower<I>>
         ensures base { IfSome result (λ made. I.goes.HasSameBase self.world made.world) }
         ensures users { IfSome result
