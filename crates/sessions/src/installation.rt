@@ -107,7 +107,7 @@ pub trait Installation {
     fn save(&self, out: &mut Vec<u8>) -> Result<bool, AllocError>
         ensures { IfOk result (λ is. AppendsState (goes) self.now is out.old.items out.new.items) };
 
-    /// Takes the state that is next in the input, in the place of this one, to which nothing happened.
+    /// Takes the state that is next in the input, in the place of this one, which was only booted.
     /// (What is restored is lawful whatever the bytes are; whoever saves it again sees whether it
     /// was saved so.)
     fn restore(self, input: &mut Input<'_>) -> Option<Self>
