@@ -1,5 +1,5 @@
 -- What was asked of files, one after another.
-use Rattle.std.proofs.Common.{◌≡◌, ◌∙◌, ℕ, zero, suc, ◌+◌, ◌≤◌, List, [], ◌∷◌, ◌++◌, Option, Some, None, Result, Ok, Err, refl, sym, ap, subst, append_assoc, append-nil, length, map, take, drop, add-one, arith}
+use Rattle.std.proofs.Common.{◌≡◌, ◌∙◌, ℕ, zero, suc, ◌+◌, List, [], ◌∷◌, ◌++◌, Option, Some, None, Result, Ok, Err, refl, sym, ap, subst, append_assoc, append-nil, length, map, take, drop, add-one}
 use Rattle.std.specs.Prelude.{IfErr, IsErrAnd, OnErr, OnOk, slice_get}
 use Rattle.ckd_volume.specs.Volume.{VolumeFormat}
 use Rattle.programs.specs.Opened.{Adds, AddsFirst, AddsFront, Deed, Opens, Saves, opens, saves}

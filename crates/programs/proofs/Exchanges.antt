@@ -1,14 +1,12 @@
 -- Parts that are answered, one after another.
-use Rattle.std.proofs.Common.{◌≡◌, ℕ, Bool, true, inl, inr, List, [], ◌∷◌, ◌++◌, Option, Some, Result, Ok, Err, refl, sym, ap, ◌∙◌, subst, append_assoc, append-nil, length, arith}
-use Rattle.std.specs.Prelude.{◌⊎◌, IsErrAnd}
+use Rattle.std.proofs.Common.{◌≡◌, ℕ, true, inl, inr, List, [], ◌∷◌, ◌++◌, Option, Some, Result, Ok, Err, refl, sym, ap, ◌∙◌, subst, append_assoc, append-nil, length, arith}
+use Rattle.std.specs.Prelude.{IsErrAnd}
 use Rattle.std.specs.Io.KnownBytes.{Appends, Consumes}
 use Rattle.std.proofs.KnownBytes.{Appends-nil, Appends-trans, Consumes-nil, Consumes-trans}
 use Rattle.s370_num.specs.Host.{AppendsFront, IsCounted}
-use Rattle.s370_num.specs.declared.host.HostFault.{HostFault}
 use Rattle.s370_num.specs.declared.host.HostFault.TheVariants as hosts
-use Rattle.s370_num.specs.Host.{Counts}
 use Rattle.sessions.specs.Files.{closing_lines}
-use Rattle.sessions.specs.Follow.{HasWholeLines, Became, IsFollowed, IsFollowedPartly, part_of}
+use Rattle.sessions.specs.Follow.{HasWholeLines, Became, IsFollowed, part_of}
 use Rattle.sessions.specs.Installed.{Installation, names_of}
 use Rattle.sessions.specs.Schedule.{Scene}
 use Rattle.sessions.specs.News.{modes_of}
@@ -26,7 +24,6 @@ use Rattle.programs.specs.declared.requests.Next.{Next}
 use Rattle.programs.specs.Requests.{GivesNext}
 use Rattle.programs.specs.Parts.{AnswersPart, AreExchanges, Exchange, IsExchange, IsPartAnsweredPartly, InputAccounts, IsBegun, IsBrokenOff, IsFollowedTo, IsSoFar, answers_of, news_lines, news_since, read_of, refused_line}
 use Rattle.programs.specs.declared.faults.Failure.{Failure}
-use Rattle.programs.specs.declared.faults.Failure.TheVariants as failures
 
 -- ---- one part
 

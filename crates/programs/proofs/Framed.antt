@@ -1,11 +1,10 @@
 -- What was read, one after another.
-use Rattle.std.proofs.Common.{◌≡◌, ◌∙◌, ℕ, List, [], ◌∷◌, ◌++◌, Option, Some, Result, Ok, Err, refl, sym, ap, subst, append_assoc, length}
-use Rattle.std.specs.Prelude.{OnErr}
+use Rattle.std.proofs.Common.{◌≡◌, ℕ, List, [], ◌∷◌, ◌++◌, Option, Some, refl, subst, append_assoc, length}
 use Rattle.std.specs.Io.KnownBytes.{Consumes}
 use Rattle.std.proofs.KnownBytes.{Consumes-trans}
 use Rattle.s370_num.specs.Host.{ReadsFront}
 use Rattle.text_words.specs.Numbers.{decimal_of}
-use Rattle.programs.specs.Requests.{GivesByte, GivesLine, GivesSized, IsFramed}
+use Rattle.programs.specs.Requests.{GivesByte, GivesLine, GivesSized}
 
 pub reads_more : (a b c : Option (List ℕ)) (bs : List ℕ) → Consumes a b bs → ReadsFront b c → ReadsFront a c
 reads_more a b c bs read more = (bs ++ more.0, Consumes-trans a b c bs more.0 read more.1)

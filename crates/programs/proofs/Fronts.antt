@@ -1,5 +1,5 @@
 -- Beginnings of texts that are written one after another.
-use Rattle.std.proofs.Common.{◌++◌, ℕ, List, Option, sym, subst, take, length, arith, length-append}
+use Rattle.std.proofs.Common.{◌++◌, ℕ, List, Option, sym, subst, arith, length-append}
 use Rattle.std.proofs.Math.Seq.{take-append-le}
 use Rattle.std.specs.Io.KnownBytes.{Appends}
 use Rattle.s370_num.specs.Host.{AppendsFront}

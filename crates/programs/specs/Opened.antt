@@ -1,5 +1,5 @@
 -- The files that a program opens by their paths, and the images that it saves.
-use Rattle.std.specs.Prelude.{◌≡◌, ℕ, ◌≤◌, List, [], ◌∷◌, ◌++◌, length, map, take, Option, Some, None, Ok}
+use Rattle.std.specs.Prelude.{◌≡◌, ℕ, List, [], ◌∷◌, ◌++◌, map, take, Option, Some, None, Ok}
 use Rattle.ckd_volume.specs.Volume.{VolumeFormat}
 use Rattle.ckd_image.specs.Reading.{ReadsImage}
 

@@ -1,5 +1,4 @@
-use Rattle.std.proofs.Common.{◌≡◌, ℕ, List, Option, subst, arith}
-use Rattle.std.specs.Prelude.{OnOk, Result, Ok, Err}
+use Rattle.std.proofs.Common.{subst}
 use Rattle.programs.specs.declared.parts.Left.{Left}
 use Rattle.programs.specs.declared.parts.Left.TheVariants as lefts
 use Rattle.programs.specs.Parts.{IsLeft}

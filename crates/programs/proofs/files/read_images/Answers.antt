@@ -1,7 +1,6 @@
-use Rattle.std.proofs.Common.{◌≡◌, ◌+◌, List, ℕ, [], ◌∷◌, ◌++◌, map, take, arith, rules}
-use Rattle.ckd_volume.specs.Volume.{VolumeFormat}
-use Rattle.programs.specs.Opened.{AreImagesAt, IsImageAt, opens}
-use Rattle.programs.proofs.Deeds.{adds_more, adds_none, on_err, opened_front, opened_more}
+use Rattle.std.proofs.Common.{◌+◌, map, take, rules}
+use Rattle.programs.specs.Opened.{IsImageAt}
+use Rattle.programs.proofs.Deeds.{adds_none, on_err, opened_front, opened_more}
 use Rattle.programs.proofs.Imaged.{images_more, map_get_more}
 use Rattle.programs.proofs.files.read_images.Goals as goal
 

@@ -1,6 +1,5 @@
-use Rattle.std.proofs.Common.{◌≡◌, ◌∙◌, ◌+◌, ◌<◌, ℕ, zero, suc, List, [], ◌∷◌, Option, None, Some, inl, inr, refl, sym, ap, length, map, drop, arith, rules}
+use Rattle.std.proofs.Common.{◌≡◌, ◌∙◌, ◌<◌, ℕ, zero, suc, List, [], ◌∷◌, None, Some, inr, refl, sym, ap, length, map, arith}
 use Rattle.std.specs.Prelude.{option_copied, slice_get, string_bytes}
-use Rattle.programs.specs.Opened.{Adds, AddsFirst, saves}
 use Rattle.programs.specs.Runs.{IsUnsaved, unsaved_path}
 use Rattle.programs.proofs.Deeds.{adds_none, drop_get, drop_more, if_err, saves_each, saves_more, saves_no_more}
 use Rattle.programs.proofs.files.save_images.Goals as goal

@@ -1,9 +1,9 @@
-use Rattle.std.proofs.Common.{◌≡◌, ◌∙◌, List, ℕ, ap, sym, subst, length}
+use Rattle.std.proofs.Common.{◌≡◌, ◌∙◌, ap, subst, length}
 use Rattle.std.specs.Io.KnownBytes.{Appends}
 use Rattle.s370_num.specs.Host.{AppendsFront}
 use Rattle.sessions.specs.Transcript.{ended}
 use Rattle.sessions.proofs.Histories.{on_err}
-use Rattle.programs.specs.Parts.{news_lines, refused_line}
+use Rattle.programs.specs.Parts.{news_lines}
 use Rattle.programs.proofs.Exchanges.{done, done_front, done_untold, news_told, refused_front, was_done, was_refused}
 use Rattle.programs.proofs.parts.follow_part.Goals as goal
 

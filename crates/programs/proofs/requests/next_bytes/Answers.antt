@@ -1,4 +1,3 @@
-use Rattle.std.proofs.Common.{◌++◌, take}
 use Rattle.sessions.proofs.Histories.{on_err}
 use Rattle.programs.proofs.Framed.{reads_more}
 use Rattle.programs.proofs.requests.next_bytes.Goals as goal
