@@ -11,9 +11,9 @@ returns-in-Part-clause-err g c =
     let a = g.W.HostWriter.contents c.args.writer.now in
     let b = g.W.HostWriter.contents c.follow_part.new.writer in
     err_then c.follow_part.result
-        (λ partly. subst (λ (r : Request). IsAnsweredPartly i old r a b) (sym c.in-Part.is)
-            (subst (λ (part : List ℕ). IsPartAnsweredPartly i old part a b) c.deref.ensures.value partly))
-        c.follow_part.ensures.err
+    (λ partly. subst (λ (r : Request). IsAnsweredPartly i old r a b) (sym c.in-Part.is)
+    (subst (λ (part : List ℕ). IsPartAnsweredPartly i old part a b) c.deref.ensures.value partly))
+    c.follow_part.ensures.err
 
 pub returns-in-State-clause-err : goal.returns-in-State-clause-err
 returns-in-State-clause-err g c =
@@ -22,6 +22,6 @@ returns-in-State-clause-err g c =
     let a = g.W.HostWriter.contents c.args.writer.now in
     let b = g.W.HostWriter.contents c.go_on.new.writer in
     err_then c.go_on.result
-        (λ partly. subst (λ (r : Request). IsAnsweredPartly i old r a b) (sym c.in-State.is)
-            (subst (λ (state : List ℕ). IsRestoredPartly i old state a b) c.deref-in-State.ensures.value partly))
-        c.go_on.ensures.err
+    (λ partly. subst (λ (r : Request). IsAnsweredPartly i old r a b) (sym c.in-State.is)
+    (subst (λ (state : List ℕ). IsRestoredPartly i old state a b) c.deref-in-State.ensures.value partly))
+    c.go_on.ensures.err
