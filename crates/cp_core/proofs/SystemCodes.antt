@@ -59,11 +59,11 @@ system_code =
     (λ s. refl)
 
 pub one_system : IsOneBySaved
-one_system one other bytes base is are =
+one_system one other bytes directory is are =
     let same : are.parts ≡ is.parts = one_value system_bytes system_code are.parts is.parts (sym are.code ∙ is.code) in
     are.seen
     ∙ ap (λ (p : SavedSystem). view_of p other.directory other.kept) same
-    ∙ ap (λ (d : List DirectoryUser). view_of is.parts d other.kept) base.directory
+    ∙ ap (λ (d : List DirectoryUser). view_of is.parts d other.kept) directory
     ∙ ap (λ (s : SystemView). record s { kept = other.kept }) (sym is.seen)
 
 -- ---- what is written

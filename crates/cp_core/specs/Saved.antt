@@ -102,9 +102,9 @@ pub record HasSameBase (one other : SystemView) : Type 0 where
 abbrev pub AgreeButKept : SystemView → SystemView → Type 0
 AgreeButKept one other = other ≡ record one { kept = other.kept }
 
--- bytes are those of one system of a base, but for which programs it keeps
+-- bytes are those of one system of a directory, but for which programs it keeps
 abbrev pub IsOneBySaved : Type 0
-IsOneBySaved = (one other : SystemView) (bytes : List ℕ) → HasSameBase one other → IsSaved one bytes → IsSaved other bytes → AgreeButKept one other
+IsOneBySaved = (one other : SystemView) (bytes : List ℕ) → other.directory ≡ one.directory → IsSaved one bytes → IsSaved other bytes → AgreeButKept one other
 
 -- ---- parts while they are restored
 

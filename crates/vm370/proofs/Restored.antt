@@ -1,18 +1,20 @@
 -- A system that was restored goes on as the one that was saved.
-use Rattle.std.proofs.Common.{List, length, refl, ap, sym, ◌∙◌}
+use Rattle.std.proofs.Common.{◌≡◌, ℕ, List, refl, ap, sym, ◌∙◌}
 use Rattle.cp_core.proofs.Unkept.{step_unkept}
-use Rattle.cp_core.specs.Saved.{AgreeButKept, HasSameBase, IsOneBySaved as IsOneSystem}
+use Rattle.cp_core.specs.Boot.{IsBooted}
+use Rattle.cp_core.specs.Saved.{AgreeButKept, IsOneBySaved as IsOneSystem}
 use Rattle.cp_core.specs.System.{SystemView}
 use Rattle.cp_directory.specs.Users.{DirectoryUser}
+use Rattle.ckd_volume.specs.Volume.{VolumeFormat}
 use Rattle.sessions.specs.Saved.{GoesOnAs, IsOneBySaved, KeepsBase}
 use Rattle.vm370.specs.Goes.{seen_in, system_goes}
 
 pub base : KeepsBase system_goes
 base = record {
-  reflexive = λ one. record { directory = refl; stands = refl };
-  symmetric = λ one other h. record { directory = sym h.directory; stands = sym h.stands };
-  transitive = λ one other last h k. record { directory = k.directory ∙ h.directory; stands = k.stands ∙ h.stands };
-  kept = λ old new what reply h. record { directory = h.step.directory; stands = h.step.stands };
+  reflexive = λ one. refl;
+  symmetric = λ one other h. sym h;
+  transitive = λ one other last h k. k ∙ h;
+  kept = λ old new what reply h. h.step.directory;
 }
 
 -- which programs are kept is nothing to what is seen, nor to what events leave
@@ -27,7 +29,8 @@ alike one other agree = record {
 }
 
 pub one_system : IsOneSystem → IsOneBySaved system_goes
-one_system law one other bytes same h k =
-    let users = k.machines ∙ (ap (λ (d : List DirectoryUser). length d) same.directory ∙ sym h.machines) in
-    let based : HasSameBase one other = record { directory = same.directory; stands = same.stands; users = users } in
-    alike one other (law one other bytes based h.saved k.saved)
+one_system law one other bytes directory is are = alike one other (law one other bytes directory is are)
+
+-- a system that was booted has the directory of its boot
+pub booted_from : (directory : List DirectoryUser) (volumes : List VolumeFormat) (frames slots : ℕ) (s : SystemView) → IsBooted directory volumes frames slots s → s.directory ≡ directory
+booted_from directory volumes frames slots s h = ap (λ (v : SystemView). v.directory) h.rest

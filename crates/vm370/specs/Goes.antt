@@ -1,5 +1,5 @@
 -- How a system goes on, as sessions see it.
-use Rattle.std.specs.Prelude.{◌≡◌, ℕ, true, false, IsSome, List, length, map}
+use Rattle.std.specs.Prelude.{◌≡◌, ℕ, true, false, IsSome, List, map}
 use Rattle.cp_core.specs.Histories.{IsStep}
 use Rattle.cp_core.specs.Memory.{MayTakeMemory, is_cut_short}
 use Rattle.cp_core.specs.Saved.{IsSaved}
@@ -63,15 +63,9 @@ MayRefuse old (Serve user device) = IsSome (program_of device (machine_at old us
 MayRefuse old (Deck user cards) = Unit {0}
 MayRefuse old (Auto turns) = ⊥
 
--- a system that has a machine for each user of its directory is saved as these bytes
-pub record IsSystemSaved (s : SystemView) (bytes : List ℕ) : Type 0 where
-  pub saved : IsSaved s bytes
-  pub machines : length s.users ≡ length s.directory
-
--- the same users have their minidisks at the same places
-pub record HasSamePlaces (one other : SystemView) : Type 0 where
-  pub directory : other.directory ≡ one.directory
-  pub stands : other.stands ≡ one.stands
+-- two systems have one directory
+abbrev pub HasSameDirectory : SystemView → SystemView → Type 0
+HasSameDirectory one other = other.directory ≡ one.directory
 
 abbrev pub system_goes : Installation SystemView
 system_goes = record {
@@ -80,8 +74,8 @@ system_goes = record {
   May = MayRefuse;
   Lacks = IsSpent;
   is_spent = λ s. s.is_spent;
-  IsSaved = IsSystemSaved;
-  HasSameBase = HasSamePlaces;
+  IsSaved = IsSaved;
+  HasSameBase = HasSameDirectory;
 }
 
 -- the cards that an event gives: those of a deck

@@ -138,8 +138,6 @@ impl Installation for SharedMachines {
     }
 
     fn save(&self, out: &mut Vec<u8>) -> Result<bool, AllocError> {
-        // There are as many machines as users of the directory.
-        let _users = self.system.users();
         self.system.save(out)?;
         Ok(true)
     }

@@ -30,4 +30,4 @@ pub mod program;
 pub mod runs;
 
 pub use installation::SharedMachines;
-pub use laws::sessions_are_histories;
+pub use laws::{boots_are_of_one_base, sessions_are_histories};
