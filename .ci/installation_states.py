@@ -228,7 +228,7 @@ def try_steps(check: Check, site: Site) -> None:
         check("it is suspended", site.stop() == 0, *site.findings)
         before = last_state(site)
         names = state_names(site)
-        is_clean = len(names) == 2 and not any(name.endswith(".new") for name in names)
+        is_clean = len(names) == 2 and not any(".new" in name for name in names)
         check(f"two states are kept when {what}", is_clean, *names)
 
 
@@ -284,6 +284,20 @@ def try_wrong_states(check: Check, site: Site) -> None:
     begins("one that the program refuses", f"{other} is not taken", "state Refused", path=one)
 
 
+def try_other_files(check: Check, site: Site) -> None:
+    """Files of others that are called like states stay, and what cannot be removed keeps nobody from his machine."""
+    others = ("recording.state-mine", "recording.state-7.copy")
+    for name in others:
+        write_text(f"{site.folder}/{name}", "mine")
+    os.makedirs(f"{site.record}.state-7")
+    write_text(f"{site.record}.state-8.new-abcdefgh", "of a kill")
+    site.online()
+    run(stored(site, 1))
+    check("a folder called as a state is", site.stop() == 0, *site.findings)
+    wanted = sorted([*others, "recording.state-7", os.path.basename(last_state(site))])
+    check("files of others stay", sorted(state_names(site)) == wanted, *state_names(site))
+
+
 def try_no_state(check: Check, site: Site) -> None:
     """Where no state can be saved that is reported once, and the installation goes on."""
     for step, reported in (
@@ -332,6 +346,7 @@ def try_states(check: Check, command: str, program: str, folder: str) -> None:
     try_going_on(check, make_site(command, f"{folder}/going on"), program)
     try_seconds(check, make_site(command, f"{folder}/seconds"))
     try_wrong_states(check, make_site(command, f"{folder}/wrong"))
+    try_other_files(check, make_site(command, f"{folder}/others"))
     try_printouts(check, make_site(command, f"{folder}/printouts"))
     try_no_state(check, killed_site(command, f"{folder}/none"))
     try_steps(check, killed_site(command, f"{folder}/steps"))

@@ -18,6 +18,12 @@ STORE G1 0000000A
 :save-state {folder}/typed
 STORE G1 0000000B
 :undo
+:state {folder}/typed
+STORE G1 0000000D
+:save-state {folder}/typed
+:undo
+DISPLAY G1
+:save-state {folder}/typed
 DISPLAY G1
 :state {folder}/typed
 DISPLAY G1
@@ -34,6 +40,8 @@ DISPLAY G1
 DISPLAY G1
 """
 SHOWN = ["LOGON OK", "STORED", "(the state is in {folder}/typed)", "STORED", "(taken back: LINE A STORE G1 0000000B)",
+         "(on: A)", "STORED", "(the state is in {folder}/typed)", "(taken back: LINE A STORE G1 0000000D)",
+         "GPR 1 = 0000000A", "(the state is in {folder}/typed)",
          "GPR 1 = 0000000A", "(on: A)", "GPR 1 = 0000000A", "STORED", "(2 lines)", "(taken back: LINE A STORE G1 0000000C)",
          "GPR 1 = 0000000A", "(taken back: LINE A DISPLAY G1)", "(taken back: LINE A DISPLAY G1)", "? there is nothing to take back",
          "? {folder}/nothing: No such file or directory", "? a file is to be named", "? {folder}/directory is no state file",
@@ -91,12 +99,14 @@ def refuse_states(check: Check, command: str, folder: str) -> None:
     write(f"{folder}/changed", state.replace(b'"A"', b'"B"'))
     write(f"{folder}/cut", state[:-70])
     write(f"{folder}/longer", state + b"\n")
+    os.mkfifo(f"{folder}/pipe")
     cases = {
         "of another directory": (1, "it is of another directory", [f"{folder}/other", named[1]], "state"),
         "of other sizes": (1, "it is of other numbers of --frames and --slots", ["--frames", "99", *named], "state"),
         "that was changed": (1, "changed is not as it was written", named, "changed"),
         "that was cut": (1, "cut is not as it was written", named, "cut"),
         "with more at its end": (1, "longer is not as it was written", named, "longer"),
+        "in a pipe": (1, "pipe is no state file", named, "pipe"),
         "that is none": (1, "script is no state file", named, "script"),
         "that is not there": (3, "nothing is not there", named, "nothing"),
         "with --follow": (2, "--state and --save-state are for scripts", ["--follow", named[0]], "state"),
@@ -105,6 +115,12 @@ def refuse_states(check: Check, command: str, folder: str) -> None:
         found = done(command, "--state", f"{folder}/{name}", *words)
         holds = found.returncode == status and text in found.stderr.decode() and not found.stdout
         check(f"a state {what}", holds, *findings_of(found))
+    write(f"{folder}/to.new", b"mine")
+    found = done(command, "--save-state", f"{folder}/to", *named)
+    check("a state leaves other files", read(f"{folder}/to.new") == b"mine", *findings_of(found))
+    found = done(command, "--save-state", f"{folder}/pipe", *named)
+    holds = found.returncode == 3 and b"pipe: it is no plain file" in found.stderr
+    check("a state goes into a plain file", holds, *findings_of(found))
     found = done(
         command,
         "--state",

@@ -4,9 +4,12 @@ from __future__ import annotations
 from collections.abc import Iterator
 from typing import Any, BinaryIO, NamedTuple
 import contextlib
+import errno
 import hashlib
 import json
 import os
+import re
+import tempfile
 
 from gathjumli.cli import FILE_FAILED, Failure, REFUSED
 from gathjumli.following import Program, SavedState, StateRefused
@@ -16,13 +19,14 @@ from gathjumli.recording import Base, SUM_DIGITS, differing, sync_folder
 TITLE = b"* GATHJUMLI STATE 1"
 NOTES = b"* NOTES "
 BYTES = b"* BYTES "
+SIZE = re.compile(re.escape(BYTES) + rb"([0-9]{1,9})\n")
 SUM = b"* SUM "
 # the program reads the sizes of states, as those of parts, with nine digits
 MOST_BYTES = 999_999_999
 USUAL_SIZES = {"--frames": "64", "--slots": "256"}
 CHUNK = 1 << 20
 # who is on, and whose machine runs
-NOBODY = {"on": [], "running": []}
+NOBODY: dict[str, list[str]] = {"on": [], "running": []}
 NO_STATE = "a machine of its own has no state"
 OTHER_VOLUMES = "the state is of other volumes, or not as the program writes it"
 
@@ -33,18 +37,21 @@ class StateFile(NamedTuple):
     path: str
     base: list[bytes]
     notes: dict[str, Any]
+    # it stays open, since another state may get its name
+    file: BinaryIO
     place: int
     size: int
     sum: str
 
     def pieces(self) -> Iterator[bytes]:
         """The bytes of the state."""
-        with open(self.path, "rb") as file:
-            file.seek(self.place)
-            left = self.size
-            while left and (data := file.read(min(left, CHUNK))):
-                left -= len(data)
-                yield data
+        self.file.seek(self.place)
+        left = self.size
+        while left and (data := self.file.read(min(left, CHUNK))):
+            left -= len(data)
+            yield data
+        if left:
+            raise Failure(REFUSED, f"{self.path} was cut")
 
 
 def base_of(machines: Machines) -> list[bytes]:
@@ -59,11 +66,17 @@ def base_of(machines: Machines) -> list[bytes]:
 def write_state(path: str, base: list[bytes], notes: dict[str, Any], saved: SavedState) -> str:
     """Writes a state file that is there whole or not at all, also after the host has crashed; its sum."""
     head = [*base, NOTES + json.dumps(notes).encode(), BYTES + b"%d" % saved.size()]
-    path, written = os.path.realpath(path), f"{os.path.realpath(path)}.new"
+    if os.path.exists(path) and not os.path.isfile(path):
+        raise OSError(errno.EEXIST, "it is no plain file", path)
+    path = os.path.realpath(path)
+    # it has the storages of guests, and is for its owner only
+    handle, written = tempfile.mkstemp(
+        prefix=f"{os.path.basename(path)}.new-", dir=os.path.dirname(path)
+    )
     try:
-        digits = write_summed(written, [b"".join(line + b"\n" for line in head), *saved.pieces])
+        digits = write_summed(handle, [b"".join(line + b"\n" for line in head), *saved.pieces])
         os.replace(written, path)
-    except OSError:
+    except BaseException:
         with contextlib.suppress(OSError):
             os.unlink(written)
         raise
@@ -71,11 +84,10 @@ def write_state(path: str, base: list[bytes], notes: dict[str, Any], saved: Save
     return digits
 
 
-def write_summed(path: str, pieces: list[bytes]) -> str:
+def write_summed(handle: int, pieces: list[bytes]) -> str:
     """Writes bytes and their sum, which is returned, onto the disk."""
     known = hashlib.sha256()
-    # it has the storages of guests, and is for its owner alone
-    with open(path, "wb", opener=lambda name, flags: os.open(name, flags, 0o600)) as file:
+    with open(handle, "wb") as file:
         for piece in pieces:
             known.update(piece)
             file.write(piece)
@@ -86,27 +98,22 @@ def write_summed(path: str, pieces: list[bytes]) -> str:
     return digits
 
 
-def remove_state(path: str) -> None:
-    """Removes a state file, and what was written of it before a crash."""
-    for name in (path, f"{path}.new"):
-        with contextlib.suppress(FileNotFoundError):
-            os.unlink(name)
-
-
 def read_state(path: str) -> StateFile:
     """A state file that is whole: it is as long as it says, and its sum is right."""
-    with open(path, "rb") as file:
-        base, notes, size = read_head(path, file)
-        place, known = file.tell(), hashlib.sha256()
-        file.seek(0)
-        left = place + size
-        while left and (data := file.read(min(left, CHUNK))):
-            known.update(data)
-            left -= len(data)
-        digits = known.hexdigest()[:SUM_DIGITS]
-        if left or file.read() != b"\n" + SUM + digits.encode() + b"\n":
-            raise Failure(REFUSED, f"{path} is not as it was written")
-    return StateFile(path, base, notes, place, size, digits)
+    if os.path.exists(path) and not os.path.isfile(path):
+        raise Failure(REFUSED, f"{path} is no state file")
+    file = open(path, "rb")
+    base, notes, size = read_head(path, file)
+    place, known = file.tell(), hashlib.sha256()
+    file.seek(0)
+    left = place + size
+    while left and (data := file.read(min(left, CHUNK))):
+        known.update(data)
+        left -= len(data)
+    digits = known.hexdigest()[:SUM_DIGITS]
+    if left or file.read() != b"\n" + SUM + digits.encode() + b"\n":
+        raise Failure(REFUSED, f"{path} is not as it was written")
+    return StateFile(path, base, notes, file, place, size, digits)
 
 
 def read_head(path: str, file: BinaryIO) -> tuple[list[bytes], dict[str, Any], int]:
@@ -120,10 +127,12 @@ def read_head(path: str, file: BinaryIO) -> tuple[list[bytes], dict[str, Any], i
                 raise ValueError
             base.append(line.rstrip(b"\n"))
         notes, size = json.loads(line.removeprefix(NOTES)), file.readline(CHUNK)
-        if not isinstance(notes, dict) or not size.startswith(BYTES):
+        if not isinstance(notes, dict) or not NOBODY.keys() <= notes.keys():
             raise ValueError
-        return base, notes, int(size.removeprefix(BYTES))
-    except ValueError:
+        if not (digits := SIZE.fullmatch(size)):
+            raise ValueError
+        return base, notes, int(digits[1])
+    except (ValueError, RecursionError):
         raise Failure(REFUSED, f"{path} is not as it was written") from None
 
 

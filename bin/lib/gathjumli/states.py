@@ -3,7 +3,10 @@ from __future__ import annotations
 
 from collections.abc import Callable, Iterator
 from typing import TYPE_CHECKING, Any, NamedTuple
+import contextlib
 import glob
+import os
+import re
 import time
 
 from gathjumli.cli import Failure
@@ -15,7 +18,6 @@ from gathjumli.state_files import (
     StateFile,
     TITLE,
     read_state,
-    remove_state,
     write_state,
 )
 
@@ -25,6 +27,8 @@ if TYPE_CHECKING:
 # the last one, and the one before where the last cannot be read
 KEPT = 2
 SECONDS_TO_TRY_AGAIN = 1
+# the names of states, and of what was written of one before a kill
+NAME = re.compile(r"state-[0-9]+(\.new-\w+)?")
 
 
 class LastState(NamedTuple):
@@ -50,7 +54,7 @@ class States:
         self.due = float("inf")
         # how many of these seconds the reading of a state takes, as far as that is known
         self.reading = 0.0
-        self.last = None
+        self.last: LastState | None = None
         self.trouble = ""
 
     # --- saving ---
@@ -122,10 +126,13 @@ class States:
 
     def forget_before(self, count: int) -> None:
         """Removes all files but those of so many last marks."""
-        kept = {self.path(mark.name) for mark in self.recording.states[-count:]} if count else set()
+        kept = {mark.name for mark in self.recording.states[-count:]} if count else set()
         for path in glob.glob(glob.escape(self.path("state-")) + "*"):
-            if path not in kept:
-                remove_state(path)
+            name = path.removeprefix(self.path(""))
+            if NAME.fullmatch(name) and name not in kept:
+                # one that stays hinders nobody
+                with contextlib.suppress(OSError):
+                    os.unlink(path)
 
     # --- going on ---
 
@@ -139,7 +146,7 @@ class States:
             except Failure as failure:
                 self.notify(failure.lines[0])
             except OSError as error:
-                self.notify(f"{error.filename}: {error.strerror}")
+                self.notify(f"{self.path(mark.name)}: {error.strerror}")
             else:
                 if self.has_printed(state):
                     yield mark, state
