@@ -80,8 +80,23 @@ def die_before(name: str) -> None:
         recording.Recording.mark_state = lambda *given: (mark(*given), die())
     elif name == "full":
         state_files.os = Instead(os, "fsync", fail)
+    elif name == "little":
+        recording.Recording.free = lambda _: states.LITTLE_FREE
     elif name == "bound":
         states.MOST_BYTES = 10
+    elif name == "broken":
+        break_reading()
+
+
+def break_reading() -> None:
+    """Has the program end otherwise than by a refusal where it reads a state."""
+    from gathjumli.cli import Failure
+    from gathjumli.following import Program
+
+    def ends(*_: object) -> None:
+        raise Failure(70)
+
+    Program.restore = ends
 
 
 def run_killed(step: str, command: str, *words: str) -> None:
@@ -284,6 +299,52 @@ def try_wrong_states(check: Check, site: Site) -> None:
     begins("one that the program refuses", f"{other} is not taken", "state Refused", path=one)
 
 
+def try_unread(check: Check, site: Site) -> None:
+    """However the reading of a state fails, the start computes all from the beginning."""
+    site.online()
+    run(stored(site, 1))
+    check("it is suspended", site.stop() == 0, *site.findings)
+    os.environ["PEOPLE_STEP"] = "broken"
+    site.online()
+    holds = "is not taken" in site.since_start() and value_in(run(shown(site))) == 1
+    check("a state at which the program ends", holds and not begun_with(site), *site.findings)
+    os.environ["PEOPLE_STEP"] = ""
+    check("it is suspended", site.stop() == 0, *site.findings)
+
+
+def try_ending(check: Check, site: Site) -> None:
+    """An end that was asked for is done by the next start, whatever was noted after it."""
+    site.online()
+    run(stored(site, 1))
+    site.kill(is_all=True)
+    write(site.record, read(site.record) + b"* END\n* PRINTED X\n* STATE state-5 0\n")
+    site.start()
+    check("an end is not forgotten", site.await_message("the session has ended"), *site.findings)
+    site.await_message("online at")
+    check("it is suspended", site.stop() == 0, *site.findings)
+
+
+def try_weights(check: Check, folder: str) -> None:
+    """What is left after a state is known as well while the recording is written as when it is read."""
+    from gathjumli.recording import Base, Recording
+
+    os.makedirs(folder)
+    write_text(f"{folder}/directory", "USER A PW 8K\n")
+    recording = Recording(f"{folder}/recording")
+    recording.begin(Base("program", "64 256", f"{folder}/directory", []))
+    recording.add(b"LINE A LOGON\nLINE A BEGIN\n")
+    recording.mark_state("state-1", "0")
+    recording.add(b"LINE A DISPLAY G1\n")
+    recording.add_turns(7)
+    recording.settle()
+    recording.close()
+    again = Recording(f"{folder}/recording")
+    again.close()
+    for what, one in (("written", recording), ("read", again)):
+        left = one.weight - one.states[-1].weight
+        check(f"what is left after a state that was {what}", (one.weight, left) == (67, 27), left)
+
+
 def try_other_files(check: Check, site: Site) -> None:
     """Files of others that are called like states stay, and what cannot be removed keeps nobody from his machine."""
     others = ("recording.state-mine", "recording.state-7.copy")
@@ -303,6 +364,7 @@ def try_no_state(check: Check, site: Site) -> None:
     for step, reported in (
         ("bound", "it has more than 10 bytes"),
         ("full", "No space left on device"),
+        ("little", "its disk has 64 MB free"),
     ):
         os.environ["PEOPLE_STEP"] = step
         site.online()
@@ -338,6 +400,29 @@ def try_printouts(check: Check, site: Site) -> None:
     site.operate("spool")
     holds = site.await_message("PRT0001-ALICE.txt 1 lines, written") and begun_with(site)
     check("of which the spool has it", holds, *site.findings)
+    run(prints_one())
+    check("another is written", site.await_message("PRT0002-ALICE.txt"), *site.findings)
+    check("it is suspended", site.stop() == 0)
+    try_printed_and_died(check, site, prints)
+
+
+def try_printed_and_died(check: Check, site: Site, prints: str) -> None:
+    """A program that dies goes on from a state after what was printed in the same run."""
+    site.online("--printouts", prints, "--state-every", "1")
+
+    async def prints_and_computes() -> None:
+        alice = await on(site)
+        alice.type("PRINT HELLO", "BEGIN 100")
+        before = last_state(site)
+        await until_so(lambda: last_state(site) != before)
+        alice.type("#CP")
+        alice.go()
+
+    run(prints_and_computes())
+    os.kill(site.program(), signal.SIGKILL)
+    run(shown(site))
+    holds = site.await_message("the program goes on") and "is not taken" not in site.since_start()
+    check("a program that dies goes on from it", holds, *site.findings)
     check("it is suspended", site.stop() == 0)
 
 
@@ -347,8 +432,11 @@ def try_states(check: Check, command: str, program: str, folder: str) -> None:
     try_seconds(check, make_site(command, f"{folder}/seconds"))
     try_wrong_states(check, make_site(command, f"{folder}/wrong"))
     try_other_files(check, make_site(command, f"{folder}/others"))
+    try_ending(check, make_site(command, f"{folder}/ending"))
+    try_weights(check, f"{folder}/weights")
     try_printouts(check, make_site(command, f"{folder}/printouts"))
     try_no_state(check, killed_site(command, f"{folder}/none"))
+    try_unread(check, killed_site(command, f"{folder}/unread"))
     try_steps(check, killed_site(command, f"{folder}/steps"))
 
 

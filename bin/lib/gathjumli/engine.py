@@ -10,7 +10,7 @@ import re
 import time
 from typing import Any, NamedTuple
 
-from gathjumli.following import Died, NotFollowed, PartResult, Program, StateRefused
+from gathjumli.following import Died, NotFollowed, PartResult, Program
 from gathjumli.host import memory_of, processor_seconds
 from gathjumli.machines import ScriptRefused
 from gathjumli.cli import Failure, FILE_FAILED, REFUSED
@@ -155,6 +155,11 @@ class Progress:
         if time.monotonic() - self.findings >= 1:
             self.findings = time.monotonic()
             self.notify(self.done / self.whole)
+
+
+def text_of(reason: Exception) -> str:
+    """A line that says why something failed."""
+    return str(reason.lines[0]) if isinstance(reason, Failure) and reason.lines else str(reason)
 
 
 def is_shown(result: PartResult) -> bool:
@@ -409,8 +414,9 @@ class Engine:
             before = self.seconds()
             try:
                 self.checked(self.program.restore, state.size, state.pieces())
-            except (StateRefused, Died) as failure:
-                self.notify(f"{state.path} is not taken: {failure.lines[0]}")
+            except (Failure, OSError) as reason:
+                # whatever it is: all can be computed from further back
+                self.notify(f"{state.path} is not taken: {text_of(reason)}")
                 self.program.close()
                 self.program = self.begun()
                 continue

@@ -27,6 +27,8 @@ SUM_DIGITS = 32
 STAMP_DIGITS = 8
 SECONDS_TO_STAMP_TURNS = 60
 MOST_UNSTAMPED = 10000
+# what the program has to do for a line, in turns
+LINE_WEIGHT = 20
 TIME = "%Y-%m-%d %H:%M:%S UTC"
 DECK = re.compile(rb"DECK [A-Z0-9]+ ([0-9]+)\n")
 TURNS = re.compile(rb"AUTO ([0-9]+)\n")
@@ -167,7 +169,7 @@ class Recording:
         self.lines = 0
         self.bytes = 0
         # the marks of states, and whether anything was done after the last one
-        self.states = []
+        self.states: list[StateMark] = []
         self.is_past_state = False
         self.cut = 0
         self.sum = hashlib.sha256()
@@ -257,8 +259,10 @@ class Recording:
             self.note_comment(entry)
         else:
             self.is_past_state = True
-        self.last = entry
-        self.weight += weight_of(entry)
+            self.weight += weight_of(entry)
+        if not entry.startswith((PRINTED, STATE)):
+            # an end that was asked for is the last word, whatever is noted after it
+            self.last = entry
 
     def note_comment(self, entry: Any) -> None:
         if entry.startswith(BEGUN):
@@ -355,6 +359,7 @@ class Recording:
         """Adds lines that were done; they need not be on the disk yet."""
         self.put(self.turns_line() + part, is_stamped=True)
         self.written = time.monotonic()
+        self.weight += LINE_WEIGHT * part.count(b"\n")
         self.is_past_state = True
 
     def add_turns(self, turns: int) -> None:
@@ -362,6 +367,7 @@ class Recording:
         if self.turns + turns > MOST_TURNS:
             self.put(self.turns_line())
         self.turns += turns
+        self.weight += turns
         self.is_past_state = True
         now = time.monotonic()
         if now - self.written >= 1:
@@ -418,7 +424,7 @@ def begun_now() -> bytes:
 def weight_of(entry: Any) -> int:
     """About how much the program has to do for an entry, in turns."""
     turns = TURNS.fullmatch(entry) if entry.startswith(b"AUTO ") else None
-    return int(turns[1]) if turns else 20
+    return int(turns[1]) if turns else LINE_WEIGHT
 
 
 def sync_folder(path: str) -> None:

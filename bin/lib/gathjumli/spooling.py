@@ -101,6 +101,7 @@ class Printouts:
                 printout.state, printout.body, self.trouble = WRITTEN, b"", ""
                 self.changed.notify_all()
             self.note(printout.name)
+            self.noted.add(printout.name)
             if is_new:
                 self.notify(f"closed: {path}")
         printing.close()

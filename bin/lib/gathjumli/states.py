@@ -11,6 +11,8 @@ import time
 
 from gathjumli.cli import Failure
 from gathjumli.following import Died, Program
+from gathjumli.host import MEGABYTE
+from gathjumli.limits import LITTLE_FREE
 from gathjumli.recording import Recording, StateMark
 from gathjumli.spooling import Printout, Printouts, TOLD, WRITTEN
 from gathjumli.state_files import (
@@ -87,6 +89,10 @@ class States:
             why = f"it has more than {MOST_BYTES} bytes" if saved else "the program refuses it"
             self.stop(why)
             return False
+        if (free := self.recording.free()) < saved.size() + LITTLE_FREE:
+            # what people type has to find room
+            self.report(f"its disk has {free // MEGABYTE} MB free")
+            return False
         name = f"state-{self.recording.lines}"
         try:
             digits = write_state(self.path(name), self.base(), notes, saved)
@@ -150,6 +156,8 @@ class States:
             else:
                 if self.has_printed(state):
                     yield mark, state
+                else:
+                    self.notify(f"{state.path} is not taken: a printout before it is not written")
 
     def has_printed(self, state: StateFile) -> bool:
         """Whether all that was closed before a state is written, if it is to be."""
