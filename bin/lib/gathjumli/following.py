@@ -70,9 +70,14 @@ class Answers:
         self.begin()
 
     def begin(self) -> None:
-        self.events, self.files, self.states, self.is_idle = [], [], [], False
+        self.events: list[str] = []
+        self.files: list[tuple[str, list[bytes]]] = []
+        self.states: list[tuple[str, str]] = []
+        self.is_idle = False
         # of a state: its pieces, and how many bytes are still to arrive
-        self.pieces, self.awaited = None, 0
+        self.pieces: list[bytes] = []
+        self.is_state = False
+        self.awaited = 0
 
     def feed(self, data: bytes) -> Iterator:
         """The answers that these bytes end."""
@@ -121,7 +126,7 @@ class Answers:
         elif word == b"IDLE":
             self.is_idle = True
         elif word == b"STATE":
-            self.pieces, self.awaited = [], int(rest)
+            self.is_state, self.awaited = True, int(rest)
         elif word in (b"DONE", b"REFUSED"):
             answer = Refused(int(rest)) if rest else self.done()
             self.begin()
@@ -130,7 +135,7 @@ class Answers:
 
     def done(self) -> PartResult | SavedState:
         """The answer that ends here."""
-        if self.pieces is not None:
+        if self.is_state:
             return SavedState(self.pieces)
         files = [(heading, b"".join(pieces)) for heading, pieces in self.files]
         return PartResult(self.events, files, self.states, self.is_idle)

@@ -54,7 +54,7 @@ class Following:
     def __init__(self, machines: Any) -> None:
         self.machines = machines
         # where scripts begin, if not at the beginning
-        self.state = None
+        self.state: StateFile | None = None
         self.follower = self.begun(b"")
         self.spare = None
         self.states = ()
@@ -111,7 +111,7 @@ class Following:
             self.close()
             raise
 
-    def stand_at(self, script: str) -> None:
+    def stand_at(self, script: bytes) -> None:
         if self.follower and self.follower.script == script:
             return
         if self.spare and self.spare.script == script:

@@ -1,7 +1,7 @@
 """State files: a state of the machines with what it is of, and the sum of all that (docs/FORMATS.md, "State files")."""
 from __future__ import annotations
 
-from collections.abc import Iterator
+from collections.abc import Iterable, Iterator
 from typing import Any, BinaryIO, NamedTuple
 import contextlib
 import errno
@@ -167,7 +167,9 @@ def save_state(program: Program, path: str, machines: Machines, notes: dict[str,
     write_state(path, base, notes, saved)
 
 
-def after(noted: dict[str, Any], changes: list[tuple[str, str]]) -> dict[str, Any]:
+def after(
+    noted: dict[str, list[str]], changes: Iterable[tuple[str, str]]
+) -> dict[str, list[str]]:
     """Who is on and whose machine runs after these changes."""
     found = {word: dict.fromkeys(noted[word]) for word in NOBODY}
     words = {"ON": ("on", True), "OFF": ("on", False)} | {

@@ -1,13 +1,12 @@
 """Runs a script from a state, or saves the state at its end: state_runs.py NAME PROGRAM WORD.., as bin/lib/program.sh calls it."""
 from __future__ import annotations
 
-from typing import Any
 import os
 import sys
 
 from gathjumli import cli
 from gathjumli.cli import Failure, REFUSED, last, read_arguments, read_file
-from gathjumli.following import Answers, CHUNK, Program
+from gathjumli.following import Answers, CHUNK, PartResult, Program, Refused, SavedState
 from gathjumli.machines import Machines, SIZE_OPTIONS, ScriptRefused, of_directory
 from gathjumli.state_files import NOBODY, StateFile, after, restore, save_state, state_of
 
@@ -18,7 +17,7 @@ class Output:
     """Standard output. After a failure nothing more is written, which is reported at the end."""
 
     def __init__(self) -> None:
-        self.failure = None
+        self.failure: OSError | None = None
 
     def write(self, data: bytes) -> None:
         if self.failure:
@@ -36,13 +35,13 @@ class PrintedAnswers(Answers):
         super().__init__()
         self.output = output
 
-    def take(self, line: bytes) -> Any:
+    def take(self, line: bytes) -> PartResult | SavedState | Refused | None:
         if not line.startswith(b"> "):
             self.output.write(line + b"\n")
             return None
         return super().take(line)
 
-    def done(self) -> Any:
+    def done(self) -> PartResult | SavedState:
         sys.stdout.flush()
         return super().done()
 
@@ -73,7 +72,7 @@ class Script(Program):
             raise self.output.failure
 
 
-def run(program: Program, script: bytes, state: StateFile | None) -> dict[str, Any]:
+def run(program: Program, script: bytes, state: StateFile | None) -> dict[str, list[str]]:
     """Does a script, from a state if there is one; who is on and whose machine runs then."""
     if state:
         restore(program, state)
