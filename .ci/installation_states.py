@@ -299,6 +299,30 @@ def try_wrong_states(check: Check, site: Site) -> None:
     begins("one that the program refuses", f"{other} is not taken", "state Refused", path=one)
 
 
+def try_replaced(check: Check, site: Site, program: str) -> None:
+    """A program that is another one after an update is given no state, and no recording, of the one before."""
+    site.online()
+    run(stored(site, 1))
+    before = read(program)
+    write(f"{program}.other", before + b"# updated\n")
+    os.chmod(f"{program}.other", 0o755)
+    os.replace(f"{program}.other", program)
+    os.kill(site.program(), signal.SIGKILL)
+
+    async def types() -> None:
+        alice = await on(site)
+        alice.type("DISPLAY G1")
+        await alice.rest()
+
+    run(types())
+    holds = site.ended() == 1 and "was replaced during the session" in site.since_start()
+    write(program, before)
+    check("a program that was replaced", holds, *site.findings)
+    site.online()
+    check("the one before goes on", value_in(run(shown(site))) == 1, *site.findings)
+    check("it is suspended", site.stop() == 0, *site.findings)
+
+
 def try_unread(check: Check, site: Site) -> None:
     """However the reading of a state fails, the start computes all from the beginning."""
     site.online()
@@ -433,6 +457,7 @@ def try_states(check: Check, command: str, program: str, folder: str) -> None:
     try_wrong_states(check, make_site(command, f"{folder}/wrong"))
     try_other_files(check, make_site(command, f"{folder}/others"))
     try_ending(check, make_site(command, f"{folder}/ending"))
+    try_replaced(check, make_site(command, f"{folder}/replaced"), program)
     try_weights(check, f"{folder}/weights")
     try_printouts(check, make_site(command, f"{folder}/printouts"))
     try_no_state(check, killed_site(command, f"{folder}/none"))

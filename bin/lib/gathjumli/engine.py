@@ -190,8 +190,10 @@ class Engine:
         self.pace = Pace(aim)
         self.printouts = printouts
         self.states = states
-        # whether a state is being saved
+        # whether a state is being saved or read, which takes memory that is nobody's
         self.is_saving = False
+        # of the program, which an update may replace
+        self.program_sum = sum_of_file(machines.program())
         self.program = self.begun()
         self.thread = concurrent.futures.ThreadPoolExecutor(1)
         self.waiting = []
@@ -357,6 +359,9 @@ class Engine:
             if sum_of_file(volume) != known:
                 findings = f"{volume} was changed by somebody else during the session, which cannot go on without it as it was"
                 raise Failure(REFUSED, findings)
+        if sum_of_file(self.machines.program()) != self.program_sum:
+            findings = f"{self.machines.program()} was replaced during the session, which goes on with the one before"
+            raise Failure(REFUSED, findings)
         self.program.close()
         self.program = self.begun()
         self.do_recording(
@@ -412,6 +417,7 @@ class Engine:
         """Has the program go on from the last state that it takes, or else be at the beginning; where that is in the recording."""
         for mark, state in self.states.found():
             before = self.seconds()
+            self.is_saving = True
             try:
                 self.checked(self.program.restore, state.size, state.pieces())
             except (Failure, OSError) as reason:
@@ -420,6 +426,8 @@ class Engine:
                 self.program.close()
                 self.program = self.begun()
                 continue
+            finally:
+                self.is_saving = False
             self.states.goes_on(self.seconds(), self.seconds() - before, state)
             return mark, state
         # it has read the volumes when it has answered

@@ -167,9 +167,7 @@ def save_state(program: Program, path: str, machines: Machines, notes: dict[str,
     write_state(path, base, notes, saved)
 
 
-def after(
-    noted: dict[str, list[str]], changes: Iterable[tuple[str, str]]
-) -> dict[str, list[str]]:
+def after(noted: dict[str, list[str]], changes: Iterable[tuple[str, str]]) -> dict[str, list[str]]:
     """Who is on and whose machine runs after these changes."""
     found = {word: dict.fromkeys(noted[word]) for word in NOBODY}
     words = {"ON": ("on", True), "OFF": ("on", False)} | {
