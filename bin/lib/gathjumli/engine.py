@@ -157,7 +157,7 @@ class Progress:
             self.notify(self.done / self.whole)
 
 
-def text_of(reason: Exception) -> str:
+def reason_text(reason: Exception) -> str:
     """A line that says why something failed."""
     return str(reason.lines[0]) if isinstance(reason, Failure) and reason.lines else str(reason)
 
@@ -422,7 +422,7 @@ class Engine:
                 self.checked(self.program.restore, state.size, state.pieces())
             except (Failure, OSError) as reason:
                 # whatever it is: all can be computed from further back
-                self.notify(f"{state.path} is not taken: {text_of(reason)}")
+                self.notify(f"{state.path} is not taken: {reason_text(reason)}")
                 self.program.close()
                 self.program = self.begun()
                 continue
