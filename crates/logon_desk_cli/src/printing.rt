@@ -1,5 +1,8 @@
 //! The lines that the program writes.
-ghost use Rattle.std.specs.Prelude.{◌<◌};
+ghost use Rattle.std.specs.Prelude.{◌≡◌, ◌<◌, ◌+◌, ◌/◌, ◌%◌, ◌++◌, ◌∷◌, [], codes};
+ghost use Rattle.std.specs.Result.{OnOk};
+ghost use Rattle.logon_desk_cli.specs.Printed.{begun, entry_line, field, hex, hex_digit, hex_number, line};
+ghost use Rattle.logon_desk_cli.specs.Printed.{notice_text, noted, output_line};
 
 use logon_desk::{Entry, Notice, Output};
 use std::alloc::AllocError;
@@ -7,7 +10,10 @@ use terminal_lines::Bytes;
 use user_names::UserNo;
 
 /// The desk's own texts.
-fn text_of(notice: Notice) -> &'static [u8] {
+fn text_of(notice: Notice) -> &'static [u8]
+    ensures { result.now ≡ notice_text notice }
+{
+
     match notice {
         Notice::Online => b"GATHJUMLI ONLINE: TYPE LOGON NAME\r\n",
         Notice::TypeLogon => b"TYPE LOGON NAME, AND THEN THE PASSWORD\r\n",
@@ -23,7 +29,10 @@ fn text_of(notice: Notice) -> &'static [u8] {
 }
 
 /// The line for one thing that is to be done.
-pub fn print(output: &Output, text: &mut Bytes) -> Result<(), AllocError> {
+pub fn print(output: &Output, text: &mut Bytes) -> Result<(), AllocError>
+    ensures { OnOk result (text.new ≡ text.old ++ output_line output.now) }
+{
+
     match output {
         Output::Says { connection, notice } => give(*connection, text_of(*notice), b"", text),
         Output::Declines {
@@ -66,12 +75,18 @@ pub fn print(output: &Output, text: &mut Bytes) -> Result<(), AllocError> {
 }
 
 /// A line that only has a number.
-pub fn print_number(name: &[u8], number: usize, text: &mut Bytes) -> Result<(), AllocError> {
+pub fn print_number(name: &[u8], number: usize, text: &mut Bytes) -> Result<(), AllocError>
+    ensures { OnOk result (text.new ≡ text.old ++ line name.now number []) }
+{
+
     word(name, number, text)?;
     text.push(b'\n')
 }
 
-fn note(entry: Entry, text: &mut Bytes) -> Result<(), AllocError> {
+fn note(entry: Entry, text: &mut Bytes) -> Result<(), AllocError>
+    ensures { OnOk result (text.new ≡ text.old ++ noted entry) }
+{
+
     match entry {
         Entry::LogsOn { user, connection } => note_of(b"LOGS", Some(user), connection, text),
         Entry::IsBack { user, connection } => note_of(b"BACK", Some(user), connection, text),
@@ -85,7 +100,9 @@ fn note_of(
     user: Option<UserNo>,
     connection: usize,
     text: &mut Bytes,
-) -> Result<(), AllocError> {
+) -> Result<(), AllocError>
+    ensures { OnOk result (text.new ≡ text.old ++ entry_line name.now user connection) }
+{
     word(b"NOTE", connection, text)?;
     text.push(b' ')?;
     text.extend(name)?;
@@ -97,26 +114,38 @@ fn note_of(
     text.push(b'\n')
 }
 
-fn give(connection: usize, bytes: &[u8], end: &[u8], text: &mut Bytes) -> Result<(), AllocError> {
+fn give(connection: usize, bytes: &[u8], end: &[u8], text: &mut Bytes) -> Result<(), AllocError>
+    ensures { OnOk result (text.new ≡ text.old ++ line (codes "GIVE") connection (field (bytes.now ++ end.now))) }
+{
+
     word(b"GIVE", connection, text)?;
     push_bytes(bytes, end, text)?;
     text.push(b'\n')
 }
 
-fn word(name: &[u8], number: usize, text: &mut Bytes) -> Result<(), AllocError> {
+fn word(name: &[u8], number: usize, text: &mut Bytes) -> Result<(), AllocError>
+    ensures { OnOk result (text.new ≡ text.old ++ begun name.now number) }
+{
+
     text.extend(name)?;
     text.push(b' ')?;
     push_number(number, text)
 }
 
 /// A number of at most four hexadecimal digits.
-fn push_number(number: usize, text: &mut Bytes) -> Result<(), AllocError> {
+fn push_number(number: usize, text: &mut Bytes) -> Result<(), AllocError>
+    ensures { OnOk result (text.new ≡ text.old ++ hex_number number) }
+{
+
     push_byte((number / 256 % 256) as u8, text)?;
     push_byte((number % 256) as u8, text)
 }
 
 /// Bytes in hexadecimal, and a hyphen for none.
-fn push_bytes(bytes: &[u8], end: &[u8], text: &mut Bytes) -> Result<(), AllocError> {
+fn push_bytes(bytes: &[u8], end: &[u8], text: &mut Bytes) -> Result<(), AllocError>
+    ensures { OnOk result (text.new ≡ text.old ++ field (bytes.now ++ end.now)) }
+{
+
     text.push(b' ')?;
     if bytes.is_empty() && end.is_empty() {
         return text.push(b'-');
@@ -125,20 +154,27 @@ fn push_bytes(bytes: &[u8], end: &[u8], text: &mut Bytes) -> Result<(), AllocErr
     push_all(end, text)
 }
 
-fn push_all(bytes: &[u8], text: &mut Bytes) -> Result<(), AllocError> {
+fn push_all(bytes: &[u8], text: &mut Bytes) -> Result<(), AllocError>
+    ensures { OnOk result (text.new ≡ text.old ++ hex bytes.now) }
+{
+
     for byte in bytes {
         push_byte(*byte, text)?;
     }
     Ok(())
 }
 
-fn push_byte(byte: u8, text: &mut Bytes) -> Result<(), AllocError> {
+fn push_byte(byte: u8, text: &mut Bytes) -> Result<(), AllocError>
+    ensures { OnOk result (text.new ≡ text.old ++ hex_digit (byte / 16) ∷ hex_digit (byte % 16) ∷ []) }
+{
+
     text.push(digit(byte / 16))?;
     text.push(digit(byte % 16))
 }
 
 fn digit(value: u8) -> u8
     requires { value < 16 }
+    ensures { result ≡ hex_digit value }
 {
     if value < 10 {
         b'0' + value
