@@ -1,1 +1,3 @@
 pub mod Printed
+pub mod Events
+pub mod Answered

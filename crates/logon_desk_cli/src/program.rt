@@ -1,10 +1,19 @@
 //! What the program makes of each line.
-ghost use Rattle.std.specs.Prelude.{◌<◌, ◌≤◌, ◌^◌, length};
+ghost use Rattle.std.specs.Prelude.{◌≡◌, ◌<◌, ◌≤◌, ◌^◌, ◌++◌, [], length, true, false, IfOk, List, count_by};
+ghost use Rattle.std.specs.List.{filter};
+ghost use Rattle.std.specs.Result.{OnOk};
+ghost use Rattle.logon_desk.specs.Desk.{Does, Event};
+ghost use Rattle.logon_desk_cli.specs.Answered.{AreEvents, Begins, IsAnswered, TakesFrame, answer, came_at, is_read};
+ghost use Rattle.logon_desk_cli.specs.Answered.{read_lines, still_waits};
+ghost use Rattle.logon_desk_cli.specs.Events.{MakesRoom, MakesRoomFor, all_served, given, is_for, is_open, run};
+ghost use Rattle.logon_desk_cli.specs.Events.{served, takes, takes_next};
+ghost use Rattle.logon_desk_cli.specs.Printed.{printed};
 
 use crate::frame::{Frame, FrameError, frame_of};
 use crate::printing::{print, print_number};
-use logon_desk::{LogonDesk, MOST_WAITING, Outputs};
+use logon_desk::{LogonDesk, MOST_WAITING, Output, Outputs};
 use std::alloc::{AllocError, Global};
+use std::marker::Model;
 use terminal_lines::Bytes;
 use user_names::{MOST_USERS, UserNo};
 
@@ -20,29 +29,41 @@ pub struct Session {
     names: Vec<Bytes>,
     desk: Option<LogonDesk>,
     reading: Vec<usize>,
-    outputs: Outputs,
     text: Bytes,
+}
+
+impl Model for Session {
+    ghost use Rattle.logon_desk_cli.specs.Answered.{Program};
+
+    ghost Value = { Program };
+
+    ghost view = { λ s. record { names = s.names.items; desk = s.desk; reading = s.reading.items; text = s.text } };
 }
 
 impl Session {
     /// Before the first line.
-    pub fn new(alloc: Global) -> Session {
+    pub fn new(alloc: Global) -> Session
+        ensures { result ≡ Rattle.logon_desk_cli.specs.Answered.nothing_read }
+    {
         Session {
             names: Vec::new(alloc),
             desk: None,
             reading: Vec::new(alloc),
-            outputs: Outputs::new(alloc),
             text: Bytes::new(alloc),
         }
     }
 
     /// What is to be written.
-    pub fn printed(&self) -> &[u8] {
+    pub fn printed(&self) -> &[u8]
+        ensures { result.now ≡ self.now.text }
+    {
         self.text.as_slice()
     }
 
     /// It was written.
-    pub fn forget(&mut self) {
+    pub fn forget(&mut self)
+        ensures { self.new ≡ record self.old { text = [] } }
+    {
         self.text.clear();
     }
 
@@ -57,26 +78,21 @@ impl Session {
 
     fn take_frame(&mut self, alloc: Global, now: u64, frame: Frame) -> Result<bool, AllocError>
         requires { now < 2 ^ 62 }
+        ensures { IfOk result (λ taken. TakesFrame self.old now frame taken self.new) }
     {
         match &mut self.desk {
             Some(desk) => {
-                if !apply(
+                if !is_for(desk, &frame) {
+                    return Ok(false);
+                }
+                answer(
                     alloc,
                     desk,
                     now,
-                    frame,
+                    &frame,
                     &mut self.reading,
-                    &mut self.outputs,
-                )? {
-                    return Ok(false);
-                }
-                serve(alloc, desk, now, &mut self.outputs)?;
-                for output in self.outputs.as_slice() {
-                    print(output, &mut self.text)?;
-                }
-                self.outputs.clear();
-                read_on(desk, &mut self.reading, &mut self.text)?;
-                print_number(b"THAT", desk.strangers(), &mut self.text)?;
+                    &mut self.text,
+                )?;
                 Ok(true)
             }
             None => self.begin(alloc, frame),
@@ -84,7 +100,9 @@ impl Session {
     }
 
     /// The lines before a desk is there.
-    fn begin(&mut self, alloc: Global, frame: Frame) -> Result<bool, AllocError> {
+    fn begin(&mut self, alloc: Global, frame: Frame) -> Result<bool, AllocError>
+        ensures { IfOk result (λ taken. Begins self.old frame taken self.new) }
+    {
         match frame {
             Frame::User(name) => {
                 self.names.push(name)?;
@@ -100,110 +118,174 @@ impl Session {
     }
 }
 
-/// The user of a number, if there is one.
-fn user_of(desk: &LogonDesk, user: usize) -> Option<UserNo>
-    ensures { Rattle.std.specs.Prelude.IfSome result (λ found. found < length desk.now.accounts) }
+/// Whether the desk has the place or the user of a frame.
+fn is_for(desk: &LogonDesk, frame: &Frame) -> bool
+    ensures { result ≡ is_for desk.now frame.now }
 {
-    if user < desk.users() {
-        Some(UserNo::new(user as u8))
-    } else {
-        None
+    match frame {
+        Frame::Open { place, .. }
+        | Frame::Came { place, .. }
+        | Frame::Gone(place)
+        | Frame::Says { place, .. } => *place < desk.connections(),
+        Frame::Show { user, .. }
+        | Frame::Keep { user, .. }
+        | Frame::Turn { user, .. }
+        | Frame::Done(user) => *user < desk.users(),
+        Frame::Passed => true,
+        Frame::User(_) | Frame::Room(_) => false,
     }
 }
 
-/// Does what a line says; false where there is no such place or user.
-fn apply(
+/// Does what a frame says and what is due then, and adds the lines for it to the text.
+fn answer(
     alloc: Global,
     desk: &mut LogonDesk,
     now: u64,
-    frame: Frame,
+    frame: &Frame,
     reading: &mut Vec<usize>,
+    text: &mut Bytes,
+) -> Result<(), AllocError>
+    requires now { now < 2 ^ 62 }
+    requires is_for { is_for desk.old frame.now ≡ true }
+    ensures { OnOk result (IsAnswered desk.old now frame.now reading.old.items text.old desk.new reading.new.items text.new) }
+{
+    let mut outputs = Outputs::new(alloc);
+    note_reading(desk, frame, reading)?;
+    happen(alloc, desk, now, frame, &mut outputs)?;
+    print_all(outputs.as_slice(), text)?;
+    print_read(desk, reading, text)?;
+    *reading = still_reading(alloc, desk, reading)?;
+    print_number(b"THAT", desk.strangers(), text)
+}
+
+/// Gives the desk the events of a frame, and those that are due then.
+fn happen(
+    alloc: Global,
+    desk: &mut LogonDesk,
+    now: u64,
+    frame: &Frame,
     out: &mut Outputs,
-) -> Result<bool, AllocError>
-    requires { now < 2 ^ 62 }
+) -> Result<(), AllocError>
+    requires now { now < 2 ^ 62 }
+    requires is_for { is_for desk.old frame.now ≡ true }
+    ensures { OnOk result ((events : List Event) × AreEvents desk.old now frame.now events × Does (run desk.old events) out.old desk.new out.new) }
+{
+    make_room_for(alloc, desk, frame, out)?;
+    give(alloc, desk, now, frame, out)?;
+    serve(alloc, desk, now, out)?;
+    Ok(())
+}
+
+/// Notes the place to which bytes have come.
+fn note_reading(
+    desk: &LogonDesk,
+    frame: &Frame,
+    reading: &mut Vec<usize>,
+) -> Result<(), AllocError>
+    ensures { OnOk result (reading.new.items ≡ reading.old.items ++ came_at desk.now frame.now) }
 {
     match frame {
-        Frame::Open { place, address } if place < desk.connections() => {
-            make_room(alloc, desk, out)?;
-            if place < desk.connections() {
-                desk.open(alloc, place, address, now, out)?;
-            }
-            Ok(true)
+        Frame::Came { place, .. } if is_open(desk, *place) => {
+            reading.push(*place)?;
+            Ok(())
         }
-        Frame::Came { place, bytes } if place < desk.connections() => {
-            if desk.is_open(place) {
-                reading.push(place)?;
-                desk.receive(alloc, place, bytes.as_slice(), out)?;
-            }
-            Ok(true)
-        }
-        Frame::Gone(place) if place < desk.connections() => {
-            desk.close(alloc, place, out)?;
-            Ok(true)
-        }
-        Frame::Says {
-            place,
-            is_right,
-            guess,
-        } if place < desk.connections() => {
-            desk.answer(alloc, place, &guess, is_right, now, out)?;
-            Ok(true)
-        }
-        Frame::Passed => Ok(true),
-        frame => apply_to_user(alloc, desk, frame, out),
+        _ => Ok(()),
     }
 }
 
-fn apply_to_user(
+fn is_open(desk: &LogonDesk, place: usize) -> bool
+    ensures { result ≡ is_open desk.now place }
+{
+    place < desk.connections() && desk.is_open(place)
+}
+
+/// Makes room for a connection that opens.
+fn make_room_for(
     alloc: Global,
     desk: &mut LogonDesk,
-    frame: Frame,
+    frame: &Frame,
     out: &mut Outputs,
-) -> Result<bool, AllocError> {
+) -> Result<(), AllocError>
+    ensures is_for { OnOk result (is_for desk.new frame.now ≡ is_for desk.old frame.now) }
+    ensures room { OnOk result ((room : List Event) × MakesRoomFor desk.old frame.now room × Does (run desk.old room) out.old desk.new out.new) }
+{
     match frame {
-        Frame::Show { user, text } => {
-            let Some(user) = user_of(desk, user) else {
-                return Ok(false);
-            };
-            desk.print(alloc, user, text.as_slice(), out)?;
-        }
-        Frame::Keep { user, line } => {
-            let Some(user) = user_of(desk, user) else {
-                return Ok(false);
-            };
-            desk.keep(alloc, user, &line)?;
-        }
-        Frame::Turn { user, state } => {
-            let Some(user) = user_of(desk, user) else {
-                return Ok(false);
-            };
-            desk.turn(user, state > 0, state == 2);
-        }
-        Frame::Done(user) => {
-            let Some(user) = user_of(desk, user) else {
-                return Ok(false);
-            };
-            desk.finish(user);
-        }
-        _ => return Ok(false),
+        Frame::Open { .. } => make_room(alloc, desk, out),
+        _ => Ok(()),
     }
-    Ok(true)
 }
 
 /// Where too many are about to log on, one of those from the busiest address goes.
-fn make_room(alloc: Global, desk: &mut LogonDesk, out: &mut Outputs) -> Result<(), AllocError> {
+fn make_room(alloc: Global, desk: &mut LogonDesk, out: &mut Outputs) -> Result<(), AllocError>
+    ensures places { OnOk result (length desk.new.connections ≡ length desk.old.connections) }
+    ensures room { OnOk result ((room : List Event) × MakesRoom desk.old room × Does (run desk.old room) out.old desk.new out.new) }
+{
     if desk.strangers() < MOST_STRANGERS {
         return Ok(());
     }
     match desk.busiest() {
-        Some(place) => desk.close(alloc, place, out),
+        Some(place) => {
+            desk.close(alloc, place, out)?;
+            Ok(())
+        }
         None => Ok(()),
     }
+}
+
+/// Gives the desk the event that a frame is.
+fn give(
+    alloc: Global,
+    desk: &mut LogonDesk,
+    now: u64,
+    frame: &Frame,
+    out: &mut Outputs,
+) -> Result<(), AllocError>
+    requires now { now < 2 ^ 62 }
+    requires is_for { is_for desk.old frame.now ≡ true }
+    ensures { OnOk result (Does (run desk.old (given desk.old now frame.now)) out.old desk.new out.new) }
+{
+    match frame {
+        Frame::Open { place, address } => desk.open(alloc, *place, *address, now, out),
+        Frame::Came { place, bytes } if desk.is_open(*place) => desk.receive(
+            alloc,
+            *place,
+            bytes.as_slice(),
+            out,
+        ),
+        Frame::Gone(place) => desk.close(alloc, *place, out),
+        Frame::Says {
+            place,
+            is_right,
+            guess,
+        } => desk.answer(alloc, *place, guess, *is_right, now, out),
+        Frame::Show { user, text } => desk.print(alloc, user_no(desk, *user), text.as_slice(), out),
+        Frame::Keep { user, line } => desk.keep(alloc, user_no(desk, *user), line),
+        Frame::Turn { user, state } => {
+            desk.turn(user_no(desk, *user), *state > 0, *state == 2);
+            Ok(())
+        }
+        Frame::Done(user) => {
+            desk.finish(user_no(desk, *user));
+            Ok(())
+        }
+        _ => Ok(()),
+    }
+}
+
+/// The user of a number.
+fn user_no(desk: &LogonDesk, user: usize) -> UserNo
+    requires { user < length desk.now.accounts }
+    ensures { result ≡ user }
+{
+    // There are no more users than have numbers.
+    let _users = desk.users();
+    UserNo::new(user as u8)
 }
 
 /// Takes at each place all bytes that can be taken, and does what is due there.
 fn serve(alloc: Global, desk: &mut LogonDesk, now: u64, out: &mut Outputs) -> Result<(), AllocError>
     requires { now < 2 ^ 62 }
+    ensures { OnOk result (Does (run desk.old (all_served desk.old now)) out.old desk.new out.new) }
 {
     for place in 0..desk.connections() {
         serve_place(alloc, desk, place, now, out)?;
@@ -219,30 +301,88 @@ fn serve_place(
     out: &mut Outputs,
 ) -> Result<(), AllocError>
     requires { now < 2 ^ 62 }
+    ensures { OnOk result (Does (run desk.old (served desk.old place now)) out.old desk.new out.new) }
 {
-    for _ in 0..MOST_WAITING {
-        if place >= desk.connections() || desk.waiting(place) == 0 || !desk.is_taking(place) {
-            break;
-        }
-        desk.take(alloc, place, now, out)?;
-    }
+    take_all(alloc, desk, place, now, out)?;
     if place < desk.connections() {
         desk.wake(alloc, place, now, out)?;
     }
     Ok(())
 }
 
-/// Tells of which places all bytes were taken, so that more may come.
-fn read_on(desk: &LogonDesk, reading: &mut Vec<usize>, text: &mut Bytes) -> Result<(), AllocError> {
-    for place in reading.iter() {
-        if *place < desk.connections() && desk.is_open(*place) && desk.waiting(*place) == 0 {
-            print_number(b"READ", *place, text)?;
+/// Takes the bytes that wait at a place, as long as one is taken.
+fn take_all(
+    alloc: Global,
+    desk: &mut LogonDesk,
+    place: usize,
+    now: u64,
+    out: &mut Outputs,
+) -> Result<(), AllocError>
+    requires { now < 2 ^ 62 }
+    ensures { OnOk result (Does (run desk.old (takes MOST_WAITING desk.old place now)) out.old desk.new out.new) }
+{
+    for taken in 0..MOST_WAITING {
+        if !takes_next(desk, place) {
+            return Ok(());
         }
+        desk.take(alloc, place, now, out)?;
     }
-    reading.retain(|place| still_waits(desk, *place));
     Ok(())
 }
 
-fn still_waits(desk: &LogonDesk, place: usize) -> bool {
-    place < desk.connections() && desk.is_open(place) && desk.waiting(place) > 0
+/// Whether a byte waits at a place, and is taken there now.
+fn takes_next(desk: &LogonDesk, place: usize) -> bool
+    ensures value { result ≡ takes_next desk.now place }
+    ensures within { result ≡ true → place < length desk.now.connections }
+{
+    place < desk.connections() && desk.waiting(place) > 0 && desk.is_taking(place)
+}
+
+/// Adds the lines for what is to be done.
+fn print_all(outputs: &[Output], text: &mut Bytes) -> Result<(), AllocError>
+    ensures { OnOk result (text.new ≡ text.old ++ printed outputs.now) }
+{
+    for output in outputs {
+        print(output, text)?;
+    }
+    Ok(())
+}
+
+/// The places of which bytes still wait.
+fn still_reading(
+    alloc: Global,
+    desk: &LogonDesk,
+    reading: &[usize],
+) -> Result<Vec<usize>, AllocError>
+    ensures { IfOk result (λ places. places.items ≡ filter (still_waits desk.now) reading.now) }
+{
+    reading
+        .iter()
+        .filter(|place| still_waits(desk, **place))
+        .copied()
+        .collect(alloc)
+}
+
+/// Adds a line for each place of which all bytes were taken.
+fn print_read(desk: &LogonDesk, reading: &[usize], text: &mut Bytes) -> Result<(), AllocError>
+    ensures { OnOk result (text.new ≡ text.old ++ read_lines desk.now reading.now) }
+{
+    for place in reading {
+        if is_read(desk, *place) {
+            print_number(b"READ", *place, text)?;
+        }
+    }
+    Ok(())
+}
+
+fn is_read(desk: &LogonDesk, place: usize) -> bool
+    ensures { result ≡ is_read desk.now place }
+{
+    is_open(desk, place) && desk.waiting(place) == 0
+}
+
+fn still_waits(desk: &LogonDesk, place: usize) -> bool
+    ensures { result ≡ still_waits desk.now place }
+{
+    is_open(desk, place) && desk.waiting(place) > 0
 }
