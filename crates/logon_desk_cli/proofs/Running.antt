@@ -19,7 +19,7 @@ run-outputs d [] second = refl
 run-outputs d (event ∷ first) second =
     ap (λ (more : List Output). (step d event).outputs ++ more) (run-outputs (step d event).desk first second)
     ∙ sym (append_assoc (step d event).outputs (run (step d event).desk first).outputs
-        (run (run (step d event).desk first).desk second).outputs)
+    (run (run (step d event).desk first).desk second).outputs)
 
 -- some events, and then others
 pub does-then : (d : Desk) (first second : List Event) (before between after : List Output) (e new : Desk)
@@ -27,8 +27,13 @@ pub does-then : (d : Desk) (first second : List Event) (before between after : L
 does-then d first second before between after e new one two =
     let desk-is : new ≡ (run d (first ++ second)).desk = cc (run-desk d first second, one.0, two.0) in
     let outputs-are : after ≡ before ++ (run d (first ++ second)).outputs =
-        cc (run-outputs d first second, one.0, one.1, two.1,
-            append_assoc before (run d first).outputs (run (run d first).desk second).outputs) in
+    cc (
+      run-outputs d first second,
+      one.0,
+      one.1,
+      two.1,
+      append_assoc before (run d first).outputs (run (run d first).desk second).outputs,
+    ) in
     (desk-is, outputs-are)
 
 pub does-one : (d : Desk) (event : Event) (before after : List Output) (new : Desk)
@@ -48,8 +53,13 @@ pub leads-on : (whole : Step) (before out after : List Output) (d new : Desk) (h
 leads-on whole before out after d new here rest leads does =
     let desk-is : (run new rest).desk ≡ whole.desk = cc (run-desk d here rest, leads.0, does.0) in
     let outputs-are : after ++ (run new rest).outputs ≡ before ++ whole.outputs =
-        cc (run-outputs d here rest, leads.1, does.0, does.1,
-            append_assoc out (run d here).outputs (run (run d here).desk rest).outputs) in
+    cc (
+      run-outputs d here rest,
+      leads.1,
+      does.0,
+      does.1,
+      append_assoc out (run d here).outputs (run (run d here).desk rest).outputs,
+    ) in
     (desk-is, outputs-are)
 
 pub leads-end : (whole : Step) (before out : List Output) (d : Desk) → Leads whole before d out [] → Does whole before d out
@@ -80,24 +90,24 @@ taken-more whole before out after d new most i c now inside takes-one leads is =
     let fewer : most - i ≡ suc (most - (i + 1)) = omega arith in
     let rest : List Event = takes (most - (i + 1)) (step d (Takes c now)).desk c now in
     let same : takes (most - i) d c now ≡ (Takes c now ∷ []) ++ rest =
-        ap (λ (n : ℕ). takes n d c now) fewer ∙ takes-yes (most - (i + 1)) d c now takes-one in
+    ap (λ (n : ℕ). takes n d c now) fewer ∙ takes-yes (most - (i + 1)) d c now takes-one in
     let on : Leads whole before new after rest =
-        leads-on whole before out after d new (Takes c now ∷ []) rest
-            (subst (λ (events : List Event). Leads whole before d out events) same leads)
-            (does-one d (Takes c now) out after new is) in
+    leads-on whole before out after d new (Takes c now ∷ []) rest
+    (subst (λ (events : List Event). Leads whole before d out events) same leads)
+    (does-one d (Takes c now) out after new is) in
     subst (λ (e : Desk). Leads whole before new after (takes (most - (i + 1)) e c now)) (sym is.0) on
 
 pub taken-stop : (whole : Step) (before out : List Output) (d : Desk) (most c now : ℕ) → takes_next d c ≡ false
     → Leads whole before d out (takes most d c now) → Does whole before d out
 taken-stop whole before out d most c now stops leads =
     leads-end whole before out d
-        (subst (λ (events : List Event). Leads whole before d out events) (takes-no most d c now stops) leads)
+    (subst (λ (events : List Event). Leads whole before d out events) (takes-no most d c now stops) leads)
 
 pub taken-end : (whole : Step) (before out : List Output) (d : Desk) (left c now : ℕ) → left ≡ 0
     → Leads whole before d out (takes left d c now) → Does whole before d out
 taken-end whole before out d left c now none leads =
     leads-end whole before out d
-        (subst (λ (events : List Event). Leads whole before d out events) (ap (λ (n : ℕ). takes n d c now) none ∙ takes-none d c now) leads)
+    (subst (λ (events : List Event). Leads whole before d out events) (ap (λ (n : ℕ). takes n d c now) none ∙ takes-none d c now) leads)
 
 -- places that are served
 
@@ -124,17 +134,17 @@ served-more whole before out after d new places c now inside leads does =
     let fewer : places - c ≡ suc (places - (c + 1)) = omega arith in
     let rest : List Event = served_from (places - (c + 1)) (run d (served d c now)).desk (c + 1) now in
     let same : served_from (places - c) d c now ≡ served d c now ++ rest =
-        ap (λ (n : ℕ). served_from n d c now) fewer ∙ served-first (places - (c + 1)) d c now in
+    ap (λ (n : ℕ). served_from n d c now) fewer ∙ served-first (places - (c + 1)) d c now in
     let on : Leads whole before new after rest =
-        leads-on whole before out after d new (served d c now) rest
-            (subst (λ (events : List Event). Leads whole before d out events) same leads) does in
+    leads-on whole before out after d new (served d c now) rest
+    (subst (λ (events : List Event). Leads whole before d out events) same leads) does in
     subst (λ (e : Desk). Leads whole before new after (served_from (places - (c + 1)) e (c + 1) now)) (sym does.0) on
 
 pub served-end : (whole : Step) (before out : List Output) (d : Desk) (left c now : ℕ) → left ≡ 0
     → Leads whole before d out (served_from left d c now) → Does whole before d out
 served-end whole before out d left c now none leads =
     leads-end whole before out d
-        (subst (λ (events : List Event). Leads whole before d out events) (ap (λ (n : ℕ). served_from n d c now) none ∙ served-none d c now) leads)
+    (subst (λ (events : List Event). Leads whole before d out events) (ap (λ (n : ℕ). served_from n d c now) none ∙ served-none d c now) leads)
 
 -- room is made for a frame, its event happens, and all places are served
 pub events-of : (d roomy given-to new : Desk) (now : ℕ) (frame : Frame) (before first between after : List Output)
@@ -145,13 +155,13 @@ pub events-of : (d roomy given-to new : Desk) (now : ℕ) (frame : Frame) (befor
 events-of d roomy given-to new now frame before first between after made gives serves =
     let room : List Event = made.0 in
     let gives-there : Does (run roomy (given (run d room).desk now frame)) first given-to between =
-        subst (λ (e : Desk). Does (run roomy (given e now frame)) first given-to between) made.2.0 gives in
+    subst (λ (e : Desk). Does (run roomy (given e now frame)) first given-to between) made.2.0 gives in
     let start : List Event = room ++ given (run d room).desk now frame in
     let started : Does (run d start) before given-to between =
-        does-then d room (given (run d room).desk now frame) before first between roomy given-to made.2 gives-there in
+    does-then d room (given (run d room).desk now frame) before first between roomy given-to made.2 gives-there in
     let serves-there : Does (run given-to (all_served (run d start).desk now)) between new after =
-        subst (λ (e : Desk). Does (run given-to (all_served e now)) between new after) started.0 serves in
+    subst (λ (e : Desk). Does (run given-to (all_served e now)) between new after) started.0 serves in
     let events : List Event = start ++ all_served (run d start).desk now in
     let are : AreEvents d now frame events =
-        record { room = room; makes_room = made.1; first = start; is_given = refl; happen = refl } in
+    record { room = room; makes_room = made.1; first = start; is_given = refl; happen = refl } in
     (events, are, does-then d start (all_served (run d start).desk now) before between after given-to new started serves-there)

@@ -56,6 +56,6 @@ pub no-strangers : (connections : List Connection) → All (λ (x : Connection).
     → count_by is_stranger connections ≤ 0
 no-strangers connections none =
     let at-most = sum_by-le (λ (x : Connection). cond (is_stranger x) 1 0) 0 connections
-        (All-weaker (λ (x : Connection). is_stranger x ≡ false) (λ (x : Connection). cond (is_stranger x) 1 0 ≤ 0)
-            (λ (x : Connection). none-by (is_stranger x)) connections none) in
+    (All-weaker (λ (x : Connection). is_stranger x ≡ false) (λ (x : Connection). cond (is_stranger x) 1 0 ≤ 0)
+    (λ (x : Connection). none-by (is_stranger x)) connections none) in
     omega (arith, at-most)

@@ -13,7 +13,6 @@ use user_names::UserNo;
 fn text_of(notice: Notice) -> &'static [u8]
     ensures { result.now ≡ notice_text notice }
 {
-
     match notice {
         Notice::Online => b"GATHJUMLI ONLINE: TYPE LOGON NAME\r\n",
         Notice::TypeLogon => b"TYPE LOGON NAME, AND THEN THE PASSWORD\r\n",
@@ -32,7 +31,6 @@ fn text_of(notice: Notice) -> &'static [u8]
 pub fn print(output: &Output, text: &mut Bytes) -> Result<(), AllocError>
     ensures { OnOk result (text.new ≡ text.old ++ output_line output.now) }
 {
-
     match output {
         Output::Says { connection, notice } => give(*connection, text_of(*notice), b"", text),
         Output::Declines {
@@ -78,7 +76,6 @@ pub fn print(output: &Output, text: &mut Bytes) -> Result<(), AllocError>
 pub fn print_number(name: &[u8], number: usize, text: &mut Bytes) -> Result<(), AllocError>
     ensures { OnOk result (text.new ≡ text.old ++ line name.now number []) }
 {
-
     word(name, number, text)?;
     text.push(b'\n')
 }
@@ -86,7 +83,6 @@ pub fn print_number(name: &[u8], number: usize, text: &mut Bytes) -> Result<(), 
 fn note(entry: Entry, text: &mut Bytes) -> Result<(), AllocError>
     ensures { OnOk result (text.new ≡ text.old ++ noted entry) }
 {
-
     match entry {
         Entry::LogsOn { user, connection } => note_of(b"LOGS", Some(user), connection, text),
         Entry::IsBack { user, connection } => note_of(b"BACK", Some(user), connection, text),
@@ -117,7 +113,6 @@ fn note_of(
 fn give(connection: usize, bytes: &[u8], end: &[u8], text: &mut Bytes) -> Result<(), AllocError>
     ensures { OnOk result (text.new ≡ text.old ++ line (codes "GIVE") connection (field (bytes.now ++ end.now))) }
 {
-
     word(b"GIVE", connection, text)?;
     push_bytes(bytes, end, text)?;
     text.push(b'\n')
@@ -126,7 +121,6 @@ fn give(connection: usize, bytes: &[u8], end: &[u8], text: &mut Bytes) -> Result
 fn word(name: &[u8], number: usize, text: &mut Bytes) -> Result<(), AllocError>
     ensures { OnOk result (text.new ≡ text.old ++ begun name.now number) }
 {
-
     text.extend(name)?;
     text.push(b' ')?;
     push_number(number, text)
@@ -136,7 +130,6 @@ fn word(name: &[u8], number: usize, text: &mut Bytes) -> Result<(), AllocError>
 fn push_number(number: usize, text: &mut Bytes) -> Result<(), AllocError>
     ensures { OnOk result (text.new ≡ text.old ++ hex_number number) }
 {
-
     push_byte((number / 256 % 256) as u8, text)?;
     push_byte((number % 256) as u8, text)
 }
@@ -145,7 +138,6 @@ fn push_number(number: usize, text: &mut Bytes) -> Result<(), AllocError>
 fn push_bytes(bytes: &[u8], end: &[u8], text: &mut Bytes) -> Result<(), AllocError>
     ensures { OnOk result (text.new ≡ text.old ++ field (bytes.now ++ end.now)) }
 {
-
     text.push(b' ')?;
     if bytes.is_empty() && end.is_empty() {
         return text.push(b'-');
@@ -157,7 +149,6 @@ fn push_bytes(bytes: &[u8], end: &[u8], text: &mut Bytes) -> Result<(), AllocErr
 fn push_all(bytes: &[u8], text: &mut Bytes) -> Result<(), AllocError>
     ensures { OnOk result (text.new ≡ text.old ++ hex bytes.now) }
 {
-
     for byte in bytes {
         push_byte(*byte, text)?;
     }
@@ -167,7 +158,6 @@ fn push_all(bytes: &[u8], text: &mut Bytes) -> Result<(), AllocError>
 fn push_byte(byte: u8, text: &mut Bytes) -> Result<(), AllocError>
     ensures { OnOk result (text.new ≡ text.old ++ hex_digit (byte / 16) ∷ hex_digit (byte % 16) ∷ []) }
 {
-
     text.push(digit(byte / 16))?;
     text.push(digit(byte % 16))
 }

@@ -85,14 +85,7 @@ impl Session {
                 if !is_for(desk, &frame) {
                     return Ok(false);
                 }
-                answer(
-                    alloc,
-                    desk,
-                    now,
-                    &frame,
-                    &mut self.reading,
-                    &mut self.text,
-                )?;
+                answer(alloc, desk, now, &frame, &mut self.reading, &mut self.text)?;
                 Ok(true)
             }
             None => self.begin(alloc, frame),
@@ -177,11 +170,7 @@ fn happen(
 }
 
 /// Notes the place to which bytes have come.
-fn note_reading(
-    desk: &LogonDesk,
-    frame: &Frame,
-    reading: &mut Vec<usize>,
-) -> Result<(), AllocError>
+fn note_reading(desk: &LogonDesk, frame: &Frame, reading: &mut Vec<usize>) -> Result<(), AllocError>
     ensures { OnOk result (reading.new.items ≡ reading.old.items ++ came_at desk.now frame.now) }
 {
     match frame {

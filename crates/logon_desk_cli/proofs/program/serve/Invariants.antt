@@ -7,4 +7,4 @@ use Rattle.logon_desk_cli.proofs.program.serve.Given as goal
 abbrev pub invariant-loop-place : goal.invariant-loop-place
 invariant-loop-place l =
     Leads (run l.fn.desk (all_served l.fn.desk l.now)) l.fn.out l.desk l.out
-        (served_from (length l.fn.desk.connections - l.place) l.desk l.place l.now)
+    (served_from (length l.fn.desk.connections - l.place) l.desk l.place l.now)
