@@ -6,6 +6,7 @@ use Rattle.logon_desk.specs.Desk.{Desk, Event, Step, connection_at, new_desk}
 use Rattle.logon_desk.specs.Strangers.{is_stranger}
 use Rattle.logon_desk_cli.specs.Events.{MakesRoomFor, all_served, given, is_for, is_open, run}
 use Rattle.logon_desk_cli.specs.Printed.{line, printed}
+use Rattle.logon_desk_cli.specs.Read.{frame_of}
 use Rattle.logon_desk_cli.specs.declared.frame.Frame.{Frame}
 use Rattle.logon_desk_cli.specs.declared.frame.Frame.TheVariants.{User, Room, Open, Came, Gone, Passed, Show}
 use Rattle.logon_desk_cli.specs.declared.frame.Frame.TheVariants.{Keep, Turn, Done, Says}
@@ -105,6 +106,11 @@ Begins old (Says place is_right guess) taken new = (taken ≡ false) × (new ≡
 -- what the program makes of a frame, and whether it goes on
 abbrev pub TakesFrame : Program → ℕ → Frame → Bool → Program → Type 0
 TakesFrame old now frame taken new = MatchOption old.desk (Begins old frame taken new) (λ d. AnswersFrame old d now frame taken new)
+
+-- what the program makes of a line, and whether it goes on: a line that is no frame ends it
+abbrev pub TakesLine : Program → List ℕ → Bool → Program → Type 0
+TakesLine old text taken new =
+    MatchOption (frame_of text) ((taken ≡ false) × (new ≡ old)) (λ found. TakesFrame old found.time found.frame taken new)
 
 -- before the first line
 abbrev pub nothing_read : Program

@@ -1,3 +1,4 @@
 pub mod Printed
 pub mod Events
+pub mod Read
 pub mod Answered

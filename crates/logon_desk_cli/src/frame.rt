@@ -1,8 +1,13 @@
 //! The lines that the program reads.
-ghost use Rattle.std.specs.Prelude.{◌<◌, ◌^◌, IfOk};
+ghost use Rattle.std.specs.Prelude.{◌≡◌, ◌<◌, ◌^◌, ◌∷◌, [], IfOk, MatchOption};
+ghost use Rattle.std.specs.Result.{OnOk};
+ghost use Rattle.logon_desk_cli.specs.Read.{IsRead, behind, byte_of, bytes_at, bytes_of, frame_of, frame_with};
+ghost use Rattle.logon_desk_cli.specs.Read.{more_digit, number_at, number_from, pairs_of, verb_of};
+ghost use Rattle.logon_desk_cli.specs.declared.frame.Verb.TheVariants as verbs;
 
 use logon_desk::KeptLine;
 use std::alloc::{AllocError, Global};
+use std::marker::Model;
 use terminal_lines::{Bytes, Guess};
 use text_words::numbers::digit_value;
 use text_words::words::{cut_word, next_word};
@@ -89,119 +94,223 @@ impl From<AllocError> for FrameError {
     }
 }
 
+/// A frame and its time.
+#[derive(Drop)]
+pub struct TimedFrame {
+    /// Its time, in milliseconds.
+    pub time: u64,
+    /// The frame.
+    pub frame: Frame,
+}
+
+/// The first word of a line.
+#[derive(Clone, Copy, Drop)]
+enum Verb {
+    User,
+    Room,
+    Open,
+    Came,
+    Gone,
+    Time,
+    Show,
+    Keep,
+    Turn,
+    Done,
+    Says,
+}
+
 /// The words of a line that were not read.
 #[derive(Drop)]
 struct Words<'a> {
     rest: &'a [u8],
 }
 
+impl<'a> Model for Words<'a> {
+    ghost use Rattle.std.specs.Prelude.{ℕ, List};
+    ghost use Rattle.text_words.specs.Words.{words_of};
+
+    ghost Value = { List (List ℕ) };
+
+    ghost view = { λ w. words_of w.rest.now };
+}
+
 impl<'a> Words<'a> {
-    fn next(&mut self) -> Result<&'a [u8], FrameError> {
-        match next_word(self.rest) {
-            Some((word, rest)) => {
-                self.rest = rest;
-                Ok(word)
-            }
+    fn next(&mut self) -> Option<&'a [u8]>
+        ensures { MatchOption result (self.old ≡ []) (λ word. self.old ≡ word.now ∷ self.new) }
+    {
+        let (word, rest) = next_word(self.rest)?;
+        self.rest = rest;
+        Some(word)
+    }
+
+    /// A hexadecimal number.
+    fn number(&mut self) -> Result<u64, FrameError>
+        ensures value { IsRead result (number_at self.old) }
+        ensures rest { OnOk result (self.new ≡ behind self.old) }
+    {
+        match self.next() {
+            Some(word) => number_of(word).ok_or(FrameError::Faulty),
             None => Err(FrameError::Faulty),
         }
     }
 
-    /// A hexadecimal number.
-    fn number(&mut self) -> Result<u64, FrameError> {
-        let mut number: u64 = 0;
-        for digit in self.next()? {
-            let value = digit_value(*digit).ok_or(FrameError::Faulty)?;
-            number = number
-                .checked_mul(16)
-                .and_then(|shifted| shifted.checked_add(u64::from(value)))
-                .ok_or(FrameError::Faulty)?;
-        }
-        Ok(number)
-    }
-
-    fn place(&mut self) -> Result<usize, FrameError> {
+    fn place(&mut self) -> Result<usize, FrameError>
+        ensures value { IsRead result (number_at self.old) }
+        ensures rest { OnOk result (self.new ≡ behind self.old) }
+    {
         Ok(self.number()? as usize)
     }
 
     /// Bytes in hexadecimal; `-` for none.
-    fn bytes(&mut self, alloc: Global) -> Result<Bytes, FrameError> {
-        let mut bytes = Bytes::new(alloc);
-        let digits = self.next()?;
-        if digits == b"-".as_slice() {
-            return Ok(bytes);
+    fn bytes(&mut self, alloc: Global) -> Result<Bytes, FrameError>
+        ensures value { IsRead result (bytes_at self.old) }
+        ensures rest { OnOk result (self.new ≡ behind self.old) }
+    {
+        match self.next() {
+            Some(word) => bytes_of(alloc, word),
+            None => Err(FrameError::Faulty),
         }
-        for pair in digits.chunks(2) {
-            bytes.push(byte_of(pair)?)?;
-        }
-        Ok(bytes)
     }
 }
 
-fn byte_of(pair: &[u8]) -> Result<u8, FrameError> {
-    let [high, low] = pair else {
-        return Err(FrameError::Faulty);
-    };
-    let high = digit_value(*high).ok_or(FrameError::Faulty)?;
-    let low = digit_value(*low).ok_or(FrameError::Faulty)?;
+/// The number that hexadecimal digits spell, if it has 64 bits.
+fn number_of(digits: &[u8]) -> Option<u64>
+    ensures { result ≡ number_from 0 digits.now }
+{
+    let mut number: u64 = 0;
+    for digit in digits {
+        number = more_digit(number, digit_value(*digit)?)?;
+    }
+    Some(number)
+}
+
+fn more_digit(number: u64, digit: u8) -> Option<u64>
+    ensures { result ≡ more_digit number digit }
+{
+    number.checked_mul(16)?.checked_add(u64::from(digit))
+}
+
+/// The bytes that hexadecimal digits spell; `-` for none.
+fn bytes_of(alloc: Global, digits: &[u8]) -> Result<Bytes, FrameError>
+    ensures { IsRead result (bytes_of digits.now) }
+{
+    if digits == b"-".as_slice() {
+        return Ok(Bytes::new(alloc));
+    }
+    pairs_of(alloc, digits)
+}
+
+fn pairs_of(alloc: Global, digits: &[u8]) -> Result<Bytes, FrameError>
+    ensures { IsRead result (pairs_of digits.now) }
+{
+    let mut bytes = Bytes::new(alloc);
+    let mut rest = digits;
+    while let [high, low, after @ ..] = rest {
+        bytes.push(byte_of(*high, *low)?)?;
+        rest = after;
+    }
+    if rest.is_empty() {
+        Ok(bytes)
+    } else {
+        Err(FrameError::Faulty)
+    }
+}
+
+fn byte_of(high: u8, low: u8) -> Result<u8, FrameError>
+    ensures { IsRead result (byte_of high low) }
+{
+    let high = digit_value(high).ok_or(FrameError::Faulty)?;
+    let low = digit_value(low).ok_or(FrameError::Faulty)?;
     Ok(high * 16 + low)
 }
 
 /// What a line says, and its time.
-pub fn frame_of(alloc: Global, line: &[u8]) -> Result<(u64, Frame), FrameError>
-    ensures { IfOk result (λ found. found.0 < 2 ^ 62) }
+pub fn frame_of(alloc: Global, line: &[u8]) -> Result<TimedFrame, FrameError>
+    ensures value { IsRead result (frame_of line.now) }
+    ensures time { IfOk result (λ found. found.time < 2 ^ 62) }
 {
     let (word, rest) = cut_word(line);
+    let verb = verb_of(word).ok_or(FrameError::Faulty)?;
     let mut words = Words {
         rest: rest.unwrap_or(&[]),
     };
-    let now = words.number()?.min(LATEST);
-    Ok((now, read(alloc, word, &mut words)?))
+    let time = words.number()?.min(LATEST);
+    let frame = read(alloc, verb, &mut words)?;
+    Ok(TimedFrame { time, frame })
 }
 
-fn read(alloc: Global, word: &[u8], words: &mut Words) -> Result<Frame, FrameError> {
+fn verb_of(word: &[u8]) -> Option<Verb>
+    ensures { result ≡ verb_of word.now }
+{
     match word {
-        b"USER" => Ok(Frame::User(words.bytes(alloc)?)),
-        b"ROOM" => Ok(Frame::Room(words.place()?)),
-        b"OPEN" => Ok(Frame::Open {
+        b"USER" => Some(Verb::User),
+        b"ROOM" => Some(Verb::Room),
+        b"OPEN" => Some(Verb::Open),
+        b"CAME" => Some(Verb::Came),
+        b"GONE" => Some(Verb::Gone),
+        b"TIME" => Some(Verb::Time),
+        b"SHOW" => Some(Verb::Show),
+        b"KEEP" => Some(Verb::Keep),
+        b"TURN" => Some(Verb::Turn),
+        b"DONE" => Some(Verb::Done),
+        b"SAYS" => Some(Verb::Says),
+        _ => None,
+    }
+}
+
+/// The frame that the words of a line are.
+fn read(alloc: Global, verb: Verb, words: &mut Words) -> Result<Frame, FrameError>
+    ensures { IsRead result (frame_with verb words.old) }
+{
+    match verb {
+        Verb::User => Ok(Frame::User(words.bytes(alloc)?)),
+        Verb::Room => Ok(Frame::Room(words.place()?)),
+        Verb::Open => Ok(Frame::Open {
             place: words.place()?,
             address: words.number()?,
         }),
-        b"CAME" => Ok(Frame::Came {
+        Verb::Came => Ok(Frame::Came {
             place: words.place()?,
             bytes: words.bytes(alloc)?,
         }),
-        b"GONE" => Ok(Frame::Gone(words.place()?)),
-        b"TIME" => Ok(Frame::Passed),
-        b"SHOW" => Ok(Frame::Show {
+        Verb::Gone => Ok(Frame::Gone(words.place()?)),
+        Verb::Time => Ok(Frame::Passed),
+        Verb::Show => Ok(Frame::Show {
             user: words.place()?,
             text: words.bytes(alloc)?,
         }),
-        _ => read_more(alloc, word, words),
-    }
-}
-
-fn read_more(alloc: Global, word: &[u8], words: &mut Words) -> Result<Frame, FrameError> {
-    match word {
-        b"KEEP" => Ok(Frame::Keep {
-            user: words.place()?,
-            line: KeptLine {
-                minute: words.bytes(alloc)?,
-                text: words.bytes(alloc)?,
-            },
-        }),
-        b"TURN" => Ok(Frame::Turn {
+        Verb::Keep => keep_of(alloc, words),
+        Verb::Turn => Ok(Frame::Turn {
             user: words.place()?,
             state: words.number()?,
         }),
-        b"DONE" => Ok(Frame::Done(words.place()?)),
-        b"SAYS" => Ok(Frame::Says {
-            place: words.place()?,
-            is_right: words.number()? == 1,
-            guess: Guess {
-                name: words.bytes(alloc)?,
-                password: words.bytes(alloc)?,
-            },
-        }),
-        _ => Err(FrameError::Faulty),
+        Verb::Done => Ok(Frame::Done(words.place()?)),
+        Verb::Says => says_of(alloc, words),
     }
+}
+
+fn keep_of(alloc: Global, words: &mut Words) -> Result<Frame, FrameError>
+    ensures { IsRead result (frame_with verbs.Keep words.old) }
+{
+    let user = words.place()?;
+    let minute = words.bytes(alloc)?;
+    let text = words.bytes(alloc)?;
+    Ok(Frame::Keep {
+        user,
+        line: KeptLine { minute, text },
+    })
+}
+
+fn says_of(alloc: Global, words: &mut Words) -> Result<Frame, FrameError>
+    ensures { IsRead result (frame_with verbs.Says words.old) }
+{
+    let place = words.place()?;
+    let is_right = words.number()? == 1;
+    let name = words.bytes(alloc)?;
+    let password = words.bytes(alloc)?;
+    Ok(Frame::Says {
+        place,
+        is_right,
+        guess: Guess { name, password },
+    })
 }

@@ -3,13 +3,13 @@ ghost use Rattle.std.specs.Prelude.{◌≡◌, ◌<◌, ◌≤◌, ◌^◌, ◌+
 ghost use Rattle.std.specs.List.{filter};
 ghost use Rattle.std.specs.Result.{OnOk};
 ghost use Rattle.logon_desk.specs.Desk.{Does, Event};
-ghost use Rattle.logon_desk_cli.specs.Answered.{AreEvents, Begins, IsAnswered, TakesFrame, answer, came_at, is_read};
+ghost use Rattle.logon_desk_cli.specs.Answered.{AreEvents, Begins, IsAnswered, TakesFrame, TakesLine, answer, came_at, is_read};
 ghost use Rattle.logon_desk_cli.specs.Answered.{read_lines, still_waits};
 ghost use Rattle.logon_desk_cli.specs.Events.{MakesRoom, MakesRoomFor, all_served, given, is_for, is_open, run};
 ghost use Rattle.logon_desk_cli.specs.Events.{served, takes, takes_next};
 ghost use Rattle.logon_desk_cli.specs.Printed.{printed};
 
-use crate::frame::{Frame, FrameError, frame_of};
+use crate::frame::{Frame, FrameError, TimedFrame, frame_of};
 use crate::printing::{print, print_number};
 use logon_desk::{LogonDesk, MOST_WAITING, Output, Outputs};
 use std::alloc::{AllocError, Global};
@@ -68,9 +68,11 @@ impl Session {
     }
 
     /// Takes a line; false for one that says nothing here.
-    pub fn take(&mut self, alloc: Global, line: &[u8]) -> Result<bool, AllocError> {
+    pub fn take(&mut self, alloc: Global, line: &[u8]) -> Result<bool, AllocError>
+        ensures { IfOk result (λ taken. TakesLine self.old line.now taken self.new) }
+    {
         match frame_of(alloc, line) {
-            Ok((now, frame)) => self.take_frame(alloc, now, frame),
+            Ok(TimedFrame { time, frame }) => self.take_frame(alloc, time, frame),
             Err(FrameError::Memory) => Err(AllocError),
             Err(FrameError::Faulty) => Ok(false),
         }
