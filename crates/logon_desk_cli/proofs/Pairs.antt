@@ -23,7 +23,7 @@ pairs-more digits (high ∷ []) bytes pushed byte two is push so-far = absurd (o
 pairs-more digits (high ∷ low ∷ more) bytes pushed byte two is push so-far =
     so-far
     ∙ ap (λ (first : Option ℕ). option_map (λ (all : List ℕ). bytes ++ all)
-        (option_and_then (λ (b : ℕ). option_map (λ (all : List ℕ). b ∷ all) (pairs_of more)) first)) is
+    (option_and_then (λ (b : ℕ). option_map (λ (all : List ℕ). b ∷ all) (pairs_of more)) first)) is
     ∙ pair-first bytes byte (pairs_of more)
     ∙ ap (λ (front : List ℕ). option_map (λ (all : List ℕ). front ++ all) (pairs_of more)) (sym push)
     ∙ ap (λ (left : List ℕ). option_map (λ (all : List ℕ). pushed ++ all) (pairs_of left)) (sym (after-two high low more))

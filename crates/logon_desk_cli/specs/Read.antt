@@ -78,14 +78,14 @@ frame_with verbs.Show words =
     option_and_then (λ user. option_map (λ text. Show user text) (bytes_at (behind words))) (number_at words)
 frame_with verbs.Keep words =
     option_and_then (λ user. option_and_then (λ minute. option_map (λ text. Keep user (record { minute = minute; text = text }))
-        (bytes_at (behind (behind words)))) (bytes_at (behind words))) (number_at words)
+    (bytes_at (behind (behind words)))) (bytes_at (behind words))) (number_at words)
 frame_with verbs.Turn words =
     option_and_then (λ user. option_map (λ state. Turn user state) (number_at (behind words))) (number_at words)
 frame_with verbs.Done words = option_map (λ user. Done user) (number_at words)
 frame_with verbs.Says words =
     option_and_then (λ place. option_and_then (λ right. option_and_then (λ name. option_map
-        (λ password. Says place (right == 1) (record { name = name; password = password }))
-        (bytes_at (behind (behind (behind words))))) (bytes_at (behind (behind words)))) (number_at (behind words))) (number_at words)
+    (λ password. Says place (right == 1) (record { name = name; password = password }))
+    (bytes_at (behind (behind (behind words))))) (bytes_at (behind (behind words)))) (number_at (behind words))) (number_at words)
 
 -- a frame with its time: no time is later than 2 ^ 61
 abbrev pub timed : Verb → List (List ℕ) → Option TimedFrame
