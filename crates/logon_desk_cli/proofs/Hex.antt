@@ -1,7 +1,7 @@
 -- Bytes in hexadecimal, one after another.
 use Rattle.std.proofs.Common.{◌≡◌, ℕ, ◌+◌, ◌/◌, ◌%◌, ◌<◌, List, [], ◌∷◌, ◌++◌, length, take, get_or, refl, ap, ◌∙◌}
 use Rattle.std.proofs.lemmas.List.{take_more}
-use Rattle.logon_desk_cli.specs.Printed.{field, hex, hex_digit, hex_or_hyphen}
+use Rattle.logon_desk_cli.specs.Printed.{field, hex, hex_digit}
 
 pub hex-append : (first second : List ℕ) → hex (first ++ second) ≡ hex first ++ hex second
 hex-append [] second = refl
@@ -9,7 +9,8 @@ hex-append (byte ∷ bytes) second =
     ap (λ (rest : List ℕ). hex_digit (byte / 16) ∷ hex_digit (byte % 16) ∷ rest) (hex-append bytes second)
 
 pub hex-take : (bytes : List ℕ) (i : ℕ) → i < length bytes
-    → hex (take (i + 1) bytes) ≡ hex (take i bytes) ++ hex_digit (get_or bytes i 0 / 16) ∷ hex_digit (get_or bytes i 0 % 16) ∷ []
+    → hex (take (i + 1) bytes) ≡ hex (take i bytes) ++ hex_digit (get_or bytes i 0 / 16)
+    ∷ hex_digit (get_or bytes i 0 % 16) ∷ []
 hex-take bytes i inside = ap hex (take_more bytes i 0 inside) ∙ hex-append (take i bytes) (get_or bytes i 0 ∷ [])
 
 -- where one of the two is not empty

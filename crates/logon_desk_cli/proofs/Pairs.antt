@@ -1,5 +1,6 @@
 -- Pairs of hexadecimal digits, one after another.
-use Rattle.std.proofs.Common.{◌≡◌, ℕ, ◌+◌, ◌-◌, ◌≤◌, List, [], ◌∷◌, ◌++◌, length, take, drop, get_or, Option, Some, None, refl, ap, sym, ◌∙◌, arith}
+use Rattle.std.proofs.Common.{◌≡◌, ℕ, ◌-◌, ◌≤◌, List, [], ◌∷◌, ◌++◌, length, take, drop, get_or, Option, Some}
+use Rattle.std.proofs.Common.{None, refl, ap, sym, ◌∙◌, arith}
 use Rattle.std.proofs.lemmas.List.{append_assoc, take_rest}
 use Rattle.std.specs.Option.{option_and_then, option_map}
 use Rattle.logon_desk_cli.specs.Read.{byte_of, pairs_of}
@@ -26,4 +27,5 @@ pairs-more digits (high ∷ low ∷ more) bytes pushed byte two is push so-far =
     (option_and_then (λ (b : ℕ). option_map (λ (all : List ℕ). b ∷ all) (pairs_of more)) first)) is
     ∙ pair-first bytes byte (pairs_of more)
     ∙ ap (λ (front : List ℕ). option_map (λ (all : List ℕ). front ++ all) (pairs_of more)) (sym push)
-    ∙ ap (λ (left : List ℕ). option_map (λ (all : List ℕ). pushed ++ all) (pairs_of left)) (sym (after-two high low more))
+    ∙ ap (λ (left : List ℕ). option_map (λ (all : List ℕ). pushed ++ all) (pairs_of left))
+    (sym (after-two high low more))

@@ -1,15 +1,18 @@
 -- Events that happen one after another.
-use Rattle.std.proofs.Common.{◌≡◌, ℕ, ◌+◌, ◌-◌, ◌<◌, ◌≤◌, suc, zero, Bool, true, false, cond, List, [], ◌∷◌, ◌++◌, length, refl, ap, sym, ◌∙◌, arith, subst}
+use Rattle.std.proofs.Common.{◌≡◌, ℕ, ◌+◌, ◌-◌, ◌<◌, ◌≤◌, suc, zero, Bool, true, false, cond, List, [], ◌∷◌, ◌++◌}
+use Rattle.std.proofs.Common.{length, refl, ap, sym, ◌∙◌, arith, subst}
 use Rattle.std.proofs.lemmas.List.{append_assoc, append-nil, get_or_past}
 use Rattle.logon_desk.specs.Connection.{gone}
-use Rattle.logon_desk.specs.Desk.{Closes, Desk, Does, Event, IsStep, Step, Takes, Wakes, connection_at, quietly, step, wake_by}
+use Rattle.logon_desk.specs.Desk.{Desk, Does, Event, IsStep, Step, Takes, Wakes, connection_at, quietly, step}
+use Rattle.logon_desk.specs.Desk.{wake_by}
 use Rattle.logon_desk.specs.declared.connection.Connection.{Connection}
 use Rattle.logon_desk.specs.declared.output.Output.{Output}
 use Rattle.logon_desk_cli.specs.Answered.{AreEvents}
 use Rattle.logon_desk_cli.specs.declared.frame.Frame.{Frame}
 use Rattle.logon_desk_cli.specs.Events.{MakesRoomFor, all_served, given, run, served, served_from, takes, takes_next}
 
-pub run-desk : (d : Desk) (first second : List Event) → (run d (first ++ second)).desk ≡ (run (run d first).desk second).desk
+pub run-desk : (d : Desk) (first second : List Event) → (run d (first ++ second)).desk
+    ≡ (run (run d first).desk second).desk
 run-desk d [] second = refl
 run-desk d (event ∷ first) second = run-desk (step d event).desk first second
 
@@ -23,7 +26,8 @@ run-outputs d (event ∷ first) second =
 
 -- some events, and then others
 pub does-then : (d : Desk) (first second : List Event) (before between after : List Output) (e new : Desk)
-    → Does (run d first) before e between → Does (run e second) between new after → Does (run d (first ++ second)) before new after
+    → Does (run d first) before e between → Does (run e second) between new after → Does (run d (first ++ second))
+    before new after
 does-then d first second before between after e new one two =
     let desk-is : new ≡ (run d (first ++ second)).desk = cc (run-desk d first second, one.0, two.0) in
     let outputs-are : after ≡ before ++ (run d (first ++ second)).outputs =
@@ -46,7 +50,8 @@ does-nothing d out = (refl, sym (append-nil out))
 
 -- where the rest of the events happens, the whole has been done
 abbrev pub Leads : Step → List Output → Desk → List Output → List Event → Type 0
-Leads whole before d out rest = ((run d rest).desk ≡ whole.desk) × (out ++ (run d rest).outputs ≡ before ++ whole.outputs)
+Leads whole before d out rest = ((run d rest).desk ≡ whole.desk)
+    × (out ++ (run d rest).outputs ≡ before ++ whole.outputs)
 
 pub leads-on : (whole : Step) (before out after : List Output) (d new : Desk) (here rest : List Event)
     → Leads whole before d out (here ++ rest) → Does (run d here) out new after → Leads whole before new after rest
@@ -62,7 +67,8 @@ leads-on whole before out after d new here rest leads does =
     ) in
     (desk-is, outputs-are)
 
-pub leads-end : (whole : Step) (before out : List Output) (d : Desk) → Leads whole before d out [] → Does whole before d out
+pub leads-end : (whole : Step) (before out : List Output) (d : Desk) → Leads whole before d out [] → Does whole before d
+    out
 leads-end whole before out d leads = (leads.0, sym (append-nil out) ∙ leads.1)
 
 -- bytes that are taken at a place
@@ -83,7 +89,8 @@ takes-none : (d : Desk) (c now : ℕ) → takes zero d c now ≡ []
 unfolding takes
 takes-none d c now = refl
 
-pub taken-more : (whole : Step) (before out after : List Output) (d new : Desk) (most i c now : ℕ) → i < most → takes_next d c ≡ true
+pub taken-more : (whole : Step) (before out after : List Output) (d new : Desk) (most i c now : ℕ) → i < most
+    → takes_next d c ≡ true
     → Leads whole before d out (takes (most - i) d c now) → IsStep d (Takes c now) out new after
     → Leads whole before new after (takes (most - (i + 1)) new c now)
 taken-more whole before out after d new most i c now inside takes-one leads is =
@@ -107,12 +114,14 @@ pub taken-end : (whole : Step) (before out : List Output) (d : Desk) (left c now
     → Leads whole before d out (takes left d c now) → Does whole before d out
 taken-end whole before out d left c now none leads =
     leads-end whole before out d
-    (subst (λ (events : List Event). Leads whole before d out events) (ap (λ (n : ℕ). takes n d c now) none ∙ takes-none d c now) leads)
+    (subst (λ (events : List Event). Leads whole before d out events)
+    (ap (λ (n : ℕ). takes n d c now) none ∙ takes-none d c now) leads)
 
 -- places that are served
 
 -- nothing is due at a place that the desk has not
-pub wakes-nowhere : (d : Desk) (c now : ℕ) (out : List Output) → length d.connections ≤ c → IsStep d (Wakes c now) out d out
+pub wakes-nowhere : (d : Desk) (c now : ℕ) (out : List Output) → length d.connections ≤ c → IsStep d (Wakes c now) out d
+    out
 wakes-nowhere d c now out past =
     let none : connection_at d c ≡ gone = get_or_past d.connections c gone past in
     let quiet : step d (Wakes c now) ≡ quietly d = ap (λ (x : Connection). wake_by d c x x.stage now) none in
@@ -144,7 +153,8 @@ pub served-end : (whole : Step) (before out : List Output) (d : Desk) (left c no
     → Leads whole before d out (served_from left d c now) → Does whole before d out
 served-end whole before out d left c now none leads =
     leads-end whole before out d
-    (subst (λ (events : List Event). Leads whole before d out events) (ap (λ (n : ℕ). served_from n d c now) none ∙ served-none d c now) leads)
+    (subst (λ (events : List Event). Leads whole before d out events)
+    (ap (λ (n : ℕ). served_from n d c now) none ∙ served-none d c now) leads)
 
 -- room is made for a frame, its event happens, and all places are served
 pub events-of : (d roomy given-to new : Desk) (now : ℕ) (frame : Frame) (before first between after : List Output)
@@ -163,5 +173,9 @@ events-of d roomy given-to new now frame before first between after made gives s
     subst (λ (e : Desk). Does (run given-to (all_served e now)) between new after) started.0 serves in
     let events : List Event = start ++ all_served (run d start).desk now in
     let are : AreEvents d now frame events =
-    record { room = room; makes_room = made.1; first = start; is_given = refl; happen = refl } in
-    (events, are, does-then d start (all_served (run d start).desk now) before between after given-to new started serves-there)
+    record { room = room; makes_room = made.1; first = start; is_given = refl; happen = refl } in (
+      events,
+      are,
+      does-then d start (all_served (run d start).desk now) before between after given-to new started
+          serves-there,
+    )

@@ -6,9 +6,12 @@ use Rattle.logon_desk_cli.specs.Answered.{AnswersFrame, Begins, IsAnswered, Prog
 use Rattle.logon_desk_cli.specs.Events.{is_for}
 use Rattle.logon_desk_cli.specs.declared.frame.Frame.{Frame}
 
-pub answers-frame : (old new : Program) (d after : Desk) (now : ℕ) (frame : Frame) → old.desk ≡ Some d → is_for d frame ≡ true
-    → IsAnswered d now frame old.reading old.text after new.reading new.text → new.names ≡ old.names → new.desk ≡ Some after
+pub answers-frame : (old new : Program) (d after : Desk) (now : ℕ) (frame : Frame) → old.desk ≡ Some d → is_for d frame
+    ≡ true
+    → IsAnswered d now frame old.reading old.text after new.reading new.text → new.names ≡ old.names → new.desk
+    ≡ Some after
     → TakesFrame old now frame true new
 answers-frame old new d after now frame there is answered names desk =
-    subst (λ (o : Option Desk). MatchOption o (Begins old frame true new) (λ e. AnswersFrame old e now frame true new)) (sym there)
+    subst (λ (o : Option Desk). MatchOption o (Begins old frame true new) (λ e. AnswersFrame old e now frame true new))
+    (sym there)
     (is, names, after, desk, answered)

@@ -1,5 +1,6 @@
 -- What is written, one output and one place after another; and that 80 strangers are some.
-use Rattle.std.proofs.Common.{◌≡◌, ℕ, ◌+◌, ◌<◌, ◌≤◌, Bool, true, false, cond, List, [], ◌∷◌, ◌++◌, count_by, length, take, get_or, refl, ap, sym, ◌∙◌, arith, subst}
+use Rattle.std.proofs.Common.{◌≡◌, ℕ, ◌+◌, ◌<◌, ◌≤◌, Bool, true, false, cond, List, [], ◌∷◌, ◌++◌, count_by, length}
+use Rattle.std.proofs.Common.{take, get_or, ap, sym, ◌∙◌, arith, subst}
 use Rattle.std.proofs.lemmas.List.{append_assoc, append-nil, take_more}
 use Rattle.std.proofs.lemmas.List.Elements.{All-weaker}
 use Rattle.std.proofs.lemmas.List.Sums.{sum_by-le}
@@ -12,7 +13,8 @@ use Rattle.logon_desk_cli.specs.Answered.{is_read, read_lines}
 use Rattle.logon_desk_cli.specs.Printed.{line, output_line, printed}
 use Rattle.std.specs.Prelude.{codes}
 
-printed-more : (outputs : List Output) (output : Output) → printed (outputs ++ output ∷ []) ≡ printed outputs ++ output_line output
+printed-more : (outputs : List Output) (output : Output) → printed (outputs ++ output ∷ []) ≡ printed outputs
+    ++ output_line output
 printed-more [] output = append-nil (output_line output)
 printed-more (first ∷ outputs) output =
     ap (λ (more : List ℕ). output_line first ++ more) (printed-more outputs output)
@@ -20,13 +22,15 @@ printed-more (first ∷ outputs) output =
 
 pub printed-take : (outputs : List Output) (i : ℕ) (d : Output) → i < length outputs
     → printed (take (i + 1) outputs) ≡ printed (take i outputs) ++ output_line (get_or outputs i d)
-printed-take outputs i d inside = ap printed (take_more outputs i d inside) ∙ printed-more (take i outputs) (get_or outputs i d)
+printed-take outputs i d inside = ap printed (take_more outputs i d inside) ∙ printed-more (take i outputs)
+    (get_or outputs i d)
 
 -- the line that a place is read, if it is
 abbrev pub read_line : Desk → ℕ → List ℕ
 read_line d place = cond (is_read d place) (line (codes "READ") place []) []
 
-read-more : (d : Desk) (places : List ℕ) (place : ℕ) → read_lines d (places ++ place ∷ []) ≡ read_lines d places ++ read_line d place
+read-more : (d : Desk) (places : List ℕ) (place : ℕ) → read_lines d (places ++ place ∷ []) ≡ read_lines d places
+    ++ read_line d place
 read-more d [] place = append-nil (read_line d place)
 read-more d (first ∷ places) place =
     ap (λ (more : List ℕ). read_line d first ++ more) (read-more d places place)
@@ -34,7 +38,8 @@ read-more d (first ∷ places) place =
 
 read-take : (d : Desk) (places : List ℕ) (i : ℕ) → i < length places
     → read_lines d (take (i + 1) places) ≡ read_lines d (take i places) ++ read_line d (get_or places i 0)
-read-take d places i inside = ap (read_lines d) (take_more places i 0 inside) ∙ read-more d (take i places) (get_or places i 0)
+read-take d places i inside = ap (read_lines d) (take_more places i 0 inside) ∙ read-more d (take i places)
+    (get_or places i 0)
 
 pub read-yes : (d : Desk) (places : List ℕ) (i : ℕ) → i < length places → is_read d (get_or places i 0) ≡ true
     → read_lines d (take (i + 1) places) ≡ read_lines d (take i places) ++ line (codes "READ") (get_or places i 0) []

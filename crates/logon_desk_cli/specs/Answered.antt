@@ -1,5 +1,6 @@
 -- What the program makes of a frame, and what it writes then.
-use Rattle.std.specs.Prelude.{◌≡◌, ℕ, ◌+◌, ◌==◌, ◌&&◌, not, nat_le, nat_lt, if◌then◌else◌, Bool, true, false, List, [], ◌∷◌, ◌++◌}
+use Rattle.std.specs.Prelude.{◌≡◌, ℕ, ◌==◌, ◌&&◌, nat_le, nat_lt, if◌then◌else◌, Bool}
+use Rattle.std.specs.Prelude.{true, false, List, [], ◌∷◌, ◌++◌}
 use Rattle.std.specs.Prelude.{count_by, length, codes, Option, Some, None, MatchOption}
 use Rattle.std.specs.List.{filter}
 use Rattle.logon_desk.specs.Desk.{Desk, Event, Step, connection_at, new_desk}
@@ -8,11 +9,12 @@ use Rattle.logon_desk_cli.specs.Events.{MakesRoomFor, all_served, given, is_for,
 use Rattle.logon_desk_cli.specs.Printed.{line, printed}
 use Rattle.logon_desk_cli.specs.Read.{frame_of}
 use Rattle.logon_desk_cli.specs.declared.frame.Frame.{Frame}
-use Rattle.logon_desk_cli.specs.declared.frame.Frame.TheVariants.{User, Room, Open, Came, Gone, Passed, Show}
+use Rattle.logon_desk_cli.specs.declared.frame.Frame.TheVariants.{User, Room, Open, Came, Gone}
+use Rattle.logon_desk_cli.specs.declared.frame.Frame.TheVariants.{Passed, Show}
 use Rattle.logon_desk_cli.specs.declared.frame.Frame.TheVariants.{Keep, Turn, Done, Says}
 
--- the program between two lines: the users that were named, the desk once it is there, the places whose bytes are not all taken, and
--- what is to be written
+-- the program between two lines: the users that were named, the desk once it is there, the places
+-- whose bytes are not all taken, and what is to be written
 pub record Program : Type 0 where
   pub names : List (List ℕ)
   pub desk : Option Desk
@@ -47,16 +49,19 @@ is_read d place = is_open d place && (waits_at d place == 0)
 -- the lines that more bytes may come from these places
 abbrev pub read_lines : Desk → List ℕ → List ℕ
 read_lines d [] = []
-read_lines d (place ∷ places) = (if is_read d place then line (codes "READ") place [] else []) ++ read_lines d places
+read_lines d (place ∷ places) = (if is_read d place then line (codes "READ") place [] else [])
+    ++ read_lines d places
 
 -- the last line that is written for a frame: how many are about to log on
 abbrev pub that_line : ℕ → List ℕ
 that_line strangers = line (codes "THAT") strangers []
 
--- all that is written for a frame: a line for each output of the desk in order, the places that are read, and the last line
+-- all that is written for a frame: a line for each output of the desk in order, the places that are
+-- read, and the last line
 abbrev pub answer : Step → List ℕ → List ℕ
 answer done reading =
-    printed done.outputs ++ (read_lines done.desk reading ++ that_line (count_by is_stranger done.desk.connections))
+    printed done.outputs
+    ++ (read_lines done.desk reading ++ that_line (count_by is_stranger done.desk.connections))
 
 -- room was made for the frame, its event has happened at the desk, and then all places were served
 pub record AreEvents (d : Desk) (now : ℕ) (frame : Frame) (events : List Event) : Type 0 where
@@ -67,7 +72,8 @@ pub record AreEvents (d : Desk) (now : ℕ) (frame : Frame) (events : List Event
   pub happen : events ≡ first ++ all_served (run d first).desk now
 
 -- these events have happened for the frame, and what the desk did is written
-pub record IsAnswered (d : Desk) (now : ℕ) (frame : Frame) (reading text : List ℕ) (new : Desk) (reading_after text_after : List ℕ) : Type 0 where
+pub record IsAnswered (d : Desk) (now : ℕ) (frame : Frame) (reading text : List ℕ) (new : Desk)
+    (reading_after text_after : List ℕ) : Type 0 where
   pub events : List Event
   pub are : AreEvents d now frame events
   pub left : new ≡ (run d events).desk
@@ -78,7 +84,8 @@ pub record IsAnswered (d : Desk) (now : ℕ) (frame : Frame) (reading text : Lis
 abbrev pub AnswersFrame : Program → Desk → ℕ → Frame → Bool → Program → Type 0
 AnswersFrame old d now frame true new =
     (is_for d frame ≡ true) × (new.names ≡ old.names)
-    × (after : Desk) × (new.desk ≡ Some after) × IsAnswered d now frame old.reading old.text after new.reading new.text
+    × (after : Desk) × (new.desk ≡ Some after)
+    × IsAnswered d now frame old.reading old.text after new.reading new.text
 AnswersFrame old d now frame false new = (is_for d frame ≡ false) × (new ≡ old)
 
 -- at most 64 users and 1,024 places
@@ -87,12 +94,15 @@ has_room p places = nat_le places 1024 && nat_le (length p.names) 64
 
 -- a desk for these users, with so many places
 abbrev pub with_desk : Program → ℕ → Program
-with_desk p places = record p { desk = Some (new_desk p.names places); text = p.text ++ that_line 0 }
+with_desk p places =
+    record p { desk = Some (new_desk p.names places); text = p.text ++ that_line 0 }
 
 -- a frame before the desk is there
 abbrev pub Begins : Program → Frame → Bool → Program → Type 0
-Begins old (User name) taken new = (taken ≡ nat_lt (length old.names) 64) × (new ≡ record old { names = old.names ++ name ∷ [] })
-Begins old (Room places) taken new = (taken ≡ has_room old places) × (new ≡ (if has_room old places then with_desk old places else old))
+Begins old (User name) taken new = (taken ≡ nat_lt (length old.names) 64)
+    × (new ≡ record old { names = old.names ++ name ∷ [] })
+Begins old (Room places) taken new = (taken ≡ has_room old places)
+    × (new ≡ (if has_room old places then with_desk old places else old))
 Begins old (Open place address) taken new = (taken ≡ false) × (new ≡ old)
 Begins old (Came place bytes) taken new = (taken ≡ false) × (new ≡ old)
 Begins old (Gone place) taken new = (taken ≡ false) × (new ≡ old)
@@ -105,12 +115,14 @@ Begins old (Says place is_right guess) taken new = (taken ≡ false) × (new ≡
 
 -- what the program makes of a frame, and whether it goes on
 abbrev pub TakesFrame : Program → ℕ → Frame → Bool → Program → Type 0
-TakesFrame old now frame taken new = MatchOption old.desk (Begins old frame taken new) (λ d. AnswersFrame old d now frame taken new)
+TakesFrame old now frame taken new =
+    MatchOption old.desk (Begins old frame taken new) (λ d. AnswersFrame old d now frame taken new)
 
 -- what the program makes of a line, and whether it goes on: a line that is no frame ends it
 abbrev pub TakesLine : Program → List ℕ → Bool → Program → Type 0
 TakesLine old text taken new =
-    MatchOption (frame_of text) ((taken ≡ false) × (new ≡ old)) (λ found. TakesFrame old found.time found.frame taken new)
+    MatchOption (frame_of text) ((taken ≡ false) × (new ≡ old))
+    (λ found. TakesFrame old found.time found.frame taken new)
 
 -- before the first line
 abbrev pub nothing_read : Program

@@ -1,11 +1,15 @@
 -- The events of the desk's history that the program makes of a frame, and those that follow it.
-use Rattle.std.specs.Prelude.{◌≡◌, ◌⊎◌, ◌<◌, ◌≤◌, ℕ, ◌+◌, ◌==◌, ◌&&◌, not, nat_lt, if◌then◌else◌, Bool, true, false, List, [], ◌∷◌, ◌++◌}
+use Rattle.std.specs.Prelude.{◌≡◌, ◌⊎◌, ◌<◌, ◌≤◌, ℕ, ◌+◌, ◌==◌, ◌&&◌, not, nat_lt, if◌then◌else◌}
+use Rattle.std.specs.Prelude.{Bool, true, false, List, [], ◌∷◌, ◌++◌}
 use Rattle.std.specs.Prelude.{count_by, length, zero, suc}
-use Rattle.logon_desk.specs.Desk.{Answers, Closes, Comes, Desk, Event, Finishes, Keeps, Opens, Prints, Step}
-use Rattle.logon_desk.specs.Desk.{Takes, Turns, Wakes, connection_at, is_gone, is_taking, quietly, step}
+use Rattle.logon_desk.specs.Desk.{Answers, Closes, Comes, Desk, Event, Finishes, Keeps, Opens}
+use Rattle.logon_desk.specs.Desk.{Prints, Step}
+use Rattle.logon_desk.specs.Desk.{Takes, Turns, Wakes, connection_at, is_gone, is_taking, quietly}
+use Rattle.logon_desk.specs.Desk.{step}
 use Rattle.logon_desk.specs.Strangers.{IsBusiest, is_stranger}
 use Rattle.logon_desk_cli.specs.declared.frame.Frame.{Frame}
-use Rattle.logon_desk_cli.specs.declared.frame.Frame.TheVariants.{User, Room, Open, Came, Gone, Passed, Show}
+use Rattle.logon_desk_cli.specs.declared.frame.Frame.TheVariants.{User, Room, Open, Came, Gone}
+use Rattle.logon_desk_cli.specs.declared.frame.Frame.TheVariants.{Passed, Show}
 use Rattle.logon_desk_cli.specs.declared.frame.Frame.TheVariants.{Keep, Turn, Done, Says}
 
 -- these events happen at the desk, one after another
@@ -52,7 +56,8 @@ given d now (Says place is_right guess) = Answers place guess is_right now ∷ [
 abbrev pub MakesRoom : Desk → List Event → Type 0
 MakesRoom d room =
     ((count_by is_stranger d.connections < 80) × (room ≡ []))
-    ⊎ ((c : ℕ) × (80 ≤ count_by is_stranger d.connections) × IsBusiest d.connections c × (room ≡ Closes c ∷ []))
+    ⊎ ((c : ℕ) × (80 ≤ count_by is_stranger d.connections) × IsBusiest d.connections c
+    × (room ≡ Closes c ∷ []))
 
 -- room is made for a connection that opens, and for nothing else
 abbrev pub MakesRoomFor : Desk → Frame → List Event → Type 0
@@ -70,12 +75,14 @@ MakesRoomFor d (Says place is_right guess) room = room ≡ []
 
 -- a byte waits at the connection, and is taken there now
 abbrev pub takes_next : Desk → ℕ → Bool
-takes_next d c = is_taking d c (connection_at d c).stage && not (length (connection_at d c).waiting == 0)
+takes_next d c = is_taking d c (connection_at d c).stage
+    && not (length (connection_at d c).waiting == 0)
 
 -- bytes are taken at a connection as long as one is taken there, and at most so many
 unfoldable pub takes : ℕ → Desk → ℕ → ℕ → List Event
 takes zero d c now = []
-takes (suc most) d c now = if takes_next d c then Takes c now ∷ takes most (step d (Takes c now)).desk c now else []
+takes (suc most) d c now =
+    if takes_next d c then Takes c now ∷ takes most (step d (Takes c now)).desk c now else []
 
 -- at a place all bytes are taken that can be, and then what is due is done
 abbrev pub served : Desk → ℕ → ℕ → List Event
@@ -84,7 +91,8 @@ served d c now = takes 4096 d c now ++ Wakes c now ∷ []
 -- so many places are served in order, from this one on
 unfoldable pub served_from : ℕ → Desk → ℕ → ℕ → List Event
 served_from zero d c now = []
-served_from (suc places) d c now = let here = served d c now in here ++ served_from places (run d here).desk (c + 1) now
+served_from (suc places) d c now =
+    let here = served d c now in here ++ served_from places (run d here).desk (c + 1) now
 
 -- all places are served
 abbrev pub all_served : Desk → ℕ → List Event

@@ -1,13 +1,18 @@
 -- The lines that the program writes.
-use Rattle.std.specs.Prelude.{ℕ, ◌+◌, ◌-◌, ◌/◌, ◌%◌, if◌then◌else◌, nat_lt, List, [], ◌∷◌, ◌++◌, codes, Option, Some, None}
+use Rattle.std.specs.Prelude.{ℕ, ◌+◌, ◌-◌, ◌/◌, ◌%◌, if◌then◌else◌, nat_lt, List, [], ◌∷◌, ◌++◌}
+use Rattle.std.specs.Prelude.{codes, Option, Some, None}
 use Rattle.logon_desk.specs.declared.output.Entry.{Entry}
-use Rattle.logon_desk.specs.declared.output.Entry.TheVariants.{LogsOn, IsBack, Leaves, WrongPassword}
+use Rattle.logon_desk.specs.declared.output.Entry.TheVariants.{LogsOn, IsBack, Leaves}
+use Rattle.logon_desk.specs.declared.output.Entry.TheVariants.{WrongPassword}
 use Rattle.logon_desk.specs.declared.output.Notice.{Notice}
-use Rattle.logon_desk.specs.declared.output.Notice.TheVariants.{EnterPassword, IsThere, NoPassword, Online}
-use Rattle.logon_desk.specs.declared.output.Notice.TheVariants.{PasswordTaken, Reconnected, Refused, TakesOver}
+use Rattle.logon_desk.specs.declared.output.Notice.TheVariants.{EnterPassword, IsThere, NoPassword}
+use Rattle.logon_desk.specs.declared.output.Notice.TheVariants.{Online}
+use Rattle.logon_desk.specs.declared.output.Notice.TheVariants.{PasswordTaken, Reconnected, Refused}
+use Rattle.logon_desk.specs.declared.output.Notice.TheVariants.{TakesOver}
 use Rattle.logon_desk.specs.declared.output.Notice.TheVariants.{TooLate, TypeLogon}
 use Rattle.logon_desk.specs.declared.output.Output.{Output}
-use Rattle.logon_desk.specs.declared.output.Output.TheVariants.{Says, Declines, Shows, ShowsAgain, Types}
+use Rattle.logon_desk.specs.declared.output.Output.TheVariants.{Says, Declines, Shows, ShowsAgain}
+use Rattle.logon_desk.specs.declared.output.Output.TheVariants.{Types}
 use Rattle.logon_desk.specs.declared.output.Output.TheVariants.{Asks, Ends, Notes}
 
 -- a hexadecimal digit: 0 to 9, and A to F
@@ -49,7 +54,8 @@ notice_text Online = codes "GATHJUMLI ONLINE: TYPE LOGON NAME" ++ end_of_line
 notice_text TypeLogon = codes "TYPE LOGON NAME, AND THEN THE PASSWORD" ++ end_of_line
 notice_text EnterPassword = codes "ENTER PASSWORD:" ++ end_of_line ++ 255 ∷ 251 ∷ 1 ∷ []
 notice_text PasswordTaken = 255 ∷ 252 ∷ 1 ∷ []
-notice_text NoPassword = 255 ∷ 252 ∷ 1 ∷ [] ++ codes "THAT IS NO PASSWORD: TYPE LOGON NAME" ++ end_of_line
+notice_text NoPassword = 255 ∷ 252 ∷ 1 ∷ [] ++ codes "THAT IS NO PASSWORD: TYPE LOGON NAME"
+    ++ end_of_line
 notice_text Refused = codes "LOGON REFUSED" ++ end_of_line
 notice_text TooLate = codes "TOO LATE" ++ end_of_line
 notice_text Reconnected = codes "RECONNECTED" ++ end_of_line
@@ -74,11 +80,15 @@ noted (WrongPassword user connection) = entry_line (codes "FAIL") user connectio
 -- the line for one thing that is to be done
 abbrev pub output_line : Output → List ℕ
 output_line (Says connection notice) = line (codes "GIVE") connection (field (notice_text notice))
-output_line (Declines connection command option) = line (codes "GIVE") connection (field (255 ∷ command ∷ option ∷ []))
-output_line (Shows connection user text) = line (codes "GIVE") connection (field (text ++ end_of_line))
-output_line (ShowsAgain connection user kept) = line (codes "BACK") connection (field kept.minute ++ field kept.text)
+output_line (Declines connection command option) = line (codes "GIVE") connection
+    (field (255 ∷ command ∷ option ∷ []))
+output_line (Shows connection user text) = line (codes "GIVE") connection
+    (field (text ++ end_of_line))
+output_line (ShowsAgain connection user kept) = line (codes "BACK") connection
+    (field kept.minute ++ field kept.text)
 output_line (Types user text) = line (codes "TYPE") user (field text)
-output_line (Asks connection guess) = line (codes "ASKS") connection (field guess.name ++ field guess.password)
+output_line (Asks connection guess) = line (codes "ASKS") connection
+    (field guess.name ++ field guess.password)
 output_line (Ends connection) = line (codes "ENDS") connection []
 output_line (Notes entry) = noted entry
 

@@ -1,9 +1,9 @@
 //! The lines that the program reads.
 ghost use Rattle.std.specs.Prelude.{◌≡◌, ◌<◌, ◌^◌, ◌∷◌, [], IfOk, MatchOption};
 ghost use Rattle.std.specs.Result.{OnOk};
-ghost use Rattle.logon_desk_cli.specs.Read.{IsRead, behind, byte_of, bytes_at, bytes_of, frame_of, frame_with};
-ghost use Rattle.logon_desk_cli.specs.Read.{more_digit, number_at, number_from, pairs_of, verb_of};
-ghost use Rattle.logon_desk_cli.specs.declared.frame.Verb.TheVariants as verbs;
+ghost use Rattle.logon_desk_cli.specs.Read.{IsRead, after_first, byte_of, bytes_at, bytes_of};
+ghost use Rattle.logon_desk_cli.specs.Read.{frame_of, frame_with, keep_of, more_digit, number_at};
+ghost use Rattle.logon_desk_cli.specs.Read.{number_from, pairs_of, says_of, verb_of};
 
 use logon_desk::KeptLine;
 use std::alloc::{AllocError, Global};
@@ -146,7 +146,7 @@ impl<'a> Words<'a> {
     /// A hexadecimal number.
     fn number(&mut self) -> Result<u64, FrameError>
         ensures value { IsRead result (number_at self.old) }
-        ensures rest { OnOk result (self.new ≡ behind self.old) }
+        ensures rest { OnOk result (self.new ≡ after_first self.old) }
     {
         match self.next() {
             Some(word) => number_of(word).ok_or(FrameError::Faulty),
@@ -156,7 +156,7 @@ impl<'a> Words<'a> {
 
     fn place(&mut self) -> Result<usize, FrameError>
         ensures value { IsRead result (number_at self.old) }
-        ensures rest { OnOk result (self.new ≡ behind self.old) }
+        ensures rest { OnOk result (self.new ≡ after_first self.old) }
     {
         Ok(self.number()? as usize)
     }
@@ -164,7 +164,7 @@ impl<'a> Words<'a> {
     /// Bytes in hexadecimal; `-` for none.
     fn bytes(&mut self, alloc: Global) -> Result<Bytes, FrameError>
         ensures value { IsRead result (bytes_at self.old) }
-        ensures rest { OnOk result (self.new ≡ behind self.old) }
+        ensures rest { OnOk result (self.new ≡ after_first self.old) }
     {
         match self.next() {
             Some(word) => bytes_of(alloc, word),
@@ -290,7 +290,7 @@ fn read(alloc: Global, verb: Verb, words: &mut Words) -> Result<Frame, FrameErro
 }
 
 fn keep_of(alloc: Global, words: &mut Words) -> Result<Frame, FrameError>
-    ensures { IsRead result (frame_with verbs.Keep words.old) }
+    ensures { IsRead result (keep_of words.old) }
 {
     let user = words.place()?;
     let minute = words.bytes(alloc)?;
@@ -302,7 +302,7 @@ fn keep_of(alloc: Global, words: &mut Words) -> Result<Frame, FrameError>
 }
 
 fn says_of(alloc: Global, words: &mut Words) -> Result<Frame, FrameError>
-    ensures { IsRead result (frame_with verbs.Says words.old) }
+    ensures { IsRead result (says_of words.old) }
 {
     let place = words.place()?;
     let is_right = words.number()? == 1;

@@ -1,7 +1,8 @@
 //! The lines that the program writes.
 ghost use Rattle.std.specs.Prelude.{◌≡◌, ◌<◌, ◌+◌, ◌/◌, ◌%◌, ◌++◌, ◌∷◌, [], codes};
 ghost use Rattle.std.specs.Result.{OnOk};
-ghost use Rattle.logon_desk_cli.specs.Printed.{begun, entry_line, field, hex, hex_digit, hex_number, line};
+ghost use Rattle.logon_desk_cli.specs.Printed.{begun, entry_line, field, hex, hex_digit};
+ghost use Rattle.logon_desk_cli.specs.Printed.{hex_number, line};
 ghost use Rattle.logon_desk_cli.specs.Printed.{notice_text, noted, output_line};
 
 use logon_desk::{Entry, Notice, Output};
@@ -111,7 +112,8 @@ fn note_of(
 }
 
 fn give(connection: usize, bytes: &[u8], end: &[u8], text: &mut Bytes) -> Result<(), AllocError>
-    ensures { OnOk result (text.new ≡ text.old ++ line (codes "GIVE") connection (field (bytes.now ++ end.now))) }
+    ensures { OnOk result
+        (text.new ≡ text.old ++ line (codes "GIVE") connection (field (bytes.now ++ end.now))) }
 {
     word(b"GIVE", connection, text)?;
     push_bytes(bytes, end, text)?;
@@ -156,7 +158,8 @@ fn push_all(bytes: &[u8], text: &mut Bytes) -> Result<(), AllocError>
 }
 
 fn push_byte(byte: u8, text: &mut Bytes) -> Result<(), AllocError>
-    ensures { OnOk result (text.new ≡ text.old ++ hex_digit (byte / 16) ∷ hex_digit (byte % 16) ∷ []) }
+    ensures { OnOk result
+        (text.new ≡ text.old ++ hex_digit (byte / 16) ∷ hex_digit (byte % 16) ∷ []) }
 {
     text.push(digit(byte / 16))?;
     text.push(digit(byte % 16))

@@ -1,11 +1,14 @@
 //! What the program makes of each line.
-ghost use Rattle.std.specs.Prelude.{◌≡◌, ◌<◌, ◌≤◌, ◌^◌, ◌++◌, [], length, true, false, IfOk, List, count_by};
+ghost use Rattle.std.specs.Prelude.{◌≡◌, ◌<◌, ◌≤◌, ◌^◌, ◌++◌, [], length, true, false, IfOk, List};
+ghost use Rattle.std.specs.Prelude.{count_by};
 ghost use Rattle.std.specs.List.{filter};
 ghost use Rattle.std.specs.Result.{OnOk};
 ghost use Rattle.logon_desk.specs.Desk.{Does, Event};
-ghost use Rattle.logon_desk_cli.specs.Answered.{AreEvents, Begins, IsAnswered, TakesFrame, TakesLine, answer, came_at, is_read};
+ghost use Rattle.logon_desk_cli.specs.Answered.{AreEvents, Begins, IsAnswered, TakesFrame};
+ghost use Rattle.logon_desk_cli.specs.Answered.{TakesLine, answer, came_at, is_read};
 ghost use Rattle.logon_desk_cli.specs.Answered.{read_lines, still_waits};
-ghost use Rattle.logon_desk_cli.specs.Events.{MakesRoom, MakesRoomFor, all_served, given, is_for, is_open, run};
+ghost use Rattle.logon_desk_cli.specs.Events.{MakesRoom, MakesRoomFor, all_served, given, is_for};
+ghost use Rattle.logon_desk_cli.specs.Events.{is_open, run};
 ghost use Rattle.logon_desk_cli.specs.Events.{served, takes, takes_next};
 ghost use Rattle.logon_desk_cli.specs.Printed.{printed};
 
@@ -37,7 +40,12 @@ impl Model for Session {
 
     ghost Value = { Program };
 
-    ghost view = { λ s. record { names = s.names.items; desk = s.desk; reading = s.reading.items; text = s.text } };
+    ghost view = { λ s. record {
+      names = s.names.items;
+      desk = s.desk;
+      reading = s.reading.items;
+      text = s.text;
+    } };
 }
 
 impl Session {
@@ -142,7 +150,9 @@ fn answer(
 ) -> Result<(), AllocError>
     requires now { now < 2 ^ 62 }
     requires is_for { is_for desk.old frame.now ≡ true }
-    ensures { OnOk result (IsAnswered desk.old now frame.now reading.old.items text.old desk.new reading.new.items text.new) }
+    ensures { OnOk result
+        (IsAnswered desk.old now frame.now reading.old.items text.old
+        desk.new reading.new.items text.new) }
 {
     let mut outputs = Outputs::new(alloc);
     note_reading(desk, frame, reading)?;
@@ -163,7 +173,9 @@ fn happen(
 ) -> Result<(), AllocError>
     requires now { now < 2 ^ 62 }
     requires is_for { is_for desk.old frame.now ≡ true }
-    ensures { OnOk result ((events : List Event) × AreEvents desk.old now frame.now events × Does (run desk.old events) out.old desk.new out.new) }
+    ensures { OnOk result
+        ((events : List Event) × AreEvents desk.old now frame.now events
+        × Does (run desk.old events) out.old desk.new out.new) }
 {
     make_room_for(alloc, desk, frame, out)?;
     give(alloc, desk, now, frame, out)?;
@@ -198,7 +210,9 @@ fn make_room_for(
     out: &mut Outputs,
 ) -> Result<(), AllocError>
     ensures is_for { OnOk result (is_for desk.new frame.now ≡ is_for desk.old frame.now) }
-    ensures room { OnOk result ((room : List Event) × MakesRoomFor desk.old frame.now room × Does (run desk.old room) out.old desk.new out.new) }
+    ensures room { OnOk result
+        ((room : List Event) × MakesRoomFor desk.old frame.now room
+        × Does (run desk.old room) out.old desk.new out.new) }
 {
     match frame {
         Frame::Open { .. } => make_room(alloc, desk, out),
@@ -209,7 +223,9 @@ fn make_room_for(
 /// Where too many are about to log on, one of those from the busiest address goes.
 fn make_room(alloc: Global, desk: &mut LogonDesk, out: &mut Outputs) -> Result<(), AllocError>
     ensures places { OnOk result (length desk.new.connections ≡ length desk.old.connections) }
-    ensures room { OnOk result ((room : List Event) × MakesRoom desk.old room × Does (run desk.old room) out.old desk.new out.new) }
+    ensures room { OnOk result
+        ((room : List Event) × MakesRoom desk.old room
+        × Does (run desk.old room) out.old desk.new out.new) }
 {
     if desk.strangers() < MOST_STRANGERS {
         return Ok(());
@@ -233,7 +249,8 @@ fn give(
 ) -> Result<(), AllocError>
     requires now { now < 2 ^ 62 }
     requires is_for { is_for desk.old frame.now ≡ true }
-    ensures { OnOk result (Does (run desk.old (given desk.old now frame.now)) out.old desk.new out.new) }
+    ensures { OnOk result
+        (Does (run desk.old (given desk.old now frame.now)) out.old desk.new out.new) }
 {
     match frame {
         Frame::Open { place, address } => desk.open(alloc, *place, *address, now, out),
@@ -292,7 +309,8 @@ fn serve_place(
     out: &mut Outputs,
 ) -> Result<(), AllocError>
     requires { now < 2 ^ 62 }
-    ensures { OnOk result (Does (run desk.old (served desk.old place now)) out.old desk.new out.new) }
+    ensures { OnOk result
+        (Does (run desk.old (served desk.old place now)) out.old desk.new out.new) }
 {
     take_all(alloc, desk, place, now, out)?;
     if place < desk.connections() {
@@ -310,7 +328,8 @@ fn take_all(
     out: &mut Outputs,
 ) -> Result<(), AllocError>
     requires { now < 2 ^ 62 }
-    ensures { OnOk result (Does (run desk.old (takes MOST_WAITING desk.old place now)) out.old desk.new out.new) }
+    ensures { OnOk result
+        (Does (run desk.old (takes MOST_WAITING desk.old place now)) out.old desk.new out.new) }
 {
     for taken in 0..MOST_WAITING {
         if !takes_next(desk, place) {

@@ -1,5 +1,3 @@
-use Rattle.std.proofs.Common.{◌++◌, refl}
-use Rattle.logon_desk_cli.specs.Events.{all_served, given, run}
 use Rattle.logon_desk_cli.proofs.Running.{events-of}
 use Rattle.logon_desk_cli.proofs.program.happen.Goals as goal
 

@@ -8,7 +8,8 @@ pub returns-in_ok-close-in-Some-clause-room : goal.returns-in_ok-close-in-Some-c
 returns-in_ok-close-in-Some-clause-room c = (
   Closes c.in-Some.place ∷ [],
   inr (c.in-Some.place, omega arith, c.in-Some.ensures.busiest, refl),
-  does-one c.args.desk.now (Closes c.in-Some.place) c.args.out.now c.close.new.out c.close.new.self c.in_ok-close-in-Some.ensures,
+  does-one c.args.desk.now (Closes c.in-Some.place) c.args.out.now c.close.new.out c.close.new.self
+      c.in_ok-close-in-Some.ensures,
 )
 
 -- of 80 somebody is a stranger

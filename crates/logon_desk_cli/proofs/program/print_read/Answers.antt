@@ -4,4 +4,11 @@ use Rattle.logon_desk_cli.proofs.Writing.{read-no, read-yes}
 use Rattle.logon_desk_cli.proofs.program.print_read.Goals as goal
 
 pub loop-place-preserved : goal.loop-place-preserved
-loop-place-preserved c = grind (arith, common_steps, read-yes c.args.desk.now c.args.reading.now c.loop-place.place-index, read-no c.args.desk.now c.args.reading.now c.loop-place.place-index)
+loop-place-preserved c =
+    grind (
+      arith,
+      common_steps,
+      read-yes c.args.desk.now c.args.reading.now c.loop-place.place-index,
+      read-no
+          c.args.desk.now c.args.reading.now c.loop-place.place-index,
+    )
