@@ -369,6 +369,30 @@ def try_weights(check: Check, folder: str) -> None:
         check(f"what is left after a state that was {what}", (one.weight, left) == (67, 27), left)
 
 
+def try_slow_states(check: Check, folder: str) -> None:
+    """States for which everybody waits too long are not saved by the clock, and one that was slow alone changes nothing."""
+    from gathjumli.recording import Base, Recording
+    from gathjumli.spooling import Printouts
+    from gathjumli.states import LastState, States
+
+    os.makedirs(folder)
+    write_text(f"{folder}/directory", "USER A PW 8K\n")
+    recording = Recording(f"{folder}/recording")
+    recording.begin(Base("program", "64 256", f"{folder}/directory", []))
+    told: list[str] = []
+    recording.add(b"LINE A LOGON\n")
+    states = States(recording, Printouts(None, told.append, set()), 30, told.append)
+    states.goes_on(0.0, 0.0, None)
+    for waited in (1.5, 0.2, 1.5):
+        states.note(LastState(5 << 20, waited))
+    check("a state that was slow alone", (states.is_due(31.0), told) == (True, []), told)
+    states.note(LastState(700 << 20, 2.25))
+    wanted = "everybody waited 2.2 seconds for a state of 700 MB: no further one is saved before a suspend"
+    check("two slow states in a row", (states.is_due(31.0), told) == (False, [wanted]), told)
+    check("one at a suspend", states.can_save(31.0))
+    recording.close()
+
+
 def try_other_files(check: Check, site: Site) -> None:
     """Files of others that are called like states stay, and what cannot be removed keeps nobody from his machine."""
     others = ("recording.state-mine", "recording.state-7.copy")
@@ -459,6 +483,7 @@ def try_states(check: Check, command: str, program: str, folder: str) -> None:
     try_ending(check, make_site(command, f"{folder}/ending"))
     try_replaced(check, make_site(command, f"{folder}/replaced"), program)
     try_weights(check, f"{folder}/weights")
+    try_slow_states(check, f"{folder}/slow")
     try_printouts(check, make_site(command, f"{folder}/printouts"))
     try_no_state(check, killed_site(command, f"{folder}/none"))
     try_unread(check, killed_site(command, f"{folder}/unread"))

@@ -29,6 +29,10 @@ if TYPE_CHECKING:
 # the last one, and the one before where the last cannot be read
 KEPT = 2
 SECONDS_TO_TRY_AGAIN = 1
+# for how many seconds everybody may wait for a state; after so many in a row for which they waited longer, none is saved before a
+# suspend, since the next ones take longer still
+MOST_WAITED = 1.0
+SLOW_ONES = 2
 # the names of states, and of what was written of one before a kill
 NAME = re.compile(r"state-[0-9]+(\.new-\w+)?")
 
@@ -57,6 +61,7 @@ class States:
         # how many of these seconds the reading of a state takes, as far as that is known
         self.reading = 0.0
         self.last: LastState | None = None
+        self.slow = 0
         self.trouble = ""
 
     # --- saving ---
@@ -68,7 +73,7 @@ class States:
             self.reading, self.last = reading, LastState(state.size, 0.0)
 
     def is_due(self, seconds: float) -> bool:
-        return not self.is_off and seconds >= self.due
+        return not self.is_off and self.slow < SLOW_ONES and seconds >= self.due
 
     def can_save(self, seconds: float) -> bool:
         """Whether a state may be saved now, which else is tried again soon. A printout that waits would be lost with what is before
@@ -102,8 +107,18 @@ class States:
         self.recording.mark_state(name, digits)
         self.forget_before(KEPT)
         self.trouble = ""
-        self.last = LastState(saved.size(), time.monotonic() - begun)
+        self.note(LastState(saved.size(), time.monotonic() - begun))
         return True
+
+    def note(self, state: LastState) -> None:
+        """Notes how long everybody waited for a state, and says once that there are no more before a suspend."""
+        self.last = state
+        self.slow = self.slow + 1 if state.waited > MOST_WAITED else 0
+        if self.slow == SLOW_ONES:
+            self.notify(
+                f"everybody waited {state.waited:.1f} seconds for a state of {state.size // MEGABYTE} MB: "
+                "no further one is saved before a suspend"
+            )
 
     def tried(self, seconds: float, is_saved: bool) -> None:
         """The program has taken so many seconds until a state was saved, or was not."""
