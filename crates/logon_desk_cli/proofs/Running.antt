@@ -7,6 +7,8 @@ use Rattle.logon_desk.specs.Desk.{Desk, Does, Event, IsStep, Step, Takes, Wakes,
 use Rattle.logon_desk.specs.Desk.{wake_by}
 use Rattle.logon_desk.specs.declared.connection.Connection.{Connection}
 use Rattle.logon_desk.specs.declared.output.Output.{Output}
+use Rattle.logon_desk.specs.History.{after}
+use Rattle.logon_desk_cli.specs.Histories.{onto}
 use Rattle.logon_desk_cli.specs.Answered.{AreEvents}
 use Rattle.logon_desk_cli.specs.declared.frame.Frame.{Frame}
 use Rattle.logon_desk_cli.specs.Events.{MakesRoomFor, all_served, given, run, served, served_from, takes, takes_next}
@@ -179,3 +181,8 @@ events-of d roomy given-to new now frame before first between after made gives s
       does-then d start (all_served (run d start).desk now) before between after given-to new started
           serves-there,
     )
+
+pub is-history : (d : Desk) (earlier events : List Event)
+    → (run (after d earlier) events).desk ≡ after d (onto events earlier)
+is-history d earlier [] = refl
+is-history d earlier (event ∷ more) = is-history d (event ∷ earlier) more

@@ -2,3 +2,4 @@ pub mod Printed
 pub mod Events
 pub mod Read
 pub mod Answered
+pub mod Histories

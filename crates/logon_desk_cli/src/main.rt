@@ -4,6 +4,7 @@
 #![tactic(auto)]
 
 mod frame;
+mod laws;
 mod printing;
 mod program;
 
