@@ -1,9 +1,10 @@
 #!/usr/bin/env python3
 """Breaks scripts off, and has another program go on from the state that was saved there; and gives the program states that were
-spoiled. .ci/broken.py [--program PATH] [--every N] [--scripts N] [--states N] [--seed N] [PART]...
+spoiled. .ci/broken.py [--program PATH] [--every N] [--scripts N] [--states N] [--one-of N] [--seed N] [PART]...
 
-The parts are broken (all examples of users, and N random scripts, broken at every Nth part) and spoiled (N states for each of a few
-examples). The gate calls them by .ci/test-people.py, with few scripts and states. The last line is 'N passed, M failed'."""
+The parts are broken (all examples of users, and N random scripts, broken at every Nth part), tables (one of N scripts of users of the
+tables of .ci/transcripts, broken once at random) and spoiled (N states for each of a few examples). The gate calls them by
+.ci/test-people.py, with few scripts and states. The last line is 'N passed, M failed'."""
 from __future__ import annotations
 
 from collections.abc import Callable, Iterator
@@ -21,12 +22,15 @@ TOP = os.path.dirname(os.path.dirname(os.path.realpath(__file__)))
 sys.path[:0] = [f"{TOP}/bin/lib", f"{TOP}/.ci"]
 
 from gathjumli.cli import last, number, read_arguments
+from installation import read, write
 
 EXAMPLES = f"{TOP}/examples/users"
 PROGRAM = f"{TOP}/crates/vm370_cli/out/vm370_cli"
 REFUSED = "fault: state Refused\n"
 # what of the gate
-EVERY, SCRIPTS, STATES = 7, 10, 10
+EVERY, SCRIPTS, STATES, ONE_OF = 7, 10, 10, 100
+# parts of .ci/test-transcripts.py that have no function of their own name
+TABLES = ("disk_programs", "states", "loadings", "unit_record", "instructions", "edges")
 DECK = re.compile(rb"DECK \S+ ([0-9]+)\n")
 # examples of pages, disks, decks, printouts, messages and timers
 SPOILED = ("more-pages-than-frames", "two-on-a-volume", "decks-for-three", "spool-and-close", "two-users-chat", "two-timers")  # fmt: skip
@@ -128,16 +132,6 @@ class Running:
             self.process.stdin.close()
         except BrokenPipeError:
             pass
-
-
-def read(path: str) -> bytes:
-    with open(path, "rb") as file:
-        return file.read()
-
-
-def write(path: str, data: bytes) -> None:
-    with open(path, "wb") as file:
-        file.write(data)
 
 
 def parts_of(script: bytes) -> list[bytes]:
@@ -278,6 +272,60 @@ def cases(scripts: int, seed: int) -> Iterator[Case]:
     yield from map(random_case, range(seed, seed + scripts))
 
 
+# --- tables ---
+
+
+def scripts_of_tables() -> Iterator[object]:
+    """The scripts of users of all tables, each with what comes of it."""
+    tables = importlib.import_module("test-transcripts")
+    yield from (one for name in tables.SESSIONS for one in tables.sessions(name))
+    for name in TABLES:
+        yield from getattr(tables, name)()
+
+
+def try_tables(check: Check, program: str, one_of: int, seed: int) -> int:
+    """Breaks one of so many scripts of the tables once, at random; how many breaks there were."""
+    tables, dice, breaks = importlib.import_module("test-transcripts"), random.Random(seed), 0
+    for session in scripts_of_tables():
+        # what is drawn does not depend on which are of users
+        is_drawn, share = dice.randrange(one_of) == 0, dice.random()
+        if not isinstance(session, tables.Session) or not session.directory or session.errors:
+            continue
+        if is_drawn:
+            breaks += 1
+            check(f"{session.place} broken once", *broken_once(program, session, share))
+    return breaks
+
+
+def broken_once(program: str, session: object, share: float) -> tuple:
+    """Whether a script that is broken after this share of it has the transcript and the volumes of its table, or what differs."""
+    tables = importlib.import_module("test-transcripts")
+    sizes = ["--frames", str(session.size[0]), "--slots", str(session.size[1])]
+    directory = session.directory.encode("latin-1")
+    parts = parts_of("".join(f"{line}\n" for line in session.script).encode("latin-1"))
+    place = int(share * (len(parts) + 1))
+    case = Case(session.place, directory, parts, session.volumes, sizes, None)
+    with tempfile.TemporaryDirectory(prefix="tables-") as folder:
+        try:
+            shown, state = before_break(program, case, place, folder)
+            rest, _, images = rest_of(program, case, place, state, folder)
+        except Crashed as crashed:
+            return False, str(crashed)
+    found = tables.lines_of_text((shown + rest).decode("latin-1"))
+    wanted = session.findings
+    holds = len(found) == len(wanted) and all(map(tables.is_same, found, wanted))
+    return holds and images == session.ended, f"at part {place} of {len(parts)}", *found[-3:]
+
+
+def before_break(program: str, case: Case, place: int, folder: str) -> tuple[bytes, bytes]:
+    """What appears of the parts before a place, and the state there."""
+    running = Running(program, case, folder)
+    try:
+        return b"".join(map(running.part, case.parts[:place])), running.save()
+    finally:
+        running.close()
+
+
 # --- spoiled ---
 
 
@@ -353,16 +401,20 @@ def count_check(what: str, holds: object, *findings: object) -> None:
         print(f"FAILED: {what}", *findings, sep="\n    ", flush=True)
 
 
-NUMBERS = {"--every": EVERY, "--scripts": 200, "--states": 170, "--seed": 1}
+NUMBERS = {"--every": EVERY, "--scripts": 200, "--states": 170, "--one-of": 10, "--seed": 1}
 OPTIONS = {name: number(0, 1000000) for name in NUMBERS} | {"--program": str}
 
 
 def main() -> None:
-    found, names = read_arguments(sys.argv[1:], OPTIONS, 0, 2)
-    every, scripts, states, seed = (last(found[name], usual) for name, usual in NUMBERS.items())
+    found, names = read_arguments(sys.argv[1:], OPTIONS, 0, 3)
+    every, scripts, states, one_of, seed = (
+        last(found[name], usual) for name, usual in NUMBERS.items()
+    )
     program = last(found["--program"], PROGRAM)
     if "broken" in names or not names:
         print("breaks:", try_broken(count_check, program, max(1, every), scripts, seed))
+    if "tables" in names or not names:
+        print("breaks in tables:", try_tables(count_check, program, max(1, one_of), seed))
     if "spoiled" in names or not names:
         print("taken and refused:", *try_spoiled(count_check, program, states, seed))
     print(f"{passed} passed, {failed} failed")

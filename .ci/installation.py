@@ -3,7 +3,6 @@ from __future__ import annotations
 
 from collections.abc import Callable, Iterator
 import asyncio
-import concurrent.futures
 import collections
 import atexit
 import contextlib
@@ -560,8 +559,8 @@ def try_recordings(check: Callable, folder: str) -> None:
 
 def try_pace(check: Callable) -> None:
     """A part takes about the same time, however long a turn is."""
-    from gathjumli.engine import FEW_TURNS, Pace, STUCK_TURNS
     from gathjumli.following import PartResult
+    from gathjumli.parts import FEW_TURNS, Pace, STUCK_TURNS
 
     for seconds_a_turn in (1e-7, 1e-6, 1e-3, 0.02):
         pace = Pace(0.01)
@@ -584,28 +583,24 @@ def try_pace(check: Callable) -> None:
 
 def try_no_room(check: Callable) -> None:
     """Who typed is told that a line found no room for a page, and nobody is told so of a turn that found none."""
-    from gathjumli.engine import NO_ROOM, Engine, Pace, Part, User, typed_line
+    from gathjumli.engine import NO_ROOM, Engine
     from gathjumli.following import PartResult
+    from gathjumli.parts import Pace, typed_line
+    from gathjumli.users import User
 
     engine, given, shown = Engine.__new__(Engine), [], []
     user = User("A")
-    user.show = lambda text, when=None: shown.append(text)
-    engine.users, engine.receiver, engine.pace, engine.parts = {"A": user}, None, Pace(1), 0
-    engine.marks, engine.thread = collections.deque(), concurrent.futures.ThreadPoolExecutor(1)
+    user.show = lambda texts, when=None: shown.extend(texts)
+    engine.users, engine.receiver, engine.pace = {"A": user}, None, Pace(1)
+    engine.marks = collections.deque()
     short, done = PartResult(["= A FRAMES"], [], [], True), PartResult([], [], [], True)
 
     def try_results(*results: PartResult) -> None:
-        def step(parts: tuple) -> list:
-            given.extend(parts)
-            return list(results)
-
-        async def type_line() -> None:
-            engine.step = step
-            engine.waiting = [(typed_line("A", b"X"), asyncio.get_running_loop().create_future())]
-            await engine.do_waiting()
-
+        left = list(results)
+        engine.done = lambda part: (given.append(part), left.pop(0))[1]
         given.clear()
-        run(type_line())
+        for part, result in engine.do_waiting([typed_line("A", b"X")]):
+            engine.take(part, result)
 
     try_results(short, done)
     check("a line that found no room is told of", shown == [NO_ROOM], *shown)
@@ -617,8 +612,7 @@ def try_no_room(check: Callable) -> None:
         "a typed line is a part, and its turns another",
         first.lines == b"LINE A X\n" and then.turns >= 4,
     )
-    check("which deal nothing else", isinstance(then, Part) and not then.typed)
-    engine.thread.shutdown()
+    check("which deal nothing else", not then.typed)
 
 
 # --- what is tried in seconds, over the stand-in or the program itself ---
@@ -723,7 +717,7 @@ def try_logging_on(check: Callable, site: object) -> None:
 
     site.online("--sender", "OPER")
     run(tried())
-    site.operate("end")
+    site.operate("end logoff")
     status = site.ended()
     check(
         "an end where nobody is on",
@@ -947,9 +941,9 @@ def try_computing(check: Callable, site: object) -> None:
         *site.findings,
     )
     site.operate("message GOOD NIGHT")
-    site.operate("end")
+    site.operate("end logoff")
     check("no end while somebody is on", site.await_message("still on: ALICE BOB"), *site.findings)
-    site.operate("end now")
+    site.operate("end logoff now")
     check("unless it is asked for", site.ended() == 0, *site.findings)
 
 
@@ -1148,7 +1142,7 @@ def try_ending(check: Callable, site: object) -> None:
     site.kill()
     check("and neither does a kill", has(old))
     site.online()
-    site.operate("end now")
+    site.operate("end logoff now")
     status = site.ended()
     new = [read(volume) for volume in volumes]
     first = kept_of(site)
@@ -1191,7 +1185,7 @@ def try_ending(check: Callable, site: object) -> None:
         *site.findings,
         *done,
     )
-    site.operate("end now")
+    site.operate("end logoff now")
     check("then it is online again, and takes commands", site.ended() == 0, *site.findings)
 
 

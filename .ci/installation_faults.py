@@ -186,7 +186,7 @@ def desk_of(engine: object, program: str) -> tuple:
 
 def try_lost_connection(check: Callable, program: str) -> None:
     """A connection that the network gives up leaves its user at no terminal, whatever the fault is."""
-    from gathjumli.engine import User
+    from gathjumli.users import User
 
     async def served(fault: object) -> object:
         user = User("A")
@@ -210,9 +210,26 @@ def try_lost_connection(check: Callable, program: str) -> None:
         check(f"a connection that ends with {fault!r}", run(served(fault)))
 
 
+def try_half_closed(check: Callable, site: object) -> None:
+    """One who types no more, but still reads, is shown what comes of his last line."""
+
+    async def tried() -> list:
+        alice = await person(f"{site.folder}/socket")
+        alice.type("LOGON ALICE WONDER", "STORE G1 00000009", "DISPLAY G1")
+        alice.writer.write_eof()
+        return await alice.rest()
+
+    os.environ["PEOPLE_SLOW"] = "0.1"
+    site.online()
+    lines = run(tried())
+    del os.environ["PEOPLE_SLOW"]
+    check("one who types no more sees his last answer", lines[-1] == "GPR 1 = 00000009", *lines)
+    check("it is suspended", site.stop() == 0)
+
+
 def try_two_logons(check: Callable, program: str) -> None:
     """A user who logs on at two terminals while LOGON is under way is logged on once, and the second terminal takes over."""
-    from gathjumli.engine import User
+    from gathjumli.users import User
 
     async def served() -> tuple:
         user, goes_on = User("A"), asyncio.Event()
@@ -472,7 +489,7 @@ def try_volumes(check: Callable, site: object) -> None:
     check("a second installation over a volume", holds, done.stderr)
     write(volume, "CHANGED\n")
     session = site.session()
-    site.operate("end now")
+    site.operate("end logoff now")
     check("it ends", site.ended() == 0, *site.findings)
     holds = read(volume) == b"CHANGED\n" and read(f"{volume}.{session}") == b"SAVED\n"
     check(
@@ -485,7 +502,7 @@ def try_volumes(check: Callable, site: object) -> None:
         names_in(f"{site.folder}/{kept_of(site)}") == ["directory", "recording"],
     )
     site.online()
-    site.operate("end now")
+    site.operate("end logoff now")
     holds = (
         site.ended() == 0
         and read(volume) == b"SAVED\n"
@@ -550,7 +567,7 @@ def try_end_in_restart(check: Callable, site: object) -> None:
         os.kill(site.program(), signal.SIGKILL)
         alice.type("DISPLAY G1")
         site.await_message("it is started again")
-        site.operate("end now")
+        site.operate("end logoff now")
         await alice.rest()
 
     site.online()
@@ -565,7 +582,7 @@ def try_end_in_restart(check: Callable, site: object) -> None:
         *site.findings,
     )
     site.online()
-    site.operate("end now")
+    site.operate("end logoff now")
     check("the next one does", site.ended() == 0 and read(volume) == b"SAVED\n", *site.findings)
 
 
@@ -598,6 +615,7 @@ def try_faults(check: Callable, command: str, program: str, folder: str) -> None
     try_killed_program(check, make_site(command, f"{folder}/killed"), program)
     try_end_in_restart(check, make_site(command, f"{folder}/restart"))
     try_deadly_line(check, make_site(command, f"{folder}/deadly"))
+    try_half_closed(check, make_site(command, f"{folder}/half closed"))
     try_volumes(check, make_site(command, f"{folder}/volumes"))
     try_listing(check, make_site(command, f"{folder}/listing"))
     try_decks(check, make_site(command, f"{folder}/folders of decks"))

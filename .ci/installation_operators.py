@@ -66,7 +66,7 @@ def try_operators(check: Callable, site: object) -> None:
     wrong = operator(site, "nothing")
     holds = wrong.returncode == 1 and "there is no command nothing" in wrong.stdout
     check("a command that is none is refused", holds, wrong.stdout)
-    still = operator(site, "end")
+    still = operator(site, "end", "logoff")
     check(
         "so is an end while somebody is on",
         still.returncode == 1 and "still on: ALICE" in still.stdout,
@@ -90,7 +90,7 @@ def try_operators(check: Callable, site: object) -> None:
                             stdin=subprocess.DEVNULL)  # fmt: skip
     holds = second.returncode == 3 and "another process listens at" in second.stderr
     check("a second one at its sockets is refused", holds, second.stderr)
-    ended = operator(site, "end", "now")
+    ended = operator(site, "end", "logoff", "now")
     check(
         "an operator ends it",
         ended.returncode == 0 and "the session has ended" in ended.stdout,
@@ -209,7 +209,9 @@ def try_waiting_printout(check: Callable, site: object) -> None:
     spool = operator(site, "spool").stdout
     check("which is seen too", "PRT0001-ALICE.txt 1 lines, written" in spool, spool)
     check(
-        "then it ends", operator(site, "end").returncode == 0 and site.ended() == 0, *site.findings
+        "then it ends",
+        operator(site, "end", "logoff").returncode == 0 and site.ended() == 0,
+        *site.findings,
     )
 
 
@@ -306,7 +308,7 @@ def try_commands(check: Callable, site: object) -> None:
     )
     check(
         "the operator's user is nobody who is on",
-        operator(site, "end").returncode == 0 and site.ended() == 0,
+        operator(site, "end", "logoff").returncode == 0 and site.ended() == 0,
         *site.findings,
     )
 
@@ -387,7 +389,7 @@ def try_small_faults(check: Callable, site: object) -> None:
         "others may read it: chmod 600" in site.since_start(),
         *site.findings,
     )
-    site.operate("end")
+    site.operate("end logoff")
     check("it ends", site.ended() == 0, *site.findings)
     kept = [name for name in names_in(f"{site.folder}/real") if name.startswith("recording.2")]
     holds = len(kept) == 1 and "recording" in names_in(f"{site.folder}/real/{kept[0]}")

@@ -11,16 +11,20 @@ import os
 import re
 import runpy
 import signal
+import subprocess
 import sys
 
 from installation import (
+    PRINTS,
     Site,
+    image_of,
     make_site,
     names_in,
     on,
     read,
     replayed,
     run,
+    sizes_of,
     until_so,
     without_sums,
     write,
@@ -86,6 +90,27 @@ def die_before(name: str) -> None:
         states.MOST_BYTES = 10
     elif name == "broken":
         break_reading()
+    elif name in END_STEPS.values():
+        die_in_end(name)
+
+
+def die_in_end(name: str) -> None:
+    """Has the command die where it calls a function of this name to end a session."""
+    from gathjumli import checkpoints, recording, states
+    from gathjumli.following import Program
+
+    if name == "save_last":
+        states.States.save_last = die
+    elif name == "mark":
+        recording.Recording.mark = die
+    elif name == "finish":
+        Program.finish = die
+    elif name == "succeeding":
+        recording.Recording.succeeding = die
+    elif name == "forget":
+        checkpoints.sync_folder = lambda path: path.endswith("/recording") and die()
+    else:
+        setattr(checkpoints.Checkpoint, name, die)
 
 
 def break_reading() -> None:
@@ -157,9 +182,8 @@ def last_state(site: Site) -> str:
 
 
 def begun_with(site: Site) -> str:
-    """The state with which the last start began, or nothing."""
-    found = re.search(r"begins with (.*)", site.since_start())
-    return found[1] if found else ""
+    """The state with which the last session began, or nothing."""
+    return (re.findall(r"begins with (.*)", site.since_start()) or [""])[-1]
 
 
 # --- tests ---
@@ -348,6 +372,263 @@ def try_ending(check: Check, site: Site) -> None:
     check("it is suspended", site.stop() == 0, *site.findings)
 
 
+# what comes after each step of an end that keeps the machines
+END_STEPS = {
+    "the state is to be saved": "save_last",
+    "the end is to be marked": "mark",
+    "volumes are to be saved": "finish",
+    "what was saved is to be marked": "saved_mark",
+    "all is to be set aside": "set_aside",
+    "the directory is aside": "keep_beginning",
+    "the state is to be in its place": "put_next",
+    "the next recording is to be written": "succeeding",
+    "the next recording is in its place": "forget",
+}
+
+
+def kept_names(site: Site) -> list[str]:
+    """The folders of sessions that have ended."""
+    return [name for name in names_in(site.folder) if name.startswith("recording.2")]
+
+
+def has_begun_anew(site: Site) -> bool:
+    """Whether the session is one that goes on from another one, and in which nothing was done yet."""
+    text = read(site.record)
+    return b"* STATE begin " in text and b"\nLINE " not in text
+
+
+def add_volume(site: Site) -> str:
+    """Gives a site a volume."""
+    site.paths.append(f"{site.folder}/volume")
+    write(site.paths[-1], image_of("V1", 1))
+    return site.paths[-1]
+
+
+def try_kept_machines(check: Check, site: Site, program: str) -> None:
+    """An end saves the volumes, and the next session goes on with all machines."""
+    volume, before = add_volume(site), image_of("V1", 1)
+    site.online()
+    run(stored(site, 5))
+    site.operate("end")
+    holds = site.await_message("the session has ended") and site.ended() == 0
+    check("an end while somebody is on", holds, *site.findings)
+    check("saves the volumes", read(volume) != before and has_begun_anew(site))
+    (aside,) = kept_names(site)
+    wanted = ["directory", "end", "recording", "volume-1"]
+    check("and sets the session aside", names_in(f"{site.folder}/{aside}") == wanted)
+    check("without states of it", state_names(site) == [], *state_names(site))
+    site.online()
+    lines = run(shown(site))
+    holds = value_in(lines) == 5 and "RECONNECTED" in lines and "STORE G1 00000005" in lines
+    check("the next session has the machines", holds, *lines)
+    check("from the state", begun_with(site) == f"{site.record}.begin", *site.findings)
+    site.operate("frames")
+    check("frames are not looked for", site.await_message("frames are not looked for"))
+    site.kill(is_all=True)
+    site.online()
+    check("also after a kill", value_in(run(shown(site))) == 5, *site.findings)
+    os.kill(site.program(), signal.SIGKILL)
+    check("and if the program dies", value_in(run(shown(site))) == 5, *site.findings)
+    site.operate("end logoff")
+    check("no end without machines", site.await_message("still on: ALICE"), *site.findings)
+    site.operate("end logoff now")
+    check("unless it is asked for", site.ended() == 0, *site.findings)
+    last = kept_names(site)[-1]
+    wanted = ["begin", "directory", "recording", "volume-1"]
+    check("which keeps its beginning", names_in(f"{site.folder}/{last}") == wanted)
+    site.online()
+    alice = run(person_on(site))
+    check("then all are off", alice == "LOGON OK", alice)
+    check("it is suspended", site.stop() == 0)
+
+
+def try_kept_files(check: Check, site: Site, prints: tuple, repository: str) -> None:
+    """Files that are open or closed at an end: each is printed once, and numbers go on; what the next session did replays."""
+
+    async def does(*steps: tuple[tuple, str]) -> None:
+        alice = await on(site)
+        for lines, text in steps:
+            alice.type(*lines)
+            await alice.until(text)
+        alice.go()
+
+    def printed(name: str) -> list[str]:
+        folder = f"{site.folder}/prints/{site.session()}"
+        site.await_message(f"closed: {folder}/{name}")
+        return names_in(folder)
+
+    lines, close = prints
+    stops, decks = "STOPPED DISABLED WAIT", f"{site.folder}/decks"
+    site.online("--printouts", f"{site.folder}/prints", "--decks", decks)
+    if close:
+        # the second one stays open, and a deck waits
+        opens = (("STORE PSW 00000000 00000100", "BEGIN"), stops)
+        run(does((lines, stops), (close, "FILE 0001 CLOSED"), opens))
+        write_text(f"{decks}/ALICE/cards", "ONE\nTWO\n")
+        run(until_so(lambda: names_in(f"{decks}/ALICE/done")))
+    else:
+        run(does(((*lines, "DISPLAY G1"), "GPR 1 = 00000000")))
+    check(
+        "a file is printed", printed("PRT0001-ALICE.txt") == ["PRT0001-ALICE.txt"], *site.findings
+    )
+    site.operate("end")
+    check("it ends", site.ended() == 0, *site.findings)
+    site.online("--printouts", f"{site.folder}/prints")
+    run(does(((*(close or lines), "DISPLAY G1", "DISPLAY G2"), "GPR 2 = 00000000")))
+    # the deck is a file too
+    name = "PRT0003-ALICE.txt" if close else "PRT0002-ALICE.txt"
+    check("the next one goes on", printed(name) == [name], *site.findings)
+    path = f"{site.folder}/prints/{site.session()}/{name}"
+    check("and is whole", read(path) == b"HELLO\n", read(path))
+    if close:
+        run(does((("QUERY FILES",), "FILE 0002 FROM SYSTEM CARDS 2")))
+    check("it is suspended", site.stop() == 0)
+    try_replays(check, site, repository)
+
+
+def try_replays(check: Check, site: Site, repository: str) -> None:
+    """A session that went on from another one replays from its state, and has a page."""
+    words = [
+        *sizes_of(site.record),
+        "--state",
+        f"{site.record}.begin",
+        "--",
+        site.paths[0],
+        site.record,
+    ]
+    done = subprocess.run([f"{repository}/bin/vm370", *words], capture_output=True, text=True)
+    holds = "ALICE: GPR 1 = 00000000\n" in done.stdout and "LOGON OK" not in done.stdout
+    check("the session replays from its state", done.returncode == 0 and holds, done.stderr)
+    out = f"{site.folder}/page.html"
+    words = [f"{repository}/bin/report", "--looks", "1", site.record, out]
+    done = subprocess.run(words, capture_output=True, text=True)
+    text = read(out).decode() if done.returncode == 0 else ""
+    holds = "GPR 1 = 00000000" in text and "without frames" in done.stderr
+    check("and has a page", holds, done.stderr)
+    os.rename(f"{site.record}.begin", f"{site.record}.away")
+    done = subprocess.run(words, capture_output=True, text=True)
+    os.rename(f"{site.record}.away", f"{site.record}.begin")
+    check("which needs the state", "the state with which the session began is not" in done.stderr)
+
+
+async def person_on(site: Site) -> str:
+    """What is answered to a logon."""
+    alice = await on(site)
+    alice.go()
+    return alice.lines[-1]
+
+
+def try_end_at(check: Check, site: Site) -> None:
+    """The time of an end is known to the next start, also of one without machines."""
+    site.online()
+    site.operate("end logoff at 03:00")
+    check("it is planned", site.await_message("without its machines"), *site.findings)
+    check("it is suspended", site.stop() == 0)
+    site.online()
+    check("also then", "03:00, without its machines" in site.since_start(), *site.findings)
+    site.operate("end at 03:00")
+    site.await_message("the session ends at", 5)
+    check("it is suspended again", site.stop() == 0)
+    holds = read(f"{site.record}.end-at").endswith(b" 03:00\n")
+    check("the other end", holds and not read(f"{site.record}.end-at").startswith(b"logoff"))
+
+
+def try_lost_beginning(check: Check, site: Site) -> None:
+    """If the state is lost with which a session goes on, nothing is overwritten, and what can be done is told."""
+    site.online()
+    run(stored(site, 6))
+    site.operate("end now")
+    check("it ends", site.ended() == 0, *site.findings)
+    begin, whole = f"{site.record}.begin", read(site.record)
+    copy = f"{site.folder}/{kept_names(site)[0]}/end"
+    os.unlink(begin)
+    site.start()
+    text = f"put back {begin} from {copy}"
+    check("it is refused", site.await_message(text) and site.ended() == 1, *site.findings)
+    write(begin, read(copy)[:-70] + b"X" * 70)
+    site.start()
+    check("also if it is spoiled", site.await_message(text) and site.ended() == 1, *site.findings)
+    check("nothing is overwritten", read(site.record)[: len(whole)] == whole)
+    write(begin, read(copy))
+    site.online()
+    check("with the copy it goes on", value_in(run(shown(site))) == 6, *site.findings)
+    check("it is suspended", site.stop() == 0)
+    site.start("--without-machines")
+    holds = site.await_message("has machines, and they are there") and site.ended() == 1
+    check("machines that are there are not left", holds, *site.findings)
+    for path in [begin, *(f"{site.folder}/{name}" for name in state_names(site))]:
+        os.unlink(path)
+    site.online("--without-machines")
+    alice = run(person_on(site))
+    check("without the state they are", alice == "LOGON OK", alice, *site.findings)
+    check("and the session is aside", len(kept_names(site)) == 2, *kept_names(site))
+    check("it is suspended again", site.stop() == 0)
+
+
+def try_end_steps(check: Check, site: Site) -> None:
+    """A kill between each two steps of an end loses nothing: it is before the end, or after it."""
+    volume, before = add_volume(site), image_of("V1", 1)
+    for value, (what, step) in enumerate(END_STEPS.items(), 7):
+        os.environ["PEOPLE_STEP"] = step
+        site.online()
+        run(stored(site, value))
+        site.operate("end now")
+        check(f"it is killed when {what}", site.ended() == -signal.SIGKILL, *site.findings)
+        os.environ["PEOPLE_STEP"] = ""
+        site.online()
+        value_now = value_in(run(shown(site)))
+        check(f"nothing is lost when {what}", value_now == value, value_now, *site.findings)
+        has_ended = "the session has ended" in site.since_start() or step == "forget"
+        check(f"it has ended when {what}", has_ended == (step not in ("save_last", "mark")))
+        check("it is suspended", site.stop() == 0)
+        leftovers = [name for name in names_in(site.folder) if ".ending-" in name]
+        check("and nothing is left", not leftovers, *leftovers)
+    check("volumes are saved", read(volume) != before)
+
+
+def try_changed_volume(check: Check, site: Site) -> None:
+    """A volume that somebody else changed during a session stays, and the next session says what can be done."""
+    volume = add_volume(site)
+    site.online()
+    run(stored(site, 4))
+    write(volume, image_of("V2", 1))
+    site.operate("end now")
+    check("it ends", site.ended() == 0, *site.findings)
+    check("the volume stays", read(volume) == image_of("V2", 1))
+    site.start()
+    holds = site.await_message("or start with --without-machines") and site.ended() == 1
+    check("the machines do not go on with it", holds and "another volume 1" in site.since_start())
+    site.online("--without-machines")
+    alice = run(person_on(site))
+    check("others do", alice == "LOGON OK" and read(volume) == image_of("V2", 1), alice)
+    check("it is suspended", site.stop() == 0)
+
+
+def try_unsaved_end(check: Check, site: Site) -> None:
+    """An end at which the state cannot be saved has not begun, or is done without machines where that is asked for."""
+    os.environ["PEOPLE_STEP"] = "full"
+    site.online("--state-every", "0")
+    run(stored(site, 3))
+    site.operate("end now")
+    holds = site.ended() == 3 and "the session has not ended" in site.since_start()
+    check("an end without room for a state", holds, *site.findings)
+    os.environ["PEOPLE_STEP"] = ""
+    site.online()
+    check("the session goes on", value_in(run(shown(site))) == 3 and not kept_names(site))
+    site.kill(is_all=True)
+    write(site.record, read(site.record) + b"* END KEEPING MACHINES\n")
+    os.environ["PEOPLE_STEP"] = "full"
+    site.start()
+    holds = site.await_message("start with --without-machines") and site.ended() == 3
+    check("one that was begun neither", holds, *site.findings)
+    site.online("--without-machines")
+    alice = run(person_on(site))
+    holds = len(kept_names(site)) == 1 and alice == "LOGON OK"
+    check("without machines it ends", holds, *site.findings)
+    os.environ["PEOPLE_STEP"] = ""
+    site.kill(is_all=True)
+
+
 def try_weights(check: Check, folder: str) -> None:
     """What is left after a state is known as well while the recording is written as when it is read."""
     from gathjumli.recording import Base, Recording
@@ -367,6 +648,64 @@ def try_weights(check: Check, folder: str) -> None:
     for what, one in (("written", recording), ("read", again)):
         left = one.weight - one.states[-1].weight
         check(f"what is left after a state that was {what}", (one.weight, left) == (67, 27), left)
+
+
+def long_recording(folder: str) -> str:
+    """A recording of some parts, with cards that look like comments, and three states."""
+    from gathjumli.recording import Base, Recording
+
+    os.makedirs(folder)
+    write_text(f"{folder}/directory", "USER A PW 8K\n")
+    recording = Recording(f"{folder}/recording")
+    recording.begin(Base("program", "64 256", f"{folder}/directory", []))
+    for number in range(1, 301):
+        recording.add(b"LINE A DISPLAY G%d\n" % (number % 10))
+        recording.add_turns(number)
+        recording.add(b"* DECK A %d\nDECK A 3\n* STATE state-1 0\nDECK A 9\n* END\n" % number)
+        recording.put(b"* PRINTED PRT%04d-A.txt\n" % number)
+        if number % 70 == 0:
+            recording.mark_state(f"state-{number}", "0" * 32)
+    recording.settle()
+    recording.close()
+    return recording.path
+
+
+def try_fronts(check: Check, folder: str) -> None:
+    """What comes before the last states of a long recording is read as a whole, and means what it means line by line."""
+    from gathjumli import fronts
+    from gathjumli.cli import Failure
+    from gathjumli.recording import Recording
+
+    path, usual = long_recording(folder), fronts.LEAST
+
+    def look(least: int) -> Recording | str:
+        fronts.LEAST = least
+        try:
+            recording = Recording(path)
+            recording.close()
+            return recording
+        except Failure as failure:
+            return str(failure.lines)
+        finally:
+            fronts.LEAST = usual
+
+    whole, one = look(1 << 30), look(1)
+    names = ("base", "begun", "last", "until", "decks", "printed", "lines", "bytes", "right", "cut")
+    check("a front is read", fronts.LEAST == usual and one.weight < whole.weight)
+    differ = [name for name in names if getattr(one, name) != getattr(whole, name)]
+    check("a front means the same", not differ and one.digits() == whole.digits(), *differ)
+    marks = [
+        [(mark._replace(weight=0), item.weight - mark.weight) for mark in item.states]
+        for item in (one, whole)
+    ]
+    check("so do the last states", marks[0] == marks[1] and len(marks[0]) == 2, *marks)
+    text = read(path)
+    for place in (text.index(b"DISPLAY"), text.index(b"G9"), text.rindex(b"G9")):
+        write(path, text[:place] + b"X" + text[place + 1 :])
+        found = look(1)
+        holds = found == look(1 << 30) and "not as written" in found
+        check(f"a front that was edited at byte {place}", holds, found)
+    write(path, text)
 
 
 def try_slow_states(check: Check, folder: str) -> None:
@@ -390,6 +729,8 @@ def try_slow_states(check: Check, folder: str) -> None:
     wanted = "everybody waited 2.2 seconds for a state of 700 MB: no further one is saved before a suspend"
     check("two slow states in a row", (states.is_due(31.0), told) == (False, [wanted]), told)
     check("one at a suspend", states.can_save(31.0))
+    states.tried(100.0, True)
+    check("the next one waits longer", states.due == 100.0 + 50 * 2.25, states.due)
     recording.close()
 
 
@@ -481,8 +822,18 @@ def try_states(check: Check, command: str, program: str, folder: str) -> None:
     try_wrong_states(check, make_site(command, f"{folder}/wrong"))
     try_other_files(check, make_site(command, f"{folder}/others"))
     try_ending(check, make_site(command, f"{folder}/ending"))
+    try_kept_machines(check, make_site(command, f"{folder}/kept"), program)
+    repository = os.path.dirname(os.path.dirname(command))
+    files = make_site(command, f"{folder}/kept files")
+    try_kept_files(check, files, (("PRINT HELLO",), ()), repository)
+    try_end_at(check, make_site(command, f"{folder}/end at"))
+    try_lost_beginning(check, make_site(command, f"{folder}/lost"))
+    try_end_steps(check, killed_site(command, f"{folder}/end steps"))
+    try_unsaved_end(check, killed_site(command, f"{folder}/unsaved"))
+    try_changed_volume(check, make_site(command, f"{folder}/changed"))
     try_replaced(check, make_site(command, f"{folder}/replaced"), program)
     try_weights(check, f"{folder}/weights")
+    try_fronts(check, f"{folder}/fronts")
     try_slow_states(check, f"{folder}/slow")
     try_printouts(check, make_site(command, f"{folder}/printouts"))
     try_no_state(check, killed_site(command, f"{folder}/none"))
@@ -496,6 +847,11 @@ def try_over_program(check: Check, command: str, program: str, folder: str) -> N
     try_seconds(check, make_site(command, f"{folder}/seconds"))
     try_wrong_states(check, make_site(command, f"{folder}/wrong"))
     try_steps(check, killed_site(command, f"{folder}/steps"))
+    try_kept_machines(check, make_site(command, f"{folder}/kept"), program)
+    repository = os.path.dirname(os.path.dirname(command))
+    files = make_site(command, f"{folder}/kept files")
+    try_kept_files(check, files, (PRINTS, ("CLOSE 00E",)), repository)
+    try_end_steps(check, killed_site(command, f"{folder}/end steps"))
 
 
 if __name__ == "__main__" and sys.argv[1:2] == ["--killed"]:

@@ -14,7 +14,7 @@ import time
 
 from gathjumli import web_library
 from gathjumli.decks import Folders
-from gathjumli.engine import User
+from gathjumli.users import User
 from installation import BANNER, run, write_text as write
 from gathjumli.logon import Passwords
 from gathjumli.minidisks import Minidisks
@@ -105,12 +105,12 @@ class Engine:
         self.given.append(part.lines)
         for name, text in part.typed:
             user = self.users[name]
-            user.keep(text)
+            user.keep([text])
             if text in ("LOGON", "LOGOFF"):
-                user.show(f"{text} OK")
+                user.show([f"{text} OK"])
                 user.become("ON" if text == "LOGON" else "OFF")
             else:
-                user.show(f"{text}?")
+                user.show([f"{text}?"])
 
     def note(self, mark: object) -> None:
         pass
@@ -380,7 +380,7 @@ async def try_coming_back(check: Callable, folder: str) -> None:
     page = browser.page
     page.seen(2)
     page.detach()
-    house.engine.users["ALICE"].show("MEANWHILE")
+    house.engine.users["ALICE"].show(["MEANWHILE"])
     words = {"is": "resume", "page": page.name, "token": page.token, "seen": 2}
     for name, wrong in (("token", "x"), ("token", None), ("page", "x"), ("page", None)):
         other = Browser(house, {**words, name: wrong})
@@ -455,7 +455,7 @@ async def try_bounds(check: Callable, folder: str) -> None:
     await browser.log_on()
     browser.page.detach()
     for _ in range(MOST_UNREAD // 1000 + 2):
-        house.engine.users["ALICE"].show("X" * 1000)
+        house.engine.users["ALICE"].show(["X" * 1000])
     check(
         "who does not read is closed",
         "ALICE does not read: closed" in house.findings and browser.page.size < 2 * MOST_UNREAD,

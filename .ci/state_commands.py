@@ -5,7 +5,8 @@ from collections.abc import Callable
 import os
 import subprocess
 
-from broken import example, read, write
+from broken import example
+from installation import read, write
 
 Check = Callable[..., None]
 

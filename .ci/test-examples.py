@@ -1,8 +1,8 @@
 #!/usr/bin/env python3
-"""Tests the examples of the crates' first pages, which are the //! lines at the head of crates/NAME/src/lib.rt. Each fenced block
-there becomes a function, with `rt` and `alloc` at hand, of a crate that is made for them; rt try runs it, without any proof, so this
-takes two to three minutes. Told is which example is refused, which asserts what does not hold or nothing at all, and which crate has
-none.
+"""Tests the examples of the crates: those of the first pages, which are the //! lines at the head of crates/NAME/src/lib.rt, and
+those under `# Examples` in doc comments. Each fenced block there becomes a function, with `rt` and `alloc` at hand, of a crate that
+is made for them; rt try runs it, without any proof, so this takes two to three minutes. It reports which example is refused, which
+asserts what does not hold or nothing at all, and which crate has none.
 
     .ci/test-examples.py [CRATE]..
 
@@ -43,10 +43,10 @@ def page_of(crate: str) -> list:
     return [line.removeprefix("//!").removeprefix(" ") for line in lines[:count]]
 
 
-def examples_of(crate: str) -> object:
-    """The fenced blocks of a first page: the number of the first line of each, and its lines."""
+def blocks_of(lines: list) -> list:
+    """The fenced blocks of numbered lines: the number of the first line of each, and its lines."""
     found, block = [], None
-    for number, line in enumerate(page_of(crate), 1):
+    for number, line in lines:
         if not line.startswith("```"):
             if block is not None:
                 block[1].append(line)
@@ -57,6 +57,41 @@ def examples_of(crate: str) -> object:
             block = None
     # a block that is not closed ends in what is no code, and so is refused
     return found if block is None else [*found, (block[0], [*block[1], "```"])]
+
+
+def comments_of(path: str) -> list:
+    """The examples under `# Examples` in the doc comments of a file."""
+    with open(path, encoding="utf-8") as file:
+        lines = [line.strip() for line in file]
+    found, taken = [], None
+    for number, line in enumerate(lines, 1):
+        text = line.removeprefix("///").removeprefix(" ") if line.startswith("///") else None
+        if text == "# Examples":
+            taken = []
+        elif taken is not None and text is not None and not text.startswith("# "):
+            taken.append((number, text))
+        elif taken is not None:
+            found += blocks_of(taken)
+            taken = None
+    return found
+
+
+def pages_of(crate: str) -> dict:
+    """The examples of a crate by the files that have them: of its first page, and of doc comments."""
+    source = f"{TOP}/crates/{crate}/src"
+    pages = {f"{crate}/src/lib.rt": blocks_of(list(enumerate(page_of(crate), 1)))}
+    for folder, _, names in sorted(os.walk(source)):
+        for name in sorted(name for name in names if name.endswith(".rt")):
+            path = os.path.relpath(f"{folder}/{name}", f"{TOP}/crates")
+            examples = comments_of(f"{folder}/{name}")
+            if examples:
+                pages[path] = pages.get(path, []) + examples
+    return pages
+
+
+def module_name(path: str) -> str:
+    """The module in which the examples of a file are."""
+    return path.removesuffix(".rt").replace("/src/", "__").replace("/", "__")
 
 
 def module_of(examples: object) -> tuple:
@@ -113,10 +148,10 @@ def run(room: int, pages: object) -> tuple:
     """Runs the examples of these crates; what rt try wrote, and where the lines of each module stand."""
     places = {}
     shutil.rmtree(f"{room}/crates/{SCRATCH}", ignore_errors=True)
-    for crate, examples in pages.items():
-        text, places[crate] = module_of(examples)
-        write(f"{room}/crates/{SCRATCH}/src/of_{crate}.rt", text)
-    modules = "".join(f"#[cfg(test)]\nmod of_{crate};\n" for crate in pages)
+    for path, examples in pages.items():
+        text, places[module_name(path)] = module_of(examples)
+        write(f"{room}/crates/{SCRATCH}/src/of_{module_name(path)}.rt", text)
+    modules = "".join(f"#[cfg(test)]\nmod of_{module_name(path)};\n" for path in pages)
     write(f"{room}/crates/{SCRATCH}/src/lib.rt", f"#![tactic(auto)]\n\n{modules}")
     done = subprocess.run(
         ["rt", "try", "--test"],
@@ -133,7 +168,7 @@ def run(room: int, pages: object) -> tuple:
 
 
 def refused(written: object, places: object) -> object:
-    """Of an output the examples that do not compile: crate, first line, the line of the page, and why."""
+    """Of an output the examples that do not compile: module, first line, the line of the file, and why."""
     found = {}
     for line in written.splitlines():
         place = PLACE.match(line)
@@ -164,7 +199,7 @@ def tried(pages: object) -> object:
         make_repository(room, pages)
         while any(left.values()):
             written, places = run(
-                room, {crate: examples for crate, examples in left.items() if examples}
+                room, {path: examples for path, examples in left.items() if examples}
             )
             wrong = refused(written, places)
             found |= wrong
@@ -174,29 +209,34 @@ def tried(pages: object) -> object:
                     raise SystemExit(1)
                 return found | failed(written, places)
             left = {
-                crate: [example for example in examples if (crate, example[0]) not in wrong]
-                for crate, examples in left.items()
+                path: [
+                    example for example in examples if (module_name(path), example[0]) not in wrong
+                ]
+                for path, examples in left.items()
             }
     return found
 
 
-def main(names: list[bytes]) -> int:
-    pages = {crate: examples_of(crate) for crate in names or libraries()}
+def main(names: list[str]) -> int:
+    pages = {}
+    for crate in names or libraries():
+        pages |= pages_of(crate)
     faults = [
-        f"crates/{crate}/src/lib.rt: its first page has no example"
-        for crate, examples in pages.items()
-        if not examples and crate not in WITHOUT
+        f"crates/{path}: its first page has no example"
+        for path, examples in pages.items()
+        if not examples and path.split("/")[0] not in WITHOUT
     ]
     silent = {
-        (crate, first): (first, "it asserts nothing")
-        for crate, examples in pages.items()
+        (module_name(path), first): (first, "it asserts nothing")
+        for path, examples in pages.items()
         for first, block in examples
         if not any("assert" in line for line in block)
     }
     wrong = silent | tried(pages)
+    paths = {module_name(path): path for path in pages}
     faults += [
-        f"crates/{crate}/src/lib.rt:{number}: {why}"
-        for (crate, _), (number, why) in sorted(wrong.items())
+        f"crates/{paths[module]}:{number}: {why}"
+        for (module, _), (number, why) in sorted(wrong.items())
     ]
     for fault in faults:
         print(f"FAILED: {fault}")

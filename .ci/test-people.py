@@ -1288,6 +1288,7 @@ def try_states(repository: str, folder: str) -> None:
     programs = [f"{TOP}/crates/{name}/out/{name}" for name in ("vm370_cli", "bare370_cli")]
     state_commands.try_commands(check, repository, programs, folder)
     broken.try_broken(check, programs[0], broken.EVERY, broken.SCRIPTS, 1)
+    broken.try_tables(check, programs[0], broken.ONE_OF, 1)
     broken.try_spoiled(check, programs[0], broken.STATES, 1)
 
 

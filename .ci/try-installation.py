@@ -538,8 +538,9 @@ def check_pieces(user: Account, connections: object, lines: list, typed: object)
 
 
 def part_ends(folder: str, options: object) -> None:
-    """Kills in the midst of an end: after the next start all volumes are as they were and the session goes on, or all are saved
-    and the recording is set aside."""
+    """Kills in the midst of an end, of which half keep the machines: after the next start all volumes are as they were and the
+    session goes on, or all are saved and the recording is set aside. Machines that are kept are there in both cases.
+    """
     old = [image_of(name, 1) for name in ("V1", "V2", "V3")]
     chance, saved, kept = random.Random(5), 0, 0
     town = Town(f"{folder}/ends", 1)
@@ -549,7 +550,8 @@ def part_ends(folder: str, options: object) -> None:
             write(path, data)
         town.online()
         asyncio.run(leave_a_mark(town, round))
-        town.operate("end now")
+        is_keeping = round // 2 % 2 == 1
+        town.operate("end now" if is_keeping else "end logoff now")
         time.sleep(chance.uniform(0, 0.05))
         town.kill(is_all=round % 2 == 1)
         town.online()
@@ -562,8 +564,11 @@ def part_ends(folder: str, options: object) -> None:
         )
         is_set_aside = "U00" not in read(town.record).decode("latin-1").partition("* BEGUN")[2]
         check("and the recording stands with them", is_set_aside != are_old[0], f"round {round}")
+        if is_keeping or are_old[0]:
+            value = asyncio.run(marked(town))
+            check("and the machines", value == f"GPR 1 = {round:08X}", f"round {round}", value)
         saved, kept = saved + (not are_old[0]), kept + are_old[0]
-        town.operate("end now")
+        town.operate("end logoff now")
         check("it ends", town.ended() == 0, *town.findings)
         for entry in os.listdir(town.folder):
             if entry.startswith("recording.2"):
@@ -571,6 +576,16 @@ def part_ends(folder: str, options: object) -> None:
     notify(
         f"ends: {saved + kept} kills in the midst of an end; {saved} times all was saved then, {kept} times the session went on"
     )
+
+
+async def marked(town: object) -> str:
+    """What the register has that was stored before."""
+    one = await town.on("U00")
+    one.type("DISPLAY G1")
+    while not (line := await one.line()).startswith("GPR 1 = "):
+        pass
+    one.go()
+    return line
 
 
 async def leave_a_mark(town: object, round: object) -> None:

@@ -12,9 +12,22 @@ import shutil
 import tempfile
 
 from gathjumli.cli import FILE_FAILED, Failure, REFUSED, write_whole
-from gathjumli.recording import SAVED, read_whole, sum_of_file, sync_folder, without_passwords
+from gathjumli.recording import (
+    BEGINNING,
+    SAVED_KEEPING,
+    Recording,
+    SAVED,
+    read_whole,
+    sum_of_file,
+    sync_folder,
+    without_passwords,
+)
+from gathjumli.state_files import is_state
 
 DIRECTORY = "directory"
+# in the folder of a session: the states with which it began and ended
+FIRST_STATE = "begin"
+LAST_STATE = "end"
 ENDING = ".ending-"
 
 
@@ -51,6 +64,14 @@ class Checkpoint:
             for place in range(1, len(self.volumes) + 1)
         ]
 
+    def state(self) -> str:
+        """The file of the machines' state at the end of a session."""
+        return os.path.join(self.folder, LAST_STATE)
+
+    def beginning(self) -> str:
+        """The file of the state with which the session began, if it began with one."""
+        return f"{self.record}.{BEGINNING}"
+
     def begin(self) -> Any:
         """The paths by which the program reads the volumes, and will save others."""
         self.forget()
@@ -77,18 +98,20 @@ class Checkpoint:
             is_settled=True,
         )
 
-    def saved_mark(self) -> Any:
-        """The line of the recording that says that all is saved, once it is on the disk: in which folder, and the sums."""
+    def saved_mark(self, digits: str) -> Any:
+        """The line of the recording that says that all is saved, once it is on the disk: in which folder, and the sums; digits: the
+        sum of the state with which the next session begins, if any."""
         for path in self.paths():
             sync_file(path)
         sync_folder(os.path.join(self.folder, DIRECTORY))
-        words = [os.path.basename(self.folder), *map(sum_of_file, self.paths())]
-        return SAVED + " ".join(words).encode(errors="surrogateescape")
+        sums = [*([digits] * bool(digits)), *map(sum_of_file, self.paths())]
+        words = " ".join([os.path.basename(self.folder), *sums])
+        return (SAVED_KEEPING if digits else SAVED) + words.encode(errors="surrogateescape")
 
     def set_aside(self, recording: Any, notify: Callable) -> Any:
         """Puts the saved images in the places of the volumes, and returns the folder to which the recording goes with these as they
         were, and with the directory. What of this was done before a crash stays."""
-        self.find(recording.last)
+        digits = self.find(recording.last)
         aside = recording.aside()
         os.makedirs(aside, 0o700, exist_ok=True)
         for path, volume, known in zip(self.paths(), self.volumes, recording.volume_sums()):
@@ -101,9 +124,42 @@ class Checkpoint:
                 notify,
             )
         copy_whole(os.path.join(self.folder, DIRECTORY), os.path.join(aside, DIRECTORY))
-        os.replace(self.record, os.path.join(aside, "recording"))
+        self.keep_beginning(recording, aside)
+        if digits:
+            self.put_next(recording, aside, digits)
+        else:
+            os.replace(self.record, os.path.join(aside, "recording"))
         sync_folder(self.record)
         self.forget()
+        return aside
+
+    def keep_beginning(self, recording: Recording, aside: str) -> None:
+        """Keeps the state with which the session began, which a replay of it needs."""
+        mark, path = recording.beginning, self.beginning()
+        if mark and is_state(path, mark.sum):
+            keep(path, os.path.join(aside, FIRST_STATE))
+
+    def put_next(self, recording: Recording, aside: str, digits: str) -> None:
+        """Puts the recording of the next session, which begins with the state of this sum, in the place of this one. There is always
+        one of the two."""
+        copy_whole(self.state(), self.beginning())
+        copy_whole(self.state(), os.path.join(aside, LAST_STATE))
+        keep(self.record, os.path.join(aside, "recording"))
+        sync_folder(os.path.join(aside, "recording"))
+        following = os.path.join(self.folder, "recording")
+        sums = [sum_of_file(path) for path in self.paths()]
+        write_whole(following, recording.succeeding(sums, digits), is_settled=True)
+        os.chmod(following, 0o600)
+        os.replace(following, os.path.realpath(self.record))
+
+    def set_beginning_aside(self, recording: Recording) -> str:
+        """Sets a session aside that is to begin anew, with volumes as they are; the folder to which it goes."""
+        aside = recording.aside()
+        os.makedirs(aside, 0o700, exist_ok=True)
+        if os.path.isfile(self.beginning()):
+            keep(self.beginning(), os.path.join(aside, FIRST_STATE))
+        os.replace(self.record, os.path.join(aside, "recording"))
+        sync_folder(self.record)
         return aside
 
     def replace(
@@ -123,22 +179,24 @@ class Checkpoint:
             f"{volume} was changed by somebody else during the session, and stays as it is; the volume of the session is {copied}"
         )
 
-    def find(self, mark: Any) -> None:
-        """Finds the images that were saved, as the recording says."""
+    def find(self, mark: Any) -> str:
+        """Finds the images that were saved, as the recording says, and the state, if there is one; its sum."""
+        is_kept = mark.startswith(SAVED_KEEPING)
         words = (
-            mark.removeprefix(SAVED)
+            mark.removeprefix(SAVED_KEEPING if is_kept else SAVED)
             .decode(errors="surrogateescape")
             .rstrip("\n")
-            .rsplit(" ", len(self.volumes))
+            .rsplit(" ", is_kept + len(self.volumes))
         )
+        digits = words.pop(1) if is_kept else ""
         self.folder = os.path.join(os.path.dirname(os.path.abspath(self.record)), words[0])
-        if words[1:] != [
-            sum_of_file(path) if os.path.exists(path) else "" for path in self.paths()
-        ]:
+        sums = [sum_of_file(path) if os.path.exists(path) else "" for path in self.paths()]
+        if words[1:] != sums or digits and not is_state(self.state(), digits):
             raise Failure(
                 FILE_FAILED,
                 f"{self.folder} lacks images that were saved at the end of {self.record}",
             )
+        return digits
 
 
 def keep(volume: Any, aside: Any) -> None:

@@ -40,6 +40,13 @@ class Failure(Exception):
         self.lines = lines
 
 
+def reason_text(reason: Exception) -> str:
+    """A line that says why something failed."""
+    if isinstance(reason, Failure) and reason.lines:
+        return str(reason.lines[0])
+    return getattr(reason, "strerror", None) or str(reason)
+
+
 class UsageError(Exception):
     """Wrong words; the text says which, and is empty where there are none at all."""
 

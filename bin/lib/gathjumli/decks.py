@@ -9,7 +9,7 @@ import itertools
 import os
 import stat
 
-from gathjumli.engine import Part
+from gathjumli.parts import Part
 from gathjumli.punching import CARD, cards_of, sent
 from gathjumli.recording import DECK_READ
 

@@ -8,137 +8,37 @@ import concurrent.futures
 import contextlib
 import re
 import time
-from typing import Any, NamedTuple
+from typing import Any
 
 from gathjumli.following import Died, NotFollowed, PartResult, Program
 from gathjumli.host import memory_of, processor_seconds
 from gathjumli.machines import ScriptRefused
-from gathjumli.cli import Failure, FILE_FAILED, REFUSED
-from gathjumli.recording import PRINTED, StateMark, TURNS, TYPED, sum_of_file, weight_of
+from gathjumli.cli import Failure, FILE_FAILED, REFUSED, reason_text
+from gathjumli.parts import (
+    FEW_TURNS,
+    Pace,
+    Part,
+    is_shown,
+    joined,
+    joined_results,
+    part_of,
+    turns_part,
+)
+from gathjumli.recording import PRINTED, StateMark, sum_of_file, weight_of
 from gathjumli.state_files import StateFile
 from gathjumli.states import States, notes_of, take_notes
 
-# lines that one who appears back sees again
-KEPT_LINES = 24
-# turns in a part at most; after all waited at most, and after typed lines at least
-MOST_TURNS = 100000
-FEW_TURNS = 4
-# if so many turns found no frame all wait for one: each of 64 users may have 32 programs to be served
-STUCK_TURNS = 64 * 32
+# turns are dealt for so many seconds, or until so many lines are printed, before anybody is shown what came of them
+DEAL_SECONDS = 0.02
+MOST_LINES = 1000
+# lines that wait go before turns, but no longer than this
+LINES_SECONDS = 0.01
+# how often others get their turn after lines were done: whoever has typed more is known then
+TURNS_OF_LOOP = 4
 # parts of a replay that are given before the first of them is answered
 AHEAD = 256
 LACKS = re.compile("= ([A-Z0-9]+) FRAMES")
-LACKED = re.compile("= [A-Z0-9]+ 0 FRAMES")
-MINUTE = "%Y-%m-%d %H:%M"
 NO_ROOM = "NOT DONE: NO ROOM FOR A PAGE, TYPE IT AGAIN"
-
-
-class Unattended:
-    """Stands for a user's terminal where there is no desk."""
-
-    is_there = False
-
-    def keep(self, text: str, minute: str) -> None:
-        pass
-
-    def show(self, text: str) -> None:
-        pass
-
-    def turn(self, is_on: Any, is_running: bool) -> None:
-        pass
-
-
-class User:
-    """A user of the directory: whether he is on and his machine runs, and his terminal."""
-
-    def __init__(self, name: str) -> None:
-        self.name = name
-        self.is_on = False
-        self.is_running = False
-        self.terminal = Unattended()
-        # the last lines of his terminal, each with its minute
-        self.lines = collections.deque(maxlen=KEPT_LINES)
-        # whether he is being logged off
-        self.is_forced = False
-        # bytes that he typed, and his guests printed, since LOGON
-        self.written = 0
-
-    def keep(self, text: str, when: Any = None) -> None:
-        """Keeps a line for when he appears back, with the minute of its time."""
-        self.written += len(text) + 1
-        minute = when or time.strftime(MINUTE, time.gmtime())
-        self.lines.append((minute, text))
-        self.terminal.keep(text, minute)
-
-    def show(self, text: str, when: Any = None) -> None:
-        self.keep(text, when)
-        self.terminal.show(text)
-
-    def become(self, state: str) -> None:
-        if state in ("ON", "OFF"):
-            self.is_on = state == "ON"
-        else:
-            self.is_running = state == "RUNS"
-        if not self.is_on:
-            self.lines.clear()
-        if state == "OFF":
-            self.written = 0
-            self.is_forced = False
-        self.terminal.turn(self.is_on, self.is_running)
-
-
-class Part(NamedTuple):
-    """Lines that the program is given at once; what of them is typed, each with the user's name; how
-    many turns it deals; whether it has to be on the disk before anything else is done."""
-
-    lines: bytes
-    typed: tuple = ()
-    turns: int = 0
-    is_kept: bool = False
-
-
-def turns_part(turns: int) -> Part:
-    return Part(b"AUTO %d\n" % turns, turns=turns)
-
-
-def typed_line(name: str, text: Any) -> Part:
-    line = b"LINE %s %s\n" % (name.encode(), text)
-    return Part(line, ((name, text.decode("latin-1")),), is_kept=True)
-
-
-def part_of(entry: bytes) -> Part:
-    """The part that an entry of a recording was."""
-    if turns := TURNS.fullmatch(entry):
-        return turns_part(int(turns[1]))
-    typed = TYPED.fullmatch(entry)
-    return typed_line(typed[1].decode(), typed[2]) if typed else Part(entry)
-
-
-class Pace:
-    """How many turns a part deals, so that one takes about the same time whatever the guests and the host do."""
-
-    def __init__(self, aim: float) -> None:
-        self.aim = aim
-        self.turns = 1
-        self.is_busy = True
-        self.stuck = 0
-
-    def took(self, turns: int, seconds: float, came: PartResult) -> None:
-        """Notes what came of so many turns."""
-        absent = sum(1 for event in came.events if LACKED.fullmatch(event))
-        self.stuck = self.stuck + turns if absent >= turns else 0
-        self.is_busy = not came.is_idle and self.stuck < STUCK_TURNS
-        self.turns = max(
-            1, min(MOST_TURNS, 2 * self.turns, int(self.turns * self.aim / max(seconds, 1e-6)))
-        )
-        if not self.is_busy:
-            # little is wasted where the next line wakes nobody
-            self.turns = min(self.turns, FEW_TURNS)
-
-    def woke(self, came: PartResult) -> None:
-        """Notes what came of lines that were typed, and of a few turns after them."""
-        self.is_busy = not came.is_idle
-        self.stuck = 0
 
 
 class Progress:
@@ -148,23 +48,13 @@ class Progress:
         self.whole = max(1, whole)
         self.notify = notify
         self.done = 0
-        self.findings = time.monotonic()
+        self.notified = time.monotonic()
 
     def add(self, amount: Any) -> None:
         self.done += amount
-        if time.monotonic() - self.findings >= 1:
-            self.findings = time.monotonic()
-            self.notify(self.done / self.whole)
-
-
-def reason_text(reason: Exception) -> str:
-    """A line that says why something failed."""
-    return str(reason.lines[0]) if isinstance(reason, Failure) and reason.lines else str(reason)
-
-
-def is_shown(result: PartResult) -> bool:
-    """Whether anybody is shown something of a part."""
-    return bool(result.files) or any(not event.startswith("= ") for event in result.events)
+        if time.monotonic() - self.notified >= 1:
+            self.notified = time.monotonic()
+            self.notify(min(1.0, self.done / self.whole))
 
 
 class Engine:
@@ -192,11 +82,14 @@ class Engine:
         self.states = states
         # whether a state is being saved or read, which takes memory that is nobody's
         self.is_saving = False
-        # of the program, which an update may replace
+        # the sum of the program's file, which an update may replace
         self.program_sum = sum_of_file(machines.program())
         self.program = self.begun()
         self.thread = concurrent.futures.ThreadPoolExecutor(1)
-        self.waiting = []
+        # parts that are to be done, each with the future that says when it is
+        self.waiting = collections.deque()
+        # when somebody was shown something last, and how long lines went before turns
+        self.shown = self.lines_seconds = 0.0
         # comments that the recording is to have
         self.marks = collections.deque()
         self.loop = asyncio.get_running_loop()
@@ -206,8 +99,6 @@ class Engine:
         self.is_whole = False
         printouts.note = lambda name: self.note(PRINTED + name.encode() + b"\n")
         self.parts = 0
-        # what the last part took the disk
-        self.settling = 0.0
 
     def begun(self) -> Any:
         return Program(self.machines, "--terminals", "--save")
@@ -248,67 +139,87 @@ class Engine:
             if not self.waiting and not self.marks and not self.pace.is_busy:
                 self.woken.clear()
                 await self.woken.wait()
-            if self.waiting or self.marks:
-                await self.do_waiting()
-            if self.pace.is_busy and not self.is_stopping:
-                await self.deal()
+            await self.go_on()
             if self.states.is_due(self.seconds()) and not self.is_stopping:
                 await self.loop.run_in_executor(self.thread, self.save_state, self.notes())
         for _, done in self.waiting:
             done.cancel()
 
-    async def deal(self) -> None:
-        """Deals some turns. What it takes to show what guests print is time too, but not what the
-        disk takes."""
-        turns, begun = self.pace.turns, time.monotonic()
-        result = await self.do(turns_part(turns))
-        self.pace.took(turns, time.monotonic() - begun - self.settling, result)
-
-    async def do_waiting(self) -> None:
-        """All that waits is one part, so that many people wait for the disk once. A few turns follow
-        before the disk is waited for, so that a machine's answer to a typed line is not kept waiting
-        by a long part of other users' turns."""
-        given, self.waiting = self.waiting, []
-        parts = [part for part, _ in given]
-        typed = tuple(line for part in parts for line in part.typed)
-        lines = b"".join(part.lines for part in parts) + self.take_marks()
-        part = Part(lines, typed, is_kept=any(part.is_kept for part in parts))
-        if given:
-            turns = max(FEW_TURNS, self.count_running() + len(typed))
-            self.pace.woke(await self.do(part, turns_part(turns)))
-        else:
-            await self.do(part)
-        for _, done in given:
+    async def go_on(self) -> None:
+        """Deals turns until somebody waits, does what waits, and shows what came of all that."""
+        results, given = await self.loop.run_in_executor(self.thread, self.step)
+        for part, result in results:
+            self.parts += 1
+            self.take(part, result)
+        for done in given:
             if not done.done():
                 done.set_result(None)
+        if given:
+            # whoever typed several lines has the next one done before further turns
+            for _ in range(TURNS_OF_LOOP):
+                await asyncio.sleep(0)
+
+    def step(self) -> tuple[list, list]:
+        """Does parts, and has them on the disk together if something of them is shown; what came of each, and who waited."""
+        results, given = [], []
+        if not self.waiting or self.lines_seconds >= LINES_SECONDS:
+            results += self.deal()
+            self.lines_seconds = 0.0
+        begun = time.monotonic()
+        if self.waiting or self.marks:
+            given = [self.waiting.popleft() for _ in range(len(self.waiting))]
+            results += self.do_waiting([part for part, _ in given])
+        if any(part.is_kept or is_shown(result) for part, result in results):
+            self.recording.settle()
+            self.shown = time.monotonic()
+        for _, result in results:
+            self.printouts.put(result.files)
+        self.lines_seconds += time.monotonic() - begun
+        return results, [done for _, done in given]
+
+    def deal(self) -> list[tuple[Part, PartResult]]:
+        """Deals turns in short parts, so that whoever types waits for no more than one of them. If lines went before them for
+        long, turns take as long."""
+        results: list[PartResult] = []
+        begun, turns, lines = time.monotonic(), 0, 0
+        while self.pace.is_busy and not self.is_stopping:
+            part, at = turns_part(self.pace.turns), time.monotonic()
+            results.append(self.done(part))
+            now = time.monotonic()
+            self.pace.took(part.turns, now - at, results[-1])
+            turns, lines = turns + part.turns, lines + len(results[-1].events)
+            if self.is_enough(results[-1], now - begun, lines, now):
+                break
+        return [(turns_part(turns), joined_results(results))] if results else []
+
+    def is_enough(self, result: PartResult, took: float, lines: int, now: float) -> bool:
+        """Whether what came of turns is to be shown, or somebody waits. A stream of lines is shown at intervals."""
+        is_time = lines >= MOST_LINES or took >= DEAL_SECONDS
+        is_new = is_shown(result) and now - self.shown >= DEAL_SECONDS
+        owed = self.lines_seconds if self.lines_seconds >= LINES_SECONDS else 0.0
+        is_awaited = bool(self.waiting) and took >= owed
+        return is_time or is_new or is_awaited or bool(result.files or result.states)
+
+    def do_waiting(self, parts: list[Part]) -> list[tuple[Part, PartResult]]:
+        """All that waits is one part, so that many people wait for the disk once. A few turns follow before the disk is waited for,
+        so that a machine's answer to a typed line is not kept waiting by other users' turns."""
+        part = joined([*parts, Part(self.take_marks())])
+        results = [(part, self.done(part))]
+        if parts:
+            then = turns_part(max(FEW_TURNS, self.count_running() + len(part.typed)))
+            results.append((then, self.done(then)))
+            self.pace.woke(results[-1][1])
+        return results
 
     def count_running(self) -> int:
         """How many machines run."""
         return sum(user.is_running for user in self.users.values())
 
-    async def do(self, *parts: Part) -> PartResult:
-        """Does parts, and shows what came of each; returns what came of the last."""
-        loop = asyncio.get_running_loop()
-        results = await loop.run_in_executor(self.thread, self.step, parts)
-        for part, result in zip(parts, results):
-            self.parts += 1
-            self.take(part, result)
-        return results[-1]
-
-    def step(self, parts: tuple) -> list:
-        """Does parts, and has them on the disk together if something of them is shown."""
-        results, self.settling = [], 0.0
-        for part in parts:
-            results.append(self.asked(part))
-            # a program that dies in the next part does this one again
-            self.record(part)
-        done = time.monotonic()
-        if any(part.is_kept for part in parts) or any(map(is_shown, results)):
-            self.recording.settle()
-        for result in results:
-            self.printouts.put(result.files)
-        self.settling = time.monotonic() - done
-        return results
+    def done(self, part: Part) -> PartResult:
+        """What comes of a part, which the recording gets: a program that dies in the next one does this one again."""
+        result = self.asked(part)
+        self.record(part)
+        return result
 
     def record(self, part: Part) -> None:
         if part.turns:
@@ -352,6 +263,11 @@ class Engine:
         finally:
             self.is_saving = False
 
+    def save_last_state(self, path: str) -> str:
+        """Saves the state with which the next session goes on; its sum. What was printed stays with this session."""
+        notes = self.notes() | {"printouts": []}
+        return self.states.save_last(self.program, path, notes)
+
     def restart(self) -> None:
         """Has another program do the recording: all that anybody was shown is in it."""
         self.recording.put(self.recording.turns_line())
@@ -388,17 +304,25 @@ class Engine:
         for heading, body in came.files:
             self.users[heading.rpartition(" ")[2]].written += len(body)
         for name, text in part.typed:
-            self.users[name].keep(text, when)
+            self.users[name].keep([text], when)
+        for name, texts in self.printed(part, came).items():
+            self.users[name].show(texts, when)
+            if name == self.receiver and when is None:
+                for text in texts:
+                    self.notify(f"{name}: {text}")
+        for state, name in came.states:
+            self.users[name].become(state)
+
+    def printed(self, part: Part, came: PartResult) -> dict[str, list[str]]:
+        """The lines of each user that a part printed, and what is said of typed lines that were not done."""
+        printed: dict[str, list[str]] = {}
         for event in came.events:
             name, colon, text = event.partition(": ")
             if colon and name in self.users:
-                self.users[name].show(text, when)
-                if name == self.receiver and when is None:
-                    self.notify(f"{name}: {text}")
+                printed.setdefault(name, []).append(text)
             elif part.typed and (absent := LACKS.fullmatch(event)):
-                self.users[absent[1]].show(NO_ROOM)
-        for state, name in came.states:
-            self.users[name].become(state)
+                printed.setdefault(absent[1], []).append(NO_ROOM)
+        return printed
 
     def replay(self, notify: Any) -> None:
         """Brings the program to where the recording ends; how far it is is reported each second, from 0 to 1."""
@@ -430,6 +354,8 @@ class Engine:
                 self.is_saving = False
             self.states.goes_on(self.seconds(), self.seconds() - before, state)
             return mark, state
+        if self.recording.beginning:
+            raise self.states.lost_beginning()
         # it has read the volumes when it has answered
         self.checked(self.program.do, b"")
         self.states.goes_on(self.seconds(), 0.0, None)

@@ -74,7 +74,7 @@ class Answers:
         self.files: list[tuple[str, list[bytes]]] = []
         self.states: list[tuple[str, str]] = []
         self.is_idle = False
-        # of a state: its pieces, and how many bytes are still to arrive
+        # the pieces of a state that have arrived, and how many bytes are missing
         self.pieces: list[bytes] = []
         self.is_state = False
         self.awaited = 0
@@ -105,19 +105,22 @@ class Answers:
             if self.files and data.startswith(b"> |", place):
                 stop = FILE_ENDS.search(data, place, end).end()
                 self.files[-1][1].append(data[place:stop])
-            else:
+            elif data.startswith(b"> ", place):
                 stop = data.index(b"\n", place) + 1
-                answer = self.take(data[place : stop - 1])
-                if answer:
+                if answer := self.take(data[place : stop - 1]):
                     answers.append(answer)
+            else:
+                stop = data.find(b"\n> ", place, end) + 1 or end
+                self.take_events(data[place:stop])
             place = stop
         return place, answers
 
+    def take_events(self, lines: bytes) -> None:
+        """Takes lines of the transcript, of which a printing guest makes many."""
+        self.events += text_of(lines).split("\n")[:-1]
+
     def take(self, line: bytes) -> Any:
-        """Takes a line; the answer that it ends, or None."""
-        if not line.startswith(b"> "):
-            self.events.append(text_of(line))
-            return None
+        """Takes a line that is none of the transcript; the answer that it ends, or None."""
         word, _, rest = line[2:].partition(b" ")
         if word == b"==":
             self.files.append((text_of(line[2:]), []))

@@ -19,8 +19,9 @@ import socket
 import subprocess
 import time
 
-from gathjumli.engine import typed_line
 from gathjumli.cli import FILE_FAILED, Failure
+from gathjumli.parts import typed_line
+from gathjumli.users import KEPT_LINES
 
 
 # those who are about to log on, as the desk counts them, and one more
@@ -107,6 +108,8 @@ class Terminal:
         self.desk = desk
         self.number = number
         self.connection = None
+        # lines that the desk gets before somebody comes back
+        self.lines = collections.deque(maxlen=KEPT_LINES)
 
     @property
     def is_there(self) -> bool:
@@ -114,13 +117,20 @@ class Terminal:
 
     def keep(self, text: str, minute: str) -> None:
         """Keeps a line for when he appears back."""
-        self.desk.notify_soon("KEEP", self.number, encoded(minute), encoded(text))
+        self.lines.append((encoded(minute), encoded(text)))
+
+    def tell_kept(self) -> None:
+        """Gives the desk the lines that it is to show again."""
+        while self.lines:
+            self.desk.notify_soon("KEEP", self.number, *self.lines.popleft())
 
     def show(self, text: str) -> None:
         """Shows him a line, which is on the disk, if he is there."""
         self.desk.notify_soon("SHOW", self.number, encoded(text))
 
     def turn(self, is_on: Any, is_running: bool) -> None:
+        if not is_on:
+            self.lines.clear()
         self.desk.ask("TURN", self.number, (1 + is_running) * is_on)
 
     def close(self) -> None:
@@ -170,6 +180,8 @@ class LogonServer:
         self.places = {}
         self.serving = set()
         self.tasks = set()
+        # the task of each user's last line, by his number
+        self.giving = {}
         self.judging = concurrent.futures.ThreadPoolExecutor(1)
         self.is_asked = asyncio.Event()
         self.has_failed = asyncio.Event()
@@ -242,7 +254,8 @@ class LogonServer:
     def obey(self, word: Any, number: Any, *words: Any) -> None:
         number = int(number, 16)
         if word == "TYPE":
-            self.start(self.give(self.people[number], number, read_bytes(words[0])))
+            typed = self.give(self.people[number], number, read_bytes(words[0]))
+            self.giving[number] = self.start(typed)
         elif connection := self.places.get(number):
             getattr(self, f"obey_{word.lower()}")(connection, *words)
 
@@ -285,9 +298,10 @@ class LogonServer:
 
     # --- what takes time ---
 
-    def start(self, work: Any) -> None:
+    def start(self, work: Any) -> asyncio.Task:
         self.tasks.add(task := asyncio.get_running_loop().create_task(work))
         task.add_done_callback(self.tasks.discard)
+        return task
 
     async def give(self, user: Any, number: int, text: Any) -> None:
         """Has a line done that is typed for a user."""
@@ -310,6 +324,8 @@ class LogonServer:
             connection.send(CLOSED)
             self.leave(connection)
             return
+        if is_right:
+            self.engine.users[given[0]].terminal.tell_kept()
         self.ask("SAYS", connection.place, int(is_right), name, password)
 
     async def work(self) -> None:
@@ -367,12 +383,20 @@ class LogonServer:
                     await connection.may_send.wait()
                     data = await reader.read(MOST_BYTES)
                     if not data or connection.place is None:
+                        await self.answered(connection)
                         break
                     self.receive(connection, data)
         finally:
             self.leave(connection)
             connection.close()
             self.serving.discard(asyncio.current_task())
+
+    async def answered(self, connection: Connection) -> None:
+        """Waits for the answer to the last line of a connection that types no more, but may still read."""
+        user = connection.user
+        task = user and self.giving.get(user.terminal.number)
+        if task and not task.done():
+            await asyncio.wait({task})
 
     async def shut(self) -> None:
         """Says all connections that it ends, and closes them."""

@@ -12,12 +12,14 @@ import threading
 
 from gathjumli.host import MEGABYTE, memory_of
 from gathjumli.cli import ask_build, read_file, write_whole
+from gathjumli.ending import Ending
 
 DONE, NOT_DONE, ENDS = range(3)
 # before all of the recording is done again
 ALWAYS = {"status", "help", "suspend"}
 MOST_SPOOL_LINES = 40
 WARNED_MINUTES = (10, 5, 1)
+LOGOFF = "logoff "
 MINUTE = "%Y-%m-%d %H:%M"
 HELP = """\
 status             who is on, memory, sizes, the age of the session, how long a start takes
@@ -29,11 +31,14 @@ logmsg TEXT        a line for everybody who logs on; logmsg alone shows it, logm
 logon closed       nobody logs on any more, but who is on may come back; logon open ends that
 force USER         logs a user off
 suspend            ends this command; the next start goes on from here
-end                if nobody is on and all printouts are written, ends the session: volumes
-                   are saved, and the recording is set aside
-end now            ends it whoever is on
-end at HH:MM       ends it then, whoever is on; users are warned. A suspend in between changes
-                   nothing of that; end cancel takes it back"""
+end                if all printouts are written, ends the session: volumes are saved, the
+                   recording is set aside, and the next session goes on with all machines
+end now            ends it even if printouts are not written
+end at HH:MM       ends it then; users are warned. A suspend in between changes nothing of
+                   that; end cancel takes it back
+end logoff         ends it without its machines if nobody is on; end logoff now and
+                   end logoff at HH:MM do so whoever is on"""
+ENDS_AT = re.compile(r"(logoff )?at ([01]?\d|2[0-3]):([0-5]\d)")
 
 
 class NotDone(Exception):
@@ -137,6 +142,10 @@ class Operator:
 
     def frames(self, reply: Any, end: Any) -> None:
         """Has bin/framemap do the recording as it is now, in parallel to all else."""
+        if self.engine.recording.beginning:
+            reply("frames are not looked for: the session goes on with the machines of another one")
+            end(NOT_DONE)
+            return
         if self.mapping and self.mapping.is_alive():
             reply("the frames are being looked for")
             end(NOT_DONE)
@@ -168,7 +177,7 @@ class Operator:
         elif not user.is_on:
             raise NotDone(f"{word} is not on")
         else:
-            user.show(f"OPERATOR: {plain(rest)}")
+            user.show([f"OPERATOR: {plain(rest)}"])
             reply(
                 f"{word} is at no terminal, and sees it when he comes back"
                 if not user.terminal.is_there
@@ -209,29 +218,35 @@ class Operator:
         """Ends the session, now or later."""
         if rest == "cancel":
             return self.cancel()
-        if found := re.fullmatch(r"at ([01]?\d|2[0-3]):([0-5]\d)", rest):
-            return self.end_at(int(found[1]), int(found[2]), reply)
-        if rest not in ("", "now"):
-            raise NotDone("end, end now, end at HH:MM or end cancel")
-        on, unwritten = [user.name for user in self.on()], self.engine.printouts.unwritten()
-        if not rest and on:
-            raise NotDone(f"still on: {' '.join(on)} (end now ends all the same)")
-        if not rest and unwritten:
-            raise NotDone(
-                f"not written: {' '.join(unwritten[:8])} (end now ends all the same: bin/printouts makes them later)"
-            )
+        if found := ENDS_AT.fullmatch(rest):
+            return self.end_at(found[1] or "", int(found[2]), int(found[3]), reply)
+        if rest not in ("", "now", "logoff", "logoff now"):
+            raise NotDone("end, end now, end at HH:MM, end logoff or end cancel")
+        ending = Ending.LOGOFF if rest.startswith("logoff") else Ending.KEEPING
+        if not rest.endswith("now"):
+            self.judge_end(ending)
         self.cancel()
         self.notify("the session ends")
-        self.installation.stop(is_end=True)
+        self.installation.stop(ending)
         return ENDS
 
-    def end_at(self, hour: Any, minute: Any, reply: Any) -> None:
+    def judge_end(self, ending: Ending) -> None:
+        """Refuses an end that would take something from somebody."""
+        on, unwritten = [user.name for user in self.on()], self.engine.printouts.unwritten()
+        now = f"{ending.value} now ends all the same"
+        if on and ending == Ending.LOGOFF:
+            raise NotDone(f"still on: {' '.join(on)} ({now})")
+        if unwritten:
+            names = " ".join(unwritten[:8])
+            raise NotDone(f"not written: {names} ({now}: bin/printouts makes them later)")
+
+    def end_at(self, how: str, hour: int, minute: int, reply: Any) -> None:
         self.cancel()
         now = datetime.datetime.now()
         when = now.replace(hour=hour, minute=minute, second=0, microsecond=0)
         when += datetime.timedelta(days=1) * (when <= now)
-        write_whole(self.ending_path, f"{when:{MINUTE}}\n".encode())
-        self.plan_end(when)
+        write_whole(self.ending_path, f"{how}{when:{MINUTE}}\n".encode())
+        self.plan_end(how, when)
         reply(self.ending[0])
 
     def resume(self) -> None:
@@ -239,23 +254,24 @@ class Operator:
         if not os.path.exists(self.ending_path):
             return
         text = read_file(self.ending_path).decode(errors="replace").strip()
+        how = LOGOFF if text.startswith(LOGOFF) else ""
         with contextlib.suppress(ValueError):
-            when = datetime.datetime.strptime(text, MINUTE)
+            when = datetime.datetime.strptime(text.removeprefix(how), MINUTE)
             if when > datetime.datetime.now():
-                self.plan_end(when)
+                self.plan_end(how, when)
                 self.notify(self.ending[0])
                 return
         os.unlink(self.ending_path)
         self.notify(f"the session was to end at {text}, which is past: it goes on")
 
-    def plan_end(self, when: Any) -> None:
+    def plan_end(self, how: str, when: Any) -> None:
         loop, left = asyncio.get_running_loop(), (when - datetime.datetime.now()).total_seconds()
-        self.ending = [f"the session ends at {when:{MINUTE}}"]
+        self.ending = [f"the session ends at {when:{MINUTE}}{', without its machines' * bool(how)}"]
         for minutes in WARNED_MINUTES:
             if left > 60 * minutes:
                 findings = f"GATHJUMLI GOES DOWN IN {minutes} MINUTE{'S' * (minutes > 1)}"
                 self.ending.append(loop.call_later(left - 60 * minutes, self.announce, findings))
-        self.ending.append(loop.call_later(left, self.end, "now", self.notify))
+        self.ending.append(loop.call_later(left, self.end, f"{how}now", self.notify))
 
     def cancel(self) -> None:
         for planned in self.ending[1:]:

@@ -11,15 +11,23 @@ import re
 import time
 from typing import Any, NamedTuple
 
+from gathjumli.fronts import Front, front_of
 from gathjumli.machines import statements
 from gathjumli.cli import Failure, REFUSED
 
 TITLE = b"* GATHJUMLI RECORDING 1"
 BEGUN = b"* BEGUN "
+# an end that was asked for, without machines and with them; what was saved for each
 END = b"* END"
+END_KEEPING = b"* END KEEPING MACHINES"
 SAVED = b"* SAVED "
+SAVED_KEEPING = b"* KEPT "
 DECK_READ = b"* DECK "
 STATE = b"* STATE "
+# states that are kept: the last one, and the one before where the last cannot be read
+MOST_STATES = 2
+# the name of the state with which a session goes on from the one before
+BEGINNING = "begin"
 PRINTED = b"* PRINTED "
 MOST_TURNS = 100000
 SUM_DIGITS = 32
@@ -39,8 +47,8 @@ SCRIPT_WORDS = (b"LINE ", b"AUTO ", b"*", b"DECK ", b"RUN ", b"SERVE ", b"TICK "
 
 
 class StateMark(NamedTuple):
-    """Where a recording says that a state was saved: the name and the sum of its file, how many bytes and lines come before what
-    follows, the time, and how much of the recording's weight is done."""
+    """A line of a recording that names a state: the name and the sum of its file, how many bytes and lines the recording has up to
+    that line, the time, and the weight of all entries before it."""
 
     name: str
     sum: str
@@ -159,23 +167,7 @@ class Recording:
         self.path = path
         self.turns = 0
         self.stamped = self.written = time.monotonic()
-        self.base = []
-        self.begun = b""
-        self.last = b""
-        self.until = b""
-        self.decks = set()
-        self.printed = set()
-        self.weight = 0
-        self.lines = 0
-        self.bytes = 0
-        # the marks of states, and whether anything was done after the last one
-        self.states: list[StateMark] = []
-        self.is_past_state = False
-        self.cut = 0
-        self.sum = hashlib.sha256()
-        self.has_sums = False
-        # the last line of which the sum is known to be right
-        self.right = 0
+        self.reset()
         # it has all that was typed, perhaps a password at a wrong place
         self.file = open(
             path, "ab", buffering=0, opener=lambda path, flags: os.open(path, flags, 0o600)
@@ -186,14 +178,49 @@ class Recording:
             raise Failure(REFUSED, f"another installation goes on with {path}") from None
         self.look()
 
+    def reset(self) -> None:
+        """Before anything of it is read."""
+        self.base = []
+        self.begun = b""
+        self.last = b""
+        self.until = b""
+        self.decks = set()
+        self.printed = set()
+        self.weight = 0
+        self.lines = 0
+        self.bytes = 0
+        # the marks of the last states, that with which the session began, and whether anything was done after the last one
+        self.states: list[StateMark] = []
+        self.beginning: StateMark | None = None
+        self.is_past_state = False
+        self.cut = 0
+        self.sum = hashlib.sha256()
+        self.has_sums = False
+        # the last line of which the sum is known to be right
+        self.right = 0
+
     def look(self) -> None:
-        """Reads all that it has, and refuses what is not as it was written. An end that a crash of the host left in part was never
-        shown, and is cut."""
-        size = 0
+        """Reads all that it has, and refuses what is not as it was written. What comes before the last states is compared as a whole,
+        and line by line only to tell where it is wrong."""
         with open(self.path, "rb") as file:
             if not (TITLE + b"\n").startswith(file.read(len(TITLE) + 1)):
                 raise Failure(REFUSED, f"{self.path} is no recording of an installation")
-            file.seek(0)
+        front = front_of(self.path, MOST_STATES)
+        try:
+            self.read(front)
+        except Failure:
+            if not front:
+                raise
+            self.reset()
+            self.read(None)
+
+    def read(self, front: Front | None) -> None:
+        """Reads it, from the end of a front if that is given. An end that a crash of the host left in part was never shown, and is
+        cut."""
+        with open(self.path, "rb") as file:
+            if front:
+                self.take_front(front, file)
+            size = file.tell()
             for entry in entries_of(file):
                 size += len(entry)
                 self.judge(entry)
@@ -208,6 +235,23 @@ class Recording:
             size, self.base, self.lines, self.bytes, self.sum = 0, [], 0, 0, hashlib.sha256()
         self.cut = len(torn)
         self.file.truncate(size)
+
+    def take_front(self, front: Front, file: Any) -> None:
+        """Takes what a front says, and goes to its end."""
+        for entry in entries_of(file):
+            if self.begun and not entry.startswith(STATE):
+                break
+            self.judge(entry)
+            self.count(entry)
+            self.note(entry)
+        for comment in front.comments:
+            if not comment.startswith(STATE):
+                self.note(comment)
+        self.bytes, self.lines, self.sum = front.place, front.lines, front.sum
+        self.right, self.until, self.has_sums = front.lines, front.until, True
+        # how much it has to do does not matter, as it is done
+        self.weight = LINE_WEIGHT
+        file.seek(front.place)
 
     def judge(self, entry: Any) -> None:
         """Refuses an entry that is not as it was written."""
@@ -242,7 +286,7 @@ class Recording:
         return Failure(REFUSED, f"{self.path}: {findings}", advice)
 
     def digits(self) -> bytes:
-        return self.sum.hexdigest()[:STAMP_DIGITS].encode()
+        return sum_digits(self.sum)
 
     def count(self, data: bytes) -> None:
         self.sum.update(data)
@@ -278,7 +322,10 @@ class Recording:
     def note_state(self, entry: bytes) -> None:
         name, _, digits = entry.removeprefix(STATE).decode(errors="replace").strip().partition(" ")
         mark = StateMark(name, digits, self.bytes, self.lines, self.until, self.weight)
-        self.states.append(mark)
+        if name == BEGINNING:
+            self.beginning = mark
+        else:
+            self.states = [*self.states, mark][-MOST_STATES:]
         self.is_past_state = False
 
     def begin(self, base: Any) -> Any:
@@ -286,7 +333,8 @@ class Recording:
         wanted = base.lines()
         if self.base:
             if differs := differing(self.base, wanted):
-                advice = "put back what it is of, or move the file away: then a session begins anew"
+                anew = "start with --without-machines" if self.beginning else "move the file away"
+                advice = f"put back what it is of, or {anew}: then a session begins anew"
                 raise Failure(REFUSED, f"{self.path}: {differs}", advice)
             cut = f"; {self.cut} bytes after the last whole line are cut" if self.cut else ""
             findings = f"goes on from {self.lines} lines of {self.path}, until {self.until.decode()} UTC{cut}"
@@ -383,7 +431,7 @@ class Recording:
         """Writes lines, and a stamp after them if that is asked for, at once."""
         self.count(data)
         if is_stamped:
-            stamp = time.strftime(f"* {TIME} ", time.gmtime()).encode() + self.digits() + b"\n"
+            stamp = stamp_of(self.digits())
             self.count(stamp)
             self.stamped, self.until = time.monotonic(), stamp[2:21]
             data += stamp
@@ -413,8 +461,32 @@ class Recording:
         self.put(b"", is_stamped=True)
         self.settle()
 
+    def volumes_with(self, sums: list[str]) -> list[bytes]:
+        """The lines of its volumes, with other sums."""
+        lines = [line.split(b" ", 3) for line in self.base if line.startswith(b"* VOLUME ")]
+        return [b" ".join([*line[:2], known.encode(), line[3]]) for line, known in zip(lines, sums)]
+
+    def succeeding(self, sums: list[str], digits: str) -> bytes:
+        """The recording of a session that goes on from the state of this sum, with volumes of these sums."""
+        while (begun := begun_now()) == self.begun:
+            # sessions are named by the second
+            time.sleep(0.1)
+        lines = [*self.base[:4], *self.volumes_with(sums), begun[:-1]]
+        lines.append(STATE + f"{BEGINNING} {digits}".encode())
+        text = b"".join(line + b"\n" for line in lines)
+        return text + stamp_of(sum_digits(hashlib.sha256(text)))
+
     def close(self) -> None:
         self.file.close()
+
+
+def stamp_of(digits: bytes) -> bytes:
+    """A stamp of now."""
+    return time.strftime(f"* {TIME} ", time.gmtime()).encode() + digits + b"\n"
+
+
+def sum_digits(known: Any) -> bytes:
+    return known.hexdigest()[:STAMP_DIGITS].encode()
 
 
 def begun_now() -> bytes:

@@ -53,7 +53,7 @@ class Following:
 
     def __init__(self, machines: Any) -> None:
         self.machines = machines
-        # where scripts begin, if not at the beginning
+        # the state from which scripts begin, if any
         self.state: StateFile | None = None
         self.follower = self.begun(b"")
         self.spare = None

@@ -116,6 +116,21 @@ def read_state(path: str) -> StateFile:
     return StateFile(path, base, notes, file, place, size, digits)
 
 
+def sum_of_state(path: str) -> str:
+    """The sum of a state that is whole, or nothing."""
+    try:
+        state = read_state(path)
+    except (Failure, OSError):
+        return ""
+    state.file.close()
+    return state.sum
+
+
+def is_state(path: str, digits: str) -> bool:
+    """Whether a file is the state of this sum."""
+    return sum_of_state(path) == digits
+
+
 def read_head(path: str, file: BinaryIO) -> tuple[list[bytes], dict[str, Any], int]:
     """What a state file is of, its notes, and how many bytes follow."""
     base = [file.readline(CHUNK).rstrip(b"\n")]

@@ -6,7 +6,7 @@ import sys
 
 from gathjumli import cli
 from gathjumli.cli import Failure, REFUSED, last, read_arguments, read_file
-from gathjumli.following import Answers, CHUNK, PartResult, Program, Refused, SavedState
+from gathjumli.following import Answers, CHUNK, PartResult, Program, SavedState
 from gathjumli.machines import Machines, SIZE_OPTIONS, ScriptRefused, of_directory
 from gathjumli.state_files import NOBODY, StateFile, after, restore, save_state, state_of
 
@@ -35,11 +35,8 @@ class PrintedAnswers(Answers):
         super().__init__()
         self.output = output
 
-    def take(self, line: bytes) -> PartResult | SavedState | Refused | None:
-        if not line.startswith(b"> "):
-            self.output.write(line + b"\n")
-            return None
-        return super().take(line)
+    def take_events(self, lines: bytes) -> None:
+        self.output.write(lines)
 
     def done(self) -> PartResult | SavedState:
         sys.stdout.flush()

@@ -9,30 +9,32 @@ import os
 import re
 import time
 
-from gathjumli.cli import Failure
+from gathjumli.cli import FILE_FAILED, Failure, REFUSED, reason_text
 from gathjumli.following import Died, Program
 from gathjumli.host import MEGABYTE
 from gathjumli.limits import LITTLE_FREE
-from gathjumli.recording import Recording, StateMark
+from gathjumli.checkpoints import LAST_STATE
+from gathjumli.recording import END, MOST_STATES, Recording, StateMark
 from gathjumli.spooling import Printout, Printouts, TOLD, WRITTEN
 from gathjumli.state_files import (
     MOST_BYTES,
     StateFile,
     TITLE,
+    is_state,
     read_state,
     write_state,
 )
 
 if TYPE_CHECKING:
-    from gathjumli.engine import User
+    from gathjumli.users import User
 
-# the last one, and the one before where the last cannot be read
-KEPT = 2
 SECONDS_TO_TRY_AGAIN = 1
 # for how many seconds everybody may wait for a state; after so many in a row for which they waited longer, none is saved before a
 # suspend, since the next ones take longer still
 MOST_WAITED = 1.0
 SLOW_ONES = 2
+# between two states is so many times what people wait for one
+WAITS_APART = 50
 # the names of states, and of what was written of one before a kill
 NAME = re.compile(r"state-[0-9]+(\.new-\w+)?")
 
@@ -105,10 +107,27 @@ class States:
             self.report(error.strerror)
             return False
         self.recording.mark_state(name, digits)
-        self.forget_before(KEPT)
+        self.forget_before(MOST_STATES)
         self.trouble = ""
         self.note(LastState(saved.size(), time.monotonic() - begun))
         return True
+
+    def save_last(self, program: Program, path: str, notes: dict[str, Any]) -> str:
+        """Saves the state with which the next session goes on; its sum."""
+        try:
+            saved = program.save()
+            if saved is None or saved.size() > MOST_BYTES:
+                why = f"it has more than {MOST_BYTES} bytes" if saved else "the program refuses it"
+                raise Failure(FILE_FAILED, why)
+            return write_state(path, self.base(), notes, saved)
+        except (Failure, OSError) as reason:
+            is_marked = self.recording.last.startswith(END)
+            how = "with --without-machines" if is_marked else "again and give end logoff"
+            raise Failure(
+                FILE_FAILED,
+                f"the session has not ended, since the state of its machines is not saved: {reason_text(reason)}",
+                f"make room, or start {how}, which ends it without its machines",
+            ) from None
 
     def note(self, state: LastState) -> None:
         """Notes how long everybody waited for a state, and says once that there are no more before a suspend."""
@@ -121,8 +140,10 @@ class States:
             )
 
     def tried(self, seconds: float, is_saved: bool) -> None:
-        """The program has taken so many seconds until a state was saved, or was not."""
-        self.due = seconds + self.every
+        """The program has taken so many seconds until a state was saved, or was not. The next one is not due before so much was
+        computed that people waited for little of it."""
+        waited = self.last.waited if self.last and is_saved else 0.0
+        self.due = seconds + max(self.every, WAITS_APART * waited)
         if is_saved:
             self.at = seconds
 
@@ -158,8 +179,9 @@ class States:
     # --- going on ---
 
     def found(self) -> Iterator[tuple[StateMark, StateFile]]:
-        """The states from which the program can go on, the last one first."""
-        for mark in reversed(self.recording.states[-KEPT:]):
+        """The states from which the program can go on, the last one first; then that with which the session began."""
+        beginning = [self.recording.beginning] * bool(self.recording.beginning)
+        for mark in reversed([*beginning, *self.recording.states[-MOST_STATES:]]):
             try:
                 state = read_state(self.path(mark.name))
                 if (state.sum, state.base) != (mark.sum, self.base()):
@@ -173,6 +195,18 @@ class States:
                     yield mark, state
                 else:
                     self.notify(f"{state.path} is not taken: a printout before it is not written")
+
+    def lost_beginning(self) -> Failure:
+        """The failure that a session cannot go on from the one before, and what can be done."""
+        mark = self.recording.beginning
+        paths = glob.glob(glob.escape(self.recording.path) + f".*/{LAST_STATE}")
+        copies = [path for path in paths if is_state(path, mark.sum)]
+        advice = f"put back {self.path(mark.name)} from {copies[0] if copies else 'a backup'}"
+        return Failure(
+            REFUSED,
+            f"{self.recording.path} goes on from the session before, whose state is lost",
+            f"{advice}, or start with --without-machines: the volumes are as that session left them",
+        )
 
     def has_printed(self, state: StateFile) -> bool:
         """Whether all that was closed before a state is written, if it is to be."""

@@ -11,6 +11,7 @@ use Rattle.session_script.specs.Script.{Said, Run, Line, Tick, Serve, Auto, Deck
 use Rattle.session_script.specs.declared.event.ScriptEvent.{ScriptEvent}
 use Rattle.session_script.specs.declared.event.ScriptEvent.TheVariants as scripts
 use Rattle.bare_installation.specs.Bare.{Bare, bare}
+use Rattle.bare_installation.specs.Forgotten.{bare_having_printed}
 use Rattle.bare_installation.specs.Life.{IsApplied, LacksMemory, MayLackMemory}
 use Rattle.bare_installation.specs.declared.happening.Happening.{Happening}
 use Rattle.bare_installation.specs.declared.happening.Happening.TheVariants as happenings
@@ -25,6 +26,7 @@ pub record Alone : Type 0 where
 abbrev pub own : ℕ
 own = 0
 
+-- what a session sees of a single machine
 abbrev pub seen_in : Alone → Installed
 seen_in a = record {
   users = record { name = bare; devices = a.addresses } ∷ [];
@@ -62,6 +64,11 @@ MayRefuse old (Serve user device) = LacksMemory device old.machine
 MayRefuse old (Deck user cards) = Unit {0}
 MayRefuse old (Auto turns) = ⊥
 
+-- one machine goes on as another: all is the same, but that it has printed these lines before
+pub record GoesOnAs (one other : Alone) : Type 0 where
+  pub lines : List (List ℕ)
+  pub same : one ≡ record other { machine = bare_having_printed lines other.machine }
+
 -- it has no saved states
 abbrev pub machine_goes : Installation Alone
 machine_goes = record {
@@ -72,6 +79,7 @@ machine_goes = record {
   is_spent = λ a. false;
   IsSaved = λ a bytes. ⊥;
   HasSameBase = λ a b. Unit {0};
+  GoesOnAs = GoesOnAs;
 }
 
 -- console, reader, punch and printer are at 009, 00C, 00D and 00E
@@ -81,20 +89,28 @@ usual_places = record { console = Some 9; reader = Some 12; punch = Some 13; pri
 -- a disk over this volume that may be written, its arm at the first track
 abbrev pub first_disk : VolumeFormat → Disk
 first_disk volume =
-    idle volume (record { cylinder = 0; head = 0; home = 0; writable = true; sense = record { first = 0; second = 0 } })
+    idle volume (record {
+      cylinder = 0;
+      head = 0;
+      home = 0;
+      writable = true;
+      sense = record { first = 0; second = 0 };
+    })
 
--- a disk over each of these volumes, in their order: the first has this address, each other that after the one before, up to the
--- last that there is
+-- a disk over each of these volumes, in their order: the first has this address, each other that
+-- after the one before, up to the last that there is
 abbrev pub disks_from : ℕ → List VolumeFormat → List DiskAt
 disks_from address [] = []
 disks_from address (volume ∷ volumes) =
-    record { address = address; unit = first_disk volume } ∷ disks_from (min (address + 1) 65535) volumes
+    record { address = address; unit = first_disk volume } ∷ disks_from (min (address + 1) 65535)
+    volumes
 
 -- the addresses of these devices
 abbrev pub addresses_of : List Subchannel → List ℕ
 addresses_of devices = map (λ device. device.address) devices
 
--- an event that a script says with all that it has: no deck, whose cards are still to be made, and no turns
+-- an event that a script says with all that it has: no deck, whose cards are still to be made, and
+-- no turns
 abbrev pub IsWhole : ScriptEvent → Type 0
 IsWhole (scripts.Run user units) = Unit {0}
 IsWhole (scripts.Line user text) = Unit {0}

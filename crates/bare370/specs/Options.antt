@@ -1,7 +1,8 @@
 -- What the words of the program name, as those of a simple command of `clap`.
 use Rattle.std.specs.Prelude.{◌≡◌, ℕ, Bool, true, List, [], map, codes, Option, Some, is_some}
 use Rattle.std.specs.Option.{option_and_then}
-use Rattle.clap.specs.Words.{App, Row, Rule, all_of, fault_of, first_of, matches_of, new_app, new_rule, one_of, takes, with_rule}
+use Rattle.clap.specs.Words.{App, Row, Rule, all_of, fault_of, first_of, matches_of, new_app}
+use Rattle.clap.specs.Words.{new_rule, one_of, takes, with_rule}
 use Rattle.cp_directory.specs.Sizes.{storage_of}
 use Rattle.programs.specs.Arguments.{IsFlag, save_rule, script_rule, texts_of, volume_rule}
 use Rattle.bare370.specs.declared.arguments.BareOptions.{BareOptions}
@@ -12,7 +13,9 @@ storage_rule = record (new_rule (codes "STORAGE")) { required = true }
 
 -- `PROGRAM [--save] STORAGE SCRIPT [VOLUME]...`
 abbrev pub command_of : List ℕ → App
-command_of program = with_rule (with_rule (with_rule (with_rule (new_app program) save_rule) storage_rule) script_rule) volume_rule
+command_of program = with_rule
+    (with_rule (with_rule (with_rule (new_app program) save_rule) storage_rule) script_rule)
+    volume_rule
 
 -- what the words give for the arguments of this program, in their order
 unfoldable pub rows_named : List ℕ → List (List ℕ) → List Row
@@ -39,4 +42,5 @@ pub record IsNamed (rows : List Row) (options : BareOptions) : Type 0 where
   pub save : IsFlag (one_of (codes "save") rows) options.save
   pub storage : storage_named rows ≡ Some options.storage
   pub script : first_of (codes "SCRIPT") rows ≡ Some options.script.now
-  pub volumes : map (λ path. path.now) options.volumes.items ≡ texts_of (all_of (codes "VOLUME") rows)
+  pub volumes : map (λ path. path.now) options.volumes.items
+      ≡ texts_of (all_of (codes "VOLUME") rows)

@@ -19,18 +19,20 @@ use Rattle.bare370.specs.declared.follow_arguments.FollowOptions.{FollowOptions}
 abbrev pub machine_volumes : Alone → List VolumeFormat
 machine_volumes a = map (λ disk. volume_of disk.unit) a.machine.equipped.disks
 
--- it is unused, with so many blocks of storage that are zero, the usual devices, and a disk over each of these volumes; and no file
--- has a number
+-- it is unused, with so many blocks of storage that are zero, the usual devices, and a disk over
+-- each of these volumes; and no file has a number
 pub record IsMade (blocks : ℕ) (volumes : List VolumeFormat) (a : Alone) : Type 0 where
   pub subchannels : List Subchannel
   pub attached : AreAttached (devices_new usual_places) (disks_from 400 volumes) subchannels
-  pub machine : a.machine.equipped.machine ≡ unused (memory_of (replicate (2048 * blocks) 0) (replicate blocks 0)) subchannels
+  pub machine : a.machine.equipped.machine
+      ≡ unused (memory_of (replicate (2048 * blocks) 0) (replicate blocks 0)) subchannels
   pub devices : a.machine.equipped.devices ≡ devices_new usual_places
   pub disks : a.machine.equipped.disks ≡ disks_from 400 volumes
   pub files : a.machine.files ≡ []
 
 -- the same, of the images at these paths
-pub record IsMachineOf {F : Type 0} (Gives : List ℕ → F → Type 0) (remaining : F → Option (List ℕ)) (paths : List (List ℕ)) (blocks : ℕ) (a : Alone) : Type 0 where
+pub record IsMachineOf {F : Type 0} (Gives : List ℕ → F → Type 0) (remaining : F → Option (List ℕ))
+    (paths : List (List ℕ)) (blocks : ℕ) (a : Alone) : Type 0 where
   pub volumes : List VolumeFormat
   pub images : AreImagesAt Gives remaining paths volumes
   pub made : IsMade blocks volumes a
@@ -46,37 +48,64 @@ blocks_of pages = 2 * pages
 
 -- ---- the whole
 
--- a machine was made, the script was played on that, and the images were saved if that was asked for
-pub record IsWholeRun {F : Type 0} (Gives : List ℕ → F → Type 0) (remaining : F → Option (List ℕ)) (options : BareOptions) (deeds_old deeds_new : Option (List Deed)) (writer_old writer_new : Option (List ℕ)) : Type 0 where
+-- a machine was made, the script was played on that, and the images were saved if that was asked
+-- for
+pub record IsWholeRun {F : Type 0} (Gives : List ℕ → F → Type 0) (remaining : F → Option (List ℕ))
+    (options : BareOptions) (deeds_old deeds_new : Option (List Deed))
+    (writer_old writer_new : Option (List ℕ)) : Type 0 where
   pub first : Alone
   pub last : Alone
   pub between : Option (List Deed)
-  pub made : IsMachineOf Gives remaining (map (λ path. path.now) options.volumes.items) (blocks_of options.storage) first
+  pub made : IsMachineOf Gives remaining (map (λ path. path.now) options.volumes.items)
+      (blocks_of options.storage) first
   pub read : Adds deeds_old between (opens (map (λ path. path.now) options.volumes.items))
-  pub run : IsRun machine_goes machine_volumes Gives remaining options.script.now (saved_of options.save (map (λ path. path.now) options.volumes.items)) first last between deeds_new writer_old writer_new
+  pub run : IsRun machine_goes machine_volumes Gives remaining options.script.now
+      (saved_of options.save (map (λ path. path.now) options.volumes.items)) first last between
+      deeds_new writer_old writer_new
 
--- no machine was made, and nothing was written or saved; or one was, and the script was not played or an image not saved
-abbrev pub IsFailedWholeRun : {F : Type 0} → (List ℕ → F → Type 0) → (F → Option (List ℕ)) → BareOptions → Option (List Deed) → Option (List Deed) → Option (List ℕ) → Option (List ℕ) → Failure → Type 0
+-- no machine was made, and nothing was written or saved; or one was, and the script was not played
+-- or an image not saved
+abbrev pub IsFailedWholeRun : {F : Type 0} → (List ℕ → F → Type 0) → (F → Option (List ℕ))
+    → BareOptions → Option (List Deed) → Option (List Deed) → Option (List ℕ) → Option (List ℕ)
+    → Failure → Type 0
 IsFailedWholeRun Gives remaining options deeds_old deeds_new writer_old writer_new failure =
-    (AddsFront deeds_old deeds_new (opens (map (λ path. path.now) options.volumes.items)) × (writer_new ≡ writer_old))
+    (AddsFront deeds_old deeds_new (opens (map (λ path. path.now) options.volumes.items))
+    × (writer_new ≡ writer_old))
     ⊎ ((first : Alone) × (last : Alone) × (between : Option (List Deed))
-    × IsMachineOf Gives remaining (map (λ path. path.now) options.volumes.items) (blocks_of options.storage) first
+    × IsMachineOf Gives remaining (map (λ path. path.now) options.volumes.items)
+    (blocks_of options.storage) first
     × Adds deeds_old between (opens (map (λ path. path.now) options.volumes.items))
-    × IsFailedRun machine_goes machine_volumes Gives remaining options.script.now (saved_of options.save (map (λ path. path.now) options.volumes.items)) first last between deeds_new writer_old writer_new failure)
+    × IsFailedRun machine_goes machine_volumes Gives remaining options.script.now
+    (saved_of options.save (map (λ path. path.now) options.volumes.items)) first last between
+    deeds_new writer_old writer_new failure)
 
--- a machine was made, the parts of a script were followed on that, and the images were saved if that was asked for, by the options and
--- by the input
-pub record IsWholeFollowing {F : Type 0} (Gives : List ℕ → F → Type 0) (remaining : F → Option (List ℕ)) (options : FollowOptions) (deeds_old deeds_new : Option (List Deed)) (reader_old reader_new writer_old writer_new : Option (List ℕ)) : Type 0 where
+-- a machine was made, the parts of a script were followed on that, and the images were saved if
+-- that was asked for, by the options and by the input
+pub record IsWholeFollowing {F : Type 0} (Gives : List ℕ → F → Type 0)
+    (remaining : F → Option (List ℕ)) (options : FollowOptions)
+    (deeds_old deeds_new : Option (List Deed))
+    (reader_old reader_new writer_old writer_new : Option (List ℕ)) : Type 0 where
   pub first : Alone
   pub between : Option (List Deed)
-  pub made : IsMachineOf Gives remaining (map (λ path. path.now) options.volumes.items) (blocks_of options.storage) first
+  pub made : IsMachineOf Gives remaining (map (λ path. path.now) options.volumes.items)
+      (blocks_of options.storage) first
   pub read : Adds deeds_old between (opens (map (λ path. path.now) options.volumes.items))
-  pub followed : IsFollowing machine_goes machine_volumes (detail_of options.terminals) (saved_of options.save (map (λ path. path.now) options.volumes.items)) first between deeds_new reader_old reader_new writer_old writer_new
+  pub followed : IsFollowing machine_goes machine_volumes (detail_of options.terminals)
+      (saved_of options.save (map (λ path. path.now) options.volumes.items)) first between deeds_new
+      reader_old reader_new writer_old writer_new
 
-abbrev pub IsFailedWholeFollowing : {F : Type 0} → (List ℕ → F → Type 0) → (F → Option (List ℕ)) → FollowOptions → Option (List Deed) → Option (List Deed) → Option (List ℕ) → Option (List ℕ) → Option (List ℕ) → Option (List ℕ) → Failure → Type 0
-IsFailedWholeFollowing Gives remaining options deeds_old deeds_new reader_old reader_new writer_old writer_new failure =
-    (AddsFront deeds_old deeds_new (opens (map (λ path. path.now) options.volumes.items)) × (reader_new ≡ reader_old) × (writer_new ≡ writer_old))
+-- what a run that followed parts has done when it fails
+abbrev pub IsFailedWholeFollowing : {F : Type 0} → (List ℕ → F → Type 0) → (F → Option (List ℕ))
+    → FollowOptions → Option (List Deed) → Option (List Deed) → Option (List ℕ) → Option (List ℕ)
+    → Option (List ℕ) → Option (List ℕ) → Failure → Type 0
+IsFailedWholeFollowing Gives remaining options deeds_old deeds_new reader_old reader_new writer_old
+    writer_new failure =
+    (AddsFront deeds_old deeds_new (opens (map (λ path. path.now) options.volumes.items))
+    × (reader_new ≡ reader_old) × (writer_new ≡ writer_old))
     ⊎ ((first : Alone) × (between : Option (List Deed))
-    × IsMachineOf Gives remaining (map (λ path. path.now) options.volumes.items) (blocks_of options.storage) first
+    × IsMachineOf Gives remaining (map (λ path. path.now) options.volumes.items)
+    (blocks_of options.storage) first
     × Adds deeds_old between (opens (map (λ path. path.now) options.volumes.items))
-    × IsFailedFollowing machine_goes machine_volumes (detail_of options.terminals) (saved_of options.save (map (λ path. path.now) options.volumes.items)) first between deeds_new reader_old reader_new writer_old writer_new failure)
+    × IsFailedFollowing machine_goes machine_volumes (detail_of options.terminals)
+    (saved_of options.save (map (λ path. path.now) options.volumes.items)) first between
+    deeds_new reader_old reader_new writer_old writer_new failure)

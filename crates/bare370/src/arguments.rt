@@ -1,8 +1,10 @@
 //! The words of the program: its machine's storage, its script and its volumes.
-ghost use Rattle.std.specs.Prelude.{◌≡◌, ◌≤◌, ℕ, IfErr, IfOk, OnOk, Some, codes, false, length, map, true};
+ghost use Rattle.std.specs.Prelude.{◌≡◌, ◌≤◌, ℕ, IfErr, IfOk, OnOk, Some, codes, false, length};
+ghost use Rattle.std.specs.Prelude.{map, true};
 ghost use Rattle.clap.specs.Words.{all_of, app_of, found_of, rows_of, rule_of};
 ghost use Rattle.programs.specs.Arguments.{script_rule, texts_of, volume_rule};
-ghost use Rattle.bare370.specs.Options.{HasNoFault, IsNamed, command_of, gives_script, is_taken, rows_named, storage_named, storage_rule};
+ghost use Rattle.bare370.specs.Options.{HasNoFault, IsNamed, command_of, gives_script, is_taken};
+ghost use Rattle.bare370.specs.Options.{rows_named, storage_named, storage_rule};
 
 use clap::{Arg, ArgAction, ArgMatches, Command};
 use cp_directory::{StorageSize, storage_of};
@@ -26,10 +28,14 @@ pub struct BareOptions<'a> {
     pub volumes: Vec<&'a str>,
 }
 
-/// What the words name, the first of which is the name that the program was started by; `program` is
-/// its name in a text for the person who wrote them. Words are read as `clap` reads
-/// them: `--` before the paths is allowed, and `--help` is a request for the text of
-/// [`UsageError::Usage`]. The storage is written as in a directory.
+/// Reads the arguments, the first of which is the name that the program was started by; `program`
+/// is its name in a usage text. Words are read as `clap` reads them: `--` before the paths is
+/// allowed, and `--help` is a request for the text of [`UsageError::Usage`]. The storage is written
+/// as in a directory.
+///
+/// # Errors
+///
+/// A `UsageError`: the text that says what is wrong with the arguments, or refused memory.
 pub fn bare_arguments<'a, S: AsStr>(
     alloc: Global,
     program: &'a str,
@@ -41,20 +47,22 @@ pub fn bare_arguments<'a, S: AsStr>(
     ensures err { (pages : ℕ) → is_taken program.entry.now (map S.text words.entry.now) ≡ true →
         gives_script (rows_named program.entry.now (map S.text words.entry.now)) ≡ true →
         storage_named (rows_named program.entry.now (map S.text words.entry.now)) ≡ Some pages →
-        length (texts_of (all_of (codes "VOLUME") (rows_named program.entry.now (map S.text words.entry.now)))) ≤ MOST_VOLUMES →
+        length (texts_of (all_of (codes "VOLUME")
+        (rows_named program.entry.now (map S.text words.entry.now)))) ≤ MOST_VOLUMES →
         IfErr result (λ error. error ≡ UsageError.Memory) }
 {
     let matches = matched(alloc, program, words)?;
     options_in(alloc, &matches)
 }
 
-/// The options that were found in the words.
+/// Returns the options that were found in the words.
 fn options_in<'a>(alloc: Global, matches: &ArgMatches<'a>) -> Result<BareOptions<'a>, UsageError>
     ensures ok { IfOk result (IsNamed (rows_of (found_of matches.now))) }
     ensures few { IfOk result (λ options. length options.volumes.items ≤ MOST_VOLUMES) }
     ensures err { (pages : ℕ) → gives_script (rows_of (found_of matches.now)) ≡ true →
         storage_named (rows_of (found_of matches.now)) ≡ Some pages →
-        length (texts_of (all_of (codes "VOLUME") (rows_of (found_of matches.now)))) ≤ MOST_VOLUMES →
+        length (texts_of (all_of (codes "VOLUME") (rows_of (found_of matches.now))))
+        ≤ MOST_VOLUMES →
         IfErr result (λ error. error ≡ UsageError.Memory) }
 {
     let Some(script) = text_of(matches, "SCRIPT") else {
@@ -78,20 +86,21 @@ fn options_in<'a>(alloc: Global, matches: &ArgMatches<'a>) -> Result<BareOptions
     })
 }
 
-/// The size of the storage, where it is written so and a machine may have it.
+/// Returns the size of the storage, if it is well written and a machine may have it.
 pub(crate) fn storage_in(matches: &ArgMatches<'_>) -> Option<StorageSize>
     ensures { result ≡ storage_named (rows_of (found_of matches.now)) }
 {
     storage_of(text_of(matches, "STORAGE")?.as_bytes())
 }
 
-/// What `clap` finds in the words.
+/// Returns what `clap` finds in the words.
 fn matched<'a, S: AsStr>(
     alloc: Global,
     program: &'a str,
     words: &'a [S],
 ) -> Result<ArgMatches<'a>, UsageError>
-    ensures ok { IfOk result (λ m. rows_of (found_of m) ≡ rows_named program.entry.now (map S.text words.entry.now)) }
+    ensures ok { IfOk result
+        (λ m. rows_of (found_of m) ≡ rows_named program.entry.now (map S.text words.entry.now)) }
     ensures taken { OnOk result (HasNoFault program.entry.now (map S.text words.entry.now)) }
     ensures err { is_taken program.entry.now (map S.text words.entry.now) ≡ true
         → IfErr result (λ error. error ≡ UsageError.Memory) }
@@ -103,7 +112,7 @@ fn matched<'a, S: AsStr>(
     }
 }
 
-/// The program's words, as `clap` is told of them.
+/// Returns the program's words, as they are described to `clap`.
 fn command<'a>(alloc: Global, program: &'a str) -> Result<Command<'a>, AllocError>
     ensures { IfOk result (λ c. app_of c ≡ command_of program.entry.now) }
 {
@@ -116,7 +125,7 @@ fn command<'a>(alloc: Global, program: &'a str) -> Result<Command<'a>, AllocErro
     Ok(command)
 }
 
-/// The first word, which is the size of the storage.
+/// Returns the first word, which is the size of the storage.
 pub(crate) fn storage<'a>(alloc: Global) -> Arg<'a>
     ensures rule { rule_of result ≡ storage_rule }
     ensures local { result.global ≡ false }
@@ -126,7 +135,7 @@ pub(crate) fn storage<'a>(alloc: Global) -> Arg<'a>
         .help("The size of the machine's storage, as 8K or 1M")
 }
 
-/// The second word, which is the path of the script.
+/// Returns the second word, which is the path of the script.
 fn script<'a>(alloc: Global) -> Arg<'a>
     ensures rule { rule_of result ≡ script_rule }
     ensures local { result.global ≡ false }
@@ -136,7 +145,7 @@ fn script<'a>(alloc: Global) -> Arg<'a>
     )
 }
 
-/// The words after them, which are the paths of images.
+/// Returns the words after them, which are the paths of images.
 pub(crate) fn volumes<'a>(alloc: Global) -> Arg<'a>
     ensures rule { rule_of result ≡ volume_rule }
     ensures local { result.global ≡ false }

@@ -2,7 +2,8 @@
 ghost use Rattle.std.specs.Prelude.{◌≡◌, ◌≤◌, ℕ, IfErr, IfOk, OnOk, Some, codes, length, map, true};
 ghost use Rattle.clap.specs.Words.{all_of, app_of, found_of, rows_of};
 ghost use Rattle.programs.specs.Arguments.{texts_of};
-ghost use Rattle.bare370.specs.FollowOptions.{HasNoFault, IsNamed, command_of, is_taken, rows_named};
+ghost use Rattle.bare370.specs.FollowOptions.{HasNoFault, IsNamed, command_of, is_taken};
+ghost use Rattle.bare370.specs.FollowOptions.{rows_named};
 ghost use Rattle.bare370.specs.Options.{storage_named};
 
 use crate::arguments::{MOST_VOLUMES, storage, storage_in, volumes};
@@ -12,7 +13,8 @@ use programs::words::{UsageError, follow, is_given, paths_of, refusal, save, ter
 use std::alloc::{AllocError, Global};
 use std::convert::AsStr;
 
-/// What the words of the program name: `bare370 [--save] [--terminals] --follow STORAGE [VOLUME]...`.
+/// What the words of the program name: `bare370 [--save] [--terminals] --follow STORAGE
+/// [VOLUME]...`.
 #[derive(Drop)]
 pub struct FollowOptions<'a> {
     /// The images of the volumes are written back at the end.
@@ -25,8 +27,12 @@ pub struct FollowOptions<'a> {
     pub volumes: Vec<&'a str>,
 }
 
-/// What the words name, the first of which is the name that the program was started by, as
-/// [`bare_arguments`](crate::arguments::bare_arguments) reads them.
+/// Reads the arguments of a run that follows parts, as
+/// [`bare_arguments`](crate::arguments::bare_arguments) does those of a script.
+///
+/// # Errors
+///
+/// A `UsageError`: the text that says what is wrong with the arguments, or refused memory.
 pub fn follow_arguments<'a, S: AsStr>(
     alloc: Global,
     program: &'a str,
@@ -37,19 +43,21 @@ pub fn follow_arguments<'a, S: AsStr>(
     ensures taken { OnOk result (HasNoFault program.entry.now (map S.text words.entry.now)) }
     ensures err { (pages : ℕ) → is_taken program.entry.now (map S.text words.entry.now) ≡ true →
         storage_named (rows_named program.entry.now (map S.text words.entry.now)) ≡ Some pages →
-        length (texts_of (all_of (codes "VOLUME") (rows_named program.entry.now (map S.text words.entry.now)))) ≤ MOST_VOLUMES →
+        length (texts_of (all_of (codes "VOLUME")
+        (rows_named program.entry.now (map S.text words.entry.now)))) ≤ MOST_VOLUMES →
         IfErr result (λ error. error ≡ UsageError.Memory) }
 {
     let matches = matched(alloc, program, words)?;
     options_in(alloc, &matches)
 }
 
-/// The options that were found in the words.
+/// Returns the options that were found in the words.
 fn options_in<'a>(alloc: Global, matches: &ArgMatches<'a>) -> Result<FollowOptions<'a>, UsageError>
     ensures ok { IfOk result (IsNamed (rows_of (found_of matches.now))) }
     ensures few { IfOk result (λ options. length options.volumes.items ≤ MOST_VOLUMES) }
     ensures err { (pages : ℕ) → storage_named (rows_of (found_of matches.now)) ≡ Some pages →
-        length (texts_of (all_of (codes "VOLUME") (rows_of (found_of matches.now)))) ≤ MOST_VOLUMES →
+        length (texts_of (all_of (codes "VOLUME") (rows_of (found_of matches.now))))
+        ≤ MOST_VOLUMES →
         IfErr result (λ error. error ≡ UsageError.Memory) }
 {
     let Some(storage) = storage_in(matches) else {
@@ -70,13 +78,14 @@ fn options_in<'a>(alloc: Global, matches: &ArgMatches<'a>) -> Result<FollowOptio
     })
 }
 
-/// What `clap` finds in the words.
+/// Returns what `clap` finds in the words.
 fn matched<'a, S: AsStr>(
     alloc: Global,
     program: &'a str,
     words: &'a [S],
 ) -> Result<ArgMatches<'a>, UsageError>
-    ensures ok { IfOk result (λ m. rows_of (found_of m) ≡ rows_named program.entry.now (map S.text words.entry.now)) }
+    ensures ok { IfOk result
+        (λ m. rows_of (found_of m) ≡ rows_named program.entry.now (map S.text words.entry.now)) }
     ensures taken { OnOk result (HasNoFault program.entry.now (map S.text words.entry.now)) }
     ensures err { is_taken program.entry.now (map S.text words.entry.now) ≡ true
         → IfErr result (λ error. error ≡ UsageError.Memory) }
@@ -88,7 +97,7 @@ fn matched<'a, S: AsStr>(
     }
 }
 
-/// The program's words, as `clap` is told of them.
+/// Returns the program's words, as they are described to `clap`.
 fn command<'a>(alloc: Global, program: &'a str) -> Result<Command<'a>, AllocError>
     ensures { IfOk result (λ c. app_of c ≡ command_of program.entry.now) }
 {

@@ -1,5 +1,6 @@
 //! A machine of its own as sessions know it.
-ghost use Rattle.std.specs.Prelude.{◌≡◌, ◌<◌, ◌≤◌, ◌==◌, ◌*◌, ◌++◌, [], Err, IfErr, IfOk, IfSome, List, false, length, map, replicate};
+ghost use Rattle.std.specs.Prelude.{◌≡◌, ◌<◌, ◌≤◌, ◌==◌, ◌*◌, ◌++◌, [], Err, IfErr, IfOk, IfSome};
+ghost use Rattle.std.specs.Prelude.{List, false, length, map, replicate};
 ghost use Rattle.std.specs.List.{list_any};
 ghost use Rattle.s370_store.specs.Plain.{plain_bytes, plain_memory};
 ghost use Rattle.s370_store.specs.Memory.{memory_of};
@@ -9,9 +10,10 @@ ghost use Rattle.machine_devices.specs.Devices.{AreAttached, can_attach, devices
 ghost use Rattle.session_script.specs.Script.{Deck, said, user_of_event};
 ghost use Rattle.bare_installation.specs.Life.{IsApplied, MayLackMemory};
 ghost use Rattle.bare_installation.specs.declared.happening.Happening.{Happening};
-ghost use Rattle.bare370.specs.Goes.{IsWhole, addresses_of, as_said, disks_from, first_disk, machine_goes, usual_places};
+ghost use Rattle.bare370.specs.Goes.{IsWhole, addresses_of, as_said, disks_from, first_disk};
+ghost use Rattle.bare370.specs.Goes.{machine_goes, usual_places};
 
-use bare_installation::{BARE, Bare, Happening};
+use bare_installation::{BARE, Bare, Happening, printed_lines_do_not_matter};
 use ckd_volume::{Arm, Sense, Unit, Volume};
 use machine_channels::AttachedDisk;
 use machine_devices::{AttachError, FileNote, Places, Reply, SeenDevices};
@@ -68,7 +70,11 @@ impl Model for OneMachine {
 }
 
 impl OneMachine {
-    /// A machine, whose devices scripts may name.
+    /// Returns a machine, whose devices scripts may name.
+    ///
+    /// # Errors
+    ///
+    /// `AllocError` if memory is refused.
     pub fn new(alloc: Global, machine: Bare) -> Result<OneMachine, AllocError>
         ensures machine { IfOk result (λ one. one.machine ≡ machine) }
         ensures addresses { IfOk result
@@ -78,7 +84,7 @@ impl OneMachine {
         Ok(OneMachine { machine, addresses })
     }
 
-    /// The machine.
+    /// Returns the machine.
     pub fn machine(&self) -> &Bare
         ensures { result.now ≡ self.now.machine }
     {
@@ -149,6 +155,10 @@ impl Installation for OneMachine {
         }
     }
 
+    fn forget_printed(&mut self) {
+        self.machine.forget_printed();
+    }
+
     fn save(&self, _out: &mut Vec<u8>) -> Result<bool, AllocError> {
         Ok(false)
     }
@@ -158,9 +168,13 @@ impl Installation for OneMachine {
     }
 
     fn one_by_saved() {}
+
+    fn printed_lines_do_not_matter() {
+        printed_lines_do_not_matter();
+    }
 }
 
-/// The addresses of these devices.
+/// Returns the addresses of these devices.
 fn addresses(alloc: Global, devices: &[Subchannel]) -> Result<Vec<u16>, AllocError>
     ensures { IfOk result (λ list. list.items ≡ addresses_of devices.now) }
 {
@@ -171,7 +185,7 @@ fn addresses(alloc: Global, devices: &[Subchannel]) -> Result<Vec<u16>, AllocErr
     Ok(list)
 }
 
-/// Whether an address is one of these.
+/// Returns whether an address is one of these.
 fn has_address(addresses: &[u16], address: u16) -> bool
     ensures { result ≡ list_any (λ device. device == address) addresses.now }
 {
@@ -182,10 +196,13 @@ fn has_address(addresses: &[u16], address: u16) -> bool
 fn give(alloc: Global, machine: &mut Bare, cards: &[Card]) -> Result<Reply, Refused>
     ensures ok { IfOk result (λ reply. (event : Happening) × (as_said event ≡ Deck 0 cards.now)
         × IsApplied machine.old event reply machine.new) }
-    ensures err { IfErr result (λ error. (error ≡ Refused.Memory) × (event : Happening) × (as_said event ≡ Deck 0 cards.now)
+    ensures err { IfErr result
+        (λ error. (error ≡ Refused.Memory) × (event : Happening)
+        × (as_said event ≡ Deck 0 cards.now)
         × MayLackMemory machine.old event) }
 {
-    // The kit proves a function through which a happening goes only where it names the address of a device.
+    // The kit proves a function through which a happening goes only where it names the address of a
+    // device.
     let _device = DevAddr::new(0);
     match machine.apply(alloc, deck(cards)) {
         Ok(reply) => Ok(reply),
@@ -204,12 +221,16 @@ fn deck<'a>(cards: &'a [Card]) -> Happening<'a>
 fn ask(alloc: Global, machine: &mut Bare, event: &ScriptEvent<'_>) -> Result<Reply, Refused>
     requires user { IfSome (user_of_event event.now) (λ user. user < 1) }
     requires event { IsWhole event.now }
-    ensures ok { IfOk result (λ reply. (happening : Happening) × (as_said happening ≡ said event.now)
+    ensures ok { IfOk result
+        (λ reply. (happening : Happening) × (as_said happening ≡ said event.now)
         × IsApplied machine.old happening reply machine.new) }
-    ensures err { IfErr result (λ error. (error ≡ Refused.Memory) × (happening : Happening) × (as_said happening ≡ said event.now)
+    ensures err { IfErr result
+        (λ error. (error ≡ Refused.Memory) × (happening : Happening)
+        × (as_said happening ≡ said event.now)
         × MayLackMemory machine.old happening) }
 {
-    // The kit proves a function through which a happening goes only where it names the address of a device.
+    // The kit proves a function through which a happening goes only where it names the address of a
+    // device.
     let _device = DevAddr::new(0);
     match machine.apply(alloc, happening(event)) {
         Ok(reply) => Ok(reply),
@@ -217,7 +238,7 @@ fn ask(alloc: Global, machine: &mut Bare, event: &ScriptEvent<'_>) -> Result<Rep
     }
 }
 
-/// What a line of a script says with all that it has.
+/// Returns what a line of a script says with all that it has.
 fn happening<'a>(event: &ScriptEvent<'a>) -> Happening<'a>
     requires user { IfSome (user_of_event event.now) (λ user. user < 1) }
     requires event { IsWhole event.now }
@@ -232,8 +253,12 @@ fn happening<'a>(event: &ScriptEvent<'a>) -> Happening<'a>
     }
 }
 
-/// A machine that is off, with a storage of so many blocks of 2048 bytes, console, reader, punch and printer, and a
-/// disk for each of these volumes, of which there are at most [`MOST_DISKS`].
+/// Returns a machine that is off, with this many blocks of 2048 bytes, console, reader, punch and
+/// printer, and a disk for each of these volumes, of which there are at most [`MOST_DISKS`].
+///
+/// # Errors
+///
+/// An `AttachError`: refused memory, or addresses that conflict.
 pub fn machine_of(
     alloc: Global,
     blocks: u32,
@@ -246,12 +271,14 @@ pub fn machine_of(
         × (one.machine.equipped.machine
         ≡ unused (memory_of (replicate (2048 * blocks) 0) (replicate blocks 0)) subchannels)) }
     ensures address { result ≡ Err AttachError.Address
-        → can_attach (places_of usual_places ++ map (λ disk. disk.address) (disks_from FIRST_DISK volumes.items)) ≡ false }
+        → can_attach (places_of usual_places
+        ++ map (λ disk. disk.address) (disks_from FIRST_DISK volumes.items)) ≡ false }
     ensures devices { IfOk result (λ one. one.machine.equipped.devices ≡ devices_new usual_places) }
     ensures files { IfOk result (λ one. one.machine.files ≡ []) }
     ensures addresses { IfOk result
         (λ one. one.addresses ≡ addresses_of one.machine.equipped.machine.core.subchannels) }
-    ensures disks { IfOk result (λ one. one.machine.equipped.disks ≡ disks_from FIRST_DISK volumes.items) }
+    ensures disks { IfOk result
+        (λ one. one.machine.equipped.disks ≡ disks_from FIRST_DISK volumes.items) }
 {
     let places = Places {
         console: Some(DevAddr::new(CONSOLE)),
@@ -269,7 +296,7 @@ pub fn machine_of(
     }
 }
 
-/// Its storage, and its disks.
+/// Returns its storage, and its disks.
 fn parts_of(
     alloc: Global,
     blocks: u32,
@@ -278,7 +305,8 @@ fn parts_of(
     requires least { 4 ≤ blocks }
     requires most { blocks ≤ 2048 }
     ensures storage { IfOk result
-        (λ parts. plain_memory parts.0 ≡ memory_of (replicate (2048 * blocks) 0) (replicate blocks 0)) }
+        (λ parts. plain_memory parts.0
+        ≡ memory_of (replicate (2048 * blocks) 0) (replicate blocks 0)) }
     ensures size { IfOk result (λ parts. 8192 ≤ length (plain_bytes parts.0)) }
     ensures disks { IfOk result (λ parts. parts.1.items ≡ disks_from FIRST_DISK volumes.items) }
 {
@@ -287,7 +315,7 @@ fn parts_of(
     Ok((storage, disks))
 }
 
-/// A disk for each of these volumes, at an address of its own.
+/// Returns a disk for each of these volumes, at an address of its own.
 fn disks_of(alloc: Global, volumes: Vec<Volume>) -> Result<Vec<AttachedDisk>, AllocError>
     ensures { IfOk result (λ disks. disks.items ≡ disks_from FIRST_DISK volumes.items) }
 {
@@ -301,7 +329,7 @@ fn disks_of(alloc: Global, volumes: Vec<Volume>) -> Result<Vec<AttachedDisk>, Al
     Ok(disks)
 }
 
-/// A disk over a volume.
+/// Returns a disk over a volume.
 fn disk(alloc: Global, volume: Volume) -> Result<Unit, AllocError>
     ensures { IfOk result (λ unit. unit ≡ first_disk volume) }
 {

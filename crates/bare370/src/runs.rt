@@ -1,8 +1,10 @@
-//! What the program does with its files: it reads images, makes the machine of their volumes, plays or follows a script,
-//! and saves the images.
+//! What the program does with its files: it reads images, makes the machine of their volumes, plays
+//! or follows a script, and saves the images.
 ghost use Rattle.std.specs.Prelude.{◌≡◌, ◌≤◌, [], IfErr, IfOk, OnErr, OnOk, map};
 ghost use Rattle.programs.specs.Opened.{Adds, AddsFront, opens};
-ghost use Rattle.bare370.specs.Runs.{IsFailedWholeFollowing, IsFailedWholeRun, IsMachineOf, IsMade, IsWholeFollowing, IsWholeRun, blocks_of, detail_of, machine_volumes};
+ghost use Rattle.bare370.specs.Runs.{IsFailedWholeFollowing, IsFailedWholeRun, IsMachineOf, IsMade};
+ghost use Rattle.bare370.specs.Runs.{IsWholeFollowing, IsWholeRun, blocks_of, detail_of};
+ghost use Rattle.bare370.specs.Runs.{machine_volumes};
 
 use crate::arguments::BareOptions;
 use crate::follow_arguments::FollowOptions;
@@ -28,18 +30,24 @@ impl HasVolumes for OneMachine {
     }
 }
 
-/// Makes the machine that these options name, plays the script and writes its transcript, and saves the images of the
-/// volumes if the options ask for that.
+/// Makes the machine that these options name, plays the script and writes its transcript, and saves
+/// the images of the volumes if the options ask for that.
+///
+/// # Errors
+///
+/// A `Failure`: of a file, a text, an image or the boot, or refused memory.
 pub fn run_files<F: FileStore, W: HostWriter>(
     alloc: Global,
     files: &mut F,
     options: &BareOptions<'_>,
     writer: &mut W,
 ) -> Result<(), Failure>
-    ensures ok { OnOk result (IsWholeRun F.gives F.File.remaining options.now (F.deeds files.old) (F.deeds files.new)
+    ensures ok { OnOk result
+        (IsWholeRun F.gives F.File.remaining options.now (F.deeds files.old) (F.deeds files.new)
         (W.contents writer.old) (W.contents writer.new)) }
     ensures flushed { OnOk result (W.held writer.new ≡ []) }
-    ensures err { IfErr result (IsFailedWholeRun F.gives F.File.remaining options.now (F.deeds files.old)
+    ensures err { IfErr result
+        (IsFailedWholeRun F.gives F.File.remaining options.now (F.deeds files.old)
         (F.deeds files.new) (W.contents writer.old) (W.contents writer.new)) }
 {
     let volumes = options.volumes.as_slice();
@@ -48,8 +56,13 @@ pub fn run_files<F: FileStore, W: HostWriter>(
     run_script(alloc, files, &mut machine, options.script, saved, writer)
 }
 
-/// Makes the machine that these options name, follows the parts of a script that an input has and writes what comes of
-/// each, and saves the images of the volumes if the options ask for that and the input asked for its end.
+/// Makes the machine that these options name, follows the parts of a script that an input has and
+/// writes what comes of each, and saves the images of the volumes if the options ask for that and
+/// the input asked for its end.
+///
+/// # Errors
+///
+/// A `Failure`: of a file, a text, an image or the boot, or refused memory.
 pub fn follow_machine<F: FileStore, R: HostReader, W: HostWriter>(
     alloc: Global,
     files: &mut F,
@@ -57,11 +70,16 @@ pub fn follow_machine<F: FileStore, R: HostReader, W: HostWriter>(
     reader: &mut R,
     writer: &mut W,
 ) -> Result<(), Failure>
-    ensures ok { OnOk result (IsWholeFollowing F.gives F.File.remaining options.now (F.deeds files.old) (F.deeds files.new)
-        (R.remaining reader.old) (R.remaining reader.new) (W.contents writer.old) (W.contents writer.new)) }
+    ensures ok { OnOk result
+        (IsWholeFollowing F.gives F.File.remaining options.now (F.deeds files.old)
+        (F.deeds files.new)
+        (R.remaining reader.old) (R.remaining reader.new) (W.contents writer.old)
+        (W.contents writer.new)) }
     ensures flushed { OnOk result (W.held writer.new ≡ []) }
-    ensures err { IfErr result (IsFailedWholeFollowing F.gives F.File.remaining options.now (F.deeds files.old)
-        (F.deeds files.new) (R.remaining reader.old) (R.remaining reader.new) (W.contents writer.old)
+    ensures err { IfErr result
+        (IsFailedWholeFollowing F.gives F.File.remaining options.now (F.deeds files.old)
+        (F.deeds files.new) (R.remaining reader.old) (R.remaining reader.new)
+        (W.contents writer.old)
         (W.contents writer.new)) }
 {
     let volumes = options.volumes.as_slice();
@@ -78,18 +96,27 @@ pub fn follow_machine<F: FileStore, R: HostReader, W: HostWriter>(
     )
 }
 
-/// Reads the images at these paths, and makes a machine with a storage of this size and a disk over each volume.
+/// Reads the images at these paths, and makes a machine with a storage of this size and a disk over
+/// each volume.
+///
+/// # Errors
+///
+/// A `Failure`: of a file, a text, an image or the boot, or refused memory.
 pub fn read_machine<F: FileStore>(
     alloc: Global,
     files: &mut F,
     storage: StorageSize,
     volumes: &[&str],
 ) -> Result<OneMachine, Failure>
-    ensures ok { IfOk result (IsMachineOf F.gives F.File.remaining (map (λ path. path.now) volumes.now) (blocks_of storage)) }
+    ensures ok { IfOk result
+        (IsMachineOf F.gives F.File.remaining (map (λ path. path.now) volumes.now)
+        (blocks_of storage)) }
     ensures deeds { OnOk result
-        (Adds (F.deeds files.old) (F.deeds files.new) (opens (map (λ path. path.now) volumes.now))) }
+        (Adds (F.deeds files.old) (F.deeds files.new)
+        (opens (map (λ path. path.now) volumes.now))) }
     ensures err { OnErr result
-        (AddsFront (F.deeds files.old) (F.deeds files.new) (opens (map (λ path. path.now) volumes.now))) }
+        (AddsFront (F.deeds files.old) (F.deeds files.new)
+        (opens (map (λ path. path.now) volumes.now))) }
 {
     let volumes = read_images(alloc, files, volumes)?;
     made(alloc, storage.blocks(), volumes)
@@ -116,7 +143,7 @@ fn unattached(error: AttachError) -> Failure {
     }
 }
 
-/// Which lines of turns a transcript has.
+/// Returns which lines of turns a transcript has.
 fn detail_of(terminals: bool) -> Detail
     ensures { result ≡ detail_of terminals }
 {

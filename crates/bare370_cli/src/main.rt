@@ -2,10 +2,10 @@
 #![tactic(auto)]
 
 use bare370::bare_program;
-use programs::Ended;
+use programs::ProgramEnd;
 use std::io::IsTerminal;
 
-fn main(rt: HostRuntime) -> Ended {
+fn main(rt: HostRuntime) -> ProgramEnd {
     let is_watched = rt.stdout().is_terminal();
     bare_program(&rt, is_watched)
 }

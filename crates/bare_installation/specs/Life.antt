@@ -1,4 +1,5 @@
--- What an event does to a machine with its devices, and how its life is made of what happens to it alone.
+-- What an event does to a machine with its devices, and how its life is made of what happens to it
+-- alone.
 use Rattle.std.specs.Prelude.{ℕ, ◌≡◌, ◌<◌, ◌-◌, true, List, [], ◌∷◌, ◌++◌, length, None}
 use Rattle.s370_channel.specs.declared.running.ChannelError.TheVariants as errors
 use Rattle.s370_channel.specs.Reading.{as_reached}
@@ -12,7 +13,8 @@ use Rattle.machine_devices.specs.declared.reply.Delivery.{Delivery}
 use Rattle.machine_devices.specs.declared.reply.Ended.{Ended}
 use Rattle.machine_devices.specs.declared.reply.Ended.TheVariants.{Ran, Served, Done}
 use Rattle.machine_devices.specs.declared.reply.Reply.{Reply}
-use Rattle.machine_devices.specs.Life.{Event as Local, Units, Serve as Serves, Line as Types, Tick as Ticks, Lives}
+use Rattle.machine_devices.specs.Life.{Event as Local, Units, Serve as Serves, Line as Types}
+use Rattle.machine_devices.specs.Life.{Tick as Ticks, Lives}
 use Rattle.machine_devices.specs.Notes.{next_file}
 use Rattle.machine_devices.specs.Replies.{given, saying}
 use Rattle.machine_devices.specs.Serve.{IsServedAt}
@@ -21,11 +23,18 @@ use Rattle.bare_installation.specs.declared.happening.Happening.{Happening}
 use Rattle.bare_installation.specs.declared.happening.Happening.TheVariants as happenings
 use Rattle.bare_installation.specs.Bare.{Bare, IsTyped, with_deck, world_of}
 
--- ---- what an event leaves, and what is told
+-- ---- what an event leaves, and what is reported
 
+-- a run of the machine, and its reply
 abbrev pub IsRun : ℕ → Bare → Reply → Ended → Bare → Type 0
 IsRun count old reply (Ran ran) new =
-    (run count old.equipped.machine ≡ record { machine = new.equipped.machine; units = ran.units; reason = ran.reason; notice = notice_of ran.reason })
+    (run count old.equipped.machine
+    ≡ record {
+      machine = new.equipped.machine;
+      units = ran.units;
+      reason = ran.reason;
+      notice = notice_of ran.reason;
+    })
     × (new.equipped.devices ≡ old.equipped.devices)
     × (new.equipped.disks ≡ old.equipped.disks)
     × (new.files ≡ old.files)
@@ -33,15 +42,19 @@ IsRun count old reply (Ran ran) new =
     × (reply.delivered ≡ None)
 IsRun count old reply other new = ⊥
 
+-- a typed line, and its reply
 abbrev pub IsAnswer : List ℕ → Bare → Reply → Ended → Bare → Type 0
 IsAnswer typed old reply Done new = IsTyped typed old reply new
 IsAnswer typed old reply other new = ⊥
 
+-- a serve of a device, and its reply
 abbrev pub IsService : ℕ → Bare → Reply → Ended → Bare → Type 0
 IsService device old reply (Served done) new =
-    IsServedAt as_reached device old.equipped done new.equipped × (new.files ≡ old.files) × (reply.said ≡ Nothing) × (reply.delivered ≡ None)
+    IsServedAt as_reached device old.equipped done new.equipped × (new.files ≡ old.files)
+    × (reply.said ≡ Nothing) × (reply.delivered ≡ None)
 IsService device old reply other new = ⊥
 
+-- a tick of the interval timer, and its reply
 abbrev pub IsTicked : Bare → Reply → Ended → Bare → Type 0
 IsTicked old reply Done new =
     (new.equipped.machine ≡ ticked old.equipped.machine)
@@ -52,9 +65,11 @@ IsTicked old reply Done new =
     × (reply.delivered ≡ None)
 IsTicked old reply other new = ⊥
 
+-- a deck for the reader, and its reply
 abbrev pub IsGiven : List (List ℕ) → Bare → Reply → Ended → Bare → Type 0
 IsGiven cards old reply Done new =
-    (new ≡ with_deck cards old) × (reply.said ≡ Nothing) × (reply.delivered ≡ given 0 (next_file old.files) cards)
+    (new ≡ with_deck cards old) × (reply.said ≡ Nothing)
+    × (reply.delivered ≡ given 0 (next_file old.files) cards)
 IsGiven cards old reply other new = ⊥
 
 -- each event ends in its own way
@@ -65,18 +80,20 @@ IsDone old (happenings.Serve device) reply new = IsService device old reply repl
 IsDone old happenings.Tick reply new = IsTicked old reply reply.ended new
 IsDone old (happenings.Deck cards) reply new = IsGiven cards.now old reply reply.ended new
 
--- and the reply tells how many lines have joined the console
+-- and the reply says how many lines have joined the console
 pub record IsApplied (old : Bare) (event : Happening) (reply : Reply) (new : Bare) : Type 0 where
   pub does : IsDone old event reply new
   pub lines : reply.lines ≡ length new.equipped.machine.output - length old.equipped.machine.output
 
 -- ---- where memory may be refused
 
--- the device of this address has a program that comes to a command that needs memory, or a console's finishes lines to be printed
+-- the device of this address has a program that comes to a command that needs memory, or a
+-- console's finishes lines to be printed
 abbrev pub LacksMemory : ℕ → Bare → Type 0
 LacksMemory device old = StopsAt as_reached (λ page. true) device old.equipped errors.Memory
 
--- a run and a tick take no memory; a line takes some only where one to a machine with devices may, and cards where there are any
+-- a run and a tick take no memory; a line takes some only where one to a machine with devices may,
+-- and cards where there are any
 abbrev pub MayLackMemory : Bare → Happening → Type 0
 MayLackMemory old (happenings.Run count) = ⊥
 MayLackMemory old (happenings.Line typed) = LineMay typed.now old.equipped
@@ -86,16 +103,20 @@ MayLackMemory old (happenings.Deck cards) = 0 < length cards.now
 
 -- ---- one event after another
 
+-- an event, its reply, and the machine that it leaves
 pub record Step : Type 0 where
   pub event : Happening
   pub reply : Reply
   pub left : Bare
 
+-- one step after another leads from the first machine to the last
 abbrev pub IsHistory : Bare → List Step → Bare → Type 0
 IsHistory first [] last = last ≡ first
-IsHistory first (step ∷ steps) last = IsApplied first step.event step.reply step.left × IsHistory step.left steps last
+IsHistory first (step ∷ steps) last = IsApplied first step.event step.reply step.left
+    × IsHistory step.left steps last
 
--- ---- what happens to the machine with devices alone: the event, and then what comes to its own user by it
+-- ---- what happens to the machine with devices alone: the event, and then what comes to its own
+-- user by it
 
 -- of a deck only that it comes
 abbrev pub happens : Bare → Happening → List Local
@@ -107,16 +128,19 @@ happens old (happenings.Deck cards) = []
 
 -- the file that the punch closed is the first after those of before
 abbrev pub coming : Bare → Happening → Bare → Delivery → Local
-coming old (happenings.Line typed) left = comes_by_line 0 (length old.equipped.devices.punched) left.equipped
+coming old (happenings.Line typed) left =
+    comes_by_line 0 (length old.equipped.devices.punched) left.equipped
 coming old (happenings.Deck cards) left = comes_from_operator cards.now
 coming old (happenings.Run count) left = comes_from_operator []
 coming old (happenings.Serve device) left = comes_from_operator []
 coming old happenings.Tick left = comes_from_operator []
 
+-- the events of the machine itself, in order
 abbrev pub own : Bare → List Step → List Local
 own first [] = []
 own first (step ∷ steps) =
-    (happens first step.event ++ coming_of (coming first step.event step.left) step.reply.delivered) ++ own step.left steps
+    (happens first step.event ++ coming_of (coming first step.event step.left) step.reply.delivered)
+    ++ own step.left steps
 
 -- whatever happened: the machine with its devices is what its own events leave, in order
 abbrev pub EachIsLife : Type 0

@@ -1,7 +1,7 @@
 //! What a machine knows that is alone.
 ghost use Rattle.std.specs.Prelude.{◌≡◌};
 
-use machine_devices::World;
+use machine_devices::UserDirectory;
 
 /// The name of the only user.
 pub const BARE: &[u8] = b"BARE";
@@ -13,7 +13,7 @@ pub(crate) struct Alone {
     pub(crate) on: bool,
 }
 
-impl World for Alone {
+impl UserDirectory for Alone {
     ghost use Rattle.bare_installation.specs.Bare.{alone};
 
     ghost known = { λ a. alone a.on };

@@ -1,5 +1,5 @@
-//! A machine of its own that stands for a user among others: a line in a world of several users, a deck with a number of
-//! all their files, and a message.
+//! A machine of its own that stands for a user among others: a line in a world of several users, a
+//! deck with a number of all their files, and a message.
 ghost use Rattle.std.specs.Prelude.{◌≡◌, IfOk, OnOk};
 ghost use Rattle.s370_channel.specs.Reading.{as_reached};
 ghost use Rattle.cp_console.specs.ConsoleLine.{characters_of};
@@ -9,29 +9,38 @@ ghost use Rattle.machine_devices.specs.Lines.{IsLine};
 use crate::bare::Bare;
 use cp_console::console_line::ConsoleLine;
 use cp_console::responses::Response;
-use machine_devices::{Told, World};
+use machine_devices::{LineOutcome, UserDirectory};
 use std::alloc::{AllocError, Global};
 use unit_record::{Card, Sender};
 
 impl Bare {
-    /// A line that is typed in this world, and what is told. What it sends goes to nobody, and a file that it closed
-    /// stays with its device alone, without a number: that is for whoever knows the others. Where memory is refused,
-    /// nothing is said of the machine.
-    pub fn line_among<W: World>(
+    /// A line that is typed in this world, and what is reported. What it sends goes to nobody, and
+    /// a file that it closed stays with its device alone, without a number: that is for whoever
+    /// knows the others. If memory is refused, nothing is said of the machine.
+    ///
+    /// # Errors
+    ///
+    /// `AllocError` if memory is refused; what this is then is not specified.
+    pub fn line_among<W: UserDirectory>(
         &mut self,
         alloc: Global,
         world: &W,
         typed: &[u8],
-    ) -> Result<Told, AllocError>
+    ) -> Result<LineOutcome, AllocError>
         ensures line { IfOk result
-            (λ told. IsLine (W.known world.now) typed.now self.old.equipped told self.new.equipped) }
+            (λ reported. IsLine (W.known world.now) typed.now self.old.equipped reported
+            self.new.equipped) }
         ensures files { self.new.files ≡ self.old.files }
     {
         self.answer(alloc, world, typed)
     }
 
-    /// A deck that another sent, or the operator, with the number that it has among the files of all. Where memory is
-    /// refused, nothing is said of the machine.
+    /// Gives the reader a deck that another user or the operator sent, with its number among the
+    /// files of all. If memory is refused, nothing is said of the machine.
+    ///
+    /// # Errors
+    ///
+    /// `AllocError` if memory is refused; what this is then is not specified.
     pub fn take_deck(
         &mut self,
         number: u64,
@@ -39,14 +48,19 @@ impl Bare {
         cards: Vec<Card>,
     ) -> Result<(), AllocError>
         ensures taken { OnOk result (Leaves as_reached
-            (Gets (record { label = number; sender = sender; cards = cards.items })) self.old.equipped self.new.equipped) }
+            (Gets (record { label = number; sender = sender; cards = cards.items }))
+            self.old.equipped self.new.equipped) }
         ensures files { self.new.files ≡ self.old.files }
     {
         self.devices.deck(&mut self.queues, number, sender, cards)
     }
 
-    /// A message that another sent, as the whole line that the console prints. Where memory is refused, nothing is said
-    /// of the machine.
+    /// Prints a message that another user sent, as a whole line of the console. If memory is
+    /// refused, nothing is said of the machine.
+    ///
+    /// # Errors
+    ///
+    /// `AllocError` if memory is refused; what this is then is not specified.
     pub fn hear(&mut self, line: ConsoleLine) -> Result<(), AllocError>
         ensures heard { OnOk result
             (Leaves as_reached (Hears (characters_of line)) self.old.equipped self.new.equipped) }

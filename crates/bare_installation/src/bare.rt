@@ -1,5 +1,6 @@
 //! A machine with its devices, and nobody else.
-ghost use Rattle.std.specs.Prelude.{Err, IsOk, None, false, map, ◌++◌, ◌≡◌, ◌-◌, ◌<◌, ◌≤◌, ◌^◌, [], List, Option, true, IfOk, OnErr, OnOk, length, slice_get};
+ghost use Rattle.std.specs.Prelude.{Err, IsOk, None, false, map, ◌++◌, ◌≡◌, ◌-◌, ◌<◌, ◌≤◌, ◌^◌, []};
+ghost use Rattle.std.specs.Prelude.{List, Option, true, IfOk, OnErr, OnOk, length, slice_get};
 ghost use Rattle.std.specs.Option.{option_map};
 ghost use Rattle.s370_store.specs.Plain.{plain_bytes, plain_memory};
 ghost use Rattle.s370_channel.specs.Reading.{as_reached};
@@ -9,19 +10,21 @@ ghost use Rattle.machine_panel.specs.Run.{notice_of, run};
 ghost use Rattle.machine_panel.specs.Tick.{ticked};
 ghost use Rattle.s370_subchannels.specs.Subchannels.{AreAscending};
 ghost use Rattle.s370_subchannels.specs.declared.subchannel.Subchannel.{Subchannel};
-ghost use Rattle.machine_devices.specs.Devices.{AreAttached, can_attach, devices_new, no_places, places_of};
+ghost use Rattle.machine_devices.specs.Devices.{AreAttached, can_attach, devices_new, no_places};
+ghost use Rattle.machine_devices.specs.Devices.{places_of};
 ghost use Rattle.machine_devices.specs.declared.attaching.AttachError.TheVariants as errors;
 ghost use Rattle.machine_devices.specs.Lent.{devices_on};
 ghost use Rattle.machine_devices.specs.Notes.{next_file};
 ghost use Rattle.machine_devices.specs.Replies.{given};
 ghost use Rattle.machine_devices.specs.Serve.{IsServedAt};
 ghost use Rattle.bare_installation.specs.Bare.{with_deck};
-ghost use Rattle.bare_installation.specs.Life.{AttentionAgreesThroughout, EachIsLife, IsApplied, LacksMemory, MayLackMemory};
+ghost use Rattle.bare_installation.specs.Life.{AttentionAgreesThroughout, EachIsLife, IsApplied};
+ghost use Rattle.bare_installation.specs.Life.{LacksMemory, MayLackMemory};
 
 use crate::happening::Happening;
 use cp_console::responses::Response;
 use cp_spool::Queues;
-use machine_channels::{AttachedDisk, Own};
+use machine_channels::{AttachedDisk, DedicatedChannels};
 use machine_devices::{
     AttachError, Delivered, Delivery, Devices, Ended, FileKind, FileNote, Places, Reply, Saying,
     SeenDevices, copy_of,
@@ -44,7 +47,7 @@ pub struct Bare {
     pub(crate) machine: Machine,
     pub(crate) devices: Devices,
     pub(crate) queues: Queues,
-    pub(crate) channels: Own,
+    pub(crate) channels: DedicatedChannels,
     pub(crate) storage: PlainStorage,
     pub(crate) files: Vec<FileNote>,
 }
@@ -52,7 +55,7 @@ pub struct Bare {
 impl Model for Bare {
     ghost use Rattle.std.specs.Prelude.{◌<◌, ◌≤◌, length};
     ghost use Rattle.s370_store.specs.Plain.{plain_bytes, plain_memory};
-    ghost use Rattle.machine_channels.specs.Own.{disks_of};
+    ghost use Rattle.machine_channels.specs.DedicatedChannels.{disks_of};
     ghost use Rattle.machine_devices.specs.Equipped.{equipped};
     ghost use Rattle.machine_devices.specs.Lent.{devices_on};
     ghost use Rattle.bare_installation.specs.Bare.{Bare as Whole};
@@ -60,16 +63,23 @@ impl Model for Bare {
     ghost Value = { Whole };
 
     ghost view = { λ b. record {
-      equipped = equipped b.machine (devices_on b.devices b.queues) (disks_of b.channels) (plain_memory b.storage);
+      equipped = equipped b.machine (devices_on b.devices b.queues) (disks_of b.channels)
+          (plain_memory b.storage);
       files = b.files.items;
     } };
 
-    ghost invariant = { λ b. (8192 ≤ length (plain_bytes b.storage)) × (b.devices.user < length b.queues.users) };
+    ghost invariant = { λ b. (8192 ≤ length (plain_bytes b.storage))
+        × (b.devices.user < length b.queues.users) };
 }
 
 impl Bare {
-    /// A machine that is off, with this storage of at least 8 KiB, which is cleared, devices at these places and these
-    /// disks, each of which has an address of its own, on one of channels 0 to 5.
+    /// Returns a machine that is off, with this storage of at least 8 KiB, which is cleared,
+    /// devices at these places and these disks, each of which has an address of its own, on one of
+    /// channels 0 to 5.
+    ///
+    /// # Errors
+    ///
+    /// An `AttachError`: refused memory, or addresses that conflict.
     pub fn new(
         alloc: Global,
         storage: PlainStorage,
@@ -78,7 +88,8 @@ impl Bare {
     ) -> Result<Bare, AttachError>
         requires { 8192 ≤ length (plain_bytes storage) }
         ensures machine { IfOk result
-            (λ bare. (subchannels : List Subchannel) × AreAttached (devices_new places) disks.items subchannels
+            (λ bare. (subchannels : List Subchannel)
+            × AreAttached (devices_new places) disks.items subchannels
             × (bare.equipped.machine ≡ unused (plain_memory storage) subchannels)) }
         ensures devices { IfOk result (λ bare. bare.equipped.devices ≡ devices_new places) }
         ensures disks { IfOk result (λ bare. bare.equipped.disks ≡ disks.items) }
@@ -103,7 +114,8 @@ impl Bare {
         }
     }
 
-    /// The same, where these subchannels are those of the devices and disks.
+    /// Returns a machine as [`Bare::new`] does, with these subchannels, which are those of the
+    /// devices and disks.
     fn with_subchannels(
         alloc: Global,
         mut storage: PlainStorage,
@@ -124,13 +136,18 @@ impl Bare {
             machine: Machine::new(alloc, subchannels),
             devices,
             queues,
-            channels: Own::new(disks),
+            channels: DedicatedChannels::new(disks),
             storage,
             files: Vec::new(alloc),
         }
     }
 
-    /// A machine without devices that is off, with this storage of at least 8 KiB, which is cleared.
+    /// Returns a machine without devices that is off, with this storage of at least 8 KiB, which is
+    /// cleared.
+    ///
+    /// # Errors
+    ///
+    /// `AllocError` if memory is refused.
     pub fn without_devices(alloc: Global, storage: PlainStorage) -> Result<Bare, AllocError>
         requires { 8192 ≤ length (plain_bytes storage) }
         ensures machine { IfOk result
@@ -150,7 +167,12 @@ impl Bare {
         ))
     }
 
-    /// What an event does to the machine, and what is answered. Where memory is refused, nothing is said of the machine.
+    /// What an event does to the machine, and what is answered. If memory is refused, nothing is
+    /// said of the machine.
+    ///
+    /// # Errors
+    ///
+    /// `AllocError` if memory is refused; what this is then is not specified.
     pub fn apply(&mut self, alloc: Global, event: Happening<'_>) -> Result<Reply, AllocError>
         ensures applied { IfOk result (λ reply. IsApplied self.old event.entry reply self.new) }
         ensures memory { OnErr result (MayLackMemory self.old event.entry) }
@@ -158,8 +180,12 @@ impl Bare {
         let printed = self.printed();
         match event {
             Happening::Run(count) => {
-                let told = self.units(count);
-                Ok(self.reply(printed, Ended::Ran(told.ran), Saying::of(told.notice)))
+                let reported = self.units(count);
+                Ok(self.reply(
+                    printed,
+                    Ended::Ran(reported.ran),
+                    Saying::of(reported.notice),
+                ))
             }
             Happening::Line(typed) => self.line(alloc, typed),
             Happening::Serve(device) => match self.serve(device) {
@@ -174,7 +200,8 @@ impl Bare {
         }
     }
 
-    /// The reply where nothing was delivered, this is said, and the console had printed so many lines before.
+    /// Returns the reply of an event that delivered nothing and says this, if the console had
+    /// printed so many lines before it.
     pub(crate) fn reply(&self, printed: usize, ended: Ended, said: Saying) -> Reply
         ensures { result ≡ record {
           ended = ended;
@@ -191,15 +218,16 @@ impl Bare {
         }
     }
 
-    /// The operator gives a copy of these cards to the reader; no cards are no deck. Where memory is refused, nothing is
-    /// said of the machine.
+    /// The operator gives a copy of these cards to the reader; no cards are no deck. If memory is
+    /// refused, nothing is said of the machine.
     fn give(&mut self, alloc: Global, cards: &[Card]) -> Result<Reply, AllocError>
         ensures after { OnOk result (self.new ≡ with_deck cards.now self.old) }
         ensures reply { IfOk result
             (λ reply. reply ≡ record {
               ended = Ended.Done;
               said = Saying.Nothing;
-              lines = length self.new.equipped.machine.output - length self.old.equipped.machine.output;
+              lines = length self.new.equipped.machine.output - length
+                  self.old.equipped.machine.output;
               delivered = given 0 (next_file self.old.files) cards.now;
             }) }
         ensures memory { OnErr result (0 < length cards.now) }
@@ -237,10 +265,10 @@ impl Bare {
         let ran = self
             .machine
             .run::<RealCpu, PlainStorage>(&mut self.storage, count);
-        MachineRan::told(ran)
+        MachineRan::reported(ran)
     }
 
-    /// A tick of the interval timer, which steps where the machine runs. This takes no memory.
+    /// Steps the interval timer of a machine that runs. This takes no memory.
     pub fn tick(&mut self)
         ensures machine { self.new.equipped.machine ≡ ticked self.old.equipped.machine }
         ensures devices { self.new.equipped.devices ≡ self.old.equipped.devices }
@@ -254,11 +282,16 @@ impl Bare {
         }
     }
 
-    /// Serves the device of this address: the channel program that was started runs as a whole, and its status is
-    /// pending. Tells whether there was one; else nothing has happened. Where memory is refused, nothing is said of the
-    /// machine.
+    /// Serves the device of this address: the channel program that was started runs as a whole, and
+    /// its status is pending. Reports whether there was one; else nothing has happened. If memory
+    /// is refused, nothing is said of the machine.
+    ///
+    /// # Errors
+    ///
+    /// `AllocError` if memory is refused; what this is then is not specified.
     pub fn serve(&mut self, device: DevAddr) -> Result<bool, AllocError>
-        ensures served { IfOk result (λ done. IsServedAt as_reached device self.old.equipped done self.new.equipped) }
+        ensures served { IfOk result
+            (λ done. IsServedAt as_reached device self.old.equipped done self.new.equipped) }
         ensures files { self.new.files ≡ self.old.files }
         ensures memory { OnErr result (LacksMemory device self.old) }
     {
@@ -276,8 +309,12 @@ impl Bare {
         }
     }
 
-    /// A deck that the operator gives to the reader; no cards are no deck. Where memory is refused, nothing is said of
-    /// the machine.
+    /// Gives the reader a deck from the operator; no cards are no deck. If memory is refused,
+    /// nothing is said of the machine.
+    ///
+    /// # Errors
+    ///
+    /// `AllocError` if memory is refused; what this is then is not specified.
     pub fn deck(&mut self, cards: Vec<Card>) -> Result<(), AllocError>
         ensures after { OnOk result (self.new ≡ with_deck cards.items self.old) }
         ensures memory { OnErr result (0 < length cards.items) }
@@ -295,7 +332,7 @@ impl Bare {
         Ok(())
     }
 
-    /// The number of the next file. A list ends before numbers do, so none is used again.
+    /// Returns the number of the next file. A list ends before numbers do, so none is used again.
     pub(crate) fn next_file(&self) -> u64
         ensures value { result ≡ next_file self.now.files }
         ensures fits { result ≤ 2 ^ 63 }
@@ -303,42 +340,42 @@ impl Bare {
         self.files.len() as u64 + 1
     }
 
-    /// The general registers.
+    /// Returns the general registers.
     pub fn general(&self) -> &[u32; 16]
         ensures { result.now ≡ self.now.equipped.machine.core.processor.cpu.general }
     {
         &self.machine.cpu().general
     }
 
-    /// The control registers.
+    /// Returns the control registers.
     pub fn control(&self) -> &[u32; 16]
         ensures { result.now ≡ self.now.equipped.machine.core.processor.cpu.control }
     {
         &self.machine.cpu().control
     }
 
-    /// The PSW.
+    /// Returns the PSW.
     pub fn psw(&self) -> Psw
         ensures { result ≡ self.now.equipped.machine.core.processor.cpu.psw }
     {
         self.machine.cpu().psw
     }
 
-    /// The bytes of storage.
+    /// Returns the bytes of storage.
     pub fn storage(&self) -> &[u8]
         ensures { result.now ≡ self.now.equipped.machine.core.processor.bytes }
     {
         self.storage.bytes()
     }
 
-    /// The key in storage of a block of 2048 bytes, `None` past storage.
+    /// Returns the key in storage of a block of 2048 bytes, `None` past storage.
     pub fn key(&self, block: u32) -> Option<StorageKey>
         ensures { result ≡ slice_get self.now.equipped.machine.core.processor.keys block }
     {
         self.storage.keys().get(block as usize).copied()
     }
 
-    /// The subchannels of the devices, in the order of their addresses.
+    /// Returns the subchannels of the devices, in the order of their addresses.
     pub fn subchannels(&self) -> &[Subchannel]
         ensures list { result.now ≡ self.now.equipped.machine.core.subchannels }
         ensures order { AreAscending result.now }
@@ -346,55 +383,56 @@ impl Bare {
         self.machine.subchannels()
     }
 
-    /// The external conditions that are pending.
+    /// Returns the external conditions that are pending.
     pub fn pending(&self) -> Pending
         ensures { result ≡ self.now.equipped.machine.core.pending }
     {
         self.machine.pending()
     }
 
-    /// Whether the machine is on, and whether it runs.
+    /// Returns whether the machine is on, and whether it runs.
     pub fn mode(&self) -> Mode
         ensures { result ≡ self.now.equipped.machine.mode }
     {
         self.machine.mode()
     }
 
-    /// Whether the machine would do something with a slice of the processor.
+    /// Returns whether the machine would do something with a slice of the processor.
     pub fn is_ready(&self) -> bool
         ensures { result ≡ is_ready self.now.equipped.machine }
     {
         self.machine.is_ready()
     }
 
-    /// How many lines the console has printed.
+    /// Returns how many lines the console has printed.
     pub fn printed(&self) -> usize
         ensures { result ≡ length self.now.equipped.machine.output }
     {
         self.machine.printed()
     }
 
-    /// The text of a line that the console has printed.
+    /// Returns the text of a line that the console has printed.
     pub fn console_output(&self, line: usize) -> Option<&[u8]>
-        ensures { option_map (λ text. text.now) result ≡ slice_get self.now.equipped.machine.output line }
+        ensures { option_map (λ text. text.now) result
+            ≡ slice_get self.now.equipped.machine.output line }
     {
         self.machine.console_output(line)
     }
-    /// Its devices, with their files.
+    /// Returns its devices, with their files.
     pub fn devices(&self) -> SeenDevices<'_>
         ensures { result ≡ self.now.equipped.devices }
     {
         SeenDevices::new(&self.devices, &self.queues)
     }
 
-    /// Its disks, in the order in which they were attached.
+    /// Returns its disks, in the order in which they were attached.
     pub fn disks(&self) -> &[AttachedDisk]
         ensures { result.now ≡ self.now.equipped.disks }
     {
         self.channels.disks()
     }
 
-    /// What each file was so far: the one with number 1 stands first. All are those of user 0.
+    /// Returns what each file was so far: the one with number 1 is first. All are those of user 0.
     pub fn files(&self) -> &[FileNote]
         ensures { result.now ≡ self.now.files }
     {
@@ -402,13 +440,13 @@ impl Bare {
     }
 }
 
-/// Whatever happens to a machine with its devices: it is what its own events leave, in order, with each message and
-/// each deck for its own user right after the line that sent or closed it.
+/// States that a machine with its devices is what its own events leave, in order, with each message
+/// and each deck for its own user right after the line that sent or closed it.
 pub fn each_is_life()
     ensures { EachIsLife }
 {}
 
-/// Whatever happens to a machine with its devices, attention goes on agreeing with the lines that wait
+/// States that attention agrees with the waiting lines after any events
 /// ([`machine_devices::attention_agrees`]).
 pub fn attention_agrees_throughout()
     ensures { AttentionAgreesThroughout }

@@ -1,9 +1,11 @@
-//! A machine of its own with its devices: a console, a card reader, a card punch, a line printer and disks.
+//! A machine of its own with its devices: a console, a card reader, a card punch, a line printer
+//! and disks.
 //!
-//! Its one theorem: what [`Bare`] does when it is let run, when a line is typed, at a tick of its timer, when a device
-//! is served and when a deck is given ([`Bare::apply`]) is what `specs/` defines (docs/MACHINE.md, docs/COMMANDS.md);
-//! and whatever happens, the machine is what its own events leave, in order ([`each_is_life`]). Nobody else is there:
-//! its user is `BARE`, to whom messages and punched files go. What it answers is a [`Reply`](machine_devices::Reply), as that
+//! Its one theorem: what [`Bare`] does when it is let run, when a line is typed, at a tick of its
+//! timer, when a device is served and when a deck is given ([`Bare::apply`]) is what `specs/`
+//! defines (docs/MACHINE.md, docs/COMMANDS.md); and whatever happens, the machine is what its own
+//! events leave, in order ([`each_is_life`]). Nobody else is there: its user is `BARE`, to whom
+//! messages and punched files go. What it answers is a [`Reply`](machine_devices::Reply), as that
 //! of many users is.
 //!
 //! ```
@@ -24,9 +26,11 @@
 mod alone;
 mod among;
 mod bare;
+mod forgetting;
 mod happening;
 mod line;
 
 pub use alone::BARE;
 pub use bare::{Bare, attention_agrees_throughout, each_is_life};
+pub use forgetting::printed_lines_do_not_matter;
 pub use happening::Happening;

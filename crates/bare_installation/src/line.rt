@@ -1,5 +1,6 @@
 //! A line that is typed, and what comes of it.
-ghost use Rattle.std.specs.Prelude.{◌++◌, ◌∷◌, [], ◌≡◌, ◌<◌, ◌-◌, ℕ, IfOk, IsSome, OnErr, OnOk, length, slice_get};
+ghost use Rattle.std.specs.Prelude.{◌++◌, ◌∷◌, [], ◌≡◌, ◌<◌, ◌-◌, ℕ, IfOk, IsSome, OnErr, OnOk};
+ghost use Rattle.std.specs.Prelude.{length, slice_get};
 ghost use Rattle.s370_channel.specs.Reading.{as_reached};
 ghost use Rattle.machine_devices.specs.Comes.{HasClosed, LineMay, NeedsMemory};
 ghost use Rattle.machine_devices.specs.Coming.{comes_by_line, coming_of};
@@ -13,8 +14,8 @@ use crate::alone::Alone;
 use crate::bare::Bare;
 use cp_console::console_line::ConsoleLine;
 use machine_devices::{
-    ClosedFiles, Delivered, Delivery, Ended, FileKind, FileNote, Reply, Told, World, is_logged_on,
-    said_to_line,
+    ClosedFiles, Delivered, Delivery, Ended, FileKind, FileNote, LineOutcome, Reply, UserDirectory,
+    is_logged_on, said_to_line,
 };
 use machine_panel::LineError;
 use std::alloc::{AllocError, Global};
@@ -25,9 +26,13 @@ use user_names::UserNo;
 const USERS: u8 = 1;
 
 impl Bare {
-    /// A line that is typed, and what is answered. Memory is refused only where it closes a file, sends a message, resets
-    /// or loads the machine, waits for the console, or is one for which a machine makes room; nothing is said of the
-    /// machine then.
+    /// A line that is typed, and what is answered. Memory is refused only where it closes a file,
+    /// sends a message, resets or loads the machine, waits for the console, or is one for which a
+    /// machine makes room; nothing is said of the machine then.
+    ///
+    /// # Errors
+    ///
+    /// `AllocError` if memory is refused; what this is then is not specified.
     pub fn line(&mut self, alloc: Global, typed: &[u8]) -> Result<Reply, AllocError>
         ensures ended { IfOk result (λ reply. reply.ended ≡ Ended.Done) }
         ensures typed { IfOk result (λ reply. IsTyped typed.now self.old reply self.new) }
@@ -39,17 +44,17 @@ impl Bare {
         let printed = self.printed();
         let number = self.next_file();
         let world = self.world();
-        let told = self.answer(alloc, &world, typed)?;
-        let delivered = self.follow(&told)?;
+        let reported = self.answer(alloc, &world, typed)?;
+        let delivered = self.follow(&reported)?;
         Ok(Reply {
             ended: Ended::Done,
-            said: said_to_line(number, &told),
+            said: said_to_line(number, &reported),
             lines: self.printed().saturating_sub(printed),
             delivered,
         })
     }
 
-    /// The small world of its one user.
+    /// Returns the small world of its one user.
     fn world(&self) -> Alone
         ensures { alone result.on ≡ world_of self.now }
     {
@@ -58,19 +63,20 @@ impl Bare {
         }
     }
 
-    /// What a line does in this world. Where memory is refused, nothing is said of the machine.
-    pub(crate) fn answer<W: World>(
+    /// What a line does in this world. If memory is refused, nothing is said of the machine.
+    pub(crate) fn answer<W: UserDirectory>(
         &mut self,
         alloc: Global,
         world: &W,
         typed: &[u8],
-    ) -> Result<Told, AllocError>
+    ) -> Result<LineOutcome, AllocError>
         ensures line { IfOk result
-            (λ told. IsLine (W.known world.now) typed.now self.old.equipped told self.new.equipped) }
+            (λ reported. IsLine (W.known world.now) typed.now self.old.equipped reported
+            self.new.equipped) }
         ensures files { self.new.files ≡ self.old.files }
         ensures memory { OnErr result (LineMay typed.now self.old.equipped) }
     {
-        let told = self.devices.line(
+        let reported = self.devices.line(
             alloc,
             &mut self.queues,
             &mut self.machine,
@@ -79,37 +85,43 @@ impl Bare {
             world,
             typed,
         );
-        match told {
-            Ok(told) => Ok(told),
+        match reported {
+            Ok(reported) => Ok(reported),
             Err(LineError::Memory) => Err(AllocError),
             // Every page of its storage is present.
             Err(LineError::FramesOut) => unreachable!(),
         }
     }
 
-    /// What a line that was answered so brings about: each file that it closed has the next number, and the deck or the
-    /// message that is for its user comes.
-    fn follow(&mut self, told: &Told) -> Result<Option<Delivered>, AllocError>
-        ensures delivered { let before = stands_in (files_closed told.now).punched self.old.equipped.devices.punched in
-            IfOk result (λ delivered. delivered ≡ delivered_by 1 (next_file self.old.files) before told.now self.old.equipped) }
-        ensures come { let before = stands_in (files_closed told.now).punched self.old.equipped.devices.punched in
-            IfOk result (λ delivered. Lives as_reached (coming_of (comes_by_line 0 before self.old.equipped) delivered)
+    /// Does what follows from a line: numbers each file that it closed, and delivers the deck or
+    /// the message that is for its user.
+    fn follow(&mut self, reported: &LineOutcome) -> Result<Option<Delivered>, AllocError>
+        ensures delivered { let before = stands_in (files_closed reported.now).punched
+            self.old.equipped.devices.punched in
+            IfOk result (λ delivered. delivered
+            ≡ delivered_by 1 (next_file self.old.files) before reported.now self.old.equipped) }
+        ensures come { let before = stands_in (files_closed reported.now).punched
+            self.old.equipped.devices.punched in
+            IfOk result (λ delivered.
+            Lives as_reached (coming_of (comes_by_line 0 before self.old.equipped) delivered)
             self.old.equipped self.new.equipped) }
-        ensures files { OnOk result (self.new.files ≡ self.old.files ++ noted 0 (files_closed told.now)) }
-        ensures memory { OnErr result (NeedsMemory told.now) }
+        ensures files { OnOk result
+            (self.new.files ≡ self.old.files ++ noted 0 (files_closed reported.now)) }
+        ensures memory { OnErr result (NeedsMemory reported.now) }
     {
         let number = self.next_file();
-        let closed = told.closed();
+        let closed = reported.closed();
         self.note_closed(closed)?;
-        match told {
-            Told::Sent(to, line) => self.send(*to, *line),
+        match reported {
+            LineOutcome::Sent(to, line) => self.send(*to, *line),
             _ => self.deliver_punched(closed.punched, number),
         }
     }
 
-    /// Each of these files has the next number, the punched one first.
+    /// Numbers each of these files, the punched one first.
     fn note_closed(&mut self, closed: ClosedFiles) -> Result<(), AllocError>
-        ensures ok { OnOk result (self.new ≡ record self.old { files = self.old.files ++ noted 0 closed }) }
+        ensures ok { OnOk result
+            (self.new ≡ record self.old { files = self.old.files ++ noted 0 closed }) }
         ensures memory { OnErr result (HasClosed closed) }
     {
         if let Some(place) = closed.punched {
@@ -134,11 +146,13 @@ impl Bare {
         Ok(())
     }
 
-    /// A message comes to the user of this number, where it is the one that is there.
+    /// Delivers a message to the user of this number, if it is the machine's own.
     fn send(&mut self, to: u8, line: ConsoleLine) -> Result<Option<Delivered>, AllocError>
-        ensures delivered { IfOk result (λ delivered. delivered ≡ delivery_to 1 to (Delivery.Message line)) }
+        ensures delivered { IfOk result
+            (λ delivered. delivered ≡ delivery_to 1 to (Delivery.Message line)) }
         ensures come { (index : ℕ) → IfOk result
-            (λ delivered. Lives as_reached (coming_of (comes_by_line 0 index self.old.equipped) delivered)
+            (λ delivered. Lives as_reached
+            (coming_of (comes_by_line 0 index self.old.equipped) delivered)
             self.old.equipped self.new.equipped) }
         ensures files { self.new.files ≡ self.old.files }
     {
@@ -152,8 +166,8 @@ impl Bare {
         }))
     }
 
-    /// The punch's closed file of this place, where there is one that is for the user who is there, comes to the reader as
-    /// a deck with this number.
+    /// Appends the punch's closed file at this place to the reader's queue, as a deck with this
+    /// number, if it is for the machine's own user; the punch keeps it too.
     fn deliver_punched(
         &mut self,
         place: Option<usize>,
@@ -162,7 +176,8 @@ impl Bare {
         ensures delivered { let index = stands_in place self.old.equipped.devices.punched in
             IfOk result (λ delivered. delivered ≡ punched 1 number index self.old.equipped) }
         ensures come { let index = stands_in place self.old.equipped.devices.punched in
-            IfOk result (λ delivered. Lives as_reached (coming_of (comes_by_line 0 index self.old.equipped) delivered)
+            IfOk result (λ delivered.
+            Lives as_reached (coming_of (comes_by_line 0 index self.old.equipped) delivered)
             self.old.equipped self.new.equipped) }
         ensures files { self.new.files ≡ self.old.files }
         ensures memory { OnErr result (IsSome place) }
@@ -182,7 +197,7 @@ impl Bare {
         }
     }
 
-    /// For which user the punch's closed file of this index is, if it is there and for one.
+    /// Returns the user for whom the punch's closed file of this index is, if there is one.
     fn receiver_of(&self, index: usize) -> Option<u8>
         ensures { result ≡ receiver_of (slice_get self.now.equipped.devices.punched index) }
     {
@@ -195,11 +210,13 @@ impl Bare {
         }
     }
 
-    /// The punched file of this index comes to the reader, as a deck with this number.
+    /// Appends the punch's closed file of this index to the reader's queue, as a deck with this
+    /// number.
     fn deliver(&mut self, index: usize, number: u64) -> Result<(), AllocError>
         requires { index < length self.old.equipped.devices.punched }
         ensures equipped { OnOk result (Leaves as_reached
-            (comes_by_line 0 index self.old.equipped (Delivery.Deck number)) self.old.equipped self.new.equipped) }
+            (comes_by_line 0 index self.old.equipped (Delivery.Deck number)) self.old.equipped
+            self.new.equipped) }
         ensures files { self.new.files ≡ self.old.files }
     {
         let user = self.devices.user();

@@ -1,4 +1,4 @@
--- A steady program's walk is its walk with words and lists as they stood when it began.
+-- A steady program's walk is its walk with words and lists as they were when it began.
 use Rattle.std.specs.Prelude.{ℕ, zero, suc, ◌≡◌, refl}
 use Rattle.std.proofs.Common.{ap, ◌∙◌}
 use Rattle.s370_walk.specs.Frozen.{IsSteady}

@@ -11,7 +11,7 @@ use Rattle.s370_store.specs.declared.Fault.TheVariants.{Addressing, Protection, 
 use Rattle.s370_store.specs.Access.{put, first_fault}
 use Rattle.s370_walk.specs.declared.parts.Position.{Position}
 use Rattle.s370_walk.specs.declared.parts.Ending.{Ending}
-use Rattle.s370_walk.specs.declared.parts.Spot.{Spot}
+use Rattle.s370_walk.specs.declared.parts.NextCcw.{NextCcw}
 use Rattle.s370_walk.specs.declared.parts.Transfer.{Transfer}
 use Rattle.std.specs.Prelude.{◌^◌, ◌%◌, ◌==◌, nat_lt}
 use Rattle.std.proofs.lemmas.Bool.{lt-ltb}
@@ -205,7 +205,7 @@ pub in_role : {D : Type 0} (real : ℕ → Option ℕ) (c : Program) (old : Memo
 in_role real c old None d = refl
 in_role real c old (Some t) d = refl
 
-pub real_end : {D : Type 0} (real : ℕ → Option ℕ) (c : Program) (h : Setting D) (spot : Spot) (m n : Memory) (d e : D) (end : Ending) (n' : Memory)
+pub real_end : {D : Type 0} (real : ℕ → Option ℕ) (c : Program) (h : Setting D) (spot : NextCcw) (m n : Memory) (d e : D) (end : Ending) (n' : Memory)
     → IsPaged real → IsMapped real (Named c) m n → Reaches (real_form real c) h (Fetching spot n d) (Over end n' e) → MeetsEnd real c h spot m d end n' e
 real_end {D = D} real c h spot m n d e end n' paged map to =
     let r : Pairing D D = mapped_pair real c m in

@@ -3,9 +3,9 @@ use Rattle.std.specs.Prelude.{◌<◌, nat_lt, ℕ, zero, suc, ◌+◌, ◌%◌,
 use Rattle.std.proofs.Common.{ap, ◌∙◌, sym, arith}
 use Rattle.s370_walk.proofs.Freezing.{moved_same}
 use Rattle.s370_walk.specs.declared.parts.Transfer.{Transfer}
-use Rattle.s370_walk.specs.declared.parts.Spot.{Spot}
+use Rattle.s370_walk.specs.declared.parts.NextCcw.{NextCcw}
 use Rattle.s370_walk.specs.declared.parts.Position.{Position}
-use Rattle.s370_walk.specs.declared.parts.Word.{Word}
+use Rattle.s370_walk.specs.declared.parts.Ccw.{Ccw}
 use Rattle.s370_walk.specs.declared.parts.Progress.TheVariants.{At, Ended}
 use Rattle.s370_walk.specs.declared.parts.Kind.{Kind}
 use Rattle.s370_walk.specs.declared.parts.Kind.TheVariants.{Gives, Takes, TakesUpTo}
@@ -33,7 +33,7 @@ not_skipped true true e = cc
 not_skipped false y e = cc
 
 -- a word that is obeyed has an area
-good_area : (w : Word) → is_jump w ≡ false → is_bad_word w ≡ false → has_area w ≡ true
+good_area : (w : Ccw) → is_jump w ≡ false → is_bad_word w ≡ false → has_area w ≡ true
 good_area w plain good = by_list (w.count == 0) (has_bits w.flags.bits 11) (is_indirect w && not (w.address % 4 == 0)) good
   where
     by_list : (empty wrong off : Bool) → empty || wrong || off ≡ false → not (is_jump w) && not off ≡ true
@@ -47,7 +47,7 @@ module _ {D : Type 0} (guest : ℕ → ℕ) (h : Setting D) where
   fails_renamed None at m d = refl
   fails_renamed (Some t) at m d = refl
 
-  closed_renamed : (wrong : Bool) (status : UnitStatus) (at started : ℕ) (w : Word) (count : ℕ) (m : Memory) (d : D)
+  closed_renamed : (wrong : Bool) (status : UnitStatus) (at started : ℕ) (w : Ccw) (count : ℕ) (m : Memory) (d : D)
       → renamed guest (state_of (closed h.prefix wrong status at started w count) m d) ≡ state_of (closed h.prefix wrong status (guest at) started (renamed_word guest w) count) m d
   closed_renamed true status at started w count m d = refl
   closed_renamed false status at started w count m d = by_chain (may_chain w status) (has_bits status.bits 64)
@@ -61,23 +61,23 @@ module _ {D : Type 0} (guest : ℕ → ℕ) (h : Setting D) where
   closes_renamed : (wrong : Bool) (p : Position) (m : Memory) (d : D) → renamed guest (closes h wrong p m d) ≡ closes h wrong (renamed_position guest p) m d
   closes_renamed wrong p m d = closed_renamed wrong (h.machine.status d) p.at p.started p.word p.count m (h.machine.finished d)
 
-  answered_renamed : (spot : Spot) (w : Word) (answer : Answer) (m : Memory) (d : D) → renamed guest (answered h.prefix spot w answer m d) ≡ answered h.prefix (renamed_spot guest spot) (renamed_word guest w) answer m d
+  answered_renamed : (spot : NextCcw) (w : Ccw) (answer : Answer) (m : Memory) (d : D) → renamed guest (answered h.prefix spot w answer m d) ≡ answered h.prefix (renamed_spot guest spot) (renamed_word guest w) answer m d
   answered_renamed spot w (answers.Refused status) m d = refl
   answered_renamed spot w answers.Immediate m d = closed_renamed false no_status spot.at (spot.started + 1) w w.count m d
   answered_renamed spot w (answers.Input n) m d = refl
   answered_renamed spot w (answers.Output n) m d = refl
   answered_renamed spot w (answers.OutputUpTo n) m d = refl
 
-  entered_renamed : (spot : Spot) (w : Word) (role : Option Transfer) (m : Memory) (d : D) → renamed guest (entered h spot w role m d) ≡ entered h (renamed_spot guest spot) (renamed_word guest w) role m d
+  entered_renamed : (spot : NextCcw) (w : Ccw) (role : Option Transfer) (m : Memory) (d : D) → renamed guest (entered h spot w role m d) ≡ entered h (renamed_spot guest spot) (renamed_word guest w) role m d
   entered_renamed spot w None m d = answered_renamed spot w (h.machine.answer d (order_of h.prefix spot w)) m (h.machine.started d (order_of h.prefix spot w))
   entered_renamed spot w (Some t) m d = refl
 
-  obeyed_renamed : (spot : Spot) (w : Word) (verdict : Verdict) (m : Memory) (d : D) → renamed guest (obeyed h spot w verdict m d) ≡ obeyed h (renamed_spot guest spot) (renamed_word guest w) verdict m d
+  obeyed_renamed : (spot : NextCcw) (w : Ccw) (verdict : Verdict) (m : Memory) (d : D) → renamed guest (obeyed h spot w verdict m d) ≡ obeyed h (renamed_spot guest spot) (renamed_word guest w) verdict m d
   obeyed_renamed spot w Bad m d = fails_renamed spot.role spot.at m d
   obeyed_renamed spot w Jump m d = refl
   obeyed_renamed spot w Good m d = entered_renamed spot w spot.role m d
 
-  fetched_renamed : (spot : Spot) (found : Option Word) (m : Memory) (d : D) → renamed guest (fetched h spot found m d) ≡ fetched h (renamed_spot guest spot) (renamed_found guest found) m d
+  fetched_renamed : (spot : NextCcw) (found : Option Ccw) (m : Memory) (d : D) → renamed guest (fetched h spot found m d) ≡ fetched h (renamed_spot guest spot) (renamed_found guest found) m d
   fetched_renamed spot None m d = fails_renamed spot.role spot.at m d
   fetched_renamed spot (Some w) m d = obeyed_renamed spot w (judged h.limit spot w) m d
 
@@ -136,7 +136,7 @@ module _ {D : Type 0} (guest : ℕ → ℕ) (h : Setting D) where
 
 -- A step stays within the copy.
 module _ {D : Type 0} (inside : ℕ → Type 0) (tracks : Position → Type 0) (copied : Form) (h : Setting D) where
-  closed_inside : (wrong : Bool) (status : UnitStatus) (at started : ℕ) (w : Word) (count : ℕ) (m : Memory) (d : D) → Leads inside w → IsInside inside tracks copied (state_of {D = D} (closed h.prefix wrong status at started w count) m d)
+  closed_inside : (wrong : Bool) (status : UnitStatus) (at started : ℕ) (w : Ccw) (count : ℕ) (m : Memory) (d : D) → Leads inside w → IsInside inside tracks copied (state_of {D = D} (closed h.prefix wrong status at started w count) m d)
   closed_inside true status at started w count m d leads = tt
   closed_inside false status at started w count m d leads = by_chain (chains_command w) (chains_data w) (not (has_bits status.bits 3)) (has_bits status.bits 64) leads.command_next leads.skipped
     where
@@ -148,10 +148,10 @@ module _ {D : Type 0} (inside : ℕ → Type 0) (tracks : Position → Type 0) (
       by_chain true true may skips n s = tt
       by_chain false more may skips n s = tt
 
-  begin_at : (guest : ℕ → ℕ) (form : Form) → IsCopy guest inside tracks copied form → (spot : Spot) (started : ℕ) (w : Word) (t : Transfer) → inside spot.at → ((m : Memory) → copied.text m spot.at ≡ Some w) → Leads inside w → has_area w ≡ true → IsAt inside tracks copied (moving spot started w t)
+  begin_at : (guest : ℕ → ℕ) (form : Form) → IsCopy guest inside tracks copied form → (spot : NextCcw) (started : ℕ) (w : Ccw) (t : Transfer) → inside spot.at → ((m : Memory) → copied.text m spot.at ≡ Some w) → Leads inside w → has_area w ≡ true → IsAt inside tracks copied (moving spot started w t)
   begin_at guest form copy spot started w t there word leads has = record { there = there; word = word; leads = leads; tracked = copy.begins spot started w t has }
 
-  answered_inside : (guest : ℕ → ℕ) (form : Form) → IsCopy guest inside tracks copied form → (spot : Spot) (w : Word) (answer : Answer) (m : Memory) (d : D) → inside spot.at → ((n : Memory) → copied.text n spot.at ≡ Some w) → Leads inside w → has_area w ≡ true
+  answered_inside : (guest : ℕ → ℕ) (form : Form) → IsCopy guest inside tracks copied form → (spot : NextCcw) (w : Ccw) (answer : Answer) (m : Memory) (d : D) → inside spot.at → ((n : Memory) → copied.text n spot.at ≡ Some w) → Leads inside w → has_area w ≡ true
       → IsInside inside tracks copied (answered h.prefix spot w answer m d)
   answered_inside guest form copy spot w (answers.Refused status) m d there word leads has = tt
   answered_inside guest form copy spot w answers.Immediate m d there word leads has = closed_inside false no_status spot.at (spot.started + 1) w w.count m d leads
@@ -159,12 +159,12 @@ module _ {D : Type 0} (inside : ℕ → Type 0) (tracks : Position → Type 0) (
   answered_inside guest form copy spot w (answers.Output n) m d there word leads has = begin_at guest form copy spot _ w _ there word leads has
   answered_inside guest form copy spot w (answers.OutputUpTo n) m d there word leads has = begin_at guest form copy spot _ w _ there word leads has
 
-  entered_inside : (guest : ℕ → ℕ) (form : Form) → IsCopy guest inside tracks copied form → (spot : Spot) (w : Word) (role : Option Transfer) (m : Memory) (d : D) → inside spot.at → ((n : Memory) → copied.text n spot.at ≡ Some w) → Leads inside w → has_area w ≡ true
+  entered_inside : (guest : ℕ → ℕ) (form : Form) → IsCopy guest inside tracks copied form → (spot : NextCcw) (w : Ccw) (role : Option Transfer) (m : Memory) (d : D) → inside spot.at → ((n : Memory) → copied.text n spot.at ≡ Some w) → Leads inside w → has_area w ≡ true
       → IsInside inside tracks copied (entered h spot w role m d)
   entered_inside guest form copy spot w None m d there word leads has = answered_inside guest form copy spot w (h.machine.answer d (order_of h.prefix spot w)) m (h.machine.started d (order_of h.prefix spot w)) there word leads has
   entered_inside guest form copy spot w (Some t) m d there word leads has = begin_at guest form copy spot _ w _ there word leads has
 
-  obeyed_inside : (guest : ℕ → ℕ) (form : Form) → IsCopy guest inside tracks copied form → (spot : Spot) (w : Word) (m : Memory) (d : D) → inside spot.at → ((n : Memory) → copied.text n spot.at ≡ Some w) → Leads inside w → IsInside inside tracks copied (obeyed h spot w (judged h.limit spot w) m d)
+  obeyed_inside : (guest : ℕ → ℕ) (form : Form) → IsCopy guest inside tracks copied form → (spot : NextCcw) (w : Ccw) (m : Memory) (d : D) → inside spot.at → ((n : Memory) → copied.text n spot.at ≡ Some w) → Leads inside w → IsInside inside tracks copied (obeyed h spot w (judged h.limit spot w) m d)
   obeyed_inside guest form copy spot w m d there word leads = by_jump (is_jump w) refl spot.jumped (w.address % 8 == 0) (is_bad_word w) refl _ leads.jump
     where
       by_jump : (jumps : Bool) → is_jump w ≡ jumps → (again even bad : Bool) → is_bad_word w ≡ bad → (other : Bool) → (jumps ≡ true → even ≡ true → inside w.next)
@@ -176,7 +176,7 @@ module _ {D : Type 0} (inside : ℕ → Type 0) (tracks : Position → Type 0) (
       by_jump false is again even false good true n = tt
       by_jump false is again even false good false n = entered_inside guest form copy spot w spot.role m d there word leads (good_area w is good)
 
-  fetched_inside : (guest : ℕ → ℕ) (form : Form) → IsCopy guest inside tracks copied form → (spot : Spot) (found : Option Word) (m : Memory) (d : D) → inside spot.at → ((n : Memory) → copied.text n spot.at ≡ found) → LeadsFrom inside found → IsInside inside tracks copied (fetched h spot found m d)
+  fetched_inside : (guest : ℕ → ℕ) (form : Form) → IsCopy guest inside tracks copied form → (spot : NextCcw) (found : Option Ccw) (m : Memory) (d : D) → inside spot.at → ((n : Memory) → copied.text n spot.at ≡ found) → LeadsFrom inside found → IsInside inside tracks copied (fetched h spot found m d)
   fetched_inside guest form copy spot None m d there word leads = tt
   fetched_inside guest form copy spot (Some w) m d there word leads = obeyed_inside guest form copy spot w m d there word leads
 

@@ -3,9 +3,9 @@ use Rattle.std.specs.Prelude.{ℕ, zero, suc, ◌+◌, ◌==◌, ◌≡◌, Bool
 use Rattle.std.proofs.Common.{ap, inl, inr}
 use Rattle.s370_walk.specs.declared.parts.Progress.TheVariants.{At, Ended}
 use Rattle.s370_walk.specs.declared.parts.Transfer.{Transfer}
-use Rattle.s370_walk.specs.declared.parts.Spot.{Spot}
+use Rattle.s370_walk.specs.declared.parts.NextCcw.{NextCcw}
 use Rattle.s370_walk.specs.declared.parts.Position.{Position}
-use Rattle.s370_walk.specs.declared.parts.Word.{Word}
+use Rattle.s370_walk.specs.declared.parts.Ccw.{Ccw}
 use Rattle.s370_walk.specs.declared.parts.Answer.{Answer}
 use Rattle.s370_walk.specs.declared.parts.Answer.TheVariants as answers
 use Rattle.s370_store.specs.Memory.{Memory}
@@ -14,7 +14,7 @@ use Rattle.s370_walk.specs.declared.bits.UnitStatus.{UnitStatus}
 use Rattle.channel_laws.specs.Pairing.{Pairing, InRole, moved_to, Related, fetching, moving_on, over, begins_transfer, IsOver, Simulates}
 
 module _ {D E : Type 0} (r : Pairing D E) (form : Form) (h : Setting D) (form' : Form) (h' : Setting E) (both : Simulates r form h form' h') where
-  closed_related : (wrong : Bool) (status : UnitStatus) (at started : ℕ) (w : Word) (count : ℕ) (m n : Memory) (d : D) (e : E) → r.storage m n → r.idle d e
+  closed_related : (wrong : Bool) (status : UnitStatus) (at started : ℕ) (w : Ccw) (count : ℕ) (m n : Memory) (d : D) (e : E) → r.storage m n → r.idle d e
       → Related r (state_of (closed h.prefix wrong status at started w count) m d) (state_of (closed h.prefix wrong status at started w count) n e)
   closed_related true status at started w count m n d e s i = over _ m n d e s i
   closed_related false status at started w count m n d e s i = by_chain (may_chain w status)
@@ -31,7 +31,7 @@ module _ {D E : Type 0} (r : Pairing D E) (form : Form) (h : Setting D) (form' :
   fails_related None at m n d e s i = over _ m n d e s i
   fails_related (Some t) at m n d e s i = rw (both.status d e t i) (over _ m n _ _ s (both.finished d e t i))
 
-  answered_related : (spot : Spot) (w : Word) (answer : Answer) (m n : Memory) (d : D) (e : E) → form'.text n spot.at ≡ Some w → spot.role ≡ None → judged h'.limit spot w ≡ Good
+  answered_related : (spot : NextCcw) (w : Ccw) (answer : Answer) (m n : Memory) (d : D) (e : E) → form'.text n spot.at ≡ Some w → spot.role ≡ None → judged h'.limit spot w ≡ Good
       → h.machine.answer d (order_of h.prefix spot w) ≡ answer → r.storage m n → r.idle d e
       → Related r (answered h.prefix spot w answer m (h.machine.started d (order_of h.prefix spot w))) (answered h.prefix spot w answer n (h'.machine.started e (order_of h.prefix spot w)))
   answered_related spot w (answers.Refused status) m n d e there alone good same s i = over _ m n _ _ s (both.started d e (order_of h.prefix spot w) i)
@@ -40,19 +40,19 @@ module _ {D E : Type 0} (r : Pairing D E) (form : Form) (h : Setting D) (form' :
   answered_related spot w (answers.Output k) m n d e there alone good same s i = moving_on _ None m n _ _ s (both.began n d e h.prefix spot w _ there alone good (ap (begins_transfer w) same) i)
   answered_related spot w (answers.OutputUpTo k) m n d e there alone good same s i = moving_on _ None m n _ _ s (both.began n d e h.prefix spot w _ there alone good (ap (begins_transfer w) same) i)
 
-  entered_related : (spot : Spot) (w : Word) (role : Option Transfer) (m n : Memory) (d : D) (e : E) → form'.text n spot.at ≡ Some w → spot.role ≡ role → judged h'.limit spot w ≡ Good
+  entered_related : (spot : NextCcw) (w : Ccw) (role : Option Transfer) (m n : Memory) (d : D) (e : E) → form'.text n spot.at ≡ Some w → spot.role ≡ role → judged h'.limit spot w ≡ Good
       → r.storage m n → InRole r role d e → Related r (entered h spot w role m d) (entered h' spot w role n e)
   entered_related spot w None m n d e there alone good s i =
       rw (← both.prefix, ← both.answer d e (order_of h.prefix spot w) i) (answered_related spot w (h.machine.answer d (order_of h.prefix spot w)) m n d e there alone good refl s i)
   entered_related spot w (Some t) m n d e there role good s i = moving_on _ None m n d e s (both.goes_on d e spot w t i)
 
-  obeyed_related : (spot : Spot) (w : Word) (verdict : Verdict) (m n : Memory) (d : D) (e : E) → form'.text n spot.at ≡ Some w → judged h'.limit spot w ≡ verdict
+  obeyed_related : (spot : NextCcw) (w : Ccw) (verdict : Verdict) (m n : Memory) (d : D) (e : E) → form'.text n spot.at ≡ Some w → judged h'.limit spot w ≡ verdict
       → r.storage m n → InRole r spot.role d e → Related r (obeyed h spot w verdict m d) (obeyed h' spot w verdict n e)
   obeyed_related spot w Bad m n d e there same s i = fails_related spot.role spot.at m n d e s i
   obeyed_related spot w Jump m n d e there same s i = fetching _ m n d e s i
   obeyed_related spot w Good m n d e there same s i = entered_related spot w spot.role m n d e there refl same s i
 
-  fetched_related : (spot : Spot) (found : Option Word) (m n : Memory) (d : D) (e : E) → form'.text n spot.at ≡ found → r.storage m n → InRole r spot.role d e → Related r (fetched h spot found m d) (fetched h' spot found n e)
+  fetched_related : (spot : NextCcw) (found : Option Ccw) (m n : Memory) (d : D) (e : E) → form'.text n spot.at ≡ found → r.storage m n → InRole r spot.role d e → Related r (fetched h spot found m d) (fetched h' spot found n e)
   fetched_related spot None m n d e there s i = fails_related spot.role spot.at m n d e s i
   fetched_related spot (Some w) m n d e there s i = rw both.limit (obeyed_related spot w (judged h'.limit spot w) m n d e there refl s i)
 

@@ -1,9 +1,11 @@
--- A copied program, from an address of the guest, and what its run over real addresses says of the guest's own.
-use Rattle.std.specs.Prelude.{false, ◌≤◌, ◌-◌, ◌⊎◌, slice_index_or, ℕ, ◌<◌, ◌≡◌, List, length, Option, None}
+-- A copied program, from an address of the guest, and what its run over real addresses says of the
+-- guest's own.
+use Rattle.std.specs.Prelude.{false, ◌≤◌, ◌-◌, ◌⊎◌, slice_index_or, ℕ, ◌<◌, ◌≡◌, List, length}
+use Rattle.std.specs.Prelude.{Option, None}
 use Rattle.channel_laws.specs.declared.places.Place.{Place}
-use Rattle.s370_walk.specs.declared.parts.Spot.{Spot}
+use Rattle.s370_walk.specs.declared.parts.NextCcw.{NextCcw}
 use Rattle.s370_walk.specs.declared.parts.Ending.{Ending}
-use Rattle.s370_walk.specs.declared.parts.Word.{Word}
+use Rattle.s370_walk.specs.declared.parts.Ccw.{Ccw}
 use Rattle.channel_laws.specs.Tracks.{IsTracked}
 use Rattle.s370_store.specs.Memory.{Memory}
 use Rattle.s370_walk.specs.Walk.{Form, Setting, Fetching, Over, Reaches}
@@ -20,16 +22,20 @@ abbrev pub guest_of : List Place → ℕ → ℕ
 guest_of places a = (slice_index_or places a (past a)).address
 
 -- a place of the copy, or one past them for an address at which there is no word
-abbrev pub IsPlace : List Place → (ℕ → Option Word) → ℕ → Type 0
-IsPlace places text a = (a < length places) ⊎ ((length places ≤ a) × (text (guest_of places a) ≡ None))
+abbrev pub IsPlace : List Place → (ℕ → Option Ccw) → ℕ → Type 0
+IsPlace places text a = (a < length places)
+    ⊎ ((length places ≤ a) × (text (guest_of places a) ≡ None))
 
--- a copy of the words that a program can reach, as they stood in m0
+-- a copy of the words that a program can reach, as they were in m0
 abbrev pub IsCopyOf : List Place → Program → Form → Memory → Type 0
 IsCopyOf places c form m0 =
-    IsCopy (guest_of places) (IsPlace places (form.text m0)) (IsTracked c.lists) (copied_form c) (words_frozen form m0)
+    IsCopy (guest_of places) (IsPlace places (form.text m0)) (IsTracked c.lists) (copied_form c)
+    (words_frozen form m0)
 
--- the guest's own frozen walk comes to this end, with this device, and a storage that is this real one's
-pub record MeetsFrozen {D : Type 0} (real : ℕ → Option ℕ) (c : Program) (form : Form) (h : Setting D) (start : Spot)
+-- the guest's own frozen walk comes to this end, with this device, and a storage that is this real
+-- one's
+pub record MeetsFrozen {D : Type 0} (real : ℕ → Option ℕ) (c : Program) (form : Form)
+    (h : Setting D) (start : NextCcw)
     (m : Memory) (d : D) (end : Ending) (n' : Memory) (e : D) : Type 0 where
   pub storage : Memory
   pub reaches : Reaches form h (Fetching start m d) (Over end storage e)

@@ -1,11 +1,11 @@
--- Real storage in place of the guest's: each address that a program names has a real one of its own, or lies past
--- storage.
+-- Real storage in place of the guest's: each address that a program names has a real one of its
+-- own, or lies past storage.
 use Rattle.std.specs.Prelude.{ℕ, ◌+◌, ◌<◌, ◌≡◌, ◌≢◌, Option, None, Some, length}
 use Rattle.s370_store.specs.declared.Access.{Access}
 use Rattle.s370_store.specs.declared.Fault.TheVariants.{Addressing}
 use Rattle.s370_walk.specs.declared.parts.Ending.{Ending}
-use Rattle.s370_walk.specs.declared.parts.Spot.{Spot}
-use Rattle.s370_walk.specs.declared.parts.Word.{Word}
+use Rattle.s370_walk.specs.declared.parts.NextCcw.{NextCcw}
+use Rattle.s370_walk.specs.declared.parts.Ccw.{Ccw}
 use Rattle.std.specs.Prelude.{◌^◌, ◌%◌}
 use Rattle.s370_walk.specs.Blocks.{served}
 use Rattle.s370_store.specs.Memory.{Memory}
@@ -13,7 +13,7 @@ use Rattle.s370_walk.specs.Hardware.{fault_of, area, byte_at}
 use Rattle.s370_walk.specs.Walk.{Form, Setting, Fetching, Over, Reaches, index_of}
 use Rattle.channel_laws.specs.Pairing.{Pairing}
 
--- what stands at the guest's addresses stands at the real ones
+-- what is at the guest's addresses is at the real ones
 pub record IsMapped (real : ℕ → Option ℕ) (named : ℕ → Type 0) (m n : Memory) : Type 0 where
   -- a test by real address is the test by the guest's
   pub tests : (access : Access) (key a r : ℕ) → real a ≡ Some r
@@ -38,9 +38,10 @@ abbrev pub real_place : (ℕ → Option ℕ) → Option ℕ → Option ℕ
 real_place real None = None
 real_place real (Some a) = real a
 
--- A copied program: the word at each of its places, and the guest's addresses that serve the word there.
+-- A copied program: the word at each of its places, and the guest's addresses that serve the word
+-- there.
 pub record Program : Type 0 where
-  pub words : ℕ → Option Word
+  pub words : ℕ → Option Ccw
   pub lists : ℕ → ℕ → Option ℕ
 
 -- the copy with the guest's addresses
@@ -77,7 +78,8 @@ abbrev pub IsBefore : (ℕ → Option ℕ) → Option ℕ → Option ℕ → Typ
 IsBefore real None b = b ≡ None
 IsBefore real (Some a) b = (r : ℕ) × (real a ≡ Some r) × (b ≡ Some r)
 
--- what is known of the next byte's place: it is named, or it goes on from a byte that has a real place
+-- what is known of the next byte's place: it is named, or it goes on from a byte that has a real
+-- place
 abbrev pub IsKnown : (ℕ → Option ℕ) → Program → Option ℕ → Type 0
 IsKnown real c place = (a : ℕ) → place ≡ Some a → real a ≡ None → Named c a
 
@@ -85,6 +87,7 @@ IsKnown real c place = (a : ℕ) → place ≡ Some a → real a ≡ None → Na
 abbrev pub Stands : (ℕ → Option ℕ) → Program → Memory → Memory → Memory → Type 0
 Stands real c old m n = IsMapped real (Named c) m n × IsKept real old m
 
+-- the pairing of walks over a guest's storage and over the real storage to which it is mapped
 abbrev pub mapped_pair : {D : Type 0} → (ℕ → Option ℕ) → Program → Memory → Pairing D D
 mapped_pair real c old =
     record {
@@ -94,8 +97,10 @@ mapped_pair real c old =
       busy = λ p b d e. IsBefore real p.before b × (d ≡ e);
     }
 
--- the copy with the guest's addresses comes to this end, with this device, and a storage that is this real one's
-pub record MeetsEnd {D : Type 0} (real : ℕ → Option ℕ) (c : Program) (h : Setting D) (spot : Spot) (m : Memory) (d : D)
+-- the copy with the guest's addresses comes to this end, with this device, and a storage that is
+-- this real one's
+pub record MeetsEnd {D : Type 0} (real : ℕ → Option ℕ) (c : Program) (h : Setting D)
+    (spot : NextCcw) (m : Memory) (d : D)
     (end : Ending) (n' : Memory) (e : D) : Type 0 where
   pub storage : Memory
   pub reaches : Reaches (copied_form c) h (Fetching spot m d) (Over end storage e)

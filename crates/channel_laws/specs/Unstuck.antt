@@ -3,7 +3,7 @@ use Rattle.std.specs.Prelude.{ℕ, ◌/◌, ◌≡◌, Bool, true, [], Option, S
 use Rattle.s370_walk.specs.Walk.{Written}
 use Rattle.channel_laws.specs.Mapped.{Program, real_place}
 
--- a program over real addresses fetches no words from storage: they stand in its own table
+-- a program over real addresses fetches no words from storage: they are in its own table
 abbrev pub real_written : (ℕ → Option ℕ) → Program → Written
 real_written real c =
     record {

@@ -1,3 +1,3 @@
 pub mod Trial
 pub mod Laws
-pub mod Tried
+pub mod DryRun

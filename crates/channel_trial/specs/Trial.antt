@@ -1,5 +1,6 @@
 -- What a storage on trial shows.
-use Rattle.std.specs.Prelude.{◌≡◌, ℕ, ◌+◌, ◌/◌, ◌%◌, ◌≤◌, ◌⊎◌, List, [], ◌∷◌, Bool, true, false, suc, length, slice_index, slice_index_or, Contains}
+use Rattle.std.specs.Prelude.{◌≡◌, ℕ, ◌+◌, ◌/◌, ◌%◌, ◌≤◌, ◌⊎◌, List, [], ◌∷◌, Bool, true, false}
+use Rattle.std.specs.Prelude.{suc, length, slice_index, slice_index_or, Contains}
 use Rattle.s370_store.specs.Memory.{Memory, memory_of}
 use Rattle.s370_store.specs.declared.block.Block.{Block}
 use Rattle.channel_trial.specs.declared.TrialStorage.{TrialStorage}
@@ -20,12 +21,14 @@ trial_memory s = memory_of (trial_bytes s) (trial_keys s)
 abbrev pub trial_flags : TrialStorage → List Bool
 trial_flags s = s.touched.items
 
+-- whether a page was touched
 abbrev pub is_touched : TrialStorage → ℕ → Bool
 is_touched s page = slice_index_or (trial_flags s) page false
 
 -- the bytes of pages that were not touched are those they were
 abbrev pub KeepsUntouched : (ℕ → Bool) → List ℕ → List ℕ → Type 0
-KeepsUntouched touched old new = (address : ℕ) → touched (address / 4096) ≡ false → slice_index new address ≡ slice_index old address
+KeepsUntouched touched old new = (address : ℕ) → touched (address / 4096) ≡ false
+    → slice_index new address ≡ slice_index old address
 
 -- as many bytes; the same pages were touched; the others are as they were
 pub record TrialRest (s t : TrialStorage) : Type 0 where
@@ -59,7 +62,7 @@ IsIn (pages ∷ units) page = Contains pages page ⊎ IsIn units page
 pub record TrialTouches (s : TrialStorage) (is_such : ℕ → Type 0) (t : TrialStorage) : Type 0 where
   pub size : length (trial_bytes t) ≡ length (trial_bytes s)
   pub stays : (page : ℕ) → is_touched s page ≡ true → is_touched t page ≡ true
-  pub came : (page : ℕ) → is_touched t page ≡ true → (is_touched s page ≡ true) ⊎ is_such page
+  pub paged_in : (page : ℕ) → is_touched t page ≡ true → (is_touched s page ≡ true) ⊎ is_such page
   pub untouched : KeepsUntouched (is_touched t) (trial_bytes s) (trial_bytes t)
 
 -- just these pages were touched
@@ -67,5 +70,6 @@ pub record TrialBrought (s : TrialStorage) (pages : List ℕ) (t : TrialStorage)
   pub touches : TrialTouches s (Contains pages) t
   pub held : (page : ℕ) → Contains pages page → is_touched t page ≡ true
 
+-- just the pages of these units were touched
 abbrev pub TrialCame : TrialStorage → List (List ℕ) → TrialStorage → Type 0
 TrialCame s units t = TrialTouches s (IsIn units) t

@@ -1,12 +1,14 @@
-//! A storage on trial: a copy of a storage, over which a program is tried, and which tells the pages that it touched.
+//! A storage on trial: a copy of a storage, over which a program is tried, and which says the pages
+//! that it touched.
 //!
-//! A page is absent until the program comes to it, and is there from then on: so a run that brings absent pages tells
-//! just the pages that it needs, whatever room there is for them elsewhere. Its one theorem, besides those of each
-//! storage: pages that were not touched have the bytes that they had; and what a program left on trial, of a device that
-//! stays as it is, is what its walk will leave.
+//! A page is absent until the program comes to it, and is there from then on: so a run that brings
+//! absent pages says just the pages that it needs, whatever room there is for them elsewhere. Its
+//! one theorem, besides those of each storage: pages that were not touched have the bytes that they
+//! had; and what a program left on trial, of a device that stays as it is, is what its walk will
+//! leave.
 //!
 //! ```
-//! use channel_trial::{Tried, TrialStorage};
+//! use channel_trial::{DryRun, TrialStorage};
 //! use s370_channel::Caw;
 //! use s370_num::StorageKey;
 //! use unit_record::Printer;
@@ -16,7 +18,7 @@
 //! let keys = vec![in alloc; StorageKey::ZERO; 6]?;
 //! let mut copy = TrialStorage::new(alloc, bytes, keys, 3)?;
 //! let printer = Printer::new(alloc);
-//! printer.try_on(&mut copy, Caw::from_word(0x800).ok_or("no address")?)?;
+//! printer.dry_run(&mut copy, Caw::from_word(0x800).ok_or("no address")?)?;
 //! assert_eq!(rt; copy.touched(), [true, false, true].as_slice());
 //! assert!(rt; printer.entries().is_empty());
 //! ```
@@ -25,17 +27,18 @@
 mod tried;
 
 ghost use Rattle.s370_store.specs.Memory.{memory_of, with_stored};
-ghost use Rattle.std.specs.Prelude.{◌≡◌, ◌+◌, ◌*◌, ◌/◌, ◌<◌, ◌≤◌, Bool, true, false, length, replicate, slice_index_or, slice_range, slice_set, Ok, IfOk};
+ghost use Rattle.std.specs.Prelude.{◌≡◌, ◌+◌, ◌*◌, ◌/◌, ◌<◌, ◌≤◌, Bool, true, false, length};
+ghost use Rattle.std.specs.Prelude.{replicate, slice_index_or, slice_range, slice_set, Ok, IfOk};
 
 use s370_channel::AmpleSupply;
 use s370_num::{AccessKey, StorageKey};
 use s370_store::{
-    Access, Block, Fault, FramesOut, Keyed, Listed, Page, Range, Storage, Supply, UnitSupply,
+    Access, Block, Fault, FramesOut, KeySlice, Keyed, Page, Range, Storage, Supply, UnitSupply,
     may_access_block, put_at, test_range,
 };
 use std::alloc::{AllocError, Global};
 pub use tried::{
-    Tried, TriedLoading, a_view_is_tried_for_its_device, limits_of, try_loading, try_program,
+    DryRun, TriedLoading, a_view_is_tried_for_its_device, limits_of, try_loading, try_program,
 };
 
 /// Bytes and keys, and which pages a program has touched.
@@ -52,7 +55,11 @@ pub struct TrialStorage {
 impl TrialStorage {
     ghost use Rattle.channel_trial.specs.Trial.{is_touched, trial_bytes, trial_flags, trial_memory};
 
-    /// A storage of these bytes, no page of which was touched, with these keys.
+    /// Returns a storage of these bytes, no page of which was touched, with these keys.
+    ///
+    /// # Errors
+    ///
+    /// `AllocError` if memory is refused.
     pub fn new(
         alloc: Global,
         bytes: Vec<u8>,
@@ -73,7 +80,7 @@ impl TrialStorage {
         })
     }
 
-    /// Whether each page was touched.
+    /// Returns whether each page was touched.
     pub fn touched(&self) -> &[bool]
         ensures flags { result.now ≡ trial_flags self.now }
         ensures size { length (trial_bytes self.now) ≡ 4096 * length result.now }
@@ -81,7 +88,7 @@ impl TrialStorage {
         &self.touched
     }
 
-    /// All bytes.
+    /// Returns all bytes.
     pub fn bytes(&self) -> &[u8]
         ensures { result.now ≡ trial_bytes self.now }
     {
@@ -91,7 +98,8 @@ impl TrialStorage {
     /// Writes bytes from an address on.
     fn put(&mut self, start: u32, from: &[u8])
         requires { start + length from.now ≤ length (trial_bytes self.old) }
-        ensures stored { trial_memory self.new ≡ with_stored (trial_memory self.old) start from.now }
+        ensures stored { trial_memory self.new
+            ≡ with_stored (trial_memory self.old) start from.now }
         ensures size { length (trial_bytes self.new) ≡ length (trial_bytes self.old) }
         ensures flags { trial_flags self.new ≡ trial_flags self.old }
     {
@@ -100,7 +108,8 @@ impl TrialStorage {
 }
 
 impl Storage for TrialStorage {
-    ghost use Rattle.channel_trial.specs.Trial.{is_touched, trial_memory, TrialKeeps, IsTouchedBlock};
+    ghost use Rattle.channel_trial.specs.Trial.{is_touched, trial_memory, TrialKeeps};
+    ghost use Rattle.channel_trial.specs.Trial.{IsTouchedBlock};
     ghost use Rattle.channel_trial.specs.Laws as laws;
 
     ghost memory = { trial_memory };
@@ -116,7 +125,7 @@ impl Storage for TrialStorage {
     }
 
     fn check(&self, range: Range, access: Access, key: AccessKey) -> Result<(), Fault> {
-        let keys = Listed { keys: &self.keys };
+        let keys = KeySlice { keys: &self.keys };
         test_range(self.bytes.len() as u32, &keys, range, access, key)?;
         let Range { start, count } = range;
         if count == 0 {
@@ -134,7 +143,7 @@ impl Storage for TrialStorage {
     }
 
     fn find_block(&self, start: u32, access: Access, key: AccessKey) -> Option<Block> {
-        let keys = Listed { keys: &self.keys };
+        let keys = KeySlice { keys: &self.keys };
         if !may_access_block(self.bytes.len() as u32, &keys, start, access, key) {
             return None;
         }
@@ -261,7 +270,7 @@ impl UnitSupply for TrialStorage {
 
     ghost came_none = { λ s t units between rest. laws.came_none s t units rest };
 
-    ghost came_size = { λ s t units came. came.size };
+    ghost came_size = { λ s t units paged_in. paged_in.size };
 
     ghost came_on = { laws.came_on };
 }
@@ -279,7 +288,7 @@ impl AmpleSupply for TrialStorage {
     ghost ample_let_go = { λ s t let_go size ample. tt };
 }
 
-/// A flag of a list.
+/// Returns a flag of a list.
 fn flag_at(flags: &[bool], place: u32) -> bool
     requires { place < length flags.now }
     ensures { result ≡ slice_index_or flags.now place false }

@@ -6,7 +6,7 @@ ghost use Rattle.s370_store.specs.Memory.{Memory};
 ghost use Rattle.s370_walk.specs.Hardware.{Machine};
 ghost use Rattle.s370_walk.specs.Viewed.{IsViewed};
 ghost use Rattle.channel_trial.specs.Trial.{is_touched, trial_bytes, trial_flags, trial_memory};
-ghost use Rattle.channel_trial.specs.Tried.{IsLoadingTried, IsProgramTried};
+ghost use Rattle.channel_trial.specs.DryRun.{IsLoadingTried, IsProgramTried};
 
 use crate::TrialStorage;
 use s370_channel::{Caw, Limits, MOST_COMMANDS, load_supplied, run_supplied};
@@ -15,9 +15,13 @@ use std::alloc::AllocError;
 use unit_record::{Console, Printer, Punch};
 
 /// A device of which a program can be tried: it stays as it is.
-pub trait Tried: Device {
+pub trait DryRun: Device {
     /// Tries the program with this start on a copy of a storage, no page of which was touched.
-    fn try_on(&self, copy: &mut TrialStorage, start: Caw) -> Result<(), AllocError>
+    ///
+    /// # Errors
+    ///
+    /// `AllocError` if memory is refused; what was passed may have changed in part.
+    fn dry_run(&self, copy: &mut TrialStorage, start: Caw) -> Result<(), AllocError>
         requires untouched { (page : ℕ) → is_touched copy.old page ≡ false }
         ensures tried { OnOk result (IsProgramTried Self.machine start
             (trial_memory copy.old) self.now (trial_bytes copy.new) (trial_flags copy.new)) };
@@ -26,26 +30,30 @@ pub trait Tried: Device {
 /// A device of which the program of an initial program loading can be tried: it stays as it is.
 pub trait TriedLoading: Device {
     /// Tries that program on a copy of a storage, no page of which was touched.
+    ///
+    /// # Errors
+    ///
+    /// `AllocError` if memory is refused; what was passed may have changed in part.
     fn try_load(&self, copy: &mut TrialStorage) -> Result<(), AllocError>
         requires untouched { (page : ℕ) → is_touched copy.old page ≡ false }
         ensures tried { OnOk result (IsLoadingTried Self.machine
             (trial_memory copy.old) self.now (trial_bytes copy.new) (trial_flags copy.new)) };
 }
 
-impl Tried for Console {
-    fn try_on(&self, copy: &mut TrialStorage, start: Caw) -> Result<(), AllocError> {
+impl DryRun for Console {
+    fn dry_run(&self, copy: &mut TrialStorage, start: Caw) -> Result<(), AllocError> {
         try_program(copy, start, &mut self.trial())
     }
 }
 
-impl Tried for Punch {
-    fn try_on(&self, copy: &mut TrialStorage, start: Caw) -> Result<(), AllocError> {
+impl DryRun for Punch {
+    fn dry_run(&self, copy: &mut TrialStorage, start: Caw) -> Result<(), AllocError> {
         try_program(copy, start, &mut self.trial())
     }
 }
 
-impl Tried for Printer {
-    fn try_on(&self, copy: &mut TrialStorage, start: Caw) -> Result<(), AllocError> {
+impl DryRun for Printer {
+    fn dry_run(&self, copy: &mut TrialStorage, start: Caw) -> Result<(), AllocError> {
         try_program(copy, start, &mut self.trial())
     }
 }
@@ -62,6 +70,10 @@ pub fn limits_of(start: Caw) -> Limits
 }
 
 /// Tries the program with this start on a copy of a storage, with a device that stands for its own.
+///
+/// # Errors
+///
+/// `AllocError` if memory is refused; what was passed may have changed in part.
 pub fn try_program<T: Device>(
     copy: &mut TrialStorage,
     start: Caw,
@@ -78,6 +90,10 @@ pub fn try_program<T: Device>(
 }
 
 /// Tries the program of an initial program loading, likewise.
+///
+/// # Errors
+///
+/// `AllocError` if memory is refused; what was passed may have changed in part.
 pub fn try_loading<T: Device>(copy: &mut TrialStorage, trial: &mut T) -> Result<(), AllocError>
     requires untouched { (page : ℕ) → is_touched copy.old page ≡ false }
     ensures tried { OnOk result (IsLoadingTried T.machine
@@ -89,12 +105,16 @@ pub fn try_loading<T: Device>(copy: &mut TrialStorage, trial: &mut T) -> Result<
     }
 }
 
-/// What was tried with what is seen of a device, was tried for the device.
+/// States that a dry run with what is seen of a device touches what one with the device touches.
 pub fn a_view_is_tried_for_its_device<D: Device, E: Device>()
-    ensures program { (machine : Machine D) (small : Machine E) (view : D → E) (start : Caw) (m : Memory) (d : D)
+    ensures program { (machine : Machine D) (small : Machine E) (view : D → E) (start : Caw)
+        (m : Memory) (d : D)
         (bytes : List ℕ) (touched : List Bool) → IsViewed machine small view
-        → IsProgramTried small start m (view d) bytes touched → IsProgramTried machine start m d bytes touched }
-    ensures loading { (machine : Machine D) (small : Machine E) (view : D → E) (m : Memory) (d : D) (bytes : List ℕ)
-        (touched : List Bool) → IsViewed machine small view → IsLoadingTried small m (view d) bytes touched
+        → IsProgramTried small start m (view d) bytes touched
+        → IsProgramTried machine start m d bytes touched }
+    ensures loading { (machine : Machine D) (small : Machine E) (view : D → E) (m : Memory) (d : D)
+        (bytes : List ℕ)
+        (touched : List Bool) → IsViewed machine small view
+        → IsLoadingTried small m (view d) bytes touched
         → IsLoadingTried machine m d bytes touched }
 {}

@@ -68,7 +68,7 @@ taken_apart l version volser count h =
       counted = ap (λ x. big_number 2 x) last ∙ omega arith;
     }
 
--- the bytes tell the version
+-- the bytes say the version
 pub same_most : (a b : Version) → magic a ≡ magic b → most_cylinders a ≡ most_cylinders b
 same_most One One e = refl
 same_most One Two e = absurd (omega (arith, ap (λ x. get_or x 3 0) e))

@@ -21,7 +21,7 @@ fault_read bytes Trailing h = h
 fault_read bytes (Device k) h = h
 fault_read bytes BadTotal h = h
 
--- a header, and good tracks behind it
+-- a header, and good tracks after it
 begun : (bytes : List ℕ) (version : Version) (volser : List ℕ) (n : ℕ) (tracks : List TrackFormat) (rest : List ℕ)
     → IsHeader (take 12 bytes) version volser n → All IsGood tracks → drop 12 bytes ≡ tracks_bytes tracks ++ rest → Begins bytes version volser n tracks rest
 begun bytes version volser n tracks rest h good e =

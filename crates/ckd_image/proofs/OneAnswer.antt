@@ -47,7 +47,7 @@ next_once number rest a b (inr (c, h, e, at, low, full)) (inr (c', h', e', at', 
     let hs : h ≡ h' = omega (arith, at, at', low, low') in
     e ∙ ap (λ x. Err (BadTrack x h)) cs ∙ ap (λ x. Err (BadTrack c' x)) hs ∙ sym e'
 
--- how the bytes behind all tracks are judged
+-- how the bytes after all tracks are judged
 abbrev pub more_judged : List ℕ → Option ImageError
 more_judged [] = None
 more_judged (x ∷ xs) = Some Trailing
@@ -119,9 +119,9 @@ same_volume volser count tracks v w hv hw =
     (same_cylinders v.cylinders w.cylinders hv.heads hw.heads (hv.count_is ∙ sym hw.count_is) (hv.tracks_are ∙ sym hw.tracks_are))
 
 abbrev pub Ended : List ℕ → ℕ → List TrackFormat → Option ImageError → Answer → Type 0
-Ended volser count tracks told a =
-    ((f : ImageError) × (a ≡ Err f) × (told ≡ Some f))
-    ⊎ ((v : VolumeFormat) × (a ≡ Ok v) × (told ≡ None) × IsVolumeOf volser count tracks v)
+Ended volser count tracks reported a =
+    ((f : ImageError) × (a ≡ Err f) × (reported ≡ Some f))
+    ⊎ ((v : VolumeFormat) × (a ≡ Ok v) × (reported ≡ None) × IsVolumeOf volser count tracks v)
 
 number_of : Option ImageError → ℕ
 number_of None = 0
@@ -139,13 +139,13 @@ not_both : (f : ImageError) → Some f ≡ None → ⊥
 unfolding number_of
 not_both f e = absurd (omega (arith, ap number_of e))
 
-ended_once : (volser : List ℕ) (count : ℕ) (tracks : List TrackFormat) (told : Option ImageError) (a b : Answer) → Ended volser count tracks told a → Ended volser count tracks told b → a ≡ b
-ended_once volser count tracks told a b (inl (f, e, t)) (inl (g, e', t')) = e ∙ ap Err (some_once f g (sym t ∙ t')) ∙ sym e'
-ended_once volser count tracks told a b (inl (f, e, t)) (inr (w, e', t', h)) = absurd (not_both f (sym t ∙ t'))
-ended_once volser count tracks told a b (inr (v, e, t, h)) (inl (g, e', t')) = absurd (not_both g (sym t' ∙ t))
-ended_once volser count tracks told a b (inr (v, e, t, h)) (inr (w, e', t', h')) = e ∙ ap Ok (same_volume volser count tracks v w h h') ∙ sym e'
+ended_once : (volser : List ℕ) (count : ℕ) (tracks : List TrackFormat) (reported : Option ImageError) (a b : Answer) → Ended volser count tracks reported a → Ended volser count tracks reported b → a ≡ b
+ended_once volser count tracks reported a b (inl (f, e, t)) (inl (g, e', t')) = e ∙ ap Err (some_once f g (sym t ∙ t')) ∙ sym e'
+ended_once volser count tracks reported a b (inl (f, e, t)) (inr (w, e', t', h)) = absurd (not_both f (sym t ∙ t'))
+ended_once volser count tracks reported a b (inr (v, e, t, h)) (inl (g, e', t')) = absurd (not_both g (sym t' ∙ t))
+ended_once volser count tracks reported a b (inr (v, e, t, h)) (inr (w, e', t', h')) = e ∙ ap Ok (same_volume volser count tracks v w h h') ∙ sym e'
 
--- where the bytes are judged: in the header, in a track, or behind all tracks
+-- where the bytes are judged: in the header, in a track, or after all tracks
 abbrev pub InHeader : List ℕ → Answer → Type 0
 InHeader bytes a = ((a ≡ Err Truncated) × (length bytes < 12)) ⊎ ((a ≡ Err BadMagic) × HasNoHeader bytes)
 
@@ -259,11 +259,11 @@ at_end_once bytes a b x y =
     let f = x.found in
     let g = y.found in
     let same = alike bytes f g in
-    let told : judged f.version (tracks_total f.tracks) f.rest ≡ judged g.version (tracks_total g.tracks) g.rest =
+    let reported : judged f.version (tracks_total f.tracks) f.rest ≡ judged g.version (tracks_total g.tracks) g.rest =
     ap (λ v. judged v (tracks_total f.tracks) f.rest) same.version
     ∙ ap (λ t. judged g.version (tracks_total t) f.rest) same.tracks
     ∙ ap (judged g.version (tracks_total g.tracks)) same.rest in
-    let one = subst (λ t. Ended f.volser f.count f.tracks t a) told x.ended in
+    let one = subst (λ t. Ended f.volser f.count f.tracks t a) reported x.ended in
     let two = subst (λ s. Ended s f.count f.tracks (judged g.version (tracks_total g.tracks) g.rest) a) same.volser one in
     let three = subst (λ n. Ended g.volser n f.tracks (judged g.version (tracks_total g.tracks) g.rest) a) same.count two in
     let four = subst (λ t. Ended g.volser g.count t (judged g.version (tracks_total g.tracks) g.rest) a) same.tracks three in

@@ -48,7 +48,7 @@ pub header_long : (header : List ℕ) (version : Version) (volser : List ℕ) (n
 header_long header version volser n h =
     ap length h.spelled ∙ omega (arith, length-append (magic version) (volser ++ two_bytes n), length-append volser (two_bytes n), four_long version, h.long)
 
--- bytes behind which a good track cannot stand, unless there are so many already
+-- bytes after which a good track cannot be, unless there are so many already
 pub record Stops (n : ℕ) (tracks : List TrackFormat) (rest : List ℕ) : Type 0 where
   pub within : length tracks ≤ n
   pub last : length tracks < n → (t : TrackFormat) (z : List ℕ) → IsGood t → rest ≡ track_bytes t ++ z → ⊥

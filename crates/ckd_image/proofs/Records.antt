@@ -38,7 +38,7 @@ begins a b c d e k h m t key content rest kl hl ml ek ec et =
           ∙ ap (λ l. a ∷ b ∷ c ∷ d ∷ e ∷ length key ∷ length content / 256 ∷ length content % 256 ∷ l) et;
     }
 
--- the bytes behind a count that has so many and more
+-- the bytes after a count that has so many and more
 pub split_body : (t : List ℕ) (k n : ℕ) → k + n ≤ length t → (t ≡ (take k t ++ take n (drop k t)) ++ drop (k + n) t) × (length (take k t) ≡ k) × (length (take n (drop k t)) ≡ n)
 split_body t k n le = (
   sym (append_assoc (take k t) (take n (drop k t)) (drop (k + n) t)

@@ -60,7 +60,7 @@ tried old mid new n bytes rest h r behind b fits cases ok err =
     homes true e = ap (λ x. x.home) (ok e) ∙ h.home
     homes false e = ap (λ x. x.home) (err e) ∙ h.home
 
--- a record behind one that did not fit
+-- a record after one that did not fit
 pub passed : (old mid : TrackFormat) (n : ℕ) (bytes rest : List ℕ) → ReadRecords old mid n bytes false rest
     → (r : Record) (behind : List ℕ) → BeginsRecord rest r behind → ReadRecords old mid (n + 1) bytes false behind
 passed old mid n bytes rest h r behind b =
@@ -83,7 +83,7 @@ six (a ∷ b ∷ c ∷ d ∷ []) le = absurd (omega arith)
 six (a ∷ b ∷ c ∷ d ∷ e ∷ []) le = absurd (omega arith)
 six (a ∷ b ∷ c ∷ d ∷ e ∷ n ∷ t) le = refl
 
--- a track that begins with these six bytes, behind which stand its records
+-- a track that begins with these six bytes, after which are its records
 abbrev track_with : List ℕ → List Record → TrackFormat
 track_with home records = record { home = home; records = records }
 

@@ -2,9 +2,11 @@
 use Rattle.std.specs.Prelude.{◌≡◌, ℕ, Result, Ok, Err}
 use Rattle.s370_num.specs.Host.{one_more}
 use Rattle.ckd_image.specs.declared.faults.ImageError.{ImageError}
-use Rattle.ckd_image.specs.declared.faults.ImageError.TheVariants.{Memory, BadMagic, Truncated, BadTrack, Trailing, Device, BadTotal}
+use Rattle.ckd_image.specs.declared.faults.ImageError.TheVariants.{Memory, BadMagic, Truncated}
+use Rattle.ckd_image.specs.declared.faults.ImageError.TheVariants.{BadTrack, Trailing, Device}
+use Rattle.ckd_image.specs.declared.faults.ImageError.TheVariants.{BadTotal}
 
--- a failure of the file is counted, and tells the count; no other error is
+-- a failure of the file is counted, and reports the count; no other error is
 abbrev pub IsCountedImage : ℕ → ℕ → ImageError → Type 0
 IsCountedImage old new (Device k) = (new ≡ one_more old) × (k ≡ new)
 IsCountedImage old new Memory = new ≡ old
@@ -14,7 +16,7 @@ IsCountedImage old new (BadTrack c h) = new ≡ old
 IsCountedImage old new Trailing = new ≡ old
 IsCountedImage old new BadTotal = new ≡ old
 
--- an image is written: no other error than these two is told
+-- an image is written: no other error than these two is reported
 abbrev pub IsCountedWriting : ℕ → ℕ → ImageError → Type 0
 IsCountedWriting old new (Device k) = (new ≡ one_more old) × (k ≡ new)
 IsCountedWriting old new Memory = new ≡ old
@@ -24,6 +26,7 @@ IsCountedWriting old new (BadTrack c h) = ⊥
 IsCountedWriting old new Trailing = ⊥
 IsCountedWriting old new BadTotal = ⊥
 
+-- what the count of failures is after an image was written, or was not
 abbrev pub CountsWriting : {A : Type 0} → ℕ → ℕ → Result A ImageError → Type 0
 CountsWriting old new (Ok a) = new ≡ old
 CountsWriting old new (Err fault) = IsCountedWriting old new fault

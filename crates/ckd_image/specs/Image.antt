@@ -1,4 +1,5 @@
--- The image of a volume, version 2 (docs/FORMATS.md, "Volume images"). There is one for each volume.
+-- The image of a volume, version 2 (docs/FORMATS.md, "Volume images"). There is one for each
+-- volume.
 use Rattle.std.specs.Prelude.{ℕ, ◌+◌, ◌/◌, ◌%◌, List, [], ◌∷◌, ◌++◌, length, codes}
 use Rattle.ckd_track.specs.Track.{Record, TrackFormat, count_bytes}
 use Rattle.ckd_volume.specs.Front.{Cylinder}
@@ -8,6 +9,7 @@ use Rattle.ckd_volume.specs.Volume.{VolumeFormat}
 abbrev pub record_bytes : Record → List ℕ
 record_bytes r = count_bytes r ++ (r.key ++ r.content)
 
+-- the bytes of records
 abbrev pub records_bytes : List Record → List ℕ
 records_bytes [] = []
 records_bytes (r ∷ rs) = record_bytes r ++ records_bytes rs
@@ -16,10 +18,12 @@ records_bytes (r ∷ rs) = record_bytes r ++ records_bytes rs
 abbrev pub track_bytes : TrackFormat → List ℕ
 track_bytes t = t.home ++ (length t.records ∷ records_bytes t.records)
 
+-- the bytes of the tracks of a cylinder
 abbrev pub tracks_bytes : Cylinder → List ℕ
 tracks_bytes [] = []
 tracks_bytes (t ∷ ts) = track_bytes t ++ tracks_bytes ts
 
+-- the bytes of cylinders
 abbrev pub cylinders_bytes : List Cylinder → List ℕ
 cylinders_bytes [] = []
 cylinders_bytes (c ∷ cs) = tracks_bytes c ++ cylinders_bytes cs
@@ -29,6 +33,7 @@ abbrev pub tracks_total : Cylinder → ℕ
 tracks_total [] = 0
 tracks_total (t ∷ ts) = length t.records + tracks_total ts
 
+-- how many records cylinders have
 abbrev pub cylinders_total : List Cylinder → ℕ
 cylinders_total [] = 0
 cylinders_total (c ∷ cs) = tracks_total c + cylinders_total cs
@@ -37,6 +42,7 @@ cylinders_total (c ∷ cs) = tracks_total c + cylinders_total cs
 abbrev pub two_bytes : ℕ → List ℕ
 two_bytes n = n / 256 ∷ n % 256 ∷ []
 
+-- a number in four bytes, the greatest first
 abbrev pub four_bytes : ℕ → List ℕ
 four_bytes n = n / 16777216 ∷ n / 65536 % 256 ∷ n / 256 % 256 ∷ n % 256 ∷ []
 
@@ -44,5 +50,6 @@ four_bytes n = n / 16777216 ∷ n / 65536 % 256 ∷ n / 256 % 256 ∷ n % 256 �
 abbrev pub head_of : VolumeFormat → List ℕ
 head_of v = codes "CKD2" ++ (v.volser ++ two_bytes (length v.cylinders))
 
+-- the image of a volume
 abbrev pub image_of : VolumeFormat → List ℕ
 image_of v = head_of v ++ (cylinders_bytes v.cylinders ++ four_bytes (cylinders_total v.cylinders))

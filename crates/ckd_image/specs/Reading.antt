@@ -1,28 +1,37 @@
--- What bytes are an image, of version 1 or 2, and what is wrong with those that are none (docs/FORMATS.md, "Volume images").
--- An image is judged from its beginning: the header when its 12 bytes are there, a track when it is whole, the number of all
--- records, and last what stands behind. The first fault is told.
-use Rattle.std.specs.Prelude.{◌≡◌, ℕ, ◌+◌, ◌*◌, ◌<◌, ◌≤◌, ◌^◌, ◌==◌, ◌⊎◌, Bool, true, false, ◌&&◌, ◌||◌, nat_le, if◌then◌else◌, List, [], ◌∷◌, ◌++◌, length, take, codes, All, Result, Ok, Err, Option}
+-- What bytes are an image, of version 1 or 2, and what is wrong with those that are none
+-- (docs/FORMATS.md, "Volume images"). An image is judged from its beginning: the header when its 12
+-- bytes are there, a track when it is whole, the number of all records, and last what is after. The
+-- first fault is reported.
+use Rattle.std.specs.Prelude.{◌≡◌, ℕ, ◌+◌, ◌*◌, ◌<◌, ◌≤◌, ◌^◌, ◌==◌, ◌⊎◌, Bool, true, false, ◌&&◌}
+use Rattle.std.specs.Prelude.{◌||◌, nat_le, if◌then◌else◌, List, [], ◌∷◌, ◌++◌, length, take, codes}
+use Rattle.std.specs.Prelude.{All, Result, Ok, Err, Option}
 use Rattle.std.specs.List.{list_all}
 use Rattle.std.specs.Io.KnownBytes.{Consumes, IsAtEnd}
 use Rattle.s370_num.specs.Host.{ReadsFront}
 use Rattle.ckd_track.specs.Track.{Record, TrackFormat, cost, capacity}
 use Rattle.ckd_volume.specs.Front.{Cylinder}
 use Rattle.ckd_volume.specs.Volume.{VolumeFormat}
-use Rattle.ckd_image.specs.Image.{track_bytes, tracks_bytes, tracks_total, cylinders_total, two_bytes, four_bytes, image_of}
+use Rattle.ckd_image.specs.Image.{track_bytes, tracks_bytes, tracks_total, cylinders_total}
+use Rattle.ckd_image.specs.Image.{two_bytes, four_bytes, image_of}
 use Rattle.ckd_image.specs.declared.header.Version.{Version}
 use Rattle.ckd_image.specs.declared.header.Version.TheVariants.{One, Two}
 use Rattle.ckd_image.specs.declared.faults.ImageError.{ImageError}
-use Rattle.ckd_image.specs.declared.faults.ImageError.TheVariants.{Memory, BadMagic, Truncated, BadTrack, Trailing, Device, BadTotal}
+use Rattle.ckd_image.specs.declared.faults.ImageError.TheVariants.{Memory, BadMagic, Truncated}
+use Rattle.ckd_image.specs.declared.faults.ImageError.TheVariants.{BadTrack, Trailing, Device}
+use Rattle.ckd_image.specs.declared.faults.ImageError.TheVariants.{BadTotal}
 
--- What the versions differ in: the first four bytes, how many cylinders there may be, and what stands behind the tracks.
+-- What the versions differ in: the first four bytes, how many cylinders there may be, and what is
+-- after the tracks.
 abbrev pub magic : Version → List ℕ
 magic One = codes "CKD1"
 magic Two = codes "CKD2"
 
+-- the most cylinders of an image of this version
 abbrev pub most_cylinders : Version → ℕ
 most_cylinders One = 404
 most_cylinders Two = 808
 
+-- what is after the tracks in an image of this version
 abbrev pub end_of : Version → ℕ → List ℕ
 end_of One total = []
 end_of Two total = four_bytes total
@@ -34,7 +43,8 @@ is_serial_character c = (nat_le 65 c && nat_le c 90) || (nat_le 48 c && nat_le c
 -- such characters, and then blanks
 abbrev pub is_padded : List ℕ → Bool
 is_padded [] = true
-is_padded (c ∷ cs) = if c == 32 then list_all (λ b. b == 32) cs else is_serial_character c && is_padded cs
+is_padded (c ∷ cs) = if c == 32 then list_all (λ b. b == 32) cs
+    else is_serial_character c && is_padded cs
 
 -- a serial number has one such character at least
 abbrev pub is_volser : List ℕ → Bool
@@ -42,7 +52,8 @@ is_volser [] = false
 is_volser (c ∷ cs) = is_serial_character c && is_padded cs
 
 -- these bytes are a header: version, serial number and number of cylinders
-pub record IsHeader (bytes : List ℕ) (version : Version) (volser : List ℕ) (count : ℕ) : Type 0 where
+pub record IsHeader (bytes : List ℕ) (version : Version) (volser : List ℕ)
+    (count : ℕ) : Type 0 where
   pub spelled : bytes ≡ magic version ++ (volser ++ two_bytes count)
   pub long : length volser ≡ 6
   pub serial : is_volser volser ≡ true
@@ -55,6 +66,7 @@ pub record IsSpelledRecord (r : Record) : Type 0 where
   pub key : length r.key < 256
   pub content : length r.content < 65536
 
+-- a track as bytes can spell it, whether its records fit or not
 pub record IsSpelled (t : TrackFormat) : Type 0 where
   pub home : length t.home ≡ 5
   pub few : length t.records < 256
@@ -71,7 +83,8 @@ all_tracks [] = []
 all_tracks (c ∷ cs) = c ++ all_tracks cs
 
 -- the bytes are a header and good tracks, and then a rest
-pub record Begins (bytes : List ℕ) (version : Version) (volser : List ℕ) (count : ℕ) (tracks : List TrackFormat) (rest : List ℕ) : Type 0 where
+pub record Begins (bytes : List ℕ) (version : Version) (volser : List ℕ) (count : ℕ)
+    (tracks : List TrackFormat) (rest : List ℕ) : Type 0 where
   pub header : List ℕ
   pub headed : IsHeader header version volser count
   pub good : All IsGood tracks
@@ -81,12 +94,14 @@ pub record Begins (bytes : List ℕ) (version : Version) (volser : List ℕ) (co
 pub record IsImage (bytes : List ℕ) (volume : VolumeFormat) : Type 0 where
   pub version : Version
   pub heads : All (λ cylinder. length cylinder ≡ 19) volume.cylinders
-  pub begins : Begins bytes version volume.volser (length volume.cylinders) (all_tracks volume.cylinders) (end_of version (cylinders_total volume.cylinders))
+  pub begins : Begins bytes version volume.volser (length volume.cylinders)
+      (all_tracks volume.cylinders) (end_of version (cylinders_total volume.cylinders))
 
 -- 12 bytes are there, and are no header
 pub record HasNoHeader (bytes : List ℕ) : Type 0 where
   pub there : 12 ≤ length bytes
-  pub none : (version : Version) (volser : List ℕ) (count : ℕ) → IsHeader (take 12 bytes) version volser count → ⊥
+  pub none : (version : Version) (volser : List ℕ) (count : ℕ)
+      → IsHeader (take 12 bytes) version volser count → ⊥
 
 -- more bytes would make these a track
 pub record IsCutTrack (rest : List ℕ) : Type 0 where
@@ -107,7 +122,7 @@ pub record EndsInTrack (bytes : List ℕ) : Type 0 where
   pub next : length tracks < 19 * count
   pub cut : IsCutTrack rest
 
--- behind all tracks the bytes end before the four of the number are there
+-- after all tracks the bytes end before the four of the number are there
 pub record EndsInTotal (bytes : List ℕ) : Type 0 where
   pub volser : List ℕ
   pub count : ℕ
@@ -132,7 +147,7 @@ pub record HasBadTrack (bytes : List ℕ) (cylinder head : ℕ) : Type 0 where
   pub spelled : IsSpelled track
   pub full : capacity < cost track.records
 
--- behind all tracks stands another number
+-- after all tracks is another number
 pub record HasBadTotal (bytes : List ℕ) : Type 0 where
   pub volser : List ℕ
   pub count : ℕ
@@ -144,14 +159,15 @@ pub record HasBadTotal (bytes : List ℕ) : Type 0 where
   pub small : total < 2 ^ 32
   pub other : total ≡ tracks_total tracks → ⊥
 
--- bytes stand behind an image
+-- bytes are after an image
 pub record HasMore (bytes : List ℕ) : Type 0 where
   pub version : Version
   pub volser : List ℕ
   pub count : ℕ
   pub tracks : List TrackFormat
   pub rest : List ℕ
-  pub begins : Begins bytes version volser count tracks (end_of version (tracks_total tracks) ++ rest)
+  pub begins : Begins bytes version volser count tracks
+      (end_of version (tracks_total tracks) ++ rest)
   pub all : length tracks ≡ 19 * count
   pub some : 0 < length rest
 
@@ -182,15 +198,18 @@ abbrev pub IsReadingOrMemory : List ℕ → Result VolumeFormat ImageError → T
 IsReadingOrMemory bytes (Err Memory) = HasHeader bytes
 IsReadingOrMemory bytes answer = IsReading bytes answer
 
--- What is answered of a file that is read to its end: the reading of its bytes, unless memory runs out or the file fails.
+-- What is answered of a file that is read to its end: the reading of its bytes, unless memory runs
+-- out or the file fails.
 abbrev pub ReadsImage : Option (List ℕ) → Option (List ℕ) → Result VolumeFormat ImageError → Type 0
 ReadsImage old new (Err Memory) = ReadsFront old new
 ReadsImage old new (Err (Device k)) = ReadsFront old new
-ReadsImage old new answer = (bytes : List ℕ) × Consumes old new bytes × IsAtEnd new × IsReading bytes answer
+ReadsImage old new answer = (bytes : List ℕ) × Consumes old new bytes × IsAtEnd new
+    × IsReading bytes answer
 
 -- Bytes are read as one volume, or have one first fault: no two answers fit them.
 abbrev pub OneReading : Type 0
-OneReading = (bytes : List ℕ) (one other : Result VolumeFormat ImageError) → IsReading bytes one → IsReading bytes other → one ≡ other
+OneReading = (bytes : List ℕ) (one other : Result VolumeFormat ImageError) → IsReading bytes one
+    → IsReading bytes other → one ≡ other
 
 -- A volume with a serial number that can be read, 1 to 808 cylinders of 19 tracks, and good tracks.
 pub record IsReadable (volume : VolumeFormat) : Type 0 where

@@ -20,8 +20,9 @@ image_status images.Memory = 4
 image_status (images.Device count) = 3
 image_status _ = 1
 
--- what is told of how a program has ended, whose failures have these among them: its failure, or that there is no memory to tell it. A
--- wrong use has been told before
-abbrev pub IsTold : {F : Type 0} → F → F → Result (Unit {0}) F → Result (Unit {0}) F → Type 0
-IsTold memory usage (Ok done) told = told ≡ Ok done
-IsTold memory usage (Err failure) told = (told ≡ Err failure) ⊎ ((told ≡ Err memory) × (failure ≡ usage → ⊥))
+-- what is reported of how a program has ended, whose failures have these among them: its failure,
+-- or that there is no memory to say it. A wrong use has been reported before
+abbrev pub IsReported : {F : Type 0} → F → F → Result (Unit {0}) F → Result (Unit {0}) F → Type 0
+IsReported memory usage (Ok done) reported = reported ≡ Ok done
+IsReported memory usage (Err failure) reported = (reported ≡ Err failure)
+    ⊎ ((reported ≡ Err memory) × (failure ≡ usage → ⊥))

@@ -20,10 +20,10 @@ pub enum ImageError {
     /// The track under this head of this cylinder has more records than it has room for.
     #[error("the records of track {1} of cylinder {0} do not fit")]
     BadTrack(u16, u8),
-    /// Bytes stand behind the image.
+    /// Bytes are after the image.
     #[error("bytes stand behind the image")]
     Trailing,
-    /// The file failed, for the time that is told.
+    /// The file failed, and the number says for which time.
     #[error("failure {0} of the file")]
     Device(u64),
     /// The number of all records is wrong.
@@ -31,8 +31,12 @@ pub enum ImageError {
     BadTotal,
 }
 
-/// The line that a program prints where an image is not read or written, without its end: `fault:`, what failed, the
-/// name of the refusal and its numbers.
+/// Returns the line that a program prints where an image is not read or written, without its end:
+/// `fault:`, what failed, the name of the refusal and its numbers.
+///
+/// # Errors
+///
+/// `AllocError` if memory is refused.
 pub fn fault_line(alloc: Global, error: ImageError) -> Result<String, AllocError>
     ensures { IfOk result (λ line. string_bytes line ≡ image_text error) }
 {
@@ -49,8 +53,8 @@ pub fn fault_line(alloc: Global, error: ImageError) -> Result<String, AllocError
     }
 }
 
-/// The exit status of a program whose image is not read or written: 1 where it is none, 3 where its file failed, 4
-/// where memory did.
+/// Returns the exit status of a program whose image is not read or written: 1 where it is none, 3
+/// where its file failed, 4 where memory did.
 pub fn status(error: ImageError) -> u8
     ensures { result ≡ image_status error }
 {

@@ -1,5 +1,6 @@
 //! The header of an image: version, serial number and number of cylinders.
-ghost use Rattle.std.specs.Prelude.{◌≡◌, ◌≤◌, ◌==◌, length, take, IfSome, IfNone, IsOk, IfOk, IfErr};
+ghost use Rattle.std.specs.Prelude.{◌≡◌, ◌≤◌, ◌==◌, length, take, IfSome, IfNone, IsOk, IfOk};
+ghost use Rattle.std.specs.Prelude.{IfErr};
 ghost use Rattle.std.specs.List.{list_all};
 ghost use Rattle.ckd_image.specs.Reading as image;
 ghost use Rattle.ckd_image.specs.Reading.{HasNoHeader, IsHeader};
@@ -15,9 +16,9 @@ pub const HEADER_LENGTH: usize = 12;
 /// The versions of images.
 #[derive(Clone, Copy, PartialEq, Eq)]
 pub enum Version {
-    /// Up to 404 cylinders, and nothing behind the tracks.
+    /// Up to 404 cylinders, and nothing after the tracks.
     One,
-    /// Up to 808 cylinders, and the number of all records behind the tracks.
+    /// Up to 808 cylinders, and the number of all records after the tracks.
     Two,
 }
 
@@ -29,7 +30,7 @@ pub struct Header {
     pub cylinders: u16,
 }
 
-/// The version that an image begins with, if these four bytes are of one.
+/// Returns the version that an image begins with, if these four bytes are of one.
 fn version_of(bytes: &[u8]) -> Option<Version>
     ensures some { IfSome result (λ version. bytes.now ≡ image.magic version) }
     ensures none { IfNone result ((version : Version) → bytes.now ≡ image.magic version → ⊥) }
@@ -41,7 +42,7 @@ fn version_of(bytes: &[u8]) -> Option<Version>
     }
 }
 
-/// The most cylinders of an image.
+/// Returns the most cylinders of an image.
 fn most_cylinders(version: Version) -> u16
     ensures value { result ≡ image.most_cylinders version }
     ensures few { result ≤ 808 }
@@ -52,21 +53,21 @@ fn most_cylinders(version: Version) -> u16
     }
 }
 
-/// Whether a character may stand in a serial number.
+/// Returns whether a character may be in a serial number.
 fn is_serial_character(byte: u8) -> bool
     ensures { result ≡ image.is_serial_character byte }
 {
     byte.is_ascii_uppercase() || byte.is_ascii_digit()
 }
 
-/// Whether these are blanks.
+/// Returns whether these are blanks.
 fn are_blanks(bytes: &[u8]) -> bool
     ensures { result ≡ list_all (λ b. b == 32) bytes.now }
 {
     bytes.iter().all(|b| *b == b' ')
 }
 
-/// Whether these are such characters, and then blanks.
+/// Returns whether these are such characters, and then blanks.
 fn is_padded(bytes: &[u8]) -> bool
     ensures { result ≡ image.is_padded bytes.now }
 {
@@ -82,7 +83,7 @@ fn is_padded(bytes: &[u8]) -> bool
     true
 }
 
-/// Whether these are a serial number with blanks behind it.
+/// Returns whether these are a serial number with blanks after it.
 fn is_volser(bytes: &[u8]) -> bool
     ensures { result ≡ image.is_volser bytes.now }
 {
@@ -92,7 +93,7 @@ fn is_volser(bytes: &[u8]) -> bool
     }
 }
 
-/// What 12 bytes say as a header, if they are one.
+/// Returns what 12 bytes say as a header, if they are one.
 fn header_of(bytes: &[u8]) -> Option<Header>
     requires { 12 ≤ length bytes.now }
     ensures some { IfSome result
@@ -112,10 +113,15 @@ fn header_of(bytes: &[u8]) -> Option<Header>
     })
 }
 
-/// The header at the beginning of the bytes.
+/// Returns the header at the beginning of the bytes.
+///
+/// # Errors
+///
+/// An `ImageError`: the first fault of the bytes, a failure of the file, or refused memory.
 pub fn read_header(bytes: &[u8]) -> Result<Header, ImageError>
     ensures there { IsOk result → 12 ≤ length bytes.now }
-    ensures ok { IfOk result (λ header. IsHeader (take 12 bytes.now) header.version header.volser header.cylinders) }
+    ensures ok { IfOk result
+        (λ header. IsHeader (take 12 bytes.now) header.version header.volser header.cylinders) }
     ensures err { IfErr result (IsHeaderFault bytes.now) }
 {
     if bytes.len() < HEADER_LENGTH {

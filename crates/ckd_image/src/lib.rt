@@ -1,9 +1,10 @@
 //! Volume images.
 //!
-//! Its theorems: a volume has one image of version 2, and [`write_image`] writes it, or a beginning of it where the
-//! file fails; [`read_image`] gives the volume whose image of version 1 or 2 the bytes are, or tells their first fault
-//! (docs/FORMATS.md, "Volume images"). By [`one_reading`] no two answers fit the same bytes, and by [`reads_back`] what
-//! is written is read back as the same volume.
+//! Its theorems: a volume has one image of version 2, and [`write_image`] writes it, or a beginning
+//! of it where the file fails; [`read_image`] gives the volume whose image of version 1 or 2 the
+//! bytes are, or says their first fault (docs/FORMATS.md, "Volume images"). By [`one_reading`] no
+//! two answers fit the same bytes, and by [`reads_back`] what is written is read back as the same
+//! volume.
 //!
 //! ```
 //! use ckd_image::{read_image, write_image};
@@ -17,8 +18,8 @@
 //! assert_eq!(rt; (read.volser(), read.count()), (*b"WORK01", 2));
 //! ```
 //!
-//! Reading goes from the whole to its parts: [`header`], and in [`reader`] the tracks, the records of each, and the
-//! end.
+//! Reading goes from the whole to its parts: [`header`], and in [`reader`] the tracks, the records
+//! of each, and the end.
 #![tactic(auto)]
 
 mod faults;

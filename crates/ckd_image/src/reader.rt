@@ -1,5 +1,6 @@
 //! Images that are read: the volume of the bytes, or what is wrong with them.
-ghost use Rattle.std.specs.Prelude.{◌≡◌, ◌<◌, ◌≤◌, ◌+◌, ◌*◌, ◌++◌, [], length, drop, slice_index_or, OnOk, IfOk, IfErr, IfSome, IfNone};
+ghost use Rattle.std.specs.Prelude.{◌≡◌, ◌<◌, ◌≤◌, ◌+◌, ◌*◌, ◌++◌, [], length, drop};
+ghost use Rattle.std.specs.Prelude.{slice_index_or, OnOk, IfOk, IfErr, IfSome, IfNone};
 ghost use Rattle.ckd_volume.specs.Front.{track_at};
 ghost use Rattle.ckd_volume.specs.Volume.{blank_cylinders};
 ghost use Rattle.ckd_image.specs.Faults.{CountsImage};
@@ -17,7 +18,8 @@ use ckd_volume::{HEADS, Volume};
 use s370_num::host::{HostFault, HostReader, read_all};
 use std::alloc::Global;
 
-/// The record at the beginning of the bytes, and the bytes behind it; none where they end before it is whole.
+/// Returns the record at the beginning of the bytes, and the bytes after it; none where they end
+/// before it is whole.
 fn read_record(bytes: &[u8]) -> Option<(Record<'_>, &[u8])>
     ensures some { IfSome result
         (λ found. parts.BeginsRecord bytes.now
@@ -42,10 +44,12 @@ fn read_record(bytes: &[u8]) -> Option<(Record<'_>, &[u8])>
     Some((record, &bytes[end..]))
 }
 
-/// Reads the records of a track that has none, and tells the bytes behind them, and whether all fit.
+/// Reads the records of a track that has none, and returns the bytes after them, and whether all
+/// fit.
 fn read_records<'a>(track: &mut Track, count: u8, bytes: &'a [u8]) -> Option<(bool, &'a [u8])>
     requires { track.old.records ≡ [] }
-    ensures some { IfSome result (λ found. parts.ReadRecords track.old track.new count bytes.now found.0 found.1.now) }
+    ensures some { IfSome result
+        (λ found. parts.ReadRecords track.old track.new count bytes.now found.0 found.1.now) }
     ensures none { IfNone result (parts.EndsInRecord count bytes.now) }
 {
     let mut rest = bytes;
@@ -67,7 +71,7 @@ pub enum TrackFault {
     Full,
 }
 
-/// Reads a track over one that has no records, and tells the bytes behind it.
+/// Reads a track over one that has no records, and returns the bytes after it.
 fn read_track<'a>(track: &mut Track, bytes: &'a [u8]) -> Result<&'a [u8], TrackFault>
     requires { track.old.records ≡ [] }
     ensures ok { IfOk result (λ rest. image.IsGood track.new
@@ -95,8 +99,10 @@ fn read_track_of<'a>(
 ) -> Result<&'a [u8], TrackFault>
     requires cylinder { cylinder < length volume.old.cylinders }
     requires head { head < 19 }
-    requires blank { (track_at (slice_index_or volume.old.cylinders cylinder []) head).records ≡ [] }
-    ensures ok { IfOk result (λ rest. parts.ReadTrack volume.old volume.new cylinder head bytes.now rest.now) }
+    requires blank { (track_at (slice_index_or volume.old.cylinders cylinder []) head).records
+        ≡ [] }
+    ensures ok { IfOk result
+        (λ rest. parts.ReadTrack volume.old volume.new cylinder head bytes.now rest.now) }
     ensures err { IfErr result (parts.IsTrackFault bytes.now) }
 {
     match volume.track_mut(cylinder, head) {
@@ -105,11 +111,12 @@ fn read_track_of<'a>(
     }
 }
 
-/// Reads all tracks of a volume, which have no records yet, and tells the bytes behind them.
+/// Reads all tracks of a volume, which have no records yet, and returns the bytes after them.
 fn read_tracks<'a>(volume: &mut Volume, bytes: &'a [u8]) -> Result<&'a [u8], ImageError>
     requires { volume.old.cylinders ≡ blank_cylinders 0 (length volume.old.cylinders) }
     ensures ok { IfOk result (λ rest.
-        parts.ReadTracks volume.old volume.new (19 * length volume.old.cylinders) bytes.now rest.now) }
+        parts.ReadTracks volume.old volume.new (19 * length volume.old.cylinders) bytes.now
+        rest.now) }
     ensures err { IfErr result (parts.IsTracksFault (length volume.old.cylinders) bytes.now) }
 {
     let mut rest = bytes;
@@ -127,7 +134,8 @@ fn read_tracks<'a>(volume: &mut Volume, bytes: &'a [u8]) -> Result<&'a [u8], Ima
     Ok(rest)
 }
 
-/// Compares the number of all records with the one at the beginning of the bytes, and tells the bytes behind it.
+/// Compares the number of all records with the one at the beginning of the bytes, and reports the
+/// bytes after it.
 fn check_total(total: u32, bytes: &[u8]) -> Result<&[u8], ImageError>
     ensures ok { IfOk result (λ rest. bytes.now ≡ writing.four_bytes total ++ rest.now) }
     ensures err { IfErr result (parts.IsTotalFault total bytes.now) }
@@ -141,7 +149,7 @@ fn check_total(total: u32, bytes: &[u8]) -> Result<&[u8], ImageError>
     Ok(&bytes[4..])
 }
 
-/// Judges what stands behind the tracks.
+/// Judges what is after the tracks.
 fn check_end(version: Version, total: u32, bytes: &[u8]) -> Result<(), ImageError>
     ensures ok { OnOk result (bytes.now ≡ image.end_of version total) }
     ensures err { IfErr result (parts.IsEndFault version total bytes.now) }
@@ -156,8 +164,12 @@ fn check_end(version: Version, total: u32, bytes: &[u8]) -> Result<(), ImageErro
     Ok(())
 }
 
-/// The volume of which these bytes are an image of version 1 or 2, or the first fault of the bytes. Memory is taken,
-/// and can be refused, only where their header is good.
+/// Returns the volume of which these bytes are an image of version 1 or 2, or the first fault of
+/// the bytes. Memory is taken, and can be refused, only where their header is good.
+///
+/// # Errors
+///
+/// An `ImageError`: the first fault of the bytes, a failure of the file, or refused memory.
 pub fn volume_of(alloc: Global, bytes: &[u8]) -> Result<Volume, ImageError>
     ensures { IsReadingOrMemory bytes.now result }
 {
@@ -171,12 +183,29 @@ pub fn volume_of(alloc: Global, bytes: &[u8]) -> Result<Volume, ImageError>
     Ok(volume)
 }
 
-/// Reads a file to its end, and gives the volume of which it is an image, of version 1 or 2. The first fault is told.
+/// Reads a file to its end, and gives the volume of which it is an image, of version 1 or 2. The
+/// first fault is reported.
 ///
-/// Errors: `Device` where the file fails, `Memory` where a growth is refused, else what is wrong with the bytes.
+/// # Errors
+///
+/// `Device` if the file fails, `Memory` if a growth is refused, else what is wrong with the bytes.
+///
+/// # Examples
+///
+/// ```
+/// use ckd_image::{read_image, write_image};
+/// use ckd_volume::Volume;
+/// use s370_num::host::Bytes;
+///
+/// let mut file = Vec::new(alloc);
+/// write_image(alloc, &Volume::blank(alloc, *b"WORK01", 2)?, &mut file)?;
+/// let read = read_image(alloc, &mut Bytes::new(&file))?;
+/// assert_eq!(rt; read.volser(), *b"WORK01");
+/// ```
 pub fn read_image<R: HostReader>(alloc: Global, reader: &mut R) -> Result<Volume, ImageError>
     ensures reads { ReadsImage (R.remaining reader.old) (R.remaining reader.new) result }
-    ensures counts { CountsImage (R.HostFile.failures reader.old) (R.HostFile.failures reader.new) result }
+    ensures counts { CountsImage (R.HostFile.failures reader.old) (R.HostFile.failures reader.new)
+        result }
 {
     match read_all(alloc, reader) {
         Ok(bytes) => volume_of(alloc, &bytes),

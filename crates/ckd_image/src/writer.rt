@@ -1,10 +1,12 @@
 //! The image of a volume.
-ghost use Rattle.std.specs.Prelude.{◌≡◌, ◌<◌, ◌≤◌, ◌+◌, ◌*◌, ◌++◌, ◌∷◌, [], length, OnOk, OnErr, IfOk};
+ghost use Rattle.std.specs.Prelude.{◌≡◌, ◌<◌, ◌≤◌, ◌+◌, ◌*◌, ◌++◌, ◌∷◌, [], length, OnOk, OnErr};
+ghost use Rattle.std.specs.Prelude.{IfOk};
 ghost use Rattle.std.specs.Io.KnownBytes.{Appends};
 ghost use Rattle.s370_num.specs.Host.{AppendsFront, Counts};
 ghost use Rattle.ckd_image.specs.Faults.{CountsWriting};
 ghost use Rattle.ckd_track.specs.Track.{record_in};
-ghost use Rattle.ckd_image.specs.Image.{record_bytes, track_bytes, tracks_bytes, tracks_total, cylinders_bytes, cylinders_total, image_of};
+ghost use Rattle.ckd_image.specs.Image.{record_bytes, track_bytes, tracks_bytes, tracks_total};
+ghost use Rattle.ckd_image.specs.Image.{cylinders_bytes, cylinders_total, image_of};
 
 use crate::faults::ImageError;
 use ckd_track::Track;
@@ -70,7 +72,7 @@ fn put_cylinders(out: &mut Vec<u8>, volume: &Volume) -> Result<(), AllocError>
     Ok(())
 }
 
-/// How many records a cylinder has.
+/// Returns how many records a cylinder has.
 #[tactic(auto, using(crate::proofs::Parts::tracks_total_on))]
 fn records_of(cylinder: &Cylinder) -> u32
     ensures total { result ≡ tracks_total cylinder.now }
@@ -83,7 +85,7 @@ fn records_of(cylinder: &Cylinder) -> u32
     total
 }
 
-/// How many records a volume has.
+/// Returns how many records a volume has.
 #[tactic(auto, using(crate::proofs::Parts::cylinders_total_on))]
 pub fn total_of(volume: &Volume) -> u32
     ensures { result ≡ cylinders_total volume.now.cylinders }
@@ -95,7 +97,11 @@ pub fn total_of(volume: &Volume) -> u32
     total
 }
 
-/// The image of a volume.
+/// Returns the image of a volume.
+///
+/// # Errors
+///
+/// `AllocError` if memory is refused.
 #[tactic(auto, using(crate::proofs::Parts::image_parts))]
 pub fn image(alloc: Global, volume: &Volume) -> Result<Vec<u8>, AllocError>
     ensures { IfOk result (λ made. made.items ≡ image_of volume.now) }
@@ -118,17 +124,26 @@ pub fn image(alloc: Global, volume: &Volume) -> Result<Vec<u8>, AllocError>
     Ok(out)
 }
 
-/// Writes the image of a volume, of which nothing is held back then; or a beginning of it where that fails.
+/// Writes the image of a volume, of which nothing is held back then; or a beginning of it where
+/// that fails.
+///
+/// # Errors
+///
+/// An `ImageError`: a failure of the file, or refused memory. The file may have a beginning of the
+/// image.
 #[tactic(auto, using(crate::proofs::Parts::nothing_appended))]
 pub fn write_image<W: HostWriter>(
     alloc: Global,
     volume: &Volume,
     writer: &mut W,
 ) -> Result<(), ImageError>
-    ensures ok { OnOk result (Appends (W.contents writer.old) (W.contents writer.new) (image_of volume.now)) }
+    ensures ok { OnOk result
+        (Appends (W.contents writer.old) (W.contents writer.new) (image_of volume.now)) }
     ensures flushed { OnOk result (W.held writer.new ≡ []) }
-    ensures err { OnErr result (AppendsFront (W.contents writer.old) (W.contents writer.new) (image_of volume.now)) }
-    ensures counts { CountsWriting (W.HostFile.failures writer.old) (W.HostFile.failures writer.new) result }
+    ensures err { OnErr result
+        (AppendsFront (W.contents writer.old) (W.contents writer.new) (image_of volume.now)) }
+    ensures counts { CountsWriting (W.HostFile.failures writer.old) (W.HostFile.failures writer.new)
+        result }
 {
     let Ok(bytes) = image(alloc, volume) else {
         return Err(ImageError::Memory);
@@ -140,13 +155,16 @@ pub fn write_image<W: HostWriter>(
     }
 }
 
-/// Writes all the bytes, of which nothing is held back then; or a beginning of them where that fails.
+/// Writes all the bytes, of which nothing is held back then; or a beginning of them where that
+/// fails.
 #[tactic(auto, using(crate::proofs::Parts::appended_kept, crate::proofs::Parts::whole_front))]
 fn write_and_flush<W: HostWriter>(writer: &mut W, bytes: &[u8]) -> Result<(), HostFault>
     ensures ok { OnOk result (Appends (W.contents writer.old) (W.contents writer.new) bytes.now) }
     ensures flushed { OnOk result (W.held writer.new ≡ []) }
-    ensures err { OnErr result (AppendsFront (W.contents writer.old) (W.contents writer.new) bytes.now) }
-    ensures counts { Counts (W.HostFile.failures writer.old) (W.HostFile.failures writer.new) result }
+    ensures err { OnErr result
+        (AppendsFront (W.contents writer.old) (W.contents writer.new) bytes.now) }
+    ensures counts { Counts (W.HostFile.failures writer.old) (W.HostFile.failures writer.new)
+        result }
 {
     write_all(writer, bytes)?;
     writer.flush()?;

@@ -1,7 +1,7 @@
 //! Volumes as the bytes of a saved state, and back.
 //!
-//! Its one theorem: the bytes that are written are those of one volume ([`one_by_saved`]). What is read is not proved to
-//! be the volume that was written: who reads it writes it again and compares.
+//! Its one theorem: the bytes that are written are those of one volume ([`one_by_saved`]). What is
+//! read is not proved to be the volume that was written: who reads it writes it again and compares.
 //!
 //! ```
 //! use ckd_saved::{put_volume, volume_of};

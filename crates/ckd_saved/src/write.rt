@@ -1,7 +1,8 @@
 //! Volumes as bytes.
 ghost use Rattle.std.specs.Prelude.{◌≡◌, ◌++◌, OnOk};
 ghost use Rattle.saved_bytes.specs.Codes.{each};
-ghost use Rattle.ckd_saved.specs.Saved.{IsOneBySaved, cylinder_bytes, record_bytes, track_bytes, volume_bytes};
+ghost use Rattle.ckd_saved.specs.Saved.{IsOneBySaved, cylinder_bytes, record_bytes, track_bytes};
+ghost use Rattle.ckd_saved.specs.Saved.{volume_bytes};
 
 use ckd_track::Track;
 use ckd_volume::{Cylinder, Volume};
@@ -51,7 +52,8 @@ fn put_cylinder(out: &mut Vec<u8>, cylinder: &Cylinder) -> Result<(), AllocError
 
 /// Appends the cylinders of a volume.
 fn put_cylinders(out: &mut Vec<u8>, volume: &Volume) -> Result<(), AllocError>
-    ensures { OnOk result (out.new.items ≡ out.old.items ++ each cylinder_bytes volume.now.cylinders) }
+    ensures { OnOk result (out.new.items ≡ out.old.items
+        ++ each cylinder_bytes volume.now.cylinders) }
 {
     for index in 0..volume.count() {
         put_one(out)?;
@@ -61,6 +63,10 @@ fn put_cylinders(out: &mut Vec<u8>, volume: &Volume) -> Result<(), AllocError>
 }
 
 /// Appends a volume.
+///
+/// # Errors
+///
+/// `AllocError` if memory is refused; `out` may have a part of it then.
 pub fn put_volume(out: &mut Vec<u8>, volume: &Volume) -> Result<(), AllocError>
     ensures { OnOk result (out.new.items ≡ out.old.items ++ volume_bytes volume.now) }
 {

@@ -13,7 +13,7 @@ use Rattle.text_words.proofs.Firsts.{first_fault_of}
 use Rattle.ckd_track.specs.Track.{Record}
 use Rattle.ckd_volume.specs.Volume.{VolumeFormat, blank_cylinders}
 use Rattle.ckd_text.specs.Fields.{bytes_of, five_of, is_serial, padded, serial_of}
-use Rattle.ckd_text.specs.Text.{Stated, Home, Add, Placed, counted, volume_by, first_of, placed_of, home_by, record_of, add_by, stated_by, stated_of, with_stated, told, line_step, stated_volume}
+use Rattle.ckd_text.specs.Text.{Stated, Home, Add, Placed, counted, volume_by, first_of, placed_of, home_by, record_of, add_by, stated_by, stated_of, with_stated, reported, line_step, stated_volume}
 use Rattle.ckd_text.specs.Grammar.{SaysVolume, SaysPlace, SaysRecord, Says, Fills, IsText, BeginsWrong, IsFirstWrong, ReadsGrammar}
 
 is_word : (xs ys : List ℕ) → bytes_eq xs ys ≡ true → xs ≡ ys
@@ -160,13 +160,13 @@ again line (Add c h r) s = rw s.spelled (add_again s.operands c h s.fields r s.p
 -- what a line states has a place
 fill_with : (v made : VolumeFormat) (line : List ℕ) (lines : List (List ℕ)) (n : ℕ) (s : Stated) (o : Option VolumeFormat) → Says line s → with_stated v s ≡ o
     → ((next : VolumeFormat) → read_lines line_step (n + 1) next lines ≡ Ok made → Fills next lines made)
-    → and_then (told n o) (λ next. read_lines line_step (n + 1) next lines) ≡ Ok made → Fills v (line ∷ lines) made
+    → and_then (reported n o) (λ next. read_lines line_step (n + 1) next lines) ≡ Ok made → Fills v (line ∷ lines) made
 fill_with v made line lines n s None says e hyp h = cc
 fill_with v made line lines n s (Some next) says e hyp h = (s, next, says, e, hyp next h)
 
 fill_on : (v made : VolumeFormat) (line : List ℕ) (lines : List (List ℕ)) (n : ℕ) (o : Option Stated) → stated_of line ≡ o
     → ((next : VolumeFormat) → read_lines line_step (n + 1) next lines ≡ Ok made → Fills next lines made)
-    → and_then (told n (option_and_then (with_stated v) o)) (λ next. read_lines line_step (n + 1) next lines) ≡ Ok made → Fills v (line ∷ lines) made
+    → and_then (reported n (option_and_then (with_stated v) o)) (λ next. read_lines line_step (n + 1) next lines) ≡ Ok made → Fills v (line ∷ lines) made
 fill_on v made line lines n None e hyp h = cc
 fill_on v made line lines n (Some s) e hyp h = fill_with v made line lines n s (with_stated v s) (found line s e) refl hyp h
 
@@ -179,7 +179,7 @@ fills_again v made [] n h = ap Ok h
 fills_again v made (line ∷ lines) n h = rw (again line h.0 h.2, h.3) (fills_again h.1 made lines (n + 1) h.4)
 
 begin_on : (first : List ℕ) (lines : List (List ℕ)) (made : VolumeFormat) (o : Option VolumeFormat) → first_of first ≡ o
-    → and_then (told 1 o) (λ v. read_lines line_step 2 v lines) ≡ Ok made → IsText (first ∷ lines) made
+    → and_then (reported 1 o) (λ v. read_lines line_step 2 v lines) ≡ Ok made → IsText (first ∷ lines) made
 begin_on first lines made None e h = cc
 begin_on first lines made (Some v) e h = (v, first_found first v e, fills_found v made lines 2 h)
 
@@ -191,7 +191,7 @@ text_again : (lines : List (List ℕ)) (made : VolumeFormat) → IsText lines ma
 text_again [] made h = absurd h
 text_again (first ∷ lines) made h = rw (first_again first h.0 h.1) (fills_again h.0 made lines 2 h.2)
 
-told_err : (n number : ℕ) (o : Option VolumeFormat) → told n o ≡ Err number → (n ≡ number) × (o ≡ None)
+told_err : (n number : ℕ) (o : Option VolumeFormat) → reported n o ≡ Err number → (n ≡ number) × (o ≡ None)
 told_err n number None h = (cc, refl)
 told_err n number (Some v) h = cc
 
@@ -203,7 +203,7 @@ no_place v next line s none says put =
     cc
 
 wrong_on : (first : List ℕ) (lines : List (List ℕ)) (number : ℕ) (o : Option VolumeFormat) → first_of first ≡ o
-    → and_then (told 1 o) (λ v. read_lines line_step 2 v lines) ≡ Err number → ((number ≡ 1) × BeginsWrong (first ∷ lines)) ⊎ IsFirstWrong (first ∷ lines) number
+    → and_then (reported 1 o) (λ v. read_lines line_step 2 v lines) ≡ Err number → ((number ≡ 1) × BeginsWrong (first ∷ lines)) ⊎ IsFirstWrong (first ∷ lines) number
 wrong_on first lines number None e h =
     let same : 1 ≡ number = cc in
     inl (sym same, λ v says. let twice : None ≡ Some v = sym e ∙ first_again first v says in cc)

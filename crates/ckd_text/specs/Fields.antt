@@ -1,5 +1,7 @@
 -- The fields of a line of a volume text (docs/FORMATS.md, "Volume texts").
-use Rattle.std.specs.Prelude.{ℕ, ◌-◌, ◌==◌, ◌&&◌, ◌||◌, Bool, if◌then◌else◌, is_some, nat_le, List, [], ◌++◌, length, replicate, codes, Option, Some, None, Result, Ok, Err}
+use Rattle.std.specs.Prelude.{ℕ, ◌-◌, ◌==◌, ◌&&◌, ◌||◌, Bool, if◌then◌else◌, is_some, nat_le, List}
+use Rattle.std.specs.Prelude.{[], ◌++◌, length, replicate, codes, Option, Some, None, Result, Ok}
+use Rattle.std.specs.Prelude.{Err}
 use Rattle.std.specs.List.{list_all}
 use Rattle.std.specs.Str.{bytes_eq}
 use Rattle.text_words.specs.Numbers.{digit_value, is_digit}
@@ -16,12 +18,14 @@ is_letter_or_digit c = (nat_le 65 c && nat_le c 90) || is_digit c
 
 -- a serial number is one to six letters and digits
 abbrev pub is_serial : List ℕ → Bool
-is_serial word = nat_le 1 (length word) && nat_le (length word) 6 && list_all is_letter_or_digit word
+is_serial word = nat_le 1 (length word) && nat_le (length word) 6 && list_all is_letter_or_digit
+    word
 
--- with blanks behind it, up to six characters
+-- with blanks after it, up to six characters
 abbrev pub padded : List ℕ → List ℕ
 padded word = word ++ replicate (6 - length word) 32
 
+-- the serial number that a word is
 abbrev pub serial_of : List ℕ → Option (List ℕ)
 serial_of word = if is_serial word then Some (padded word) else None
 

@@ -1,5 +1,7 @@
--- The grammar of volume texts, as a relation between lines and a volume (docs/FORMATS.md, "Volume texts").
-use Rattle.std.specs.Prelude.{◌≡◌, ℕ, ◌+◌, ◌≤◌, ◌⊎◌, true, List, [], ◌∷◌, ◌++◌, length, codes, Some, Ok, Err}
+-- The grammar of volume texts, as a relation between lines and a volume (docs/FORMATS.md, "Volume
+-- texts").
+use Rattle.std.specs.Prelude.{◌≡◌, ℕ, ◌+◌, ◌≤◌, ◌⊎◌, true, List, [], ◌∷◌, ◌++◌, length, codes, Some}
+use Rattle.std.specs.Prelude.{Ok, Err}
 use Rattle.text_words.specs.Lines.{lines_of}
 use Rattle.text_words.specs.Words.{NoBlank}
 use Rattle.text_words.specs.Numbers.{decimal_of}
@@ -67,7 +69,8 @@ Says line (Add c h r) = SaysAdd line c h r
 -- the lines make this volume of that one: each says something for which the volume has a place
 abbrev pub Fills : VolumeFormat → List (List ℕ) → VolumeFormat → Type 0
 Fills v [] made = v ≡ made
-Fills v (line ∷ lines) made = (s : Stated) × (next : VolumeFormat) × Says line s × (with_stated v s ≡ Some next) × Fills next lines made
+Fills v (line ∷ lines) made = (s : Stated) × (next : VolumeFormat) × Says line s
+    × (with_stated v s ≡ Some next) × Fills next lines made
 
 -- the lines are a text of this volume: the first says a blank one, and the others fill it
 abbrev pub IsText : List (List ℕ) → VolumeFormat → Type 0
@@ -79,8 +82,8 @@ abbrev pub BeginsWrong : List (List ℕ) → Type 0
 BeginsWrong [] = Unit {0}
 BeginsWrong (first ∷ lines) = (v : VolumeFormat) → SaysVolume first v → ⊥
 
--- this line, counted from 1, is the first that is wrong after a first line that is not: those before it are a text, and it
--- says nothing for which their volume has a place
+-- this line, counted from 1, is the first that is wrong after a first line that is not: those
+-- before it are a text, and it says nothing for which their volume has a place
 pub record IsFirstWrong (lines : List (List ℕ)) (number : ℕ) : Type 0 where
   pub before : List (List ℕ)
   pub wrong : List ℕ
@@ -89,11 +92,14 @@ pub record IsFirstWrong (lines : List (List ℕ)) (number : ℕ) : Type 0 where
   pub numbered : number ≡ length before + 1
   pub so_far : VolumeFormat
   pub accepted : IsText before so_far
-  pub refused : (s : Stated) (next : VolumeFormat) → Says wrong s → with_stated so_far s ≡ Some next → ⊥
+  pub refused : (s : Stated) (next : VolumeFormat) → Says wrong s → with_stated so_far s ≡ Some next
+      → ⊥
 
--- what is made is in the grammar, what is in the grammar is made, and the line that is told is the first wrong one
+-- what is made is in the grammar, what is in the grammar is made, and the line that is reported is
+-- the first wrong one
 abbrev pub ReadsGrammar : Type 0
 ReadsGrammar = (text : List ℕ) →
     ((v : VolumeFormat) → volume_of text ≡ Ok v → IsText (lines_of text) v)
     × ((v : VolumeFormat) → IsText (lines_of text) v → volume_of text ≡ Ok v)
-    × ((number : ℕ) → volume_of text ≡ Err number → ((number ≡ 1) × BeginsWrong (lines_of text)) ⊎ IsFirstWrong (lines_of text) number)
+    × ((number : ℕ) → volume_of text ≡ Err number
+    → ((number ≡ 1) × BeginsWrong (lines_of text)) ⊎ IsFirstWrong (lines_of text) number)

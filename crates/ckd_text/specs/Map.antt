@@ -1,6 +1,7 @@
--- What trackmap prints of a volume (docs/FORMATS.md, "Track maps"): a line that names it, each track that is not blank with
--- its records, and how many tracks are blank.
-use Rattle.std.specs.Prelude.{ℕ, ◌+◌, ◌==◌, ◌&&◌, Bool, if◌then◌else◌, List, [], ◌∷◌, ◌++◌, length, codes}
+-- What trackmap prints of a volume (docs/FORMATS.md, "Track maps"): a line that names it, each
+-- track that is not blank with its records, and how many tracks are blank.
+use Rattle.std.specs.Prelude.{ℕ, ◌+◌, ◌==◌, ◌&&◌, Bool, if◌then◌else◌, List, [], ◌∷◌, ◌++◌, length}
+use Rattle.std.specs.Prelude.{codes}
 use Rattle.std.specs.Fmt.{decimal}
 use Rattle.std.specs.Str.{bytes_eq}
 use Rattle.hex.specs.Hex.{encode_upper}
@@ -15,6 +16,7 @@ record_line r =
     codes "  "
     ++ (encode_upper r.id ++ (codes " KEY " ++ (decimal (length r.key) ++ (codes " DATA " ++ (decimal (length r.content) ++ (codes " COST " ++ (decimal (cost_of r) ++ codes "\n")))))))
 
+-- the lines of records
 abbrev pub record_lines : List Record → List ℕ
 record_lines [] = []
 record_lines (r ∷ rs) = record_line r ++ record_lines rs
@@ -29,6 +31,7 @@ track_line c h t =
 abbrev pub is_blank : ℕ → ℕ → TrackFormat → Bool
 is_blank c h t = length t.records == 0 && bytes_eq t.home (home_of c h)
 
+-- the lines of a track, unless it is blank
 abbrev pub track_lines : ℕ → ℕ → TrackFormat → List ℕ
 track_lines c h t = if is_blank c h t then [] else track_line c h t ++ record_lines t.records
 
@@ -47,6 +50,7 @@ abbrev pub blank_heads : ℕ → ℕ → Cylinder → ℕ
 blank_heads c h [] = 0
 blank_heads c h (t ∷ ts) = (if is_blank c h t then 1 else 0) + blank_heads c (h + 1) ts
 
+-- how many tracks of cylinders are blank
 abbrev pub blank_count : ℕ → List Cylinder → ℕ
 blank_count c [] = 0
 blank_count c (tracks ∷ more) = blank_heads c 0 tracks + blank_count (c + 1) more
@@ -55,6 +59,7 @@ blank_count c (tracks ∷ more) = blank_heads c 0 tracks + blank_count (c + 1) m
 abbrev pub cylinders_text : VolumeFormat → List ℕ
 cylinders_text v = codes " CYLINDERS " ++ (decimal (length v.cylinders) ++ codes "\n")
 
+-- the first line of a map
 abbrev pub volume_line : VolumeFormat → List ℕ
 volume_line v = codes "VOLUME " ++ (word_of v.volser ++ cylinders_text v)
 
@@ -62,5 +67,6 @@ volume_line v = codes "VOLUME " ++ (word_of v.volser ++ cylinders_text v)
 abbrev pub blank_line : ℕ → List ℕ
 blank_line count = codes "BLANK TRACKS " ++ (decimal count ++ codes "\n")
 
+-- the map of a volume
 abbrev pub map_of : VolumeFormat → List ℕ
 map_of v = volume_line v ++ (volume_lines 0 v.cylinders ++ blank_line (blank_count 0 v.cylinders))

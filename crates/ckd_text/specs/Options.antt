@@ -1,6 +1,7 @@
 -- What the words of mkvol and trackmap name, as those of simple commands of `clap`.
 use Rattle.std.specs.Prelude.{◌≡◌, ℕ, Bool, true, List, [], codes, Some, is_some}
-use Rattle.clap.specs.Words.{App, Row, Rule, fault_of, first_of, matches_of, new_app, new_rule, takes, with_rule}
+use Rattle.clap.specs.Words.{App, Row, Rule, fault_of, first_of, matches_of, new_app, new_rule}
+use Rattle.clap.specs.Words.{takes, with_rule}
 use Rattle.ckd_text.specs.declared.arguments.Tool.{Tool}
 use Rattle.ckd_text.specs.declared.arguments.Tool.TheVariants.{Mkvol, Trackmap}
 use Rattle.ckd_text.specs.declared.arguments.VolumePaths.{VolumePaths}

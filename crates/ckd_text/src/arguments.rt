@@ -1,11 +1,13 @@
 //! The words of the programs: which files they are to read and to write.
-ghost use Rattle.std.specs.Prelude.{◌≡◌, ◌&&◌, ◌⊎◌, ◌↔◌, IfOk, IfErr, IfSome, None, OnOk, IsSome, Some, codes, map, option_map, true};
+ghost use Rattle.std.specs.Prelude.{◌≡◌, ◌&&◌, ◌⊎◌, ◌↔◌, IfOk, IfErr, IfSome, None, OnOk, IsSome};
+ghost use Rattle.std.specs.Prelude.{Some, codes, map, option_map, true};
 ghost use Rattle.clap.specs.Words.{app_of, first_of, found_of, rows_of};
 ghost use Rattle.clap.specs.Values.{kind_of};
 ghost use Rattle.clap.specs.declared.error.kind.ErrorKind.TheVariants.{OutOfMemory};
 ghost use Rattle.ckd_text.specs.declared.arguments.Tool.TheVariants as tools;
-ghost use Rattle.ckd_text.specs.declared.arguments.UsageError.TheVariants.{Memory};
-ghost use Rattle.ckd_text.specs.Options.{AreNamed, HasNoFault, command_of, gives, is_taken, rows_named};
+ghost use Rattle.ckd_text.specs.declared.arguments.ToolUsageError.TheVariants.{Memory};
+ghost use Rattle.ckd_text.specs.Options.{AreNamed, HasNoFault, command_of, gives, is_taken};
+ghost use Rattle.ckd_text.specs.Options.{rows_named};
 
 use clap::error::ErrorKind;
 use clap::{Arg, ArgMatches, Command, Error as ClapError};
@@ -33,61 +35,70 @@ pub struct VolumePaths<'a> {
 
 /// Why the words of a program name no files.
 #[derive(Debug, Drop, Error)]
-pub enum UsageError {
+pub enum ToolUsageError {
     /// A growth was refused.
     #[error("no memory for the words of the program")]
     Memory,
-    /// The words are not those of the program, or ask for its help: the text for the person who wrote them, of whole
-    /// lines.
+    /// The words are not those of the program, or ask for its help: the text for the person who
+    /// wrote them, of whole lines.
     #[error("{0}")]
     Usage(String),
 }
 
-impl From<AllocError> for UsageError {
+impl From<AllocError> for ToolUsageError {
     ghost from_gives = { λ _ error. error ≡ Memory };
 
-    fn from(_error: AllocError) -> UsageError {
-        UsageError::Memory
+    fn from(_error: AllocError) -> ToolUsageError {
+        ToolUsageError::Memory
     }
 }
 
-/// The two files of `mkvol`. The first word is the name that it was started by; words are read as `clap` reads them:
-/// `--` before the paths is allowed, and `--help` is a request for the text of [`UsageError::Usage`].
+/// Returns the two files of `mkvol`. The first word is the name that it was started by; words are
+/// read as `clap` reads them: `--` before the paths is allowed, and `--help` is a request for the
+/// text of [`ToolUsageError::Usage`].
+///
+/// # Errors
+///
+/// A `ToolUsageError`: the text that says what is wrong with the arguments, or refused memory.
 pub fn volume_paths<'a, S: AsStr>(
     alloc: Global,
     words: &'a [S],
-) -> Result<VolumePaths<'a>, UsageError>
+) -> Result<VolumePaths<'a>, ToolUsageError>
     ensures ok { IfOk result (AreNamed (rows_named tools.Mkvol (map S.text words.entry.now))) }
     ensures taken { OnOk result (HasNoFault tools.Mkvol (map S.text words.entry.now)) }
     ensures err { is_taken tools.Mkvol (map S.text words.entry.now) ≡ true
         → gives (codes "OUT") (rows_named tools.Mkvol (map S.text words.entry.now)) ≡ true
         → gives (codes "TEXT") (rows_named tools.Mkvol (map S.text words.entry.now)) ≡ true
-        → IfErr result (λ error. error ≡ UsageError.Memory) }
+        → IfErr result (λ error. error ≡ ToolUsageError.Memory) }
 {
     let matches = matched(alloc, Tool::Mkvol, words)?;
     match paths_in(&matches) {
         Some(paths) => Ok(paths),
-        None => Err(UsageError::Usage(String::from_str(alloc, "a path is missing\n")?)),
+        None => Err(ToolUsageError::Usage(String::from_str(alloc, "a path is missing\n")?)),
     }
 }
 
-/// The image of `trackmap`. Words are read as those of `mkvol`.
-pub fn image_path<'a, S: AsStr>(alloc: Global, words: &'a [S]) -> Result<&'a str, UsageError>
+/// Returns the image of `trackmap`. Words are read as those of `mkvol`.
+///
+/// # Errors
+///
+/// A `ToolUsageError`: the text that says what is wrong with the arguments, or refused memory.
+pub fn image_path<'a, S: AsStr>(alloc: Global, words: &'a [S]) -> Result<&'a str, ToolUsageError>
     ensures ok { IfOk result (λ path. first_of (codes "IMAGE") (rows_named tools.Trackmap (map S.text words.entry.now))
         ≡ Some path.now) }
     ensures taken { OnOk result (HasNoFault tools.Trackmap (map S.text words.entry.now)) }
     ensures err { is_taken tools.Trackmap (map S.text words.entry.now) ≡ true
         → gives (codes "IMAGE") (rows_named tools.Trackmap (map S.text words.entry.now)) ≡ true
-        → IfErr result (λ error. error ≡ UsageError.Memory) }
+        → IfErr result (λ error. error ≡ ToolUsageError.Memory) }
 {
     let matches = matched(alloc, Tool::Trackmap, words)?;
     match text_of(&matches, "IMAGE") {
         Some(path) => Ok(path),
-        None => Err(UsageError::Usage(String::from_str(alloc, "a path is missing\n")?)),
+        None => Err(ToolUsageError::Usage(String::from_str(alloc, "a path is missing\n")?)),
     }
 }
 
-/// The paths of `mkvol`, where both are given.
+/// Returns the paths of `mkvol`, where both are given.
 fn paths_in<'a>(matches: &ArgMatches<'a>) -> Option<VolumePaths<'a>>
     ensures some { IfSome result (AreNamed (rows_of (found_of matches.now))) }
     ensures none { gives (codes "OUT") (rows_of (found_of matches.now)) ≡ true
@@ -98,23 +109,24 @@ fn paths_in<'a>(matches: &ArgMatches<'a>) -> Option<VolumePaths<'a>>
     Some(VolumePaths { out, text })
 }
 
-/// The first text that the words give for an argument.
+/// Returns the first text that the words give for an argument.
 fn text_of<'a>(matches: &ArgMatches<'a>, id: &str) -> Option<&'a str>
     ensures { option_map (λ s. s.now) result ≡ first_of id.now (rows_of (found_of matches.now)) }
 {
     matches.get_str(id)
 }
 
-/// What `clap` finds in the words.
+/// Returns what `clap` finds in the words.
 fn matched<'a, S: AsStr>(
     alloc: Global,
     tool: Tool,
     words: &'a [S],
-) -> Result<ArgMatches<'a>, UsageError>
-    ensures ok { IfOk result (λ m. rows_of (found_of m) ≡ rows_named tool (map S.text words.entry.now)) }
+) -> Result<ArgMatches<'a>, ToolUsageError>
+    ensures ok { IfOk result
+        (λ m. rows_of (found_of m) ≡ rows_named tool (map S.text words.entry.now)) }
     ensures taken { OnOk result (HasNoFault tool (map S.text words.entry.now)) }
     ensures err { is_taken tool (map S.text words.entry.now) ≡ true
-        → IfErr result (λ error. error ≡ UsageError.Memory) }
+        → IfErr result (λ error. error ≡ ToolUsageError.Memory) }
 {
     let command = command(alloc, tool)?;
     match command.try_get_matches_from(words) {
@@ -123,21 +135,23 @@ fn matched<'a, S: AsStr>(
     }
 }
 
-/// What is told of an error of `clap`, whose text is this if there was memory for it.
-fn refusal(error: &ClapError, text: Option<String>) -> UsageError
-    ensures memory { (result ≡ UsageError.Memory) ↔ ((kind_of error.now ≡ OutOfMemory) ⊎ (text ≡ None)) }
-    ensures usage { IfSome text (λ told. (kind_of error.now ≡ OutOfMemory) ⊎ (result ≡ UsageError.Usage told)) }
+/// Returns the usage error for an error of `clap`, whose text is this if there was memory for it.
+fn refusal(error: &ClapError, text: Option<String>) -> ToolUsageError
+    ensures memory { (result ≡ ToolUsageError.Memory) ↔
+        ((kind_of error.now ≡ OutOfMemory) ⊎ (text ≡ None)) }
+    ensures usage { IfSome text
+        (λ reported. (kind_of error.now ≡ OutOfMemory) ⊎ (result ≡ ToolUsageError.Usage reported)) }
 {
     if error.kind() == ErrorKind::OutOfMemory {
-        return UsageError::Memory;
+        return ToolUsageError::Memory;
     }
     match text {
-        Some(text) => UsageError::Usage(text),
-        None => UsageError::Memory,
+        Some(text) => ToolUsageError::Usage(text),
+        None => ToolUsageError::Memory,
     }
 }
 
-/// The words of a program, as `clap` is told of them.
+/// Returns the words of a program, as they are described to `clap`.
 fn command<'a>(alloc: Global, tool: Tool) -> Result<Command<'a>, AllocError>
     ensures { IfOk result (λ c. app_of c ≡ command_of tool) }
 {

@@ -2,13 +2,15 @@
 ghost use Rattle.std.specs.Prelude.{◌≡◌, ◌<◌, ◌≤◌, IfOk, length};
 ghost use Rattle.std.specs.Option.{option_map};
 ghost use Rattle.std.specs.List.{list_all};
-ghost use Rattle.ckd_text.specs.Fields.{bytes_of, five_of, is_hexadecimal, is_letter_or_digit, is_serial, serial_of, spelled_of};
+ghost use Rattle.ckd_text.specs.Fields.{bytes_of, five_of, is_hexadecimal, is_letter_or_digit};
+ghost use Rattle.ckd_text.specs.Fields.{is_serial, serial_of, spelled_of};
 
 use hex::FromHexError;
 use std::alloc::{AllocError, Global};
 use text_words::numbers::{digit_value, is_digit};
 
-/// The serial number that a word spells: one to six letters and digits, with blanks behind them.
+/// Returns the serial number that a word spells: one to six letters and digits, with blanks after
+/// them.
 pub fn serial_of(word: &[u8]) -> Option<[u8; 6]>
     ensures { result ≡ serial_of word.now }
 {
@@ -20,7 +22,7 @@ pub fn serial_of(word: &[u8]) -> Option<[u8; 6]>
     Some(serial)
 }
 
-/// Whether a word is one to six letters and digits.
+/// Returns whether a word is one to six letters and digits.
 fn is_serial(word: &[u8]) -> bool
     ensures { result ≡ is_serial word.now }
 {
@@ -36,7 +38,7 @@ fn is_letter_or_digit(c: u8) -> bool
     b'A' <= c && c <= b'Z' || is_digit(c)
 }
 
-/// The five bytes that ten hexadecimal digits spell.
+/// Returns the five bytes that ten hexadecimal digits spell.
 pub fn five_of(word: &[u8]) -> Option<[u8; 5]>
     ensures { result ≡ five_of word.now }
 {
@@ -50,7 +52,11 @@ pub fn five_of(word: &[u8]) -> Option<[u8; 5]>
     }
 }
 
-/// The bytes that a word spells: two hexadecimal digits each, or `-` for none.
+/// Returns the bytes that a word spells: two hexadecimal digits each, or `-` for none.
+///
+/// # Errors
+///
+/// `AllocError` if memory is refused.
 pub fn bytes_of(alloc: Global, word: &[u8]) -> Result<Option<Vec<u8>>, AllocError>
     ensures { IfOk result (λ found. option_map (λ bytes. bytes.items) found ≡ bytes_of word.now) }
 {
@@ -63,7 +69,7 @@ pub fn bytes_of(alloc: Global, word: &[u8]) -> Result<Option<Vec<u8>>, AllocErro
     spelled_of(alloc, word)
 }
 
-/// The bytes that pairs of hexadecimal digits spell.
+/// Returns the bytes that pairs of hexadecimal digits spell.
 fn spelled_of(alloc: Global, word: &[u8]) -> Result<Option<Vec<u8>>, AllocError>
     ensures { IfOk result (λ found. option_map (λ bytes. bytes.items) found ≡ spelled_of word.now) }
 {
@@ -77,7 +83,7 @@ fn spelled_of(alloc: Global, word: &[u8]) -> Result<Option<Vec<u8>>, AllocError>
     }
 }
 
-/// Whether all are hexadecimal digits, with letters in upper case.
+/// Returns whether all are hexadecimal digits, with letters in upper case.
 fn are_hexadecimal(word: &[u8]) -> bool
     ensures { result ≡ list_all is_hexadecimal word.now }
 {

@@ -1,9 +1,10 @@
 //! Volumes as texts.
 //!
-//! A text states a volume (docs/FORMATS.md, "Volume texts"), and [`make_volume`] makes exactly the volume that it
-//! states, or tells its first wrong line ([`reads_grammar`] says so of the grammar); [`mkvol`] is the program that does
-//! so with files. [`track_map`] tells what a volume has (docs/FORMATS.md, "Track maps"), and [`trackmap`] is its
-//! program. The first word that [`program`] is started with names one of the two.
+//! A text states a volume (docs/FORMATS.md, "Volume texts"), and [`make_volume`] makes exactly the
+//! volume that it states, or says its first wrong line ([`reads_grammar`] says so of the grammar);
+//! [`mkvol`] is the program that does so with files. [`track_map`] says what a volume has
+//! (docs/FORMATS.md, "Track maps"), and [`trackmap`] is its program. The first word that
+//! [`program`] is started with names one of the two.
 //!
 //! ```
 //! use ckd_text::{TextError, make_volume, track_map};
@@ -28,7 +29,7 @@ mod reader;
 mod statement;
 pub mod trackmap;
 
-pub use host::Ended;
+pub use host::ToolEnd;
 pub use map::track_map;
 pub use programs::program;
 pub use reader::{TextError, make_volume, reads_grammar};

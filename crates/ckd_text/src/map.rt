@@ -1,5 +1,6 @@
 //! What a volume has, as a text for people.
-ghost use Rattle.std.specs.Prelude.{◌≡◌, ◌<◌, ◌≤◌, ◌+◌, ◌*◌, ◌++◌, [], length, slice_index_or, string_bytes, IfOk, OnOk};
+ghost use Rattle.std.specs.Prelude.{◌≡◌, ◌<◌, ◌≤◌, ◌+◌, ◌*◌, ◌++◌, [], length, slice_index_or};
+ghost use Rattle.std.specs.Prelude.{string_bytes, IfOk, OnOk};
 ghost use Rattle.ckd_track.specs.Track.{cost, cost_of, record_in};
 ghost use Rattle.ckd_volume.specs.Volume.{home_of};
 ghost use Rattle.ckd_text.specs.Map as map;
@@ -9,8 +10,12 @@ use ckd_volume::{Cylinder, Volume};
 use std::alloc::{AllocError, Global};
 use text_words::words::cut_word;
 
-/// The map of a volume (docs/FORMATS.md, "Track maps"): a line that names it; each track that is not blank, with its
-/// records; and how many tracks are blank.
+/// Returns the map of a volume (docs/FORMATS.md, "Track maps"): a line that names it; each track
+/// that is not blank, with its records; and how many tracks are blank.
+///
+/// # Errors
+///
+/// `AllocError` if memory is refused.
 #[tactic(auto, using(crate::proofs::Maps::append_three))]
 pub fn track_map(alloc: Global, volume: &Volume) -> Result<Vec<u8>, AllocError>
     ensures { IfOk result (λ made. made.items ≡ map.map_of volume.now) }
@@ -23,9 +28,10 @@ pub fn track_map(alloc: Global, volume: &Volume) -> Result<Vec<u8>, AllocError>
     Ok(out)
 }
 
-/// The line that tells how many tracks are blank.
+/// Returns the line that says how many tracks are blank.
 fn blank_line(alloc: Global, volume: &Volume) -> Result<String, AllocError>
-    ensures { IfOk result (λ line. string_bytes line ≡ map.blank_line (map.blank_count 0 volume.now.cylinders)) }
+    ensures { IfOk result (λ line. string_bytes line
+        ≡ map.blank_line (map.blank_count 0 volume.now.cylinders)) }
 {
     let count = blank_count(volume);
     format!(in alloc; "BLANK TRACKS {count}\n")
@@ -45,7 +51,7 @@ fn put_name(alloc: Global, out: &mut Vec<u8>, volume: &Volume) -> Result<(), All
     Ok(())
 }
 
-/// How many cylinders a volume has, as its line tells it.
+/// Returns how many cylinders a volume has, as its line says it.
 fn cylinders_text(alloc: Global, volume: &Volume) -> Result<String, AllocError>
     ensures { IfOk result (λ text. string_bytes text ≡ map.cylinders_text volume.now) }
 {
@@ -56,7 +62,8 @@ fn cylinders_text(alloc: Global, volume: &Volume) -> Result<String, AllocError>
 /// Appends what all cylinders have.
 #[tactic(auto, using(crate::proofs::Maps::cylinders_on))]
 fn put_tracks(alloc: Global, out: &mut Vec<u8>, volume: &Volume) -> Result<(), AllocError>
-    ensures { OnOk result (out.new.items ≡ out.old.items ++ map.volume_lines 0 volume.now.cylinders) }
+    ensures { OnOk result (out.new.items ≡ out.old.items
+        ++ map.volume_lines 0 volume.now.cylinders) }
 {
     for number in 0..volume.count() {
         put_cylinder(alloc, out, number, volume.cylinder(number))?;
@@ -73,7 +80,8 @@ fn put_cylinder(
     cylinder: &Cylinder,
 ) -> Result<(), AllocError>
     requires { number < 808 }
-    ensures { OnOk result (out.new.items ≡ out.old.items ++ map.cylinder_lines number 0 cylinder.now) }
+    ensures { OnOk result (out.new.items ≡ out.old.items
+        ++ map.cylinder_lines number 0 cylinder.now) }
 {
     for head in 0..cylinder.heads() {
         put_track(alloc, out, number, head, cylinder.track(head))?;
@@ -91,7 +99,8 @@ fn put_track(
 ) -> Result<(), AllocError>
     requires cylinder { cylinder < 808 }
     requires head { head < 19 }
-    ensures { OnOk result (out.new.items ≡ out.old.items ++ map.track_lines cylinder head track.now) }
+    ensures { OnOk result (out.new.items ≡ out.old.items
+        ++ map.track_lines cylinder head track.now) }
 {
     if is_blank(cylinder, head, track) {
         return Ok(());
@@ -113,7 +122,7 @@ fn put_records(alloc: Global, out: &mut Vec<u8>, track: &Track) -> Result<(), Al
     Ok(())
 }
 
-/// The line of a track.
+/// Returns the line of a track.
 fn track_line(
     alloc: Global,
     cylinder: usize,
@@ -130,7 +139,7 @@ fn track_line(
     )
 }
 
-/// The line of a record.
+/// Returns the line of a record.
 fn record_line(alloc: Global, track: &Track, i: usize) -> Result<String, AllocError>
     requires { i < length track.now.records }
     ensures { IfOk result (λ line. string_bytes line ≡ map.record_line (record_in track.now i)) }
@@ -143,7 +152,7 @@ fn record_line(alloc: Global, track: &Track, i: usize) -> Result<String, AllocEr
     format!(in alloc; "  {id} KEY {key} DATA {content} COST {cost}\n")
 }
 
-/// What a record takes of its track.
+/// Returns what a record takes of its track.
 fn record_cost(track: &Track, i: usize) -> usize
     requires { i < length track.now.records }
     ensures cost { result ≡ cost_of (record_in track.now i) }
@@ -157,7 +166,7 @@ fn record_cost(track: &Track, i: usize) -> usize
     }
 }
 
-/// What all records of a track take.
+/// Returns what all records of a track take.
 #[tactic(auto, using(crate::proofs::Maps::cost_on))]
 fn fill_of(track: &Track) -> usize
     ensures { result ≡ cost track.now.records }
@@ -169,7 +178,7 @@ fn fill_of(track: &Track) -> usize
     fill
 }
 
-/// Whether a track has no record, and the home address that is its own.
+/// Returns whether a track has no record, and the home address that is its own.
 fn is_blank(cylinder: usize, head: usize, track: &Track) -> bool
     requires cylinder { cylinder < 808 }
     requires head { head < 19 }
@@ -178,7 +187,7 @@ fn is_blank(cylinder: usize, head: usize, track: &Track) -> bool
     track.len() == 0 && track.home() == own_home(cylinder, head)
 }
 
-/// The home address of a track: flag, cylinder and head.
+/// Returns the home address of a track: flag, cylinder and head.
 fn own_home(cylinder: usize, head: usize) -> [u8; 5]
     requires cylinder { cylinder < 808 }
     requires head { head < 19 }
@@ -193,7 +202,7 @@ fn own_home(cylinder: usize, head: usize) -> [u8; 5]
     ]
 }
 
-/// How many tracks of a volume are blank.
+/// Returns how many tracks of a volume are blank.
 #[tactic(auto, using(crate::proofs::Maps::count_on))]
 fn blank_count(volume: &Volume) -> usize
     ensures { result ≡ map.blank_count 0 volume.now.cylinders }
@@ -205,7 +214,7 @@ fn blank_count(volume: &Volume) -> usize
     count
 }
 
-/// How many tracks of a cylinder are blank.
+/// Returns how many tracks of a cylinder are blank.
 #[tactic(auto, using(crate::proofs::Maps::heads_on))]
 fn blank_heads(number: usize, cylinder: &Cylinder) -> usize
     requires { number < 808 }

@@ -5,8 +5,8 @@ ghost use Rattle.s370_num.specs.declared.host.HostFault.{HostFault};
 ghost use Rattle.ckd_text.specs.Made.{IsFirst, IsMade, IsUnmade};
 ghost use Rattle.ckd_text.specs.Text.{volume_of};
 
-use crate::arguments::{UsageError, volume_paths};
-use crate::faults::Failure;
+use crate::arguments::{ToolUsageError, volume_paths};
+use crate::faults::ToolFailure;
 use crate::host::{open, words, wrong_use};
 use crate::reader::make_volume;
 use ckd_image::write_image;
@@ -15,10 +15,10 @@ use std::alloc::Global;
 use std::rt::{Env, Files};
 use std::{fs, io};
 
-/// The program's name, as it tells it.
+/// The program's name, as it says it.
 const PROGRAM: &str = "mkvol";
 
-/// What is told after a usage text: an example, and the exit statuses.
+/// What is reported after a usage text: an example, and the exit statuses.
 const USAGE_NOTE: &str = "
 Example:
   printf 'VOLUME WORK01 10\\nREC 0 0 0000000001 - C1C2\\n' > text
@@ -32,14 +32,15 @@ A fault is one line on standard error. Exit statuses:
   4  there was not memory enough
 ";
 
-/// The program: its words name an image and a text, and the image of the volume that the text states is written.
-pub(crate) fn run<R: AllocGlobal + Files + Env + Eprint>(rt: &R) -> Result<(), Failure> {
+/// The program: its words name an image and a text, and the image of the volume that the text
+/// states is written.
+pub(crate) fn run<R: AllocGlobal + Files + Env + Eprint>(rt: &R) -> Result<(), ToolFailure> {
     let alloc = rt.alloc();
     let words = words(rt, PROGRAM)?;
     let paths = match volume_paths(alloc, words.as_slice()) {
         Ok(paths) => paths,
-        Err(UsageError::Memory) => return Err(Failure::Memory),
-        Err(UsageError::Usage(text)) => return Err(wrong_use(rt, &text, USAGE_NOTE)),
+        Err(ToolUsageError::Memory) => return Err(ToolFailure::Memory),
+        Err(ToolUsageError::Usage(text)) => return Err(wrong_use(rt, &text, USAGE_NOTE)),
     };
     let text = read_all(alloc, &mut open(rt, paths.text)?)?;
     let mut output = OutputFile {
@@ -62,22 +63,33 @@ pub trait Output {
     ghost fails: { Self → HostFault → Type 0 };
 
     /// Makes the writer.
+    ///
+    /// # Errors
+    ///
+    /// `Device` with the number of the failure, or `Memory`.
     fn make(&mut self) -> Result<Self::Writer, HostFault>
         ensures ok { IfOk result (λ writer. makes self.old writer) }
         ensures err { IfErr result (λ fault. fails self.old fault) };
 }
 
-/// Makes the image of the volume that a text states, of which nothing is held back then, and gives what it was written
-/// to. The text is judged first: where it is refused, the output is not asked for anything.
+/// Makes the image of the volume that a text states, of which nothing is held back then, and gives
+/// what it was written to. The text is judged first: where it is refused, the output is not asked
+/// for anything.
+///
+/// # Errors
+///
+/// A `ToolFailure`: the first fault of the text or the image, a failure of a file, or refused
+/// memory.
 pub fn make_image<O: Output>(
     alloc: Global,
     text: &[u8],
     output: &mut O,
-) -> Result<O::Writer, Failure>
+) -> Result<O::Writer, ToolFailure>
     ensures made { IfOk result (IsMade text.now (O.makes output.old) O.Writer.contents) }
     ensures flushed { IfOk result (λ writer. O.Writer.held writer ≡ []) }
     ensures err { IfErr result
-        (IsUnmade (O.makes output.old) O.Writer.HostFile.failures (O.fails output.old) (volume_of text.now)) }
+        (IsUnmade (O.makes output.old) O.Writer.HostFile.failures (O.fails output.old)
+        (volume_of text.now)) }
     ensures unasked { (line : ℕ) → volume_of text.now ≡ Err line → output.new ≡ output.old }
 {
     let volume = make_volume(alloc, text)?;

@@ -1,17 +1,17 @@
 //! Which program is run: the first word says it.
 use crate::arguments::Tool;
-use crate::host::{Ended, ended_of, wrong_use};
+use crate::host::{ToolEnd, ended_of, wrong_use};
 use crate::{mkvol, trackmap};
 use std::rt::{Env, Files};
 
-/// What is told where no program is named.
+/// What is reported where no program is named.
 const USAGE: &str = "Usage: mkvol OUT TEXT
        trackmap IMAGE
 ";
 
-/// The whole program: the first word that it is started with names a program, whose words are those behind it. A failure
-/// is told on standard error.
-pub fn program<R: AllocGlobal + Files + Env + Print + Eprint>(rt: &R) -> Ended {
+/// Runs the whole program: the first word that it is started with names a program, whose words
+/// are those after it. A failure is reported on standard error.
+pub fn program<R: AllocGlobal + Files + Env + Print + Eprint>(rt: &R) -> ToolEnd {
     let ended = match named(rt) {
         Some(Tool::Mkvol) => mkvol::run(rt),
         Some(Tool::Trackmap) => trackmap::run(rt),
@@ -20,7 +20,8 @@ pub fn program<R: AllocGlobal + Files + Env + Print + Eprint>(rt: &R) -> Ended {
     ended_of(rt, ended)
 }
 
-/// The program that the first word names. The other words are judged behind it, so that it is known who tells of them.
+/// Returns the program that the first word names. The other words are judged after it, so that it
+/// is known who reports them.
 fn named<R: Env>(rt: &R) -> Option<Tool> {
     let mut room = [0u8; 8];
     let length = rt.arg(1, &mut room).ok()?;

@@ -1,12 +1,14 @@
 //! The reader of volume texts: line by line.
-ghost use Rattle.std.specs.Prelude.{◌≡◌, ◌<◌, ◌≤◌, ◌+◌, IfOk, IfErr, OnOk, OnErr, Some, None, Ok, length};
+ghost use Rattle.std.specs.Prelude.{◌≡◌, ◌<◌, ◌≤◌, ◌+◌, IfOk, IfErr, OnOk, OnErr, Some, None, Ok};
+ghost use Rattle.std.specs.Prelude.{length};
 ghost use Rattle.text_words.specs.Lines.{lines_of, read_lines};
 ghost use Rattle.ckd_text.specs.Grammar.{ReadsGrammar};
 ghost use Rattle.ckd_text.specs.Stated.{record_in, stated};
 ghost use Rattle.ckd_text.specs.Text as said;
-ghost use Rattle.ckd_text.specs.Text.{first_of, line_step, told, volume_of, with_stated, IsRefusal};
+ghost use Rattle.ckd_text.specs.Text.{first_of, line_step, reported, volume_of, with_stated};
+ghost use Rattle.ckd_text.specs.Text.{IsRefusal};
 
-use crate::statement::{StatedRecord, Statement, read_header, read_statement};
+use crate::statement::{StatedRecord, VolumeStatement, read_header, read_statement};
 use ckd_volume::Volume;
 use std::alloc::Global;
 use text_words::lines::cut_line;
@@ -27,8 +29,23 @@ pub enum TextError {
 #[derive(Clone, Copy, Drop)]
 struct NoPlace;
 
-/// The volume that a text states (docs/FORMATS.md, "Volume texts"). The whole text is judged: where a line is refused,
-/// the first such line is told, and an empty text is refused in its line 1.
+/// Returns the volume that a text states (docs/FORMATS.md, "Volume texts"). The whole text is
+/// judged: where a line is refused, the first such line is reported, and an empty text is refused
+/// in its line 1.
+///
+/// # Errors
+///
+/// A `TextError`: the first faulty line and its fault, or refused memory.
+///
+/// # Examples
+///
+/// ```
+/// use ckd_text::{TextError, make_volume};
+///
+/// let volume = make_volume(alloc, b"VOLUME WORK01 10\nREC 0 0 0000000001 - C1C2\n")?;
+/// assert_eq!(rt; volume.count(), 10);
+/// assert!(rt; make_volume(alloc, b"VOLUME WORK01 10\nREC\n").err() == Some(TextError::Line(2)));
+/// ```
 pub fn make_volume(alloc: Global, text: &[u8]) -> Result<Volume, TextError>
     ensures ok { IfOk result (λ volume. volume_of text.now ≡ Ok volume) }
     ensures err { IfErr result (IsRefusal (volume_of text.now)) }
@@ -44,16 +61,16 @@ pub fn make_volume(alloc: Global, text: &[u8]) -> Result<Volume, TextError>
     filled(alloc, volume, lines)
 }
 
-/// What is made is what the grammar of volume texts says, nothing else is accepted, and the line that is told is the
-/// first wrong one.
+/// What is made is what the grammar of volume texts says, nothing else is accepted, and the line
+/// that is reported is the first wrong one.
 pub fn reads_grammar()
     ensures { ReadsGrammar }
 {}
 
-/// The volume without records that the first line states.
+/// Returns the volume without records that the first line states.
 fn blank_volume(alloc: Global, line: &[u8]) -> Result<Volume, TextError>
     ensures ok { IfOk result (λ volume. first_of line.now ≡ Some volume) }
-    ensures err { IfErr result (IsRefusal (told 1 (first_of line.now))) }
+    ensures err { IfErr result (IsRefusal (reported 1 (first_of line.now))) }
 {
     let Some(header) = read_header(line) else {
         return Err(TextError::Line(1));
@@ -65,9 +82,10 @@ fn blank_volume(alloc: Global, line: &[u8]) -> Result<Volume, TextError>
     }
 }
 
-/// The volume with what the lines from the second on state.
+/// Returns the volume with what the lines from the second on state.
 fn filled(alloc: Global, blank: Volume, lines: &[u8]) -> Result<Volume, TextError>
-    ensures ok { IfOk result (λ volume. read_lines line_step 2 blank (lines_of lines.now) ≡ Ok volume) }
+    ensures ok { IfOk result
+        (λ volume. read_lines line_step 2 blank (lines_of lines.now) ≡ Ok volume) }
     ensures err { IfErr result (IsRefusal (read_lines line_step 2 blank (lines_of lines.now))) }
 {
     let mut volume = blank;
@@ -91,19 +109,20 @@ fn filled(alloc: Global, blank: Volume, lines: &[u8]) -> Result<Volume, TextErro
 }
 
 /// Puts what a line states into the volume.
-fn fill(volume: &mut Volume, statement: &Statement) -> Result<(), NoPlace>
+fn fill(volume: &mut Volume, statement: &VolumeStatement) -> Result<(), NoPlace>
     ensures ok { OnOk result (with_stated volume.old (stated statement.now) ≡ Some volume.new) }
     ensures err { OnErr result (with_stated volume.old (stated statement.now) ≡ None) }
 {
     match statement {
-        Statement::Home(cylinder, head, home) => set_home(volume, *cylinder, *head, *home),
-        Statement::Add(cylinder, head, record) => add(volume, *cylinder, *head, record),
+        VolumeStatement::Home(cylinder, head, home) => set_home(volume, *cylinder, *head, *home),
+        VolumeStatement::Add(cylinder, head, record) => add(volume, *cylinder, *head, record),
     }
 }
 
 /// Gives a track another home address.
 fn set_home(volume: &mut Volume, cylinder: u32, head: u32, home: [u8; 5]) -> Result<(), NoPlace>
-    ensures ok { OnOk result (with_stated volume.old (said.Home cylinder head home) ≡ Some volume.new) }
+    ensures ok { OnOk result
+        (with_stated volume.old (said.Home cylinder head home) ≡ Some volume.new) }
     ensures err { OnErr result (with_stated volume.old (said.Home cylinder head home) ≡ None) }
 {
     match volume.track_mut(cylinder as usize, head as usize) {
@@ -119,7 +138,8 @@ fn set_home(volume: &mut Volume, cylinder: u32, head: u32, home: [u8; 5]) -> Res
 fn add(volume: &mut Volume, cylinder: u32, head: u32, wanted: &StatedRecord) -> Result<(), NoPlace>
     ensures ok { OnOk result (with_stated volume.old (said.Add cylinder head (record_in wanted.now))
         ≡ Some volume.new) }
-    ensures err { OnErr result (with_stated volume.old (said.Add cylinder head (record_in wanted.now)) ≡ None) }
+    ensures err { OnErr result
+        (with_stated volume.old (said.Add cylinder head (record_in wanted.now)) ≡ None) }
 {
     match volume.track_mut(cylinder as usize, head as usize) {
         Some(track) => match track.push(wanted.id, &wanted.key, &wanted.content) {

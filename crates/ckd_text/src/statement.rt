@@ -2,7 +2,8 @@
 ghost use Rattle.std.specs.Prelude.{◌≡◌, IfOk};
 ghost use Rattle.std.specs.Option.{option_map};
 ghost use Rattle.ckd_text.specs.Stated.{blank_of, placed, record_in, stated};
-ghost use Rattle.ckd_text.specs.Text.{add_by, first_of, home_by, placed_of, record_of, stated_by, stated_of, volume_by};
+ghost use Rattle.ckd_text.specs.Text.{add_by, first_of, home_by, placed_of, record_of, stated_by};
+ghost use Rattle.ckd_text.specs.Text.{stated_of, volume_by};
 
 use crate::fields::{bytes_of, five_of, serial_of};
 use ckd_volume::MOST_CYLINDERS;
@@ -16,7 +17,7 @@ const DIGITS: usize = 7;
 /// What the first line states: a volume without records.
 #[derive(Clone, Copy)]
 pub struct Header {
-    /// The serial number, with blanks behind it.
+    /// The serial number, with blanks after it.
     pub serial: [u8; 6],
     /// How many cylinders, 1 to 808.
     pub cylinders: u16,
@@ -40,14 +41,14 @@ pub struct StatedRecord {
 
 /// What a line after the first states of the track under this head of this cylinder.
 #[derive(Drop)]
-pub enum Statement {
+pub enum VolumeStatement {
     /// Its home address.
     Home(u32, u32, [u8; 5]),
     /// A record after those that it has.
     Add(u32, u32, StatedRecord),
 }
 
-/// What the first line states.
+/// Returns what the first line states.
 pub fn read_header(line: &[u8]) -> Option<Header>
     ensures { option_map blank_of result ≡ first_of line.now }
 {
@@ -76,8 +77,12 @@ fn read_volume(operands: &[u8]) -> Option<Header>
     }
 }
 
-/// What a line after the first states.
-pub fn read_statement(alloc: Global, line: &[u8]) -> Result<Option<Statement>, AllocError>
+/// Returns what a line after the first states.
+///
+/// # Errors
+///
+/// `AllocError` if memory is refused.
+pub fn read_statement(alloc: Global, line: &[u8]) -> Result<Option<VolumeStatement>, AllocError>
     ensures { IfOk result (λ found. option_map stated found ≡ stated_of line.now) }
 {
     let (verb, operands) = cut_word(line);
@@ -87,12 +92,12 @@ pub fn read_statement(alloc: Global, line: &[u8]) -> Result<Option<Statement>, A
     }
 }
 
-/// What a line states, by its first word.
+/// Returns what a line states, by its first word.
 fn read_operands(
     alloc: Global,
     verb: &[u8],
     operands: &[u8],
-) -> Result<Option<Statement>, AllocError>
+) -> Result<Option<VolumeStatement>, AllocError>
     ensures { IfOk result (λ found. option_map stated found ≡ stated_by verb.now operands.now) }
 {
     let Some(place) = read_place(operands) else {
@@ -107,7 +112,7 @@ fn read_operands(
     }
 }
 
-/// The first two words, which are a cylinder and a head.
+/// Returns the first two words, which are a cylinder and a head.
 fn read_place(operands: &[u8]) -> Option<Place<'_>>
     ensures { option_map placed result ≡ placed_of operands.now }
 {
@@ -124,24 +129,24 @@ fn read_place(operands: &[u8]) -> Option<Place<'_>>
 }
 
 /// `HOME cylinder head address`, after its place.
-fn read_home(place: Place<'_>) -> Option<Statement>
+fn read_home(place: Place<'_>) -> Option<VolumeStatement>
     ensures { option_map stated result ≡ home_by (placed place.entry) }
 {
     let home = five_of(place.rest)?;
-    Some(Statement::Home(place.cylinder, place.head, home))
+    Some(VolumeStatement::Home(place.cylinder, place.head, home))
 }
 
 /// `REC cylinder head id key data`, after its place.
-fn read_add(alloc: Global, place: Place<'_>) -> Result<Option<Statement>, AllocError>
+fn read_add(alloc: Global, place: Place<'_>) -> Result<Option<VolumeStatement>, AllocError>
     ensures { IfOk result (λ found. option_map stated found ≡ add_by (placed place.entry)) }
 {
     match read_record(alloc, place.rest)? {
-        Some(record) => Ok(Some(Statement::Add(place.cylinder, place.head, record))),
+        Some(record) => Ok(Some(VolumeStatement::Add(place.cylinder, place.head, record))),
         None => Ok(None),
     }
 }
 
-/// The id, the key and the data of a record.
+/// Returns the id, the key and the data of a record.
 fn read_record(alloc: Global, fields: &[u8]) -> Result<Option<StatedRecord>, AllocError>
     ensures { IfOk result (λ found. option_map record_in found ≡ record_of fields.now) }
 {

@@ -3,8 +3,8 @@ ghost use Rattle.std.specs.Prelude.{◌≡◌, [], OnOk};
 ghost use Rattle.std.specs.Io.KnownBytes.{Appends};
 ghost use Rattle.ckd_text.specs.Map.{map_of};
 
-use crate::arguments::{UsageError, image_path};
-use crate::faults::Failure;
+use crate::arguments::{ToolUsageError, image_path};
+use crate::faults::ToolFailure;
 use crate::host::{open, words, wrong_use};
 use crate::map::track_map;
 use ckd_image::read_image;
@@ -14,10 +14,10 @@ use std::alloc::Global;
 use std::io;
 use std::rt::{Env, Files};
 
-/// The program's name, as it tells it.
+/// The program's name, as it says it.
 const PROGRAM: &str = "trackmap";
 
-/// What is told after a usage text: an example, and the exit statuses.
+/// What is reported after a usage text: an example, and the exit statuses.
 const USAGE_NOTE: &str = "
 Example:
   printf 'VOLUME WORK01 10\\nREC 0 0 0000000001 - C1C2\\n' > text
@@ -33,24 +33,31 @@ The map goes to standard output, a fault as one line to standard error. Exit sta
 ";
 
 /// The program: its words name an image, and the map of its volume is written.
-pub(crate) fn run<R: AllocGlobal + Files + Env + Print + Eprint>(rt: &R) -> Result<(), Failure> {
+pub(crate) fn run<R: AllocGlobal + Files + Env + Print + Eprint>(
+    rt: &R,
+) -> Result<(), ToolFailure> {
     let alloc = rt.alloc();
     let words = words(rt, PROGRAM)?;
     let path = match image_path(alloc, words.as_slice()) {
         Ok(path) => path,
-        Err(UsageError::Memory) => return Err(Failure::Memory),
-        Err(UsageError::Usage(text)) => return Err(wrong_use(rt, &text, USAGE_NOTE)),
+        Err(ToolUsageError::Memory) => return Err(ToolFailure::Memory),
+        Err(ToolUsageError::Usage(text)) => return Err(wrong_use(rt, &text, USAGE_NOTE)),
     };
     let volume = read_image(alloc, &mut open(rt, path)?)?;
     let Ok(output) = io::BufWriter::new(alloc, io::writer(rt)) else {
-        return Err(Failure::Memory);
+        return Err(ToolFailure::Memory);
     };
     print_map(alloc, &volume, &mut Counted::new(output))
 }
 
 /// Writes the map of a volume, of which nothing is held back then.
-fn print_map<W: HostWriter>(alloc: Global, volume: &Volume, writer: &mut W) -> Result<(), Failure>
-    ensures written { OnOk result (Appends (W.contents writer.old) (W.contents writer.new) (map_of volume.now)) }
+fn print_map<W: HostWriter>(
+    alloc: Global,
+    volume: &Volume,
+    writer: &mut W,
+) -> Result<(), ToolFailure>
+    ensures written { OnOk result
+        (Appends (W.contents writer.old) (W.contents writer.new) (map_of volume.now)) }
     ensures flushed { OnOk result (W.held writer.new ≡ []) }
 {
     let map = track_map(alloc, volume)?;

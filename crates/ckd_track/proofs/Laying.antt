@@ -125,7 +125,7 @@ content_here es area i start middle end lt first second third =
 pub id_here : (es : List Entry) (area : List ℕ) (i : ℕ) → i < length es → (entry_at es i).id ≡ (slice_index_or (records_of es area) i no_record).id
 id_here es area i lt = ap (λ (r : Record). r.id) (sym (record_here es area i no_entry lt))
 
--- What the parts of a track are after a write behind its first i records.
+-- What the parts of a track are after a write after its first i records.
 pub after_laid : (es : List Entry) (area : List ℕ) (i : ℕ) (e : Entry) (key content : List ℕ) → IsLaid es area → total_cost (take i es) + record_cost e.key e.content ≤ capacity → length key ≡ e.key → length content ≡ e.content
     → IsLaid (take i es ++ e ∷ []) (take (total (take i es)) area ++ (key ++ content))
 after_laid es area i e key content laid room one two =

@@ -1,4 +1,5 @@
--- How a track lies in memory: an entry for each record, and the keys and data of all of them one after another.
+-- How a track lies in memory: an entry for each record, and the keys and data of all of them one
+-- after another.
 use Rattle.std.specs.Prelude.{ℕ, ◌+◌, ◌≡◌, ◌≤◌, List, [], ◌∷◌, length, take, drop, slice_index_or}
 use Rattle.ckd_track.specs.declared.entry.Entry.{Entry}
 use Rattle.ckd_track.specs.Track.{Record, record_cost, capacity}
@@ -8,14 +9,20 @@ abbrev pub total : List Entry → ℕ
 total [] = 0
 total (e ∷ es) = e.key + e.content + total es
 
+-- what all entries take of the track
 abbrev pub total_cost : List Entry → ℕ
 total_cost [] = 0
 total_cost (e ∷ es) = record_cost e.key e.content + total_cost es
 
 -- the record of an entry whose bytes are the first of these
 abbrev pub record_of : Entry → List ℕ → Record
-record_of e area = record { id = e.id; key = take e.key area; content = take e.content (drop e.key area) }
+record_of e area = record {
+  id = e.id;
+  key = take e.key area;
+  content = take e.content (drop e.key area);
+}
 
+-- the records of entries whose bytes follow one another in an area
 abbrev pub records_of : List Entry → List ℕ → List Record
 records_of [] area = []
 records_of (e ∷ es) area = record_of e area ∷ records_of es (drop (e.key + e.content) area)
@@ -25,8 +32,10 @@ pub record IsLaid (entries : List Entry) (area : List ℕ) : Type 0 where
   pub whole : length area ≡ total entries
   pub fits : total_cost entries ≤ capacity
 
+-- what stands in for an entry that is not there
 abbrev pub no_entry : Entry
 no_entry = record { id = []; key = 0; content = 0 }
 
+-- the entry with this index
 abbrev pub entry_at : List Entry → ℕ → Entry
 entry_at es i = slice_index_or es i no_entry

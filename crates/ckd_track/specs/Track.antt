@@ -1,6 +1,8 @@
--- A track of a disk with count, key and data (GA26-3599, "Track Format"): a home address, and records one after another.
--- What a record takes of the track, and what a track holds, are the project's own numbers (docs/MACHINE.md, "Disks").
-use Rattle.std.specs.Prelude.{Bool, ◌&&◌, nat_le, slice_set, slice_index_or, ℕ, ◌+◌, ◌/◌, ◌%◌, ◌==◌, List, [], ◌∷◌, ◌++◌, length, take, if◌then◌else◌}
+-- A track of a disk with count, key and data (GA26-3599, "Track Format"): a home address, and
+-- records one after another. What a record takes of the track, and what a track holds, are the
+-- project's own numbers (docs/MACHINE.md, "Disks").
+use Rattle.std.specs.Prelude.{Bool, ◌&&◌, nat_le, slice_set, slice_index_or, ℕ, ◌+◌, ◌/◌, ◌%◌, ◌==◌}
+use Rattle.std.specs.Prelude.{List, [], ◌∷◌, ◌++◌, length, take, if◌then◌else◌}
 
 -- a record: cylinder, head and number as five bytes, its key, and its data
 pub record Record : Type 0 where
@@ -8,7 +10,7 @@ pub record Record : Type 0 where
   pub key : List ℕ
   pub content : List ℕ
 
--- what stands on a track: flag, cylinder and head as five bytes, and its records
+-- what is on a track: flag, cylinder and head as five bytes, and its records
 pub record TrackFormat : Type 0 where
   pub home : List ℕ
   pub records : List Record
@@ -17,9 +19,11 @@ pub record TrackFormat : Type 0 where
 abbrev pub record_cost : ℕ → ℕ → ℕ
 record_cost key content = if key == 0 then 135 + content else 191 + key + content
 
+-- what a record takes of the track
 abbrev pub cost_of : Record → ℕ
 cost_of r = record_cost (length r.key) (length r.content)
 
+-- what records take of the track together
 abbrev pub cost : List Record → ℕ
 cost [] = 0
 cost (r ∷ rs) = cost_of r + cost rs
@@ -28,9 +32,11 @@ cost (r ∷ rs) = cost_of r + cost rs
 abbrev pub count_bytes : Record → List ℕ
 count_bytes r = r.id ++ (length r.key ∷ length r.content / 256 ∷ length r.content % 256 ∷ [])
 
+-- what stands in for a record that is not there
 abbrev pub no_record : Record
 no_record = record { id = []; key = []; content = [] }
 
+-- the record with this index on a track
 abbrev pub record_in : TrackFormat → ℕ → Record
 record_in t i = slice_index_or t.records i no_record
 
@@ -48,4 +54,5 @@ capacity = 13165
 
 -- whether a track has room for a record after its first i; a key's length is one byte
 abbrev pub has_room : TrackFormat → ℕ → ℕ → ℕ → Bool
-has_room t i key content = nat_le key 255 && nat_le (cost (take i t.records) + record_cost key content) capacity
+has_room t i key content =
+    nat_le key 255 && nat_le (cost (take i t.records) + record_cost key content) capacity

@@ -1,5 +1,6 @@
-//! What stands in memory of each record beside its bytes.
-ghost use Rattle.std.specs.Prelude.{◌≡◌, ◌≤◌, ◌<◌, ◌+◌, ◌++◌, ◌∷◌, [], ◌&&◌, nat_le, length, take, drop, slice_index_or, slice_set};
+//! What is in memory of each record next to its bytes.
+ghost use Rattle.std.specs.Prelude.{◌≡◌, ◌≤◌, ◌<◌, ◌+◌, ◌++◌, ◌∷◌, [], ◌&&◌, nat_le, length, take};
+ghost use Rattle.std.specs.Prelude.{drop, slice_index_or, slice_set};
 ghost use Rattle.std.specs.Vec.{vec_capacity};
 ghost use Rattle.ckd_track.specs.Laid.{total, total_cost, entry_at, records_of, IsLaid};
 
@@ -11,7 +12,7 @@ pub struct Entry {
     pub content: u16,
 }
 
-/// The bytes of so many records.
+/// Returns the bytes of so many records.
 pub fn spread(entries: &[Entry]) -> usize
     requires { total entries.now ≤ 13165 }
     ensures sum { result ≡ total entries.now }
@@ -24,7 +25,7 @@ pub fn spread(entries: &[Entry]) -> usize
     sum
 }
 
-/// What they take of the track.
+/// Returns what they take of the track.
 pub fn cost_of(entries: &[Entry]) -> usize
     requires { total_cost entries.now ≤ 13165 }
     ensures sum { result ≡ total_cost entries.now }
@@ -40,7 +41,7 @@ pub fn cost_of(entries: &[Entry]) -> usize
 ghost use Rattle.ckd_track.specs.Track as track;
 ghost use Rattle.ckd_track.specs.Track.{no_record};
 
-/// What a record takes of the track.
+/// Returns what a record takes of the track.
 pub fn record_cost(key: usize, content: usize) -> usize
     requires key { key ≤ 255 }
     requires content { content ≤ 65535 }
@@ -64,7 +65,7 @@ pub fn start_of(entries: &[Entry], i: usize) -> usize
     spread(&entries[..i])
 }
 
-/// Whether there is room for a record after the first `i`.
+/// Returns whether there is room for a record after the first `i`.
 pub fn has_room(entries: &[Entry], i: usize, key: usize, content: usize) -> bool
     requires fits { total_cost entries.now ≤ 13165 }
     requires within { i ≤ length entries.now }
@@ -85,7 +86,8 @@ pub fn append(entries: &mut Vec<Entry>, area: &mut Vec<u8>, id: [u8; 5], key: &[
     requires key { length key.now ≤ 255 }
     requires content { length content.now ≤ 13030 }
     requires entries { length entries.old.items < vec_capacity entries.old }
-    requires area { length area.old.items + (length key.now + length content.now) ≤ vec_capacity area.old }
+    requires area { length area.old.items + (length key.now + length content.now)
+        ≤ vec_capacity area.old }
     ensures entries { entries.new.items ≡ entries.old.items
         ++ (record { id = id; key = length key.now; content = length content.now }) ∷ [] }
     ensures area { area.new.items ≡ area.old.items ++ (key.now ++ content.now) }
@@ -135,7 +137,7 @@ pub fn span_of(entries: &[Entry], i: usize) -> Span
     Span { start, middle, end }
 }
 
-/// A record that stands on a track.
+/// A record that is on a track.
 #[derive(Clone, Copy)]
 pub struct Record<'a> {
     pub id: [u8; 5],
@@ -148,8 +150,10 @@ pub fn part<'a>(entries: &[Entry], area: &'a [u8], i: usize) -> Record<'a>
     requires whole { length area.now ≡ total entries.now }
     requires within { i < length entries.now }
     ensures id { result.id ≡ (slice_index_or (records_of entries.now area.now) i no_record).id }
-    ensures key { result.key.now ≡ (slice_index_or (records_of entries.now area.now) i no_record).key }
-    ensures content { result.content.now ≡ (slice_index_or (records_of entries.now area.now) i no_record).content }
+    ensures key { result.key.now
+        ≡ (slice_index_or (records_of entries.now area.now) i no_record).key }
+    ensures content { result.content.now
+        ≡ (slice_index_or (records_of entries.now area.now) i no_record).content }
     ensures short_key { length result.key.now ≤ 255 }
     ensures short { length result.key.now + length result.content.now ≤ 13030 }
 {
@@ -163,7 +167,7 @@ pub fn part<'a>(entries: &[Entry], area: &'a [u8], i: usize) -> Record<'a>
     }
 }
 
-/// Puts a record behind the first `i`, which there is room for; all later ones are erased.
+/// Puts a record after the first `i`, which there is room for; all later ones are erased.
 pub fn replace_after(
     entries: &mut Vec<Entry>,
     area: &mut Vec<u8>,
@@ -180,7 +184,8 @@ pub fn replace_after(
     requires entries { 97 ≤ vec_capacity entries.old }
     requires area { 13030 ≤ vec_capacity area.old }
     ensures laid { IsLaid entries.new.items area.new.items }
-    ensures records { records_of entries.new.items area.new.items ≡ take i (records_of entries.old.items area.old.items)
+    ensures records { records_of entries.new.items area.new.items
+        ≡ take i (records_of entries.old.items area.old.items)
         ++ (record { id = id; key = key.now; content = content.now }) ∷ [] }
     ensures number { i < 97 }
     ensures more_entries { 97 ≤ vec_capacity entries.new }
@@ -210,17 +215,20 @@ pub fn put_content(entries: &[Entry], area: &mut [u8], i: usize, bytes: &[u8])
     area[span.middle..span.end].copy_from_slice(bytes);
 }
 
-/// Writes key and data of a record, which stand one behind the other.
+/// Writes key and data of a record, which are one after the other.
 pub fn put_both(entries: &[Entry], area: &mut [u8], i: usize, bytes: &[u8])
     requires laid { IsLaid entries.now area.old }
     requires within { i < length entries.now }
-    requires long { length bytes.now ≡ (entry_at entries.now i).key + (entry_at entries.now i).content }
+    requires long { length bytes.now
+        ≡ (entry_at entries.now i).key + (entry_at entries.now i).content }
     ensures records { records_of entries.now area.new
         ≡ slice_set (records_of entries.now area.old) i
         (record {
           id = (slice_index_or (records_of entries.now area.old) i no_record).id;
-          key = take (length (slice_index_or (records_of entries.now area.old) i no_record).key) bytes.now;
-          content = drop (length (slice_index_or (records_of entries.now area.old) i no_record).key) bytes.now;
+          key = take (length (slice_index_or (records_of entries.now area.old) i no_record).key)
+              bytes.now;
+          content = drop (length (slice_index_or (records_of entries.now area.old) i no_record).key)
+              bytes.now;
         }) }
     ensures length { length area.new ≡ length area.old }
 {

@@ -1,8 +1,9 @@
 //! A track of a disk with count, key and data.
 //!
-//! Its one theorem: a [`Track`] is its home address and the list of its records. A call changes what it names and
-//! nothing else; a record is refused exactly where its key has more than 255 bytes or the track would cost more than it
-//! holds ([`Track::push`]); and no call takes memory after [`Track::blank`], which allots the track whole.
+//! Its one theorem: a [`Track`] is its home address and the list of its records. A call changes
+//! what it names and nothing else; a record is refused exactly where its key has more than 255
+//! bytes or the track would cost more than it holds ([`Track::push`]); and no call takes memory
+//! after [`Track::blank`], which allots the track whole.
 //!
 //! ```
 //! use ckd_track::{Track, TrackFull};

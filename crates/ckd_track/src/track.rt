@@ -1,5 +1,6 @@
 //! A track, which is allotted whole: what is written later takes no memory.
-ghost use Rattle.std.specs.Prelude.{◌≡◌, ◌+◌, ◌*◌, ◌<◌, ◌≤◌, ◌↔◌, Bool, true, false, [], length, take, drop, slice_index_or, IfOk, OnOk, OnErr, IsOk};
+ghost use Rattle.std.specs.Prelude.{◌≡◌, ◌+◌, ◌*◌, ◌<◌, ◌≤◌, ◌↔◌, Bool, true, false, [], length};
+ghost use Rattle.std.specs.Prelude.{take, drop, slice_index_or, IfOk, OnOk, OnErr, IsOk};
 ghost use Rattle.std.specs.Result.{is_ok};
 ghost use Rattle.ckd_track.specs.Track as room;
 ghost use Rattle.ckd_track.specs.Track.{record_in, with_record, with_last};
@@ -36,14 +37,21 @@ impl Model for Track {
 
     ghost Value = { TrackFormat };
 
-    ghost view = { λ t. record { home = t.home; records = records_of t.entries.items t.area.items } };
+    ghost view = { λ t. record {
+      home = t.home;
+      records = records_of t.entries.items t.area.items;
+    } };
 
     ghost invariant = { λ t. IsLaid t.entries.items t.area.items × (97 ≤ vec_capacity t.entries)
         × (13030 ≤ vec_capacity t.area) };
 }
 
 impl Track {
-    /// A track with this home address and no record, with room for all that it can hold.
+    /// Returns a track with this home address and no record, with room for all that it can hold.
+    ///
+    /// # Errors
+    ///
+    /// `AllocError` if memory is refused.
     pub fn blank(alloc: Global, home: [u8; 5]) -> Result<Track, AllocError>
         ensures { IfOk result (λ t. t ≡ record { home = home; records = [] }) }
     {
@@ -56,7 +64,12 @@ impl Track {
         })
     }
 
-    /// A track with the same home address and the same records, with room for all that it can hold.
+    /// Returns a track with the same home address and the same records, with room for all that it
+    /// can hold.
+    ///
+    /// # Errors
+    ///
+    /// `AllocError` if memory is refused.
     pub fn copy(&self, alloc: Global) -> Result<Track, AllocError>
         ensures { IfOk result (λ t. t ≡ self.now) }
     {
@@ -75,7 +88,7 @@ impl Track {
     pub fn home(&self) -> [u8; 5]
         ensures { result ≡ self.now.home }
     {
-        // All its fields: what is added to them is seen here.
+        // Exhaustive: a new field fails to compile here.
         let Track {
             home,
             entries: _,
@@ -92,7 +105,7 @@ impl Track {
         self.home = home;
     }
 
-    /// How many records it has.
+    /// Returns how many records it has.
     pub fn len(&self) -> usize
         ensures count { result ≡ length self.now.records }
         ensures few { result ≤ 97 }
@@ -100,7 +113,7 @@ impl Track {
         self.entries.len()
     }
 
-    /// The record of this number.
+    /// Returns the record of this number.
     pub fn record(&self, i: usize) -> Record<'_>
         requires { i < length self.now.records }
         ensures id { result.id ≡ (record_in self.now i).id }
@@ -114,11 +127,17 @@ impl Track {
     }
 
     /// Writes a record after all others.
+    ///
+    /// # Errors
+    ///
+    /// `TrackFull` if the record has no room; nothing has changed.
     pub fn push(&mut self, id: [u8; 5], key: &[u8], content: &[u8]) -> Result<(), TrackFull>
         ensures cases { is_ok result
-            ≡ room.has_room self.old (length self.old.records) (length key.now) (length content.now) }
+            ≡ room.has_room self.old (length self.old.records) (length key.now)
+            (length content.now) }
         ensures ok { OnOk result (self.new
-            ≡ with_last self.old (length self.old.records) (record { id = id; key = key.now; content = content.now })) }
+            ≡ with_last self.old (length self.old.records)
+            (record { id = id; key = key.now; content = content.now })) }
         ensures err { OnErr result (self.new ≡ self.old) }
     {
         let last = self.len();
@@ -126,6 +145,10 @@ impl Track {
     }
 
     /// Writes a record after the first `i`; all later ones are erased.
+    ///
+    /// # Errors
+    ///
+    /// `TrackFull` if the record has no room; nothing has changed.
     pub fn write_after(
         &mut self,
         i: usize,
@@ -134,7 +157,8 @@ impl Track {
         content: &[u8],
     ) -> Result<(), TrackFull>
         requires { i ≤ length self.old.records }
-        ensures cases { is_ok result ≡ room.has_room self.old i (length key.now) (length content.now) }
+        ensures cases { is_ok result
+            ≡ room.has_room self.old i (length key.now) (length content.now) }
         ensures number { OnOk result (i < 97) }
         ensures ok { OnOk result (self.new
             ≡ with_last self.old i (record { id = id; key = key.now; content = content.now })) }
@@ -152,15 +176,20 @@ impl Track {
         requires inside { i < length self.old.records }
         requires whole { length bytes.now ≡ length (record_in self.old i).content }
         ensures { self.new ≡ with_record self.old i
-            (record { id = (record_in self.old i).id; key = (record_in self.old i).key; content = bytes.now }) }
+            (record {
+              id = (record_in self.old i).id;
+              key = (record_in self.old i).key;
+              content = bytes.now;
+            }) }
     {
         put_content(&self.entries, &mut self.area, i, bytes);
     }
 
-    /// Writes key and data of a record, which stand one behind the other.
+    /// Writes key and data of a record, which are one after the other.
     pub fn write_key_and_content(&mut self, i: usize, bytes: &[u8])
         requires inside { i < length self.old.records }
-        requires whole { length bytes.now ≡ length (record_in self.old i).key + length (record_in self.old i).content }
+        requires whole { length bytes.now
+            ≡ length (record_in self.old i).key + length (record_in self.old i).content }
         ensures { self.new ≡ with_record self.old i
             (record {
               id = (record_in self.old i).id;

@@ -14,7 +14,7 @@ set_past (y ∷ ys) (suc i) x le = ap (λ l. y ∷ l) (set_past ys i x (omega ar
 pub append_all : (a b k d : List ℕ) → ((a ++ b) ++ k) ++ d ≡ (a ++ b) ++ (k ++ d)
 append_all a b k d = append_assoc (a ++ b) k d
 
--- what stands there is set
+-- what is there is set
 pub set_own : {X : Type 0} (xs : List X) (i : ℕ) (d : X) → slice_set xs i (slice_index_or xs i d) ≡ xs
 set_own [] i d = refl
 set_own (x ∷ xs) zero d = refl

@@ -4,8 +4,8 @@ use Rattle.std.specs.List.{slice_range}
 use Rattle.std.proofs.Common.{sym, ◌∙◌, ap, arith, inl, inr, ◌⊎◌, append_assoc, append-nil, length-append}
 use Rattle.std.proofs.lemmas.List.{drop_more, get_or_append_left, length-take}
 use Rattle.s370_walk.specs.Hardware.{given, after_giving, after_taking}
-use Rattle.ckd_volume.specs.declared.parts.Job.{Job}
-use Rattle.ckd_volume.specs.declared.parts.Job.TheVariants as jobs
+use Rattle.ckd_volume.specs.declared.parts.PendingCommand.{PendingCommand}
+use Rattle.ckd_volume.specs.declared.parts.PendingCommand.TheVariants as jobs
 use Rattle.ckd_volume.specs.Front.{Front}
 use Rattle.ckd_volume.specs.Write.{is_whole, whole_length, longest}
 use Rattle.ckd_volume.specs.Unit.{Disk, disk_machine, keeps, gave, took, is_done}
@@ -107,7 +107,7 @@ at_most m n le = grind arith
 not_at_most : (m n : ℕ) → n < m → nat_le m n ≡ false
 not_at_most m n lt = grind arith
 
-same_done : (f : Front) (k : ℕ) (job : Job) → is_done (record f { given = k }) job ≡ is_done f job
+same_done : (f : Front) (k : ℕ) (job : PendingCommand) → is_done (record f { given = k }) job ≡ is_done f job
 same_done f k jobs.Nothing = refl
 same_done f k (jobs.Give status) = refl
 same_done f k jobs.SetMask = refl
@@ -137,7 +137,7 @@ lacks_short bytes lt = rw (below (length bytes) 8 lt) refl
 lacks_long : (bytes : List ℕ) → 8 ≤ length bytes → lacks bytes ≡ whole_length bytes - length bytes
 lacks_long bytes le = rw (not_below (length bytes) 8 le) refl
 
--- the first eight bytes tell how many there are
+-- the first eight bytes say how many there are
 whole_told : (xs ys : List ℕ) → 8 ≤ length xs → whole_length (xs ++ ys) ≡ whole_length xs
 whole_told xs ys le =
     let five : slice_index (xs ++ ys) 5 ≡ slice_index xs 5 = get_or_append_left xs ys 0 5 (omega arith) in
@@ -159,7 +159,7 @@ pub done_taking : (d : Disk) (bytes : List ℕ) → is_done d.front d.front.job 
 done_taking d bytes going few =
     ap disk_machine.done (after_taking_slice d bytes) ∙ still d.front d.front.job going few
   where
-    still : (f : Front) (job : Job) → is_done f job ≡ false → length bytes < ready f job → is_done (took_slice f bytes) job ≡ false
+    still : (f : Front) (job : PendingCommand) → is_done f job ≡ false → length bytes < ready f job → is_done (took_slice f bytes) job ≡ false
     still f jobs.Nothing e lt = refl
     still f (jobs.Give status) e lt = refl
     still f jobs.SetMask e lt = refl

@@ -1,11 +1,13 @@
--- What a control unit for disks keeps beside the volume and the cylinder of its arm, and what stands at a place of a track.
--- All rules of the unit are the project's own, in the terms of GA26-3599 (docs/MACHINE.md, "Disks").
-use Rattle.std.specs.Prelude.{ℕ, ◌+◌, ◌<◌, ◌==◌, Bool, nat_lt, true, List, [], length, slice_index, slice_index_or}
+-- What a control unit for disks keeps next to the volume and the cylinder of its arm, and what is
+-- at a place of a track. All rules of the unit are the project's own, in the terms of GA26-3599
+-- (docs/MACHINE.md, "Disks").
+use Rattle.std.specs.Prelude.{ℕ, ◌+◌, ◌<◌, ◌==◌, Bool, nat_lt, true, List, [], length, slice_index}
+use Rattle.std.specs.Prelude.{slice_index_or}
 use Rattle.ckd_track.specs.Track.{Record, TrackFormat, no_record}
 use Rattle.ckd_volume.specs.declared.parts.Place.{Place}
 use Rattle.ckd_volume.specs.declared.parts.Place.TheVariants.{Index, Gap, Count, Key}
-use Rattle.ckd_volume.specs.declared.parts.Right.{Right}
-use Rattle.ckd_volume.specs.declared.parts.Job.{Job}
+use Rattle.ckd_volume.specs.declared.parts.WriteAccess.{WriteAccess}
+use Rattle.ckd_volume.specs.declared.parts.PendingCommand.{PendingCommand}
 use Rattle.ckd_volume.specs.declared.parts.Sense.{Sense}
 use Rattle.ckd_volume.specs.declared.parts.Found.{Found}
 use Rattle.ckd_volume.specs.declared.parts.Found.TheVariants.{There, Lost}
@@ -16,17 +18,17 @@ use Rattle.ckd_volume.specs.declared.parts.Wanted.TheVariants as wanted
 pub record Front : Type 0 where
   -- whether the disk may be written
   pub writable : Bool
-  -- the head of the arm, and where it stands on the track
+  -- the head of the arm, and where it is on the track
   pub head : ℕ
   pub place : Place
   pub mask : ℕ
   -- the index points that were passed since the last seek, head switch, read or write
   pub points : ℕ
   -- what the command that was started last gives the right to write
-  pub right : Right
+  pub right : WriteAccess
   pub sense : Sense
   -- what is still to do when the bytes of the command are there
-  pub job : Job
+  pub job : PendingCommand
   -- the bytes that are given, or those that were taken so far
   pub bytes : List ℕ
   -- how many bytes were given
@@ -36,15 +38,19 @@ pub record Front : Type 0 where
 abbrev pub Cylinder : Type 0
 Cylinder = List TrackFormat
 
+-- what stands in for a track that is not there
 abbrev pub no_track : TrackFormat
 no_track = record { home = []; records = [] }
 
+-- the track under a head
 abbrev pub track_at : Cylinder → ℕ → TrackFormat
 track_at cylinder head = slice_index_or cylinder head no_track
 
+-- the records of the track under a head
 abbrev pub records_at : Cylinder → ℕ → List Record
 records_at cylinder head = (track_at cylinder head).records
 
+-- a record of the track under a head
 abbrev pub record_at : Cylinder → ℕ → ℕ → Record
 record_at cylinder head i = slice_index_or (records_at cylinder head) i no_record
 

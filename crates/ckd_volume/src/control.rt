@@ -7,8 +7,8 @@ ghost use Rattle.ckd_volume.specs.Unit as unit;
 ghost use Rattle.ckd_volume.specs.declared.parts.Place.TheVariants as places;
 
 use crate::cylinder::HEADS;
-use crate::panel::Panel;
-use crate::parts::{Job, Place};
+use crate::panel::ControlUnit;
+use crate::parts::{PendingCommand, Place};
 use s370_walk::{Answer, Order, UnitStatus};
 
 /// A track, as a seek names it.
@@ -28,7 +28,7 @@ fn halfword(bytes: &[u8], k: usize) -> usize
     256 * usize::from(bytes[k]) + usize::from(bytes[k + 1])
 }
 
-impl Panel {
+impl ControlUnit {
     /// 04 Sense: only as first command of a program, and with no chaining.
     pub(crate) fn begin_sense(&mut self, order: Order) -> Answer
         requires empty { self.old.bytes ≡ [] }
@@ -52,7 +52,7 @@ impl Panel {
         ensures after { self.new ≡ (table.begin_seek self.old).front }
     {
         if self.mask & 0x18 == 0 {
-            self.take_for(6, Job::Seek)
+            self.take_for(6, PendingCommand::Seek)
         } else {
             self.refuse(0, 0x04)
         }
@@ -70,7 +70,7 @@ impl Panel {
         self.end(UnitStatus::NONE)
     }
 
-    /// The track that a seek names by its bytes, if a disk of so many cylinders has it.
+    /// Returns the track that a seek names by its bytes, if a disk of so many cylinders has it.
     pub(crate) fn sought(&self, cylinders: usize) -> Option<Seek>
         ensures { result ≡ table.sought cylinders self.now.bytes }
     {
@@ -85,22 +85,22 @@ impl Panel {
         None
     }
 
-    /// Whether a seek is being carried out.
+    /// Returns whether a seek is being carried out.
     pub(crate) fn is_seeking(&self) -> bool
         ensures { result ≡ unit.is_seeking self.now.job }
     {
         match self.job {
-            Job::Seek => true,
+            PendingCommand::Seek => true,
             _ => false,
         }
     }
 
-    /// The argument of a seek, when its bytes are there.
+    /// Returns the argument of a seek, when its bytes are there.
     pub(crate) fn argument(&self) -> Option<[u8; 6]>
         ensures { result ≡ unit.argument_held self.now }
     {
-        // All its fields: what is added to them is seen here.
-        let Panel {
+        // Exhaustive: a new field fails to compile here.
+        let ControlUnit {
             writable: _,
             head: _,
             place: _,

@@ -1,5 +1,6 @@
 //! A cylinder: the tracks that the heads of the arm reach without a seek.
-ghost use Rattle.std.specs.Prelude.{◌≡◌, ◌<◌, ◌/◌, ◌%◌, [], ◌∷◌, length, Option, Some, None, IfOk, IfSome, IsSome, ◌↔◌};
+ghost use Rattle.std.specs.Prelude.{◌≡◌, ◌<◌, ◌/◌, ◌%◌, [], ◌∷◌, length, Option, Some, None, IfOk};
+ghost use Rattle.std.specs.Prelude.{IfSome, IsSome, ◌↔◌};
 ghost use Rattle.ckd_volume.specs.Volume.{blank_tracks, home_of};
 ghost use Rattle.ckd_volume.specs.Front.{track_at};
 
@@ -27,7 +28,7 @@ impl Model for Cylinder {
     ghost invariant = { λ c. length c.tracks.items ≡ 19 };
 }
 
-/// The home address of a track: flag, cylinder and head.
+/// Returns the home address of a track: flag, cylinder and head.
 pub fn home_address(cylinder: u16, head: u8) -> [u8; 5]
     ensures { result ≡ home_of cylinder head }
 {
@@ -38,7 +39,11 @@ impl Cylinder {
     ghost use Rattle.std.specs.Borrow.{sem};
     ghost use Rattle.ckd_volume.specs.Lending.{LendsTrack, LendsHead};
 
-    /// A cylinder of this number whose tracks have no record.
+    /// Returns a cylinder of this number whose tracks have no record.
+    ///
+    /// # Errors
+    ///
+    /// `AllocError` if memory is refused.
     #[tactic(auto, using(crate::proofs::Blanks::tracks_on))]
     pub fn blank(alloc: Global, number: u16) -> Result<Cylinder, AllocError>
         ensures { IfOk result (λ c. c ≡ blank_tracks number 0 19) }
@@ -51,7 +56,11 @@ impl Cylinder {
         Ok(Cylinder { tracks })
     }
 
-    /// A cylinder with the same tracks. Err only where memory is lacking.
+    /// Returns a cylinder with the same tracks.
+    ///
+    /// # Errors
+    ///
+    /// `AllocError` if memory is refused.
     #[tactic(auto, using(std::proofs::lemmas::List::take_all))]
     pub fn copy(&self, alloc: Global) -> Result<Cylinder, AllocError>
         ensures { IfOk result (λ c. c ≡ self.now) }
@@ -64,17 +73,17 @@ impl Cylinder {
         Ok(Cylinder { tracks })
     }
 
-    /// How many heads reach it.
+    /// Returns how many heads reach it.
     pub fn heads(&self) -> usize
         ensures count { result ≡ length self.now }
         ensures always { result ≡ 19 }
     {
-        // All its fields: what is added to them is seen here.
+        // Exhaustive: a new field fails to compile here.
         let Cylinder { tracks } = self;
         tracks.len()
     }
 
-    /// The track under this head.
+    /// Returns the track under this head.
     pub fn track(&self, head: usize) -> &Track
         requires { head < 19 }
         ensures { result.now ≡ track_at self.now head }

@@ -6,7 +6,7 @@ ghost use Rattle.ckd_volume.specs.Orientation as orientation;
 ghost use Rattle.ckd_volume.specs.declared.parts.Wanted.TheVariants as wanted;
 
 use crate::cylinder::Cylinder;
-use crate::panel::Panel;
+use crate::panel::ControlUnit;
 use crate::parts::{Found, Place, Wanted};
 use ckd_track::{Record, Track};
 
@@ -17,7 +17,7 @@ const FILE_PROTECTED: u8 = 0x04;
 
 const END_OF_CYLINDER: u8 = 0x20;
 
-/// The record that is next at a place, if the track has it.
+/// Returns the record that is next at a place, if the track has it.
 pub(crate) fn next_at(place: Place) -> usize
     requires { front.next_at place ≤ 97 }
     ensures { result ≡ front.next_at place }
@@ -30,7 +30,7 @@ pub(crate) fn next_at(place: Place) -> usize
     }
 }
 
-/// The record whose count or key was just passed, else the next.
+/// Returns the record whose count or key was just passed, else the next.
 pub(crate) fn here_at(place: Place) -> usize
     ensures { result ≡ front.here_at place }
 {
@@ -42,7 +42,7 @@ pub(crate) fn here_at(place: Place) -> usize
     }
 }
 
-/// The record whose count was just passed, else the next.
+/// Returns the record whose count was just passed, else the next.
 pub(crate) fn counted_at(place: Place) -> usize
     requires { front.next_at place ≤ 97 }
     ensures { result ≡ front.counted_at place }
@@ -55,11 +55,15 @@ pub(crate) fn counted_at(place: Place) -> usize
     }
 }
 
-/// Whether a record is looked for.
+/// Returns whether a record is looked for.
 fn is_wanted(wanted: Wanted, there: Record<'_>) -> bool
     requires { length there.id ≡ 5 }
     ensures { result ≡ front.wants wanted
-        (record { id = there.entry.id; key = there.entry.key.now; content = there.entry.content.now }) }
+        (record {
+          id = there.entry.id;
+          key = there.entry.key.now;
+          content = there.entry.content.now;
+        }) }
 {
     match wanted {
         Wanted::Any => true,
@@ -68,7 +72,7 @@ fn is_wanted(wanted: Wanted, there: Record<'_>) -> bool
     }
 }
 
-/// The first record from this one on that is looked for.
+/// Returns the first record from this one on that is looked for.
 fn first_from(wanted: Wanted, track: &Track, start: usize) -> Option<usize>
     ensures found { result ≡ orientation.first_from (front.wants wanted) track.now.records start }
     ensures there { IfSome result (λ i. i < length track.now.records) }
@@ -81,10 +85,12 @@ fn first_from(wanted: Wanted, track: &Track, start: usize) -> Option<usize>
     None
 }
 
-/// The record that a command finds on one track, from this one on: a second index point is no record found.
+/// Returns the record that a command finds on one track, from this one on: a second index point is
+/// no record found.
 fn on_track(wanted: Wanted, cylinder: &Cylinder, head: usize, points: u8, start: usize) -> Found
     requires { head < 19 }
-    ensures found { result ≡ orientation.on_track (front.wants wanted) (front.records_at cylinder.now head) head points
+    ensures found { result ≡ orientation.on_track (front.wants wanted)
+        (front.records_at cylinder.now head) head points
         (orientation.first_from (front.wants wanted) (front.records_at cylinder.now head) start) }
     ensures there { IsIn cylinder.now result }
 {
@@ -103,7 +109,8 @@ fn on_track(wanted: Wanted, cylinder: &Cylinder, head: usize, points: u8, start:
     }
 }
 
-/// The record that a multitrack search finds on the heads after this one, of which there are so many.
+/// Returns the record that a multitrack search finds on the heads after this one, of which there
+/// are so many.
 #[tactic(auto, using(crate::proofs::Finding::switched_last, crate::proofs::Finding::switched_on))]
 fn over_heads(wanted: Wanted, cylinder: &Cylinder, mask: u8, head: usize, more: usize) -> Found
     requires { head + more ≡ 18 }
@@ -122,7 +129,7 @@ fn over_heads(wanted: Wanted, cylinder: &Cylinder, mask: u8, head: usize, more: 
     }
 }
 
-/// The first record with the number 1 on the track under this head.
+/// Returns the first record with the number 1 on the track under this head.
 pub(crate) fn first_numbered_one(cylinder: &Cylinder, head: usize) -> Found
     requires { head < 19 }
     ensures found { result ≡ orientation.once_round head 0
@@ -135,10 +142,12 @@ pub(crate) fn first_numbered_one(cylinder: &Cylinder, head: usize) -> Found
     }
 }
 
-impl Panel {
-    /// The record that a command finds, from this one on: a search whose code has bit 0 one goes over the heads.
+impl ControlUnit {
+    /// Returns the record that a command finds, from this one on: a search whose code has bit 0 one
+    /// goes over the heads.
     pub(crate) fn found(&self, code: u8, wanted: Wanted, cylinder: &Cylinder, i: usize) -> Found
-        ensures found { result ≡ orientation.found code (front.wants wanted) cylinder.now self.now i }
+        ensures found { result ≡ orientation.found code (front.wants wanted) cylinder.now self.now
+            i }
         ensures there { IsIn cylinder.now result }
     {
         if code < 128 {
@@ -150,7 +159,7 @@ impl Panel {
         }
     }
 
-    /// The index: a pass unless the head stands there, or a switch of heads.
+    /// Returns the index: a pass unless the head is there, or a switch of heads.
     pub(crate) fn to_index(&self, code: u8) -> Found
         ensures found { result ≡ orientation.to_index code self.now self.now.place }
         ensures head { front.head_of result < 19 }

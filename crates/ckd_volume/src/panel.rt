@@ -1,16 +1,17 @@
-//! What a control unit keeps beside the volume: where its head stands, its mask, its sense, and the bytes of the
-//! command.
-ghost use Rattle.std.specs.Prelude.{◌≡◌, ◌≤◌, ◌<◌, ◌+◌, ◌++◌, ◌∷◌, [], length, slice_index, true, IfOk};
+//! What a control unit keeps next to the volume: where its head is, its mask, its sense, and the
+//! bytes of the command.
+ghost use Rattle.std.specs.Prelude.{◌≡◌, ◌≤◌, ◌<◌, ◌+◌, ◌++◌, ◌∷◌, [], length, slice_index, true};
+ghost use Rattle.std.specs.Prelude.{IfOk};
 ghost use Rattle.s370_walk.specs.declared.parts.Answer.TheVariants as answers;
-ghost use Rattle.ckd_volume.specs.declared.parts.Job.TheVariants as jobs;
+ghost use Rattle.ckd_volume.specs.declared.parts.PendingCommand.TheVariants as jobs;
 ghost use Rattle.ckd_volume.specs.declared.parts.Place.TheVariants as places;
-ghost use Rattle.ckd_volume.specs.declared.parts.Right.TheVariants as rights;
+ghost use Rattle.ckd_volume.specs.declared.parts.WriteAccess.TheVariants as rights;
 ghost use Rattle.ckd_volume.specs.Front as front;
 ghost use Rattle.ckd_volume.specs.Begin as table;
 ghost use Rattle.ckd_volume.specs.End as table_end;
 ghost use Rattle.ckd_volume.specs.Unit as unit;
 
-use crate::parts::{Job, Place, Right, Sense};
+use crate::parts::{PendingCommand, Place, Sense, WriteAccess};
 use s370_walk::{Answer, UnitStatus};
 use std::alloc::{AllocError, Global};
 use std::marker::Model;
@@ -20,20 +21,20 @@ pub(crate) const LONGEST: usize = 65798;
 
 /// All that a unit keeps but the volume and the cylinder of its arm.
 #[derive(Drop)]
-pub struct Panel {
+pub struct ControlUnit {
     pub(crate) writable: bool,
     pub(crate) head: usize,
     pub(crate) place: Place,
     pub(crate) mask: u8,
     pub(crate) points: u8,
-    pub(crate) right: Right,
+    pub(crate) right: WriteAccess,
     pub(crate) sense: Sense,
-    pub(crate) job: Job,
+    pub(crate) job: PendingCommand,
     pub(crate) bytes: Vec<u8>,
     pub(crate) given: usize,
 }
 
-impl Model for Panel {
+impl Model for ControlUnit {
     ghost use Rattle.std.specs.Prelude.{◌≤◌, ◌<◌, length};
     ghost use Rattle.std.specs.Vec.{vec_capacity};
     ghost use Rattle.ckd_volume.specs.Front.{Front, next_at};
@@ -53,18 +54,19 @@ impl Model for Panel {
       given = p.given;
     } };
 
-    ghost invariant = { λ p. (65798 ≤ vec_capacity p.bytes) × (length p.bytes.items ≤ 65798) × (p.head < 19)
+    ghost invariant = { λ p. (65798 ≤ vec_capacity p.bytes) × (length p.bytes.items ≤ 65798)
+        × (p.head < 19)
         × (next_at p.place ≤ 97) };
 }
 
-impl Panel {
-    /// A panel whose head stands at the index of a track, with room for the longest command.
+impl ControlUnit {
+    /// Returns a panel whose head is at the index of a track, with room for the longest command.
     pub(crate) fn new(
         alloc: Global,
         writable: bool,
         head: usize,
         sense: Sense,
-    ) -> Result<Panel, AllocError>
+    ) -> Result<ControlUnit, AllocError>
         requires { head < 19 }
         ensures { IfOk result (λ p. p
             ≡ record {
@@ -81,15 +83,15 @@ impl Panel {
             }) }
     {
         let bytes = Vec::with_capacity(alloc, LONGEST)?;
-        Ok(Panel {
+        Ok(ControlUnit {
             writable,
             head,
             place: Place::Index,
             mask: 0,
             points: 0,
-            right: Right::Nothing,
+            right: WriteAccess::Nothing,
             sense,
-            job: Job::Nothing,
+            job: PendingCommand::Nothing,
             bytes,
             given: 0,
         })
@@ -104,8 +106,8 @@ impl Panel {
             self.mask = 0;
             self.points = 0;
         }
-        self.right = Right::Nothing;
-        self.job = Job::Nothing;
+        self.right = WriteAccess::Nothing;
+        self.job = PendingCommand::Nothing;
         self.bytes.clear();
         self.given = 0;
     }
@@ -124,7 +126,8 @@ impl Panel {
     /// As before a program, with the mode, the head and the sense of another arm.
     pub(crate) fn restart(&mut self, writable: bool, head: usize, sense: Sense)
         requires { head < 19 }
-        ensures { self.new ≡ record (table.starting self.old true) { writable = writable; head = head; sense = sense } }
+        ensures { self.new ≡ record
+            (table.starting self.old true) { writable = writable; head = head; sense = sense } }
     {
         self.start(true);
         self.writable = writable;
@@ -159,7 +162,7 @@ impl Panel {
         self.refuse(0, second)
     }
 
-    /// The arm has this head, and stands at this place.
+    /// The arm has this head, and is at this place.
     pub(crate) fn go(&mut self, head: usize, points: u8, place: Place)
         requires head { head < 19 }
         requires place { front.next_at place ≤ 97 }
@@ -171,7 +174,7 @@ impl Panel {
     }
 
     /// So many bytes are taken.
-    pub(crate) fn take_for(&mut self, count: u32, job: Job) -> Answer
+    pub(crate) fn take_for(&mut self, count: u32, job: PendingCommand) -> Answer
         ensures answer { result ≡ (table.takes self.old count job).answer }
         ensures after { self.new ≡ (table.takes self.old count job).front }
     {
@@ -179,7 +182,7 @@ impl Panel {
         Answer::Output(count)
     }
 
-    /// These bytes are given, behind those that are held already.
+    /// These bytes are given, after those that are held already.
     pub(crate) fn hold(&mut self, bytes: &[u8])
         requires { length self.old.bytes + length bytes.now ≤ 65798 }
         ensures { self.new ≡ record (self.old) { bytes = self.old.bytes ++ bytes.now } }
@@ -195,7 +198,7 @@ impl Panel {
         ensures answer { result ≡ (table.gives self.old status self.old.bytes).answer }
         ensures after { self.new ≡ (table.gives self.old status self.old.bytes).front }
     {
-        self.job = Job::Give(status);
+        self.job = PendingCommand::Give(status);
         Answer::Input(self.bytes.len() as u32)
     }
 
@@ -241,7 +244,7 @@ impl Panel {
         ensures status { result ≡ status }
         ensures after { self.new ≡ table_end.resting self.old }
     {
-        self.job = Job::Nothing;
+        self.job = PendingCommand::Nothing;
         self.bytes.clear();
         self.given = 0;
         status

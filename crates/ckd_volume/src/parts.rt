@@ -2,7 +2,7 @@
 
 use s370_walk::UnitStatus;
 
-/// Where the head stands on the track.
+/// Where the head is on the track.
 #[derive(Clone, Copy, Debug, PartialEq, Eq)]
 pub enum Place {
     /// At the index point.
@@ -17,7 +17,7 @@ pub enum Place {
 
 /// What the command that was started last gives the right to write.
 #[derive(Clone, Copy, PartialEq, Eq)]
-pub enum Right {
+pub enum WriteAccess {
     /// Nothing.
     Nothing,
     /// It found the home address.
@@ -30,7 +30,7 @@ pub enum Right {
     Record,
 }
 
-/// How a record's id has to stand to the one that is searched.
+/// How a record's id has to be to the one that is searched.
 #[derive(Clone, Copy, PartialEq, Eq)]
 pub enum Comparison {
     /// The same.
@@ -43,7 +43,7 @@ pub enum Comparison {
 
 /// What is still to do when the bytes of a command are there.
 #[derive(Clone, Copy, PartialEq, Eq)]
-pub enum Job {
+pub enum PendingCommand {
     /// Nothing.
     Nothing,
     /// The bytes of an input are given; this status ends it.

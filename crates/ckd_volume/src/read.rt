@@ -6,7 +6,7 @@ ghost use Rattle.ckd_volume.specs.Begin as begin;
 ghost use Rattle.ckd_volume.specs.Read as table;
 
 use crate::cylinder::Cylinder;
-use crate::panel::Panel;
+use crate::panel::ControlUnit;
 use crate::parts::{Found, Place};
 use ckd_track::Record;
 use s370_walk::{Answer, Order, UnitStatus};
@@ -22,7 +22,7 @@ pub(crate) fn exception(content: &[u8]) -> UnitStatus
     }
 }
 
-/// What a count tells of a record beside its id: how long its key and its data are.
+/// Returns what a count reports a record next to its id: how long its key and its data are.
 fn lengths(there: Record<'_>) -> [u8; 3]
     requires key { length there.key.now ≤ 255 }
     requires content { length there.content.now ≤ 65535 }
@@ -37,7 +37,7 @@ fn lengths(there: Record<'_>) -> [u8; 3]
     ]
 }
 
-impl Panel {
+impl ControlUnit {
     /// 1A Read Home Address.
     pub(crate) fn home_read(&mut self, cylinder: &Cylinder, found: Found) -> Answer
         requires empty { self.old.bytes ≡ [] }
@@ -96,11 +96,11 @@ impl Panel {
     }
 
     /// 0E Read Key and Data.
-    pub(crate) fn both_read(&mut self, cylinder: &Cylinder, found: Found) -> Answer
+    pub(crate) fn read_key_data(&mut self, cylinder: &Cylinder, found: Found) -> Answer
         requires empty { self.old.bytes ≡ [] }
         requires there { IsIn cylinder.now found }
-        ensures answer { result ≡ (table.both_read self.old cylinder.now found).answer }
-        ensures after { self.new ≡ (table.both_read self.old cylinder.now found).front }
+        ensures answer { result ≡ (table.read_key_data self.old cylinder.now found).answer }
+        ensures after { self.new ≡ (table.read_key_data self.old cylinder.now found).front }
     {
         match found {
             Found::Lost(head, second) => self.lose(head, second),
@@ -116,11 +116,11 @@ impl Panel {
 
     /// 1E Read Count, Key and Data.
     #[tactic(auto, using(crate::proofs::Ends::append_all))]
-    pub(crate) fn whole_read(&mut self, cylinder: &Cylinder, found: Found) -> Answer
+    pub(crate) fn read_count_key_data(&mut self, cylinder: &Cylinder, found: Found) -> Answer
         requires empty { self.old.bytes ≡ [] }
         requires there { IsIn cylinder.now found }
-        ensures answer { result ≡ (table.whole_read self.old cylinder.now found).answer }
-        ensures after { self.new ≡ (table.whole_read self.old cylinder.now found).front }
+        ensures answer { result ≡ (table.read_count_key_data self.old cylinder.now found).answer }
+        ensures after { self.new ≡ (table.read_count_key_data self.old cylinder.now found).front }
     {
         match found {
             Found::Lost(head, second) => self.lose(head, second),
@@ -138,7 +138,7 @@ impl Panel {
         }
     }
 
-    /// 02 Read IPL: only as first command; the arm stands on its first track then.
+    /// 02 Read IPL: only as first command; the arm is on its first track then.
     pub(crate) fn ipl_read(&mut self, cylinder: &Cylinder, order: Order, found: Found) -> Answer
         requires empty { self.old.bytes ≡ [] }
         requires there { IsIn cylinder.now found }

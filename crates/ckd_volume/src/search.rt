@@ -5,11 +5,11 @@ ghost use Rattle.ckd_volume.specs.Front.{IsIn};
 ghost use Rattle.ckd_volume.specs.Search as table;
 
 use crate::cylinder::Cylinder;
-use crate::panel::Panel;
-use crate::parts::{Comparison, Found, Job, Place, Right};
+use crate::panel::ControlUnit;
+use crate::parts::{Comparison, Found, PendingCommand, Place, WriteAccess};
 use s370_walk::{Answer, UnitStatus};
 
-impl Panel {
+impl ControlUnit {
     /// 39, B9 Search Home Address Equal.
     pub(crate) fn home_searched(&mut self, found: Found) -> Answer
         requires { front.head_of found < 19 }
@@ -20,7 +20,7 @@ impl Panel {
             Found::Lost(head, second) => self.lose(head, second),
             Found::There(head, _, points) => {
                 self.go(head, points, Place::Gap(0));
-                self.take_for(4, Job::SearchHome)
+                self.take_for(4, PendingCommand::SearchHome)
             }
         }
     }
@@ -41,7 +41,7 @@ impl Panel {
             Found::There(head, i, points) => {
                 let _few = cylinder.track(head).len();
                 self.go(head, points, Place::Count(i));
-                self.take_for(5, Job::SearchId(comparison, i))
+                self.take_for(5, PendingCommand::SearchId(comparison, i))
             }
         }
     }
@@ -57,12 +57,12 @@ impl Panel {
             Found::There(head, i, points) => {
                 let key = cylinder.track(head).record(i).key;
                 self.go(head, points, Place::Key(i));
-                self.take_for(key.len() as u32, Job::SearchKey(i))
+                self.take_for(key.len() as u32, PendingCommand::SearchKey(i))
             }
         }
     }
 
-    /// Whether what stands there is as a search wants it, by the bytes that it took.
+    /// Returns whether what is there is as a search wants it, by the bytes that it took.
     pub(crate) fn fits(&self, comparison: Comparison, there: &[u8]) -> bool
         ensures { result ≡ table.fits comparison self.now.bytes there.now }
     {
@@ -85,7 +85,7 @@ impl Panel {
     }
 
     /// Ends a search.
-    pub(crate) fn end_search(&mut self, right: Right, is_satisfied: bool) -> UnitStatus
+    pub(crate) fn end_search(&mut self, right: WriteAccess, is_satisfied: bool) -> UnitStatus
         ensures status { result ≡ (table.satisfied self.old right is_satisfied).status }
         ensures after { self.new ≡ (table.satisfied self.old right is_satisfied).front }
     {
@@ -97,13 +97,13 @@ impl Panel {
     }
 }
 
-/// What a satisfied search for an id gives the right to: only one for an equal id does.
-pub(crate) fn id_right(comparison: Comparison) -> Right
+/// Returns what a satisfied search for an id gives the right to: only one for an equal id does.
+pub(crate) fn id_right(comparison: Comparison) -> WriteAccess
     ensures { result ≡ table.id_right comparison }
 {
     match comparison {
-        Comparison::Equal => Right::Id,
-        Comparison::High => Right::Nothing,
-        Comparison::EqualOrHigh => Right::Nothing,
+        Comparison::Equal => WriteAccess::Id,
+        Comparison::High => WriteAccess::Nothing,
+        Comparison::EqualOrHigh => WriteAccess::Nothing,
     }
 }

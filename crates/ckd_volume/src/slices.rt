@@ -3,11 +3,11 @@ ghost use Rattle.std.specs.Prelude.{◌≡◌, ◌≤◌, ◌+◌, length, nat_l
 ghost use Rattle.std.specs.List.{slice_range};
 ghost use Rattle.ckd_volume.specs.Moves.{gave_slice, took_slice, lacks, ready};
 
-use crate::panel::{LONGEST, Panel};
-use crate::parts::Job;
+use crate::panel::{ControlUnit, LONGEST};
+use crate::parts::PendingCommand;
 
-impl Panel {
-    /// Whether so many bytes are left to be given.
+impl ControlUnit {
+    /// Returns whether so many bytes are left to be given.
     pub(crate) fn has(&self, count: usize) -> bool
         ensures { result ≡ nat_le (self.now.given + count) (length self.now.bytes) }
     {
@@ -18,7 +18,8 @@ impl Panel {
     /// Gives as many bytes as there is room for.
     pub(crate) fn give_slice(&mut self, into: &mut [u8])
         requires { self.old.given + length into.old ≤ length self.old.bytes }
-        ensures bytes { into.new ≡ slice_range self.old.bytes self.old.given (self.old.given + length into.old) }
+        ensures bytes { into.new
+            ≡ slice_range self.old.bytes self.old.given (self.old.given + length into.old) }
         ensures after { self.new ≡ gave_slice self.old (length into.old) }
     {
         let end = self.given + into.len();
@@ -43,7 +44,8 @@ impl Panel {
         }
     }
 
-    /// How many bytes a Write Count, Key and Data lacks: of its first eight, and then of those that they tell.
+    /// Returns how many bytes a Write Count, Key and Data lacks: of its first eight, and then of
+    /// those that they say.
     fn lacks(&self) -> u32
         ensures { result ≡ lacks self.now.bytes }
     {
@@ -55,12 +57,12 @@ impl Panel {
         (8 + u32::from(self.bytes[5]) + content).saturating_sub(held)
     }
 
-    /// How many bytes at least are given or taken before the command wants no more.
+    /// Returns how many bytes at least are given or taken before the command wants no more.
     pub(crate) fn ready(&self) -> u32
         ensures { result ≡ ready self.now self.now.job }
     {
         match self.job {
-            Job::WriteRecord(_) => self.lacks(),
+            PendingCommand::WriteRecord(_) => self.lacks(),
             _ => u32::MAX,
         }
     }

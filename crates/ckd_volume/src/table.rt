@@ -7,19 +7,20 @@ ghost use Rattle.ckd_volume.specs.Orientation as orientation;
 ghost use Rattle.ckd_volume.specs.Table as table;
 ghost use Rattle.ckd_volume.specs.Unit as unit;
 ghost use Rattle.ckd_volume.specs.declared.parts.Wanted.TheVariants as wanted;
-ghost use Rattle.ckd_volume.specs.declared.parts.Job.TheVariants as jobs;
+ghost use Rattle.ckd_volume.specs.declared.parts.PendingCommand.TheVariants as jobs;
 
 use crate::cylinder::Cylinder;
 use crate::orientation::{counted_at, first_numbered_one, here_at, next_at};
-use crate::panel::Panel;
-use crate::parts::{Comparison, Found, Job, Right, Wanted};
+use crate::panel::ControlUnit;
+use crate::parts::{Comparison, Found, PendingCommand, Wanted, WriteAccess};
 use crate::search::id_right;
 use s370_walk::{Answer, Order, UnitStatus};
 
-impl Panel {
-    /// The record that is next.
+impl ControlUnit {
+    /// Returns the record that is next.
     fn next(&self, code: u8, cylinder: &Cylinder) -> Found
-        ensures found { result ≡ orientation.found code (front.wants wanted.Any) cylinder.now self.now
+        ensures found { result ≡ orientation.found code (front.wants wanted.Any) cylinder.now
+            self.now
             (front.next_at self.now.place) }
         ensures there { front.IsIn cylinder.now result }
     {
@@ -27,9 +28,10 @@ impl Panel {
         self.found(code, Wanted::Any, cylinder, i)
     }
 
-    /// The record whose count or key was just passed, else the next.
+    /// Returns the record whose count or key was just passed, else the next.
     fn here(&self, code: u8, cylinder: &Cylinder) -> Found
-        ensures found { result ≡ orientation.found code (front.wants wanted.Any) cylinder.now self.now
+        ensures found { result ≡ orientation.found code (front.wants wanted.Any) cylinder.now
+            self.now
             (front.here_at self.now.place) }
         ensures there { front.IsIn cylinder.now result }
     {
@@ -37,9 +39,10 @@ impl Panel {
         self.found(code, Wanted::Any, cylinder, i)
     }
 
-    /// The record whose count was just passed, else the next, of those that are looked for.
+    /// Returns the record whose count was just passed, else the next, of those that are looked for.
     fn counted(&self, code: u8, looked_for: Wanted, cylinder: &Cylinder) -> Found
-        ensures found { result ≡ orientation.found code (front.wants looked_for) cylinder.now self.now
+        ensures found { result ≡ orientation.found code (front.wants looked_for) cylinder.now
+            self.now
             (front.counted_at self.now.place) }
         ensures there { front.IsIn cylinder.now result }
     {
@@ -61,16 +64,20 @@ impl Panel {
         self.obey(right, cylinder, order)
     }
 
-    /// The right to write that a command finds: what the command before gave, but nothing where it is the first of its
-    /// program.
-    fn right_found(&self, is_first: bool) -> Right
+    /// Returns the right to write that a command finds: what the command before gave, but nothing
+    /// where it is the first of its program.
+    fn right_found(&self, is_first: bool) -> WriteAccess
         ensures { result ≡ begin.right_found self.now is_first }
     {
-        if is_first { Right::Nothing } else { self.right }
+        if is_first {
+            WriteAccess::Nothing
+        } else {
+            self.right
+        }
     }
 
     /// Begins a command that has started, which found this right to write.
-    fn obey(&mut self, right: Right, cylinder: &Cylinder, order: Order) -> Answer
+    fn obey(&mut self, right: WriteAccess, cylinder: &Cylinder, order: Order) -> Answer
         requires { self.old.bytes ≡ [] }
         ensures answer { result ≡ (table.begun self.old right cylinder.now order).answer }
         ensures after { self.new ≡ (table.begun self.old right cylinder.now order).front }
@@ -80,7 +87,7 @@ impl Panel {
             0x03 => Answer::Immediate,
             0x04 => self.begin_sense(order),
             0x07 => self.begin_seek(),
-            0x1F => self.take_for(1, Job::SetMask),
+            0x1F => self.take_for(1, PendingCommand::SetMask),
             0x1A => {
                 let found = self.to_index(0x1A);
                 self.home_read(cylinder, found)
@@ -115,11 +122,11 @@ impl Panel {
             }
             0x0E => {
                 let found = self.counted(0x0E, Wanted::Any, cylinder);
-                self.both_read(cylinder, found)
+                self.read_key_data(cylinder, found)
             }
             0x1E => {
                 let found = self.next(0x1E, cylinder);
-                self.whole_read(cylinder, found)
+                self.read_count_key_data(cylinder, found)
             }
             0x02 => {
                 let found = first_numbered_one(cylinder, self.head);
@@ -141,12 +148,12 @@ impl Panel {
         }
     }
 
-    /// Whether a command wants no more bytes, though it has fewer than it said.
+    /// Returns whether a command wants no more bytes, though it has fewer than it said.
     pub(crate) fn is_done(&self) -> bool
         ensures { result ≡ unit.is_done self.now self.now.job }
     {
         match self.job {
-            Job::WriteRecord(_) => self.is_whole(),
+            PendingCommand::WriteRecord(_) => self.is_whole(),
             _ => false,
         }
     }
@@ -156,19 +163,20 @@ impl Panel {
         ensures status { result ≡ (table.ended self.old cylinder.old self.old.job).status }
         ensures after { self.new ≡ (table.ended self.old cylinder.old self.old.job).front }
         ensures written { cylinder.new
-            ≡ stands cylinder.old self.old.head (table.ended self.old cylinder.old self.old.job).written }
+            ≡ stands cylinder.old self.old.head
+            (table.ended self.old cylinder.old self.old.job).written }
     {
         match self.job {
-            Job::Nothing => self.end(UnitStatus::NONE),
-            Job::Give(status) => self.end(status),
-            Job::SetMask => self.set_mask(),
-            Job::Seek => self.fail(0x80, 0),
-            Job::SearchHome => self.end_search_home(cylinder),
-            Job::SearchId(comparison, i) => self.end_search_id(cylinder, comparison, i),
-            Job::SearchKey(i) => self.end_search_key(cylinder, i),
-            Job::WriteData(i) => self.end_write_data(cylinder, i),
-            Job::WriteBoth(i) => self.end_write_both(cylinder, i),
-            Job::WriteRecord(i) => self.end_write_record(cylinder, i),
+            PendingCommand::Nothing => self.end(UnitStatus::NONE),
+            PendingCommand::Give(status) => self.end(status),
+            PendingCommand::SetMask => self.set_mask(),
+            PendingCommand::Seek => self.fail(0x80, 0),
+            PendingCommand::SearchHome => self.end_search_home(cylinder),
+            PendingCommand::SearchId(comparison, i) => self.end_search_id(cylinder, comparison, i),
+            PendingCommand::SearchKey(i) => self.end_search_key(cylinder, i),
+            PendingCommand::WriteData(i) => self.end_write_data(cylinder, i),
+            PendingCommand::WriteBoth(i) => self.end_write_both(cylinder, i),
+            PendingCommand::WriteRecord(i) => self.end_write_record(cylinder, i),
         }
     }
 
@@ -179,14 +187,16 @@ impl Panel {
     {
         let home = cylinder.track(self.head).home();
         let is_satisfied = self.fits(Comparison::Equal, &home[1..]);
-        self.end_search(Right::Home, is_satisfied)
+        self.end_search(WriteAccess::Home, is_satisfied)
     }
 
     /// 31, 51, 71, B1, D1, F1 Search Identifier, when its bytes are there.
     #[tactic(auto, using(crate::proofs::Ends::at_past))]
     fn end_search_id(&mut self, cylinder: &Cylinder, comparison: Comparison, i: usize) -> UnitStatus
-        ensures status { result ≡ (table.ended self.old cylinder.now (jobs.SearchId comparison i)).status }
-        ensures after { self.new ≡ (table.ended self.old cylinder.now (jobs.SearchId comparison i)).front }
+        ensures status { result ≡
+            (table.ended self.old cylinder.now (jobs.SearchId comparison i)).status }
+        ensures after { self.new
+            ≡ (table.ended self.old cylinder.now (jobs.SearchId comparison i)).front }
     {
         let right = id_right(comparison);
         let track = cylinder.track(self.head);
@@ -208,10 +218,10 @@ impl Panel {
         let track = cylinder.track(self.head);
         if i >= track.len() {
             let is_satisfied = self.fits(Comparison::Equal, &[]);
-            return self.end_search(Right::Key, is_satisfied);
+            return self.end_search(WriteAccess::Key, is_satisfied);
         }
         let key = track.record(i).key;
         let is_satisfied = self.fits(Comparison::Equal, key);
-        self.end_search(Right::Key, is_satisfied)
+        self.end_search(WriteAccess::Key, is_satisfied)
     }
 }

@@ -1,8 +1,10 @@
-//! A disk as a program uses it that is only tried: its cylinders are lent from the volume, and stay as they are.
+//! A disk as a program uses it that is only tried: its cylinders are lent from the volume, and stay
+//! as they are.
 //!
-//! A cylinder over which a command begins is copied first, once, and what is written stands on the copy: so each command
-//! may need memory, and no end of one does.
-ghost use Rattle.std.specs.Prelude.{◌≡◌, ◌<◌, ◌≤◌, ◌+◌, [], length, slice_index_or, slice_set, replicate, None, Some, IsSome, IfOk, OnOk, OnErr};
+//! A cylinder over which a command begins is copied first, once, and what is written is on the
+//! copy: so each command may need memory, and no end of one does.
+ghost use Rattle.std.specs.Prelude.{◌≡◌, ◌<◌, ◌≤◌, ◌+◌, [], length, slice_index_or, slice_set};
+ghost use Rattle.std.specs.Prelude.{replicate, None, Some, IsSome, IfOk, OnOk, OnErr};
 ghost use Rattle.ckd_volume.specs.Begin as begin;
 ghost use Rattle.ckd_volume.specs.End.{stands};
 ghost use Rattle.ckd_volume.specs.Front.{Cylinder};
@@ -10,7 +12,7 @@ ghost use Rattle.ckd_volume.specs.Table as table;
 ghost use Rattle.ckd_volume.specs.Trial.{IsReady, overlaid};
 
 use crate::cylinder::Cylinder;
-use crate::panel::Panel;
+use crate::panel::ControlUnit;
 use crate::unit::Arm;
 use crate::volume::Volume;
 use s370_walk::{Answer, Device, Order, UnitStatus};
@@ -27,7 +29,7 @@ pub struct UnitTrial<'a> {
     copies: Vec<Option<Cylinder>>,
     cylinder: usize,
     home: usize,
-    panel: Panel,
+    panel: ControlUnit,
 }
 
 impl<'a> Model for UnitTrial<'a> {
@@ -76,7 +78,7 @@ fn copy_cylinder(
 /// A command begins over a cylinder.
 #[tactic(auto, using(crate::proofs::Overlays::overlaid_copy, crate::proofs::Overlays::overlaid_own))]
 fn begin_over(
-    panel: &mut Panel,
+    panel: &mut ControlUnit,
     own: &[Cylinder],
     copies: &[Option<Cylinder>],
     cylinder: usize,
@@ -100,7 +102,7 @@ fn begin_over(
 /// A command ends over a cylinder.
 #[tactic(auto, using(crate::proofs::Overlays::overlaid_copy, crate::proofs::Overlays::overlaid_own, crate::proofs::Overlays::overlaid_set, crate::proofs::Overlays::same_set))]
 fn finish_over(
-    panel: &mut Panel,
+    panel: &mut ControlUnit,
     _own: &[Cylinder],
     copies: &mut Vec<Option<Cylinder>>,
     cylinder: usize,
@@ -149,8 +151,12 @@ impl Volume {
     ghost use Rattle.std.specs.Prelude.{slice_range};
     ghost use Rattle.ckd_volume.specs.Unit.{idle};
 
-    /// A disk on trial that is so many of the cylinders from `first` on, with this arm over them: as it is between
-    /// programs.
+    /// Returns a disk on trial that is so many of the cylinders from `first` on, with this arm over
+    /// them: as it is between programs.
+    ///
+    /// # Errors
+    ///
+    /// `AllocError` if memory is refused.
     #[tactic(auto, using(crate::proofs::Overlays::overlaid_none))]
     pub fn trial(
         &self,
@@ -164,9 +170,12 @@ impl Volume {
         requires home { arm.home < count }
         requires head { arm.head < 19 }
         ensures { IfOk result (λ trial. trial
-            ≡ idle (record { volser = self.now.volser; cylinders = slice_range self.now.cylinders first (first + count) }) arm) }
+            ≡ idle (record {
+              volser = self.now.volser;
+              cylinders = slice_range self.now.cylinders first (first + count);
+            }) arm) }
     {
-        let panel = Panel::new(alloc, arm.writable, arm.head, arm.sense)?;
+        let panel = ControlUnit::new(alloc, arm.writable, arm.head, arm.sense)?;
         let copies = no_copies(alloc, count)?;
         Ok(UnitTrial {
             alloc,
@@ -180,7 +189,7 @@ impl Volume {
     }
 }
 
-/// The cylinder of a number.
+/// Returns the cylinder of a number.
 fn of_number(own: &[Cylinder], index: usize) -> &Cylinder
     requires { index < length own.now }
     ensures { result.now ≡ slice_index_or own.now index [] }

@@ -1,20 +1,21 @@
 //! The unit: a volume under an arm, as a device of a channel.
-ghost use Rattle.std.specs.Prelude.{◌≡◌, ◌≤◌, ◌<◌, [], length, ◌+◌, ◌*◌, ◌==◌, Some, None, slice_index, slice_index_or, IsOk, IfOk, OnOk};
+ghost use Rattle.std.specs.Prelude.{◌≡◌, ◌≤◌, ◌<◌, [], length, ◌+◌, ◌*◌, ◌==◌, Some, None};
+ghost use Rattle.std.specs.Prelude.{slice_index, slice_index_or, IsOk, IfOk, OnOk};
 ghost use Rattle.ckd_volume.specs.Front as front;
 ghost use Rattle.ckd_volume.specs.Control.{halfword, sought};
 ghost use Rattle.ckd_volume.specs.declared.parts.Place.TheVariants as places;
-ghost use Rattle.ckd_volume.specs.declared.parts.Right.TheVariants as rights;
-ghost use Rattle.ckd_volume.specs.declared.parts.Job.TheVariants as jobs;
+ghost use Rattle.ckd_volume.specs.declared.parts.WriteAccess.TheVariants as rights;
+ghost use Rattle.ckd_volume.specs.declared.parts.PendingCommand.TheVariants as jobs;
 
 use crate::cylinder::HEADS;
-use crate::panel::Panel;
-use crate::parts::{Job, Place, Sense};
+use crate::panel::ControlUnit;
+use crate::parts::{PendingCommand, Place, Sense};
 use crate::volume::Volume;
 use s370_walk::{Answer, Device, Order, UnitStatus};
 use std::alloc::{AllocError, Global};
 use std::marker::Model;
 
-/// What outlasts a channel program beside the volume.
+/// What outlasts a channel program next to the volume.
 #[derive(Clone, Copy, PartialEq, Eq)]
 pub struct Arm {
     /// The cylinder under the arm.
@@ -25,7 +26,7 @@ pub struct Arm {
     pub home: usize,
     /// Whether the disk may be written.
     pub writable: bool,
-    /// What a Sense command tells.
+    /// What a Sense command says.
     pub sense: Sense,
 }
 
@@ -35,7 +36,7 @@ pub struct Unit {
     volume: Volume,
     cylinder: usize,
     home: usize,
-    panel: Panel,
+    panel: ControlUnit,
 }
 
 impl Model for Unit {
@@ -52,20 +53,28 @@ impl Model for Unit {
       front = u.panel;
     } };
 
-    ghost invariant = { λ u. (u.cylinder < length u.volume.cylinders) × (u.home < length u.volume.cylinders) };
+    ghost invariant = { λ u. (u.cylinder < length u.volume.cylinders)
+        × (u.home < length u.volume.cylinders) };
 }
 
 impl Unit {
-    ghost use Rattle.ckd_volume.specs.Unit.{idle, begins, aimed, started, ending, after, finished, status, seek_of, seek_status, moved, keeps, argument_held, disk_machine, volume_of, disk_reset, disk_cleared, rested};
+    ghost use Rattle.ckd_volume.specs.Unit.{idle, begins, aimed, started, ending, after, finished};
+    ghost use Rattle.ckd_volume.specs.Unit.{status, seek_of, seek_status, moved, keeps};
+    ghost use Rattle.ckd_volume.specs.Unit.{argument_held, disk_machine, volume_of, disk_reset};
+    ghost use Rattle.ckd_volume.specs.Unit.{disk_cleared, rested};
 
-    /// A unit whose arm stands over a volume; it has room for the longest command.
+    /// Returns a unit whose arm is over a volume; it has room for the longest command.
+    ///
+    /// # Errors
+    ///
+    /// `AllocError` if memory is refused.
     pub fn new(alloc: Global, volume: Volume, arm: Arm) -> Result<Unit, AllocError>
         requires cylinder { arm.cylinder < length volume.cylinders }
         requires home { arm.home < length volume.cylinders }
         requires head { arm.head < 19 }
         ensures { IfOk result (λ unit. unit ≡ idle volume arm) }
     {
-        let panel = Panel::new(alloc, arm.writable, arm.head, arm.sense)?;
+        let panel = ControlUnit::new(alloc, arm.writable, arm.head, arm.sense)?;
         Ok(Unit {
             volume,
             cylinder: arm.cylinder,
@@ -74,12 +83,12 @@ impl Unit {
         })
     }
 
-    /// The volume under the arm.
+    /// Returns the volume under the arm.
     pub fn volume(&self) -> &Volume
         ensures volser { result.now.volser ≡ self.now.volser }
         ensures cylinders { result.now.cylinders ≡ self.now.cylinders }
     {
-        // All its fields: what is added to them is seen here.
+        // Exhaustive: a new field fails to compile here.
         let Unit {
             volume,
             cylinder: _,
@@ -89,7 +98,7 @@ impl Unit {
         volume
     }
 
-    /// Where the arm stands, and what else outlasts a channel program.
+    /// Returns where the arm is, and what else outlasts a channel program.
     pub fn arm(&self) -> Arm
         ensures cylinder { result.cylinder ≡ self.now.cylinder }
         ensures head { result.head ≡ self.now.front.head }
@@ -110,8 +119,8 @@ impl Unit {
         }
     }
 
-    /// As before a program, under this arm: so disks that are parts of one volume take turns at its unit, each with an arm
-    /// and a sense of its own. It takes no memory.
+    /// As before a program, under this arm: so disks that are parts of one volume take turns at its
+    /// unit, each with an arm and a sense of its own. It takes no memory.
     pub fn set_arm(&mut self, arm: Arm)
         requires cylinder { arm.cylinder < length self.old.cylinders }
         requires home { arm.home < length self.old.cylinders }
@@ -130,7 +139,7 @@ impl Unit {
         self.panel.reset();
     }
 
-    /// As [`Unit::reset`], and the arm stands over cylinder 0, with head 0 chosen.
+    /// As [`Unit::reset`], and the arm is over cylinder 0, with head 0 chosen.
     pub fn clear(&mut self)
         ensures { self.new ≡ disk_cleared self.old }
     {
@@ -139,23 +148,24 @@ impl Unit {
         self.cylinder = 0;
     }
 
-    /// After a channel program: no command is under way; the arm and the sense stay. The next program does not see the
-    /// difference, since its first command begins so.
+    /// After a channel program: no command is under way; the arm and the sense stay. The next
+    /// program does not see the difference, since its first command begins so.
     pub fn rest(&mut self)
         ensures { self.new ≡ rested self.old }
     {
         self.panel.start(true);
     }
 
-    /// The argument of a seek that has all its bytes and has not ended; None in every other command.
+    /// Returns the argument of a seek that has all its bytes and has not ended; None in every other
+    /// command.
     pub fn argument(&self) -> Option<[u8; 6]>
         ensures { result ≡ argument_held self.now.front }
     {
         self.panel.argument()
     }
 
-    /// Gives the command that is under way these bytes in place of those that it has taken: so the argument of a seek
-    /// is replaced before it ends. It takes no memory.
+    /// Gives the command that is under way these bytes in place of those that it has taken: so the
+    /// argument of a seek is replaced before it ends. It takes no memory.
     pub fn set_argument(&mut self, argument: [u8; 6])
         ensures { self.new ≡ keeps self.old (record (self.old.front) { bytes = argument }) }
     {

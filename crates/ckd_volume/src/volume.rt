@@ -1,5 +1,6 @@
 //! A volume: its serial number, and its cylinders.
-ghost use Rattle.std.specs.Prelude.{◌≡◌, ◌<◌, ◌≤◌, ◌+◌, ◌↔◌, Err, [], length, slice_index_or, IfOk, IfSome, OnErr, IsSome};
+ghost use Rattle.std.specs.Prelude.{◌≡◌, ◌<◌, ◌≤◌, ◌+◌, ◌↔◌, Err, [], length, slice_index_or, IfOk};
+ghost use Rattle.std.specs.Prelude.{IfSome, OnErr, IsSome};
 ghost use Rattle.ckd_volume.specs.Front.{track_at};
 ghost use Rattle.ckd_volume.specs.Volume.{blank_cylinders, slice_of, put_back, IsCount};
 ghost use Rattle.ckd_volume.specs.declared.volume.VolumeError.TheVariants as errors;
@@ -25,6 +26,17 @@ pub enum VolumeError {
 }
 
 /// A volume, whose tracks are all allotted: what is written later takes no memory.
+///
+/// # Examples
+///
+/// ```
+/// use ckd_volume::Volume;
+///
+/// let mut volume = Volume::blank(alloc, *b"WORK01", 10)?;
+/// let track = volume.track_mut(0, 3).ok_or("no track")?; // cylinder 0, head 3
+/// track.push([0, 0, 0, 3, 1], &[], b"data")?; // a record with the number 1, and no key
+/// assert_eq!(rt; volume.cylinder(0).track(3).record(0).content, b"data".as_slice());
+/// ```
 #[derive(Drop)]
 pub struct Volume {
     pub(crate) volser: [u8; 6],
@@ -56,7 +68,7 @@ fn blank_cylinders_of(alloc: Global, count: u16) -> Result<Vec<Cylinder>, AllocE
     Ok(cylinders)
 }
 
-/// The same cylinders once more.
+/// Returns the same cylinders once more.
 #[tactic(auto, using(std::proofs::lemmas::List::take_all))]
 fn copies_of(alloc: Global, cylinders: &[Cylinder]) -> Result<Vec<Cylinder>, AllocError>
     ensures { IfOk result (λ made. made.items ≡ cylinders.now) }
@@ -87,7 +99,12 @@ impl Volume {
     ghost use Rattle.std.specs.Borrow.{sem};
     ghost use Rattle.ckd_volume.specs.LendingVolume.{LendsTrackOf, LendsCylinder};
 
-    /// A volume with so many cylinders, whose tracks have no record; their home addresses are 00, cylinder and head.
+    /// Returns a volume with so many cylinders, whose tracks have no record; their home addresses
+    /// are 00, cylinder and head.
+    ///
+    /// # Errors
+    ///
+    /// A `VolumeError`: a number of cylinders that no volume has, or refused memory.
     pub fn blank(alloc: Global, volser: [u8; 6], cylinders: u16) -> Result<Volume, VolumeError>
         ensures volume { IfOk result
             (λ made. made ≡ record { volser = volser; cylinders = blank_cylinders 0 cylinders }) }
@@ -104,13 +121,20 @@ impl Volume {
         }
     }
 
-    /// A volume of its own, with the same serial number and `count` of the cylinders, from `start` on. Err only where memory
-    /// is lacking.
+    /// Returns a volume of its own, with the same serial number and `count` of the cylinders, from
+    /// `start` on.
+    ///
+    /// # Errors
+    ///
+    /// `AllocError` if memory is refused.
     pub fn slice(&self, alloc: Global, start: usize, count: usize) -> Result<Volume, AllocError>
         requires some { 0 < count }
         requires inside { start + count ≤ length self.now.cylinders }
         ensures { IfOk result (λ part. part
-            ≡ record { volser = self.now.volser; cylinders = slice_of self.now.cylinders start count }) }
+            ≡ record {
+              volser = self.now.volser;
+              cylinders = slice_of self.now.cylinders start count;
+            }) }
     {
         let cylinders = copies_of(alloc, &self.cylinders[start..start + count])?;
         Ok(Volume {
@@ -119,21 +143,24 @@ impl Volume {
         })
     }
 
-    /// Puts the cylinders of another volume in the place of as many of its own, from `start` on; the others stay. It takes no
-    /// memory.
+    /// Puts the cylinders of another volume in the place of as many of its own, from `start` on;
+    /// the others stay. It takes no memory.
     pub fn put_back(&mut self, start: usize, part: Volume)
         requires { start + length part.cylinders ≤ length self.old.cylinders }
         ensures { self.new
-            ≡ record { volser = self.old.volser; cylinders = put_back self.old.cylinders start part.cylinders } }
+            ≡ record {
+              volser = self.old.volser;
+              cylinders = put_back self.old.cylinders start part.cylinders;
+            } }
     {
         put_cylinders(&mut self.cylinders, start, part.cylinders);
     }
 
-    /// The serial number, in ASCII, with blanks behind it.
+    /// Returns the serial number, in ASCII, with blanks after it.
     pub fn volser(&self) -> [u8; 6]
         ensures { result ≡ self.now.volser }
     {
-        // All its fields: what is added to them is seen here.
+        // Exhaustive: a new field fails to compile here.
         let Volume {
             volser,
             cylinders: _,
@@ -141,7 +168,7 @@ impl Volume {
         *volser
     }
 
-    /// How many cylinders it has.
+    /// Returns how many cylinders it has.
     pub fn count(&self) -> usize
         ensures count { result ≡ length self.now.cylinders }
         ensures some { 0 < result }
@@ -150,7 +177,7 @@ impl Volume {
         self.cylinders.len()
     }
 
-    /// A cylinder.
+    /// Returns a cylinder.
     pub fn cylinder(&self, number: usize) -> &Cylinder
         requires { number < length self.now.cylinders }
         ensures { result.now ≡ slice_index_or self.now.cylinders number [] }

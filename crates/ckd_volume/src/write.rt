@@ -1,4 +1,4 @@
-//! Writes: who may write, and what stands on the track then.
+//! Writes: who may write, and what is on the track then.
 ghost use Rattle.std.specs.Prelude.{◌≡◌, ◌<◌, ◌≤◌, ◌+◌, ◌++◌, not, ◌||◌, length};
 ghost use Rattle.std.specs.Vec.{vec_capacity};
 ghost use Rattle.ckd_volume.specs.Front as front;
@@ -7,15 +7,15 @@ ghost use Rattle.ckd_volume.specs.End.{stands};
 ghost use Rattle.ckd_volume.specs.Write as table;
 ghost use Rattle.ckd_volume.specs.Begin as begin;
 ghost use Rattle.ckd_volume.specs.declared.parts.Place.TheVariants as places;
-ghost use Rattle.ckd_volume.specs.declared.parts.Right.TheVariants as rights;
+ghost use Rattle.ckd_volume.specs.declared.parts.WriteAccess.TheVariants as rights;
 
 use crate::cylinder::Cylinder;
-use crate::panel::{LONGEST, Panel};
-use crate::parts::{Job, Place, Right};
+use crate::panel::{ControlUnit, LONGEST};
+use crate::parts::{PendingCommand, Place, WriteAccess};
 use crate::read::exception;
 use s370_walk::{Answer, UnitStatus};
 
-/// Cuts bytes to this length, or puts zeros behind them.
+/// Cuts bytes to this length, or puts zeros after them.
 #[tactic(auto, using(crate::proofs::Ends::zero_on, crate::proofs::Ends::padded_long))]
 fn pad(bytes: &mut Vec<u8>, count: usize)
     requires { count ≤ vec_capacity bytes.old }
@@ -32,9 +32,9 @@ fn pad(bytes: &mut Vec<u8>, count: usize)
     }
 }
 
-impl Panel {
-    /// Whether the file mask, or the command before, forbids a write.
-    fn is_barred(&self, right: Right, code: u8) -> bool
+impl ControlUnit {
+    /// Returns whether the file mask, or the command before, forbids a write.
+    fn is_barred(&self, right: WriteAccess, code: u8) -> bool
         ensures { result ≡ (table.mask_bars self.now.mask code || not (table.grants right code)) }
     {
         let write = self.mask & 0xC0;
@@ -42,16 +42,21 @@ impl Panel {
             return true;
         }
         match right {
-            Right::Nothing => true,
-            Right::Home => code != 0x1D,
-            Right::Id => false,
-            Right::Key => code == 0x0D,
-            Right::Record => code != 0x1D,
+            WriteAccess::Nothing => true,
+            WriteAccess::Home => code != 0x1D,
+            WriteAccess::Id => false,
+            WriteAccess::Key => code == 0x0D,
+            WriteAccess::Record => code != 0x1D,
         }
     }
 
     /// 05 Write Data begins.
-    pub(crate) fn begin_write_data(&mut self, right: Right, cylinder: &Cylinder, i: usize) -> Answer
+    pub(crate) fn begin_write_data(
+        &mut self,
+        right: WriteAccess,
+        cylinder: &Cylinder,
+        i: usize,
+    ) -> Answer
         ensures answer { result ≡
             (table.if_writes self.old right 5 (table.data_written self.old cylinder.now i)).answer }
         ensures after { self.new ≡
@@ -73,13 +78,19 @@ impl Panel {
         if count == 0 {
             return Answer::Refused(UnitStatus::UNIT_EXCEPTION);
         }
-        self.take_for(count as u32, Job::WriteData(i))
+        self.take_for(count as u32, PendingCommand::WriteData(i))
     }
 
     /// 0D Write Key and Data begins.
-    pub(crate) fn begin_write_both(&mut self, right: Right, cylinder: &Cylinder, i: usize) -> Answer
+    pub(crate) fn begin_write_both(
+        &mut self,
+        right: WriteAccess,
+        cylinder: &Cylinder,
+        i: usize,
+    ) -> Answer
         ensures answer { result ≡
-            (table.if_writes self.old right 13 (table.both_written self.old cylinder.now i)).answer }
+            (table.if_writes self.old right 13
+            (table.both_written self.old cylinder.now i)).answer }
         ensures after { self.new ≡
             (table.if_writes self.old right 13 (table.both_written self.old cylinder.now i)).front }
     {
@@ -100,13 +111,15 @@ impl Panel {
         if count == 0 {
             return Answer::Refused(UnitStatus::UNIT_EXCEPTION);
         }
-        self.take_for(count as u32, Job::WriteBoth(i))
+        self.take_for(count as u32, PendingCommand::WriteBoth(i))
     }
 
     /// 1D Write Count, Key and Data begins.
-    pub(crate) fn begin_write_record(&mut self, right: Right, i: usize) -> Answer
-        ensures answer { result ≡ (table.if_writes self.old right 29 (table.whole_written self.old i)).answer }
-        ensures after { self.new ≡ (table.if_writes self.old right 29 (table.whole_written self.old i)).front }
+    pub(crate) fn begin_write_record(&mut self, right: WriteAccess, i: usize) -> Answer
+        ensures answer { result ≡
+            (table.if_writes self.old right 29 (table.whole_written self.old i)).answer }
+        ensures after { self.new
+            ≡ (table.if_writes self.old right 29 (table.whole_written self.old i)).front }
     {
         if !self.writable {
             return self.refuse(0, 0x02);
@@ -114,7 +127,7 @@ impl Panel {
         if self.is_barred(right, 0x1D) {
             return self.reject();
         }
-        self.take_for(LONGEST as u32, Job::WriteRecord(i))
+        self.take_for(LONGEST as u32, PendingCommand::WriteRecord(i))
     }
 
     /// 05 Write Data, when its bytes are there.
@@ -164,7 +177,7 @@ impl Panel {
         self.end(status)
     }
 
-    /// Whether a Write Count, Key and Data has all that its first eight bytes say.
+    /// Returns whether a Write Count, Key and Data has all that its first eight bytes say.
     pub(crate) fn is_whole(&self) -> bool
         ensures { result ≡ table.is_whole self.now.bytes }
     {
@@ -178,8 +191,10 @@ impl Panel {
     /// 1D Write Count, Key and Data, when its bytes are there.
     #[tactic(auto, using(crate::proofs::Ends::set_own))]
     pub(crate) fn end_write_record(&mut self, cylinder: &mut Cylinder, i: usize) -> UnitStatus
-        ensures status { result ≡ (table.whole_ended self.old (front.track_at cylinder.old self.old.head) i).status }
-        ensures after { self.new ≡ (table.whole_ended self.old (front.track_at cylinder.old self.old.head) i).front }
+        ensures status { result ≡
+            (table.whole_ended self.old (front.track_at cylinder.old self.old.head) i).status }
+        ensures after { self.new
+            ≡ (table.whole_ended self.old (front.track_at cylinder.old self.old.head) i).front }
         ensures written { cylinder.new
             ≡ stands cylinder.old self.old.head
             (table.whole_ended self.old (front.track_at cylinder.old self.old.head) i).written }
@@ -214,7 +229,7 @@ impl Panel {
     {
         self.place = Place::Gap(next);
         self.points = 0;
-        self.right = Right::Record;
+        self.right = WriteAccess::Record;
         self.end(UnitStatus::NONE)
     }
 }

@@ -1,6 +1,6 @@
 pub mod Moved
 pub mod Translated
 pub mod Runs
-pub mod Kept
-pub mod Known
+pub mod CachedProgram
+pub mod CachedPages
 pub mod Placed

@@ -18,10 +18,17 @@ abbrev pub dat_of : Real → Dat
 dat_of r = r.dat.now
 
 -- a program, read in this form, comes from this address of the user's storage to this end
-abbrev pub IsRunOf : {D : Type 0} → Form → Machine D → Limits → ℕ → Dat → D → Ending → Dat → D → Type 0
-IsRunOf form machine limits start old d end new e = Reaches form (setting machine limits) (Fetching (start_spot start) (lent_memory old) d) (Over end (lent_memory new) e)
+abbrev pub IsRunOf : {D : Type 0} → Form → Machine D → Limits → ℕ → Dat → D → Ending → Dat → D
+    → Type 0
+IsRunOf form machine limits start old d end new e =
+    Reaches form (setting machine limits) (Fetching (start_spot start) (lent_memory old) d)
+    (Over end (lent_memory new) e)
 
--- the guest's program comes to this end with its words as they stood in m0, and if they stay so, by itself
-pub record IsGuestsRun {D : Type 0} (machine : Machine D) (limits : Limits) (m0 : Memory) (start : ℕ) (old : Dat) (d : D) (end : Ending) (new : Dat) (e : D) : Type 0 where
+-- the guest's program comes to this end with its words as they were in m0, and if they stay so, by
+-- itself
+pub record IsGuestsRun {D : Type 0} (machine : Machine D) (limits : Limits) (m0 : Memory)
+    (start : ℕ) (old : Dat) (d : D) (end : Ending) (new : Dat) (e : D) : Type 0 where
   pub frozen : IsRunOf (words_frozen (live guest_written) m0) machine limits start old d end new e
-  pub steady : IsSteadyFrom (setting machine limits) m0 (Fetching (start_spot start) (lent_memory old) d) → IsRunOf (live guest_written) machine limits start old d end new e
+  pub steady : IsSteadyFrom (setting machine limits) m0
+      (Fetching (start_spot start) (lent_memory old) d)
+      → IsRunOf (live guest_written) machine limits start old d end new e

@@ -1,25 +1,27 @@
-//! When a program that was known may run again where it stands.
-ghost use Rattle.std.specs.Prelude.{◌≡◌, ◌%◌, ◌*◌, ◌+◌, ◌≤◌, All, Contains, IfOk, OnOk, length, true};
+//! When a program that was known may run again where it is.
+ghost use Rattle.std.specs.Prelude.{◌≡◌, ◌%◌, ◌*◌, ◌+◌, ◌≤◌, All, Contains, IfOk, OnOk, length};
+ghost use Rattle.std.specs.Prelude.{true};
 ghost use Rattle.cp_dat.specs.Lent.{is_lent_page, lent_bytes, lent_memory};
 ghost use Rattle.cp_needs.specs.Kept.{IsAsItStood, IsPaged, IsPagedOnly, IsText, IsTextOnly};
 ghost use Rattle.cp_needs.specs.Needs.{IsFixed, IsHeld};
 ghost use Rattle.cp_needs.specs.Words.{IsFixedStill};
-ghost use Rattle.cp_ccw.specs.Kept.{IsFrame};
-ghost use Rattle.cp_ccw.specs.Known.{ArePlaced, ArePlacedOnly, IsAsKnown};
+ghost use Rattle.cp_ccw.specs.CachedProgram.{IsFrame};
+ghost use Rattle.cp_ccw.specs.CachedPages.{ArePlaced, ArePlacedOnly, IsAsKnown};
 ghost use Rattle.cp_ccw.specs.Placed.{IsPlacedOne};
 
-use crate::kept::Held;
-use crate::known::Known;
+use crate::kept::PageInFrame;
+use crate::known::CachedPages;
 use crate::reuse::are_in_frames;
 use cp_dat::Dat;
-use cp_needs::{Fullword, stands};
+use cp_needs::{WordAt, stands};
 use s370_channel::Caw;
 use s370_store::{Page, Storage};
 use std::alloc::{AllocError, Global};
 
-/// Notes a page that lies whole in storage, with the frame in which it stands.
-fn place(dat: &Dat, page: Page, held: &mut Vec<Held>) -> Result<(), AllocError>
-    requires { page.0 * 4096 + 4096 ≤ length (lent_bytes dat.now) → is_lent_page dat.now page.0 ≡ true }
+/// Notes a page that lies whole in storage, with the frame in which it is.
+fn place(dat: &Dat, page: Page, held: &mut Vec<PageInFrame>) -> Result<(), AllocError>
+    requires { page.0 * 4096 + 4096 ≤ length (lent_bytes dat.now)
+        → is_lent_page dat.now page.0 ≡ true }
     ensures placed { OnOk result (IsPlacedOne dat.now page held.old.items held.new.items) }
 {
     if u64::from(page.0) * 4096 + 4096 > u64::from(dat.size()) {
@@ -27,19 +29,21 @@ fn place(dat: &Dat, page: Page, held: &mut Vec<Held>) -> Result<(), AllocError>
     }
     match dat.frame_of(page) {
         Some(frame) => {
-            held.push(Held { page, frame })?;
+            held.push(PageInFrame { page, frame })?;
             Ok(())
         }
-        // Each of them stands in a frame.
+        // Each of them is in a frame.
         None => unreachable!(),
     }
 }
 
-/// The frames of these pages, of those that lie whole in storage.
-fn places_of(alloc: Global, dat: &Dat, pages: &[Page]) -> Result<Vec<Held>, AllocError>
-    requires { (page : Page) → Contains pages.now page → page.0 * 4096 + 4096 ≤ length (lent_bytes dat.now)
+/// Returns the frames of these pages, of those that lie whole in storage.
+fn places_of(alloc: Global, dat: &Dat, pages: &[Page]) -> Result<Vec<PageInFrame>, AllocError>
+    requires { (page : Page) → Contains pages.now page
+        → page.0 * 4096 + 4096 ≤ length (lent_bytes dat.now)
         → is_lent_page dat.now page.0 ≡ true }
-    ensures placed { IfOk result (λ held. ArePlaced (length (lent_bytes dat.now)) pages.now held.items) }
+    ensures placed { IfOk result
+        (λ held. ArePlaced (length (lent_bytes dat.now)) pages.now held.items) }
     ensures only { IfOk result (λ held. ArePlacedOnly pages.now held.items) }
     ensures stand { IfOk result (λ held. All (IsFrame dat.now) held.items) }
 {
@@ -50,15 +54,19 @@ fn places_of(alloc: Global, dat: &Dat, pages: &[Page]) -> Result<Vec<Held>, Allo
     Ok(held)
 }
 
-/// What is to be known of a program, of which [`cp_needs::look`] told that no input can change it, with its words and
-/// the pages of its areas.
+/// Returns what has to be known to run a program again that no input can change, as
+/// [`cp_needs::analyze`] found it.
+///
+/// # Errors
+///
+/// `AllocError` if memory is refused.
 pub fn know(
     alloc: Global,
     dat: &Dat,
     caw: Caw,
-    text: Vec<Fullword>,
+    text: Vec<WordAt>,
     pages: &[Page],
-) -> Result<Known, AllocError>
+) -> Result<CachedPages, AllocError>
     requires fixed { IsFixed (lent_memory dat.now) caw.address }
     requires held { IsHeld (lent_memory dat.now) caw.address (is_lent_page dat.now) }
     requires text { IsText (lent_memory dat.now) caw.address text.items }
@@ -69,7 +77,7 @@ pub fn know(
     ensures { IfOk result (λ known. IsAsKnown known dat.now caw) }
 {
     let held = places_of(alloc, dat, pages)?;
-    Ok(Known {
+    Ok(CachedPages {
         caw,
         size: dat.size(),
         text,
@@ -77,13 +85,13 @@ pub fn know(
     })
 }
 
-/// Whether all that is known of a program is as it was, for this address word.
-fn is_as_known(known: &Known, dat: &Dat, caw: Caw) -> bool
+/// Returns whether all that is known of a program is as it was, for this address word.
+fn is_as_cached(known: &CachedPages, dat: &Dat, caw: Caw) -> bool
     ensures same { result ≡ true → IsAsKnown known.now dat.now caw }
     ensures other { IsAsKnown known.now dat.now caw → result ≡ true }
 {
     // Exhaustive: a new field fails to compile here.
-    let Known {
+    let CachedPages {
         caw: started,
         size,
         text,
@@ -101,15 +109,16 @@ fn is_as_known(known: &Known, dat: &Dat, caw: Caw) -> bool
     are_in_frames(dat, held)
 }
 
-/// Whether a program that was known may run for this address word where it stands: yes exactly where all that is known
-/// of it is as it was: the address word, the words and lists, each on a page that stands in a frame, and the frames of
-/// its areas.
-pub fn runs_still(known: &Known, dat: &Dat, caw: Caw) -> bool
+/// Returns whether a program that was known may run for this address word where it is: yes exactly
+/// where all that is known of it is as it was: the address word, the words and lists, each on a
+/// page that is in a frame, and the frames of its areas.
+pub fn is_valid(known: &CachedPages, dat: &Dat, caw: Caw) -> bool
     ensures same { result ≡ true → IsAsKnown known.now dat.now caw }
     ensures other { IsAsKnown known.now dat.now caw → result ≡ true }
-    ensures still { result ≡ true → IsFixedStill (lent_memory dat.now) (is_lent_page dat.now) caw.address }
+    ensures still { result ≡ true
+        → IsFixedStill (lent_memory dat.now) (is_lent_page dat.now) caw.address }
 {
     // What is always so of it.
     let _size = known.size;
-    is_as_known(known, dat, caw)
+    is_as_cached(known, dat, caw)
 }

@@ -1,21 +1,21 @@
-//! A program that is read where it stands and is known to be fixed.
-use crate::kept::Held;
-use cp_needs::Fullword;
+//! A program that is read where it is and is known to be fixed.
+use crate::kept::PageInFrame;
+use cp_needs::WordAt;
 use s370_channel::Caw;
 use std::marker::Model;
 
-/// What is known of a program that is read where it stands: its address word, the words and lists, and the frames of the
-/// pages on which its areas lie.
+/// What is known of a program that is read where it is: its address word, the words and lists, and
+/// the frames of the pages on which its areas lie.
 #[derive(Drop)]
-pub struct Known {
+pub struct CachedPages {
     pub(crate) caw: Caw,
     pub(crate) size: u32,
-    pub(crate) text: Vec<Fullword>,
-    pub(crate) held: Vec<Held>,
+    pub(crate) text: Vec<WordAt>,
+    pub(crate) held: Vec<PageInFrame>,
 }
 
-impl Model for Known {
-    ghost use Rattle.cp_ccw.specs.Known.{IsKnown, KnownProgram};
+impl Model for CachedPages {
+    ghost use Rattle.cp_ccw.specs.CachedPages.{IsKnown, KnownProgram};
 
     ghost Value = { KnownProgram };
 

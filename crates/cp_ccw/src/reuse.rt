@@ -1,5 +1,6 @@
 //! When a copied program that was kept may run again.
-ghost use Rattle.std.specs.Prelude.{◌≡◌, ℕ, ◌%◌, ◌*◌, ◌/◌, ◌<◌, ◌^◌, ◌⊎◌, All, Contains, IfErr, IfOk, OnOk, true};
+ghost use Rattle.std.specs.Prelude.{◌≡◌, ℕ, ◌%◌, ◌*◌, ◌/◌, ◌<◌, ◌^◌, ◌⊎◌, All, Contains, IfErr};
+ghost use Rattle.std.specs.Prelude.{IfOk, OnOk, true};
 ghost use Rattle.s370_channel.specs.Guest.{guest_written};
 ghost use Rattle.s370_channel.specs.declared.running.ChannelError.TheVariants as errors;
 ghost use Rattle.s370_walk.specs.Walk.{live};
@@ -7,28 +8,30 @@ ghost use Rattle.cp_dat.specs.Lent.{KeepsStored, is_lent_page, lent_bytes, lent_
 ghost use Rattle.cp_graph.specs.Table.{program_of};
 ghost use Rattle.cp_needs.specs.Kept.{IsAsItStood, IsText, IsTextOnly};
 ghost use Rattle.cp_needs.specs.Needs.{IsFixed, IsHeld};
-ghost use Rattle.cp_ccw.specs.Kept.{AreNoted, AreNotedOnly, Grows, IsAtBase, IsFrame, IsNoted, IsOf, IsOfList};
-ghost use Rattle.cp_ccw.specs.declared.kept.Held.{Held};
+ghost use Rattle.cp_ccw.specs.CachedProgram.{AreNoted, AreNotedOnly, Grows, IsAtBase, IsFrame};
+ghost use Rattle.cp_ccw.specs.CachedProgram.{IsNoted, IsOf, IsOfList};
+ghost use Rattle.cp_ccw.specs.declared.kept.PageInFrame.{PageInFrame};
 ghost use Rattle.cp_ccw.specs.Runs.{IsRunOf};
 
-use crate::kept::{Held, Kept};
+use crate::kept::{CachedProgram, PageInFrame};
 use crate::running::run_lent;
 use crate::table::{Table, nodes_to_real};
 use cp_dat::Dat;
 use cp_graph::{Copied, CopyError, Node, copy};
-use cp_needs::{Fullword, stands};
+use cp_needs::{WordAt, stands};
 use s370_channel::{Caw, ChannelError, Limits};
 use s370_store::{Page, Storage};
 use s370_walk::{Device, Ending};
 use std::alloc::{AllocError, Global};
 
 /// Notes the page of an address, and its frame.
-fn note_entry(dat: &Dat, said: Option<u32>, held: &mut Vec<Held>) -> Result<(), AllocError>
+fn note_entry(dat: &Dat, said: Option<u32>, held: &mut Vec<PageInFrame>) -> Result<(), AllocError>
     ensures grows { OnOk result (Grows held.old.items held.new.items) }
     ensures noted { OnOk result (IsNoted dat.now held.new.items said) }
     ensures only { OnOk result
-        ((h : Held) → Contains held.new.items h → Contains held.old.items h ⊎ IsOf said h) }
-    ensures stand { OnOk result (All (IsFrame dat.now) held.old.items → All (IsFrame dat.now) held.new.items) }
+        ((h : PageInFrame) → Contains held.new.items h → Contains held.old.items h ⊎ IsOf said h) }
+    ensures stand { OnOk result
+        (All (IsFrame dat.now) held.old.items → All (IsFrame dat.now) held.new.items) }
 {
     let Some(address) = said else {
         return Ok(());
@@ -40,7 +43,7 @@ fn note_entry(dat: &Dat, said: Option<u32>, held: &mut Vec<Held>) -> Result<(), 
     let Some(frame) = dat.frame_of(Page(page)) else {
         return Ok(());
     };
-    held.push(Held {
+    held.push(PageInFrame {
         page: Page(page),
         frame,
     })?;
@@ -48,12 +51,14 @@ fn note_entry(dat: &Dat, said: Option<u32>, held: &mut Vec<Held>) -> Result<(), 
 }
 
 /// Notes the pages of the addresses of a list, and their frames.
-fn note_list(dat: &Dat, list: &[Option<u32>], held: &mut Vec<Held>) -> Result<(), AllocError>
+fn note_list(dat: &Dat, list: &[Option<u32>], held: &mut Vec<PageInFrame>) -> Result<(), AllocError>
     ensures grows { OnOk result (Grows held.old.items held.new.items) }
     ensures noted { OnOk result (All (IsNoted dat.now held.new.items) list.now) }
     ensures only { OnOk result
-        ((h : Held) → Contains held.new.items h → Contains held.old.items h ⊎ IsOfList list.now h) }
-    ensures stand { OnOk result (All (IsFrame dat.now) held.old.items → All (IsFrame dat.now) held.new.items) }
+        ((h : PageInFrame) → Contains held.new.items h
+        → Contains held.old.items h ⊎ IsOfList list.now h) }
+    ensures stand { OnOk result
+        (All (IsFrame dat.now) held.old.items → All (IsFrame dat.now) held.new.items) }
 {
     for said in list {
         note_entry(dat, *said, held)?;
@@ -61,8 +66,8 @@ fn note_list(dat: &Dat, list: &[Option<u32>], held: &mut Vec<Held>) -> Result<()
     Ok(())
 }
 
-/// The pages that the lists of a program name, and their frames.
-fn frames_of(alloc: Global, dat: &Dat, nodes: &[Node]) -> Result<Vec<Held>, AllocError>
+/// Returns the pages that the lists of a program name, and their frames.
+fn frames_of(alloc: Global, dat: &Dat, nodes: &[Node]) -> Result<Vec<PageInFrame>, AllocError>
     ensures noted { IfOk result (λ held. AreNoted dat.now held.items (program_of nodes.now)) }
     ensures only { IfOk result (λ held. AreNotedOnly held.items (program_of nodes.now)) }
     ensures stand { IfOk result (λ held. All (IsFrame dat.now) held.items) }
@@ -76,13 +81,13 @@ fn frames_of(alloc: Global, dat: &Dat, nodes: &[Node]) -> Result<Vec<Held>, Allo
     Ok(held)
 }
 
-/// Whether a page stands in the frame in which it stood.
-fn is_in_frame(dat: &Dat, held: &Held) -> bool
+/// Returns whether a page is in the frame in which it was.
+fn is_in_frame(dat: &Dat, held: &PageInFrame) -> bool
     ensures same { result ≡ true → IsFrame dat.now held.now }
     ensures other { IsFrame dat.now held.now → result ≡ true }
 {
     // Exhaustive: a new field fails to compile here.
-    let Held { page, frame: stood } = held;
+    let PageInFrame { page, frame: stood } = held;
     if page.0 as u64 * 4096 >= dat.size() as u64 {
         return false;
     }
@@ -92,8 +97,8 @@ fn is_in_frame(dat: &Dat, held: &Held) -> bool
     }
 }
 
-/// Whether each of these pages stands in the frame in which it stood.
-pub(crate) fn are_in_frames(dat: &Dat, held: &[Held]) -> bool
+/// Returns whether each of these pages is in the frame in which it was.
+pub(crate) fn are_in_frames(dat: &Dat, held: &[PageInFrame]) -> bool
     ensures same { result ≡ true → All (IsFrame dat.now) held.now }
     ensures other { All (IsFrame dat.now) held.now → result ≡ true }
 {
@@ -105,8 +110,17 @@ pub(crate) fn are_in_frames(dat: &Dat, held: &[Held]) -> bool
     true
 }
 
-/// Copies a program to be kept, of which [`cp_needs::look`] told that no input can change it, with its words.
-pub fn keep(alloc: Global, dat: &Dat, caw: Caw, text: Vec<Fullword>) -> Result<Kept, AllocError>
+/// Copies a program that no input can change, as [`cp_needs::analyze`] found it, to be run again.
+///
+/// # Errors
+///
+/// `AllocError` if memory is refused.
+pub fn cache_program(
+    alloc: Global,
+    dat: &Dat,
+    caw: Caw,
+    text: Vec<WordAt>,
+) -> Result<CachedProgram, AllocError>
     requires even { caw.address % 8 ≡ 0 }
     requires fixed { IsFixed (lent_memory dat.now) caw.address }
     requires held { IsHeld (lent_memory dat.now) caw.address (is_lent_page dat.now) }
@@ -122,12 +136,12 @@ pub fn keep(alloc: Global, dat: &Dat, caw: Caw, text: Vec<Fullword>) -> Result<K
     } = match copy(alloc, dat, caw.address.get()) {
         Ok(copied) => copied,
         Err(CopyError::Memory) => return Err(AllocError),
-        // The program would need the page, and those that it needs stand in frames.
+        // The program would need the page, and those that it needs are in frames.
         Err(CopyError::Absent(_)) => unreachable!(),
     };
     let held = frames_of(alloc, dat, &nodes)?;
     nodes_to_real(dat, &mut nodes);
-    Ok(Kept {
+    Ok(CachedProgram {
         caw,
         size: dat.size(),
         text,
@@ -140,14 +154,15 @@ pub fn keep(alloc: Global, dat: &Dat, caw: Caw, text: Vec<Fullword>) -> Result<K
     })
 }
 
-/// Whether a program that was kept may run for this address word: yes exactly where all that it was copied from is as it
-/// was: the address word, the words and lists, each on a page that stands in a frame, and the frames of its data.
-pub fn reusable(kept: &Kept, dat: &Dat, caw: Caw) -> bool
+/// Returns whether a program that was kept may run for this address word: yes exactly where all
+/// that it was copied from is as it was: the address word, the words and lists, each on a page that
+/// is in a frame, and the frames of its data.
+pub fn reusable(kept: &CachedProgram, dat: &Dat, caw: Caw) -> bool
     ensures same { result ≡ true → IsAtBase kept.now dat.now caw }
     ensures other { IsAtBase kept.now dat.now caw → result ≡ true }
 {
     // Exhaustive: a new field fails to compile here.
-    let Kept {
+    let CachedProgram {
         caw: started,
         size,
         text,
@@ -166,10 +181,15 @@ pub fn reusable(kept: &Kept, dat: &Dat, caw: Caw) -> bool
     are_in_frames(dat, held)
 }
 
-/// Runs a program that was kept, where [`reusable`] tells that it may, or after [`keep`]: it ends as the program does
-/// whose words are read as they are reached. It stops for want of memory alone.
+/// Runs a cached program for which [`reusable`] says yes, or right after [`cache_program`]: it ends
+/// as the program does whose words are read as they are reached. It stops only if memory is
+/// refused.
+///
+/// # Errors
+///
+/// A `ChannelError`: refused memory that a command or the analysis needs.
 pub fn run_kept<D: Device>(
-    kept: &Kept,
+    kept: &CachedProgram,
     storage: &mut Dat<'_>,
     caw: Caw,
     limits: &Limits,
@@ -177,7 +197,8 @@ pub fn run_kept<D: Device>(
 ) -> Result<Ending, ChannelError>
     requires { IsAtBase kept.now storage.old caw }
     ensures reaches { IfOk result
-        (λ ending. IsRunOf (live guest_written) D.machine limits.now caw.address storage.old device.old ending
+        (λ ending. IsRunOf (live guest_written) D.machine limits.now caw.address storage.old
+        device.old ending
         storage.new device.new) }
     ensures memory { IfErr result (λ error. error ≡ errors.Memory) }
     ensures rest { KeepsStored storage.old storage.new }

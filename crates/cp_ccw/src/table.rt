@@ -9,7 +9,7 @@ use channel_laws::Place;
 use cp_dat::Dat;
 use cp_graph::Node;
 use s370_store::{Page, Storage};
-use s370_walk::{Position, Word, WordForm};
+use s370_walk::{Ccw, Position, WordForm};
 
 /// A copied program whose lists have real addresses.
 #[derive(Drop)]
@@ -22,7 +22,7 @@ pub struct Table {
     pub nodes: Vec<Node>,
 }
 
-/// The real address of a user's byte, where its page stands in a frame.
+/// Returns the real address of a user's byte, where its page is in a frame.
 fn real_address(dat: &Dat, address: u32) -> Option<u32>
     ensures { result ≡ real_in dat.now address }
 {
@@ -36,7 +36,7 @@ fn real_address(dat: &Dat, address: u32) -> Option<u32>
     Some(frame.0 as u32 * 4096 + address % 4096)
 }
 
-/// The real address for what an entry says.
+/// Returns the real address for what an entry says.
 fn real_entry(dat: &Dat, said: Option<u32>) -> Option<u32>
     ensures { result ≡ real_place (real_in dat.now) said }
 {
@@ -71,7 +71,7 @@ pub(crate) fn nodes_to_real(dat: &Dat, nodes: &mut Vec<Node>)
 impl WordForm for Table {
     ghost written = { λ t. table_written t.nodes.items };
 
-    fn fetch<S: Storage>(&self, _storage: &S, at: u32) -> Result<Option<Word>, Page> {
+    fn fetch<S: Storage>(&self, _storage: &S, at: u32) -> Result<Option<Ccw>, Page> {
         match self.nodes.get(at as usize) {
             Some(node) => Ok(node.word),
             None => Ok(None),

@@ -1,4 +1,4 @@
--- Texts that are added one behind the other.
+-- Texts that are added one after the other.
 use Rattle.std.specs.Prelude.{ℕ, zero, suc, ◌-◌, ◌≤◌, ◌≡◌, refl, List, [], ◌∷◌, ◌++◌, decimal, length, replicate, take}
 use Rattle.std.proofs.Common.{◌∙◌, ap, arith}
 use Rattle.std.proofs.lemmas.List.{append_assoc}
@@ -9,7 +9,7 @@ three t a b c = ap (λ l. l ++ c) (append_assoc t a b) ∙ append_assoc t (a ++ 
 pub four : (t a b c d : List ℕ) → t ++ a ++ b ++ c ++ d ≡ t ++ (a ++ b ++ c ++ d)
 four t a b c d = ap (λ l. l ++ d) (three t a b c) ∙ append_assoc t (a ++ b ++ c) d
 
--- a word, a number, what stands between, and a word
+-- a word, a number, what is between, and a word
 pub counted : (t a b c d : List ℕ) → t ++ (a ++ b) ++ c ++ d ≡ t ++ (a ++ (b ++ (c ++ d)))
 counted t a b c d =
     append_assoc (t ++ (a ++ b)) c d ∙ (append_assoc t (a ++ b) (c ++ d) ∙ ap (λ l. t ++ l) (append_assoc a b (c ++ d)))
@@ -18,7 +18,7 @@ pub closed : (t a b c d : List ℕ) → t ++ a ++ b ++ c ++ d ≡ t ++ (a ++ ((b
 closed t a b c d =
     four t a b c d ∙ ap (λ l. t ++ l) (ap (λ l. l ++ d) (append_assoc a b c) ∙ append_assoc a (b ++ c) d)
 
--- an address and four words, each behind a blank
+-- an address and four words, each after a blank
 module _ (t a b w x y z : List ℕ) where
   five : t ++ a ++ b ++ w ++ b ++ x ≡ t ++ (a ++ b ++ w ++ b ++ x)
   five = ap (λ l. l ++ x) (four t a b w b) ∙ append_assoc t (a ++ b ++ w ++ b) x

@@ -1,5 +1,6 @@
 -- The commands, by the words of their texts.
-use Rattle.std.specs.Prelude.{ℕ, ◌+◌, ◌*◌, ◌^◌, ◌==◌, if◌then◌else◌, List, [], ◌∷◌, codes, Option, Some, None, Result, Ok, Err}
+use Rattle.std.specs.Prelude.{ℕ, ◌+◌, ◌*◌, ◌^◌, ◌==◌, if◌then◌else◌, List, [], ◌∷◌, codes, Option}
+use Rattle.std.specs.Prelude.{Some, None, Result, Ok, Err}
 use Rattle.std.specs.Option.{option_map}
 use Rattle.std.specs.Str.{bytes_eq}
 use Rattle.text_words.specs.Words.{after_first_word, words_of}
@@ -10,7 +11,9 @@ use Rattle.cp_console.specs.declared.commands.Place.{Place}
 use Rattle.cp_console.specs.declared.commands.Place.TheVariants as places
 use Rattle.cp_console.specs.declared.commands.Change.TheVariants as changes
 use Rattle.cp_console.specs.declared.commands.Command.{Command}
-use Rattle.cp_console.specs.declared.commands.Command.TheVariants.{Nothing, Logon, Logoff, Begin, SystemReset, External, Display, Store}
+use Rattle.cp_console.specs.declared.commands.Command.TheVariants.{Nothing, Logon, Logoff, Begin}
+use Rattle.cp_console.specs.declared.commands.Command.TheVariants.{SystemReset, External, Display}
+use Rattle.cp_console.specs.declared.commands.Command.TheVariants.{Store}
 use Rattle.cp_console.specs.declared.commands.CommandError.{CommandError}
 use Rattle.cp_console.specs.declared.commands.CommandError.TheVariants.{Operand}
 
@@ -42,7 +45,8 @@ system_of words = operand 1 (keyword (codes "RESET")) words (λ word. ended 2 Sy
 -- `BEGIN`, which may name an address
 abbrev pub begin_of : List (List ℕ) → Result Command CommandError
 begin_of [] = Ok (Begin None)
-begin_of (word ∷ words) = operand 1 address_of (word ∷ words) (λ address. ended 2 (Begin (Some address)))
+begin_of (word ∷ words) =
+    operand 1 address_of (word ∷ words) (λ address. ended 2 (Begin (Some address)))
 
 -- `EXTERNAL`
 abbrev pub external_of : List (List ℕ) → Result Command CommandError
@@ -52,20 +56,26 @@ external_of words = ended 1 External words
 abbrev pub display_of : List (List ℕ) → Result Command CommandError
 display_of words = operand 1 place_of words (λ place. ended 2 (Display place))
 
--- what a place is given: the PSW its two halves, a general register its contents, storage some bytes from the address on;
--- control registers and keys are not stored
+-- what a place is given: the PSW its two halves, a general register its contents, storage some
+-- bytes from the address on; control registers and keys are not stored
 abbrev pub change_of : Place → List (List ℕ) → Result Command CommandError
-change_of places.Psw words = operand 2 contents_of words (λ left rest. operand 3 contents_of rest (λ right. ended 4 (Store (changes.Psw (left * 2 ^ 32 + right)))))
-change_of (places.General register) words = operand 2 contents_of words (λ contents. ended 3 (Store (changes.General register contents)))
+change_of places.Psw words =
+    operand 2 contents_of words
+    (λ left rest. operand 3 contents_of rest
+    (λ right. ended 4 (Store (changes.Psw (left * 2 ^ 32 + right)))))
+change_of (places.General register) words =
+    operand 2 contents_of words (λ contents. ended 3 (Store (changes.General register contents)))
 change_of (places.Control register) words = Err (Operand 1)
 change_of (places.Key address) words = Err (Operand 1)
-change_of (places.Storage address) words = operand 2 bytes_of words (λ bytes. ended 3 (Store (changes.Storage address bytes)))
+change_of (places.Storage address) words =
+    operand 2 bytes_of words (λ bytes. ended 3 (Store (changes.Storage address bytes)))
 
 -- `STORE`, a place and what it is given
 abbrev pub store_of : List (List ℕ) → Result Command CommandError
 store_of words = operand 1 place_of words change_of
 
--- by the first word, which is the command's name; the text is what a message with these operands says
+-- by the first word, which is the command's name; the text is what a message with these operands
+-- says
 abbrev pub command_named : List ℕ → List (List ℕ) → List ℕ → Result Command CommandError
 command_named name operands text =
     if bytes_eq name (codes "LOGON") then logon_of operands

@@ -8,7 +8,10 @@ use Rattle.cp_console.specs.declared.commands.Command.{Command}
 use Rattle.cp_console.specs.declared.commands.Command.TheVariants.{Ipl, Device}
 use Rattle.cp_console.specs.declared.commands.CommandError.{CommandError}
 use Rattle.cp_console.specs.declared.commands.CommandError.TheVariants.{Unknown, Operand}
-use Rattle.cp_console.specs.declared.device_commands.DeviceCommand.TheVariants.{QueryFiles, QueryUsers, Spool, Close, Purge, Message}
+use Rattle.cp_console.specs.declared.device_commands.DeviceCommand.TheVariants.{QueryFiles}
+use Rattle.cp_console.specs.declared.device_commands.DeviceCommand.TheVariants.{QueryUsers, Spool}
+use Rattle.cp_console.specs.declared.device_commands.DeviceCommand.TheVariants.{Close, Purge}
+use Rattle.cp_console.specs.declared.device_commands.DeviceCommand.TheVariants.{Message}
 
 -- `IPL` and a device
 abbrev pub ipl_of : List (List ℕ) → Result Command CommandError
@@ -25,7 +28,9 @@ query_of (word ∷ words) =
 -- `SPOOL`, a device, `TO` and a name, which is any word
 abbrev pub spool_of : List (List ℕ) → Result Command CommandError
 spool_of words =
-    operand 1 device_of words (λ device rest. operand 2 (keyword (codes "TO")) rest (λ to more. operand 3 Some more (λ name. ended 4 (Device (Spool device name)))))
+    operand 1 device_of words
+    (λ device rest. operand 2 (keyword (codes "TO")) rest
+    (λ to more. operand 3 Some more (λ name. ended 4 (Device (Spool device name)))))
 
 -- `CLOSE` and a device
 abbrev pub close_of : List (List ℕ) → Result Command CommandError
@@ -35,11 +40,13 @@ close_of words = operand 1 device_of words (λ device. ended 2 (Device (Close de
 abbrev pub purge_of : List (List ℕ) → Result Command CommandError
 purge_of words = operand 1 file_of words (λ file. ended 2 (Device (Purge file)))
 
--- the text of a message: what follows the name, the first of these operands, from its first character that is no blank
+-- the text of a message: what follows the name, the first of these operands, from its first
+-- character that is no blank
 abbrev pub message_text : List ℕ → List ℕ
 message_text operands = unindented (after_first_word operands)
 
--- `MSG`, a name, which is any word, and a text, which is the rest of the line with its blanks and has a word
+-- `MSG`, a name, which is any word, and a text, which is the rest of the line with its blanks and
+-- has a word
 abbrev pub message_of : List (List ℕ) → List ℕ → Result Command CommandError
 message_of [] text = Err (Operand 1)
 message_of (name ∷ []) text = Err (Operand 2)

@@ -1,5 +1,6 @@
 -- What it is for words to spell a command, and to be no command.
-use Rattle.std.specs.Prelude.{◌≡◌, ℕ, ◌+◌, ◌*◌, ◌^◌, List, [], ◌∷◌, ◌++◌, length, codes, Option, Some, None, Result, Ok, Err}
+use Rattle.std.specs.Prelude.{◌≡◌, ℕ, ◌+◌, ◌*◌, ◌^◌, List, [], ◌∷◌, ◌++◌, length, codes, Option}
+use Rattle.std.specs.Prelude.{Some, None, Result, Ok, Err}
 use Rattle.text_words.specs.Words.{after_first_word, words_of}
 use Rattle.cp_console.specs.Operands.{address_of, contents_of, bytes_of, device_of, file_of}
 use Rattle.cp_console.specs.DeviceCommands.{message_text}
@@ -8,8 +9,13 @@ use Rattle.cp_console.specs.declared.commands.Place.{Place}
 use Rattle.cp_console.specs.declared.commands.Place.TheVariants as places
 use Rattle.cp_console.specs.declared.commands.Change.TheVariants as changes
 use Rattle.cp_console.specs.declared.commands.Command.{Command}
-use Rattle.cp_console.specs.declared.commands.Command.TheVariants.{Nothing, Logon, Logoff, Begin, SystemReset, External, Display, Store, Ipl, Device}
-use Rattle.cp_console.specs.declared.device_commands.DeviceCommand.TheVariants.{QueryFiles, QueryUsers, Spool, Close, Purge, Message}
+use Rattle.cp_console.specs.declared.commands.Command.TheVariants.{Nothing, Logon, Logoff, Begin}
+use Rattle.cp_console.specs.declared.commands.Command.TheVariants.{SystemReset, External, Display}
+use Rattle.cp_console.specs.declared.commands.Command.TheVariants.{Store, Ipl, Device}
+use Rattle.cp_console.specs.declared.device_commands.DeviceCommand.TheVariants.{QueryFiles}
+use Rattle.cp_console.specs.declared.device_commands.DeviceCommand.TheVariants.{QueryUsers, Spool}
+use Rattle.cp_console.specs.declared.device_commands.DeviceCommand.TheVariants.{Close, Purge}
+use Rattle.cp_console.specs.declared.device_commands.DeviceCommand.TheVariants.{Message}
 use Rattle.cp_console.specs.declared.commands.CommandError.{CommandError}
 use Rattle.cp_console.specs.declared.commands.CommandError.TheVariants.{Memory, Unknown, Operand}
 
@@ -39,7 +45,8 @@ pub record SpellsPsw (words : List (List ℕ)) (psw : ℕ) : Type 0 where
   pub joined : psw ≡ high * 2 ^ 32 + low
 
 -- `STORE`, the word of a place and what the place is given, a word read by this rule
-pub record SpellsStore {A : Type 0} (rule : List ℕ → Option A) (words : List (List ℕ)) (place : Place) (given : A) : Type 0 where
+pub record SpellsStore {A : Type 0} (rule : List ℕ → Option A) (words : List (List ℕ))
+    (place : Place) (given : A) : Type 0 where
   pub word : List ℕ
   pub digits : List ℕ
   pub spelled : words ≡ codes "STORE" ∷ word ∷ digits ∷ []
@@ -47,7 +54,8 @@ pub record SpellsStore {A : Type 0} (rule : List ℕ → Option A) (words : List
   pub digits_read : rule digits ≡ Some given
 
 -- this name and one operand, a word read by this rule
-pub record SpellsOperand {A : Type 0} (name : List ℕ) (rule : List ℕ → Option A) (words : List (List ℕ)) (operand : A) : Type 0 where
+pub record SpellsOperand {A : Type 0} (name : List ℕ) (rule : List ℕ → Option A)
+    (words : List (List ℕ)) (operand : A) : Type 0 where
   pub word : List ℕ
   pub spelled : words ≡ name ∷ word ∷ []
   pub read : rule word ≡ Some operand
@@ -59,13 +67,15 @@ pub record SpellsSpool (words : List (List ℕ)) (device : ℕ) (name : List ℕ
   pub read : device_of word ≡ Some device
 
 -- `MSG`, a name, and a text that has a word: it is all that follows the name
-pub record SpellsMessage (words : List (List ℕ)) (following : List ℕ) (name : List ℕ) (text : List ℕ) : Type 0 where
+pub record SpellsMessage (words : List (List ℕ)) (following : List ℕ) (name : List ℕ)
+    (text : List ℕ) : Type 0 where
   pub word : List ℕ
   pub more : List (List ℕ)
   pub spelled : words ≡ codes "MSG" ∷ name ∷ word ∷ more
   pub said : text ≡ following
 
--- the words spell a command; `following` is what follows the second of them, from its first character that is no blank
+-- the words spell a command; `following` is what follows the second of them, from its first
+-- character that is no blank
 abbrev pub Spells : List (List ℕ) → List ℕ → Command → Type 0
 Spells words following Nothing = words ≡ []
 Spells words following Logon = words ≡ codes "LOGON" ∷ []
@@ -76,13 +86,16 @@ Spells words following SystemReset = words ≡ codes "SYSTEM" ∷ codes "RESET" 
 Spells words following External = words ≡ codes "EXTERNAL" ∷ []
 Spells words following (Display place) = SpellsDisplay words place
 Spells words following (Store (changes.Psw psw)) = SpellsPsw words psw
-Spells words following (Store (changes.General register contents)) = SpellsStore contents_of words (places.General register) contents
-Spells words following (Store (changes.Storage address bytes)) = SpellsStore bytes_of words (places.Storage address) bytes
+Spells words following (Store (changes.General register contents)) =
+    SpellsStore contents_of words (places.General register) contents
+Spells words following (Store (changes.Storage address bytes)) =
+    SpellsStore bytes_of words (places.Storage address) bytes
 Spells words following (Ipl device) = SpellsOperand (codes "IPL") device_of words device
 Spells words following (Device QueryFiles) = words ≡ codes "QUERY" ∷ codes "FILES" ∷ []
 Spells words following (Device QueryUsers) = words ≡ codes "QUERY" ∷ codes "USERS" ∷ []
 Spells words following (Device (Spool device name)) = SpellsSpool words device name
-Spells words following (Device (Close device)) = SpellsOperand (codes "CLOSE") device_of words device
+Spells words following (Device (Close device)) =
+    SpellsOperand (codes "CLOSE") device_of words device
 Spells words following (Device (Purge file)) = SpellsOperand (codes "PURGE") file_of words file
 Spells words following (Device (Message name text)) = SpellsMessage words following name text
 
@@ -105,7 +118,8 @@ abbrev pub Stops : List (List ℕ) → List (List ℕ) → Type 0
 Stops front [] = (following : List ℕ) (command : Command) → Spells front following command → ⊥
 Stops front (word ∷ more) = Begins (front ++ word ∷ []) → ⊥
 
--- the name and the operands before this place begin a command, and the word at the place is wrong, missing or surplus
+-- the name and the operands before this place begin a command, and the word at the place is wrong,
+-- missing or surplus
 pub record IsFirstWrong (words : List (List ℕ)) (place : ℕ) : Type 0 where
   pub front : List (List ℕ)
   pub after : List (List ℕ)
@@ -114,7 +128,7 @@ pub record IsFirstWrong (words : List (List ℕ)) (place : ℕ) : Type 0 where
   pub begins : Begins front
   pub stops : Stops front after
 
--- what an answer tells of the words, and of what follows the second of them
+-- what an answer says of the words, and of what follows the second of them
 abbrev pub Tells : List (List ℕ) → List ℕ → Result Command CommandError → Type 0
 Tells words following (Ok command) = Spells words following command
 Tells words following (Err Memory) = ⊥
@@ -125,8 +139,10 @@ Tells words following (Err (Operand place)) = IsFirstWrong words place
 abbrev pub following_of : List ℕ → List ℕ
 following_of text = message_text (after_first_word text)
 
--- each text is read as what its words spell, and refused by its first wrong word where they spell nothing
+-- each text is read as what its words spell, and refused by its first wrong word where they spell
+-- nothing
 abbrev pub ReadsGrammar : Type 0
 ReadsGrammar = (text : List ℕ) →
     Tells (words_of text) (following_of text) (command_of text)
-    × ((command : Command) → Spells (words_of text) (following_of text) command → command_of text ≡ Ok command)
+    × ((command : Command) → Spells (words_of text) (following_of text) command
+    → command_of text ≡ Ok command)

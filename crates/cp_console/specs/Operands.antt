@@ -1,5 +1,6 @@
 -- The operands of commands, each a word.
-use Rattle.std.specs.Prelude.{ℕ, ◌+◌, ◌*◌, ◌-◌, ◌^◌, ◌==◌, ◌&&◌, if◌then◌else◌, nat_le, nat_lt, List, [], ◌∷◌, length, Option, Some, None}
+use Rattle.std.specs.Prelude.{ℕ, ◌+◌, ◌*◌, ◌-◌, ◌^◌, ◌==◌, ◌&&◌, if◌then◌else◌, nat_le, nat_lt}
+use Rattle.std.specs.Prelude.{List, [], ◌∷◌, length, Option, Some, None}
 use Rattle.std.specs.Option.{option_map, option_and_then}
 use Rattle.text_words.specs.Numbers.{digit_value, hexadecimal_of, is_digit, number_from}
 
@@ -15,22 +16,27 @@ contents_of word = hexadecimal_of 8 8 word
 abbrev pub register_of : List ℕ → Option ℕ
 register_of [] = None
 register_of (units ∷ []) = if is_digit units then Some (units - 48) else None
-register_of (tens ∷ units ∷ []) = if (tens == 49) && nat_le 48 units && nat_le units 53 then Some (units - 38) else None
+register_of (tens ∷ units ∷ []) = if (tens == 49) && nat_le 48 units && nat_le units 53
+    then Some (units - 38) else None
 register_of (a ∷ b ∷ c ∷ more) = None
 
 -- the byte that two hexadecimal digits spell
 abbrev pub byte_of : ℕ → ℕ → Option ℕ
-byte_of left right = option_and_then (λ high. option_map (λ low. high * 16 + low) (digit_value right)) (digit_value left)
+byte_of left right = option_and_then
+    (λ high. option_map (λ low. high * 16 + low) (digit_value right)) (digit_value left)
 
 -- the bytes that pairs of hexadecimal digits spell
 abbrev pub bytes_spelled : List ℕ → Option (List ℕ)
 bytes_spelled [] = Some []
 bytes_spelled (left ∷ []) = None
-bytes_spelled (left ∷ right ∷ digits) = option_and_then (λ byte. option_map (λ bytes. byte ∷ bytes) (bytes_spelled digits)) (byte_of left right)
+bytes_spelled (left ∷ right ∷ digits) =
+    option_and_then (λ byte. option_map (λ bytes. byte ∷ bytes) (bytes_spelled digits))
+    (byte_of left right)
 
 -- what is stored is 1 to 16 bytes, each of two hexadecimal digits
 abbrev pub bytes_of : List ℕ → Option (List ℕ)
-bytes_of word = if nat_le 2 (length word) && nat_le (length word) 32 then bytes_spelled word else None
+bytes_of word = if nat_le 2 (length word) && nat_le (length word) 32 then bytes_spelled word
+    else None
 
 -- a device is three hexadecimal digits
 abbrev pub device_of : List ℕ → Option ℕ

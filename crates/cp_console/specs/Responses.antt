@@ -1,10 +1,23 @@
 -- The texts of responses, and which of them a console keeps.
-use Rattle.std.specs.Prelude.{ℕ, ◌+◌, ◌*◌, ◌/◌, ◌%◌, ◌-◌, ◌^◌, Bool, true, false, List, ◌++◌, codes, decimal, length, replicate, slice_range}
+use Rattle.std.specs.Prelude.{ℕ, ◌+◌, ◌*◌, ◌/◌, ◌%◌, ◌-◌, ◌^◌, Bool, true, false, List, ◌++◌, codes}
+use Rattle.std.specs.Prelude.{decimal, length, replicate, slice_range}
 use Rattle.std.specs.Int.{w32, from_be_bytes}
 use Rattle.s370_num.specs.Address.{address_text, two_digits, word_text}
 use Rattle.cp_console.specs.ConsoleLine.{characters_of}
 use Rattle.cp_console.specs.declared.responses.Response.{Response}
-use Rattle.cp_console.specs.declared.responses.Response.TheVariants.{LogonOk, LogoffOk, AlreadyLoggedOn, NotLoggedOn, SystemReset, Psw, General, Control, Key, Storage, Stored, AddressPastStorage, UnknownCommand, BadOperand, NoConsole, DeviceNotFound, UserNotFound, UserNotLoggedOn, Spooled, NoFile, FileClosed, NoFiles, Users, Purged, FileNotFound, Sent, IplFailed, LineLost, StoppedDisabledWait, StoppedEcMode, Written}
+use Rattle.cp_console.specs.declared.responses.Response.TheVariants.{LogonOk, LogoffOk}
+use Rattle.cp_console.specs.declared.responses.Response.TheVariants.{AlreadyLoggedOn, NotLoggedOn}
+use Rattle.cp_console.specs.declared.responses.Response.TheVariants.{SystemReset, Psw, General}
+use Rattle.cp_console.specs.declared.responses.Response.TheVariants.{Control, Key, Storage, Stored}
+use Rattle.cp_console.specs.declared.responses.Response.TheVariants.{AddressPastStorage}
+use Rattle.cp_console.specs.declared.responses.Response.TheVariants.{UnknownCommand, BadOperand}
+use Rattle.cp_console.specs.declared.responses.Response.TheVariants.{NoConsole, DeviceNotFound}
+use Rattle.cp_console.specs.declared.responses.Response.TheVariants.{UserNotFound, UserNotLoggedOn}
+use Rattle.cp_console.specs.declared.responses.Response.TheVariants.{Spooled, NoFile, FileClosed}
+use Rattle.cp_console.specs.declared.responses.Response.TheVariants.{NoFiles, Users, Purged}
+use Rattle.cp_console.specs.declared.responses.Response.TheVariants.{FileNotFound, Sent, IplFailed}
+use Rattle.cp_console.specs.declared.responses.Response.TheVariants.{LineLost, StoppedDisabledWait}
+use Rattle.cp_console.specs.declared.responses.Response.TheVariants.{StoppedEcMode, Written}
 
 -- the word that four bytes are, from this one on
 abbrev pub word_at : List ℕ → ℕ → ℕ
@@ -16,15 +29,19 @@ psw_text psw = codes "PSW " ++ word_text (psw / 2 ^ 32) ++ codes " " ++ word_tex
 
 -- a general register's number and contents
 abbrev pub general_text : ℕ → ℕ → List ℕ
-general_text register contents = codes "GPR " ++ (decimal register ++ (codes " = " ++ word_text contents))
+general_text register contents = codes "GPR "
+    ++ (decimal register ++ (codes " = " ++ word_text contents))
 
 -- a control register's number and contents
 abbrev pub control_text : ℕ → ℕ → List ℕ
-control_text register contents = codes "CR " ++ (decimal register ++ (codes " = " ++ word_text contents))
+control_text register contents = codes "CR "
+    ++ (decimal register ++ (codes " = " ++ word_text contents))
 
--- the address rounded down to a multiple of 2048, and the five bits of the key of that block at the left of a byte
+-- the address rounded down to a multiple of 2048, and the five bits of the key of that block at the
+-- left of a byte
 abbrev pub key_text : ℕ → ℕ → List ℕ
-key_text address key = codes "KEY " ++ (address_text (address / 2048 * 2048) ++ (codes " = " ++ two_digits (key * 8)))
+key_text address key = codes "KEY "
+    ++ (address_text (address / 2048 * 2048) ++ (codes " = " ++ two_digits (key * 8)))
 
 -- the address rounded down to a multiple of sixteen, and the four words of storage there
 abbrev pub storage_text : ℕ → List ℕ → List ℕ
@@ -95,7 +112,8 @@ text_of StoppedDisabledWait = codes "STOPPED DISABLED WAIT"
 text_of StoppedEcMode = codes "STOPPED EC MODE"
 text_of (Written line) = characters_of line
 
--- a console keeps displays, answers about storage, resets and loading, and notices, and not what was said about the command, users or files
+-- a console keeps displays, answers about storage, resets and loading, and notices, and not what
+-- was said about the command, users or files
 abbrev pub is_panel : Response → Bool
 is_panel LogonOk = false
 is_panel LogoffOk = false

@@ -1,6 +1,8 @@
 //! The commands, and how their texts are read.
 ghost use Rattle.std.specs.Prelude.{◌≡◌};
-ghost use Rattle.cp_console.specs.Commands.{begin_of, change_of, command_named, command_of, display_of, external_of, logoff_of, logon_of, numbered_place, place_of, store_of, system_of};
+ghost use Rattle.cp_console.specs.Commands.{begin_of, change_of, command_named, command_of};
+ghost use Rattle.cp_console.specs.Commands.{display_of, external_of, logoff_of, logon_of};
+ghost use Rattle.cp_console.specs.Commands.{numbered_place, place_of, store_of, system_of};
 ghost use Rattle.cp_console.specs.DeviceCommands.{message_text};
 ghost use Rattle.cp_console.specs.Grammar.{ReadsGrammar};
 ghost use Rattle.text_words.specs.Words.{words_of};
@@ -77,7 +79,11 @@ pub enum CommandError {
     Operand(u64),
 }
 
-/// The command that a text is.
+/// Returns the command that a text is.
+///
+/// # Errors
+///
+/// A `CommandError`: an unknown command, or its first wrong, missing or surplus operand.
 pub fn read_command(text: &[u8]) -> Result<Command<'_>, CommandError>
     ensures { result ≡ command_of text.now }
 {
@@ -87,13 +93,14 @@ pub fn read_command(text: &[u8]) -> Result<Command<'_>, CommandError>
     read_named(name, operands)
 }
 
-/// A text is read as the command that its words spell; another text is told by its first word, where no
-/// command has it, or by the first place where the words before begin a command and go no further.
+/// States that a text is read as the command that its words spell, and that another text is
+/// reported by its first word, if no command has it, or by the first word at which no command goes
+/// on.
 pub fn reads_grammar()
     ensures { ReadsGrammar }
 {}
 
-/// The command of a name, with its operands.
+/// Returns the command of a name, with its operands.
 fn read_named<'a>(name: &[u8], operands: &'a [u8]) -> Result<Command<'a>, CommandError>
     ensures { result ≡ command_named name.now (words_of operands.now) (message_text operands.now) }
 {
@@ -116,7 +123,7 @@ fn read_named<'a>(name: &[u8], operands: &'a [u8]) -> Result<Command<'a>, Comman
     }
 }
 
-/// `BEGIN`, which may name an address.
+/// Reads `BEGIN`, which may name an address.
 fn read_begin(operands: &[u8]) -> Result<Command<'_>, CommandError>
     ensures { result ≡ begin_of (words_of operands.now) }
 {
@@ -127,7 +134,7 @@ fn read_begin(operands: &[u8]) -> Result<Command<'_>, CommandError>
     ended(2, Command::Begin(Some(address)), rest)
 }
 
-/// `SYSTEM RESET`.
+/// Reads `SYSTEM RESET`.
 fn read_system(operands: &[u8]) -> Result<Command<'_>, CommandError>
     ensures { result ≡ system_of (words_of operands.now) }
 {
@@ -138,7 +145,7 @@ fn read_system(operands: &[u8]) -> Result<Command<'_>, CommandError>
     ended(2, Command::SystemReset, rest)
 }
 
-/// `DISPLAY` and a place.
+/// Reads `DISPLAY` and a place.
 fn read_display(operands: &[u8]) -> Result<Command<'_>, CommandError>
     ensures { result ≡ display_of (words_of operands.now) }
 {
@@ -147,7 +154,7 @@ fn read_display(operands: &[u8]) -> Result<Command<'_>, CommandError>
     ended(2, Command::Display(place), rest)
 }
 
-/// `STORE`, a place and what it is given.
+/// Reads `STORE`, a place and what it is given.
 fn read_store(operands: &[u8]) -> Result<Command<'_>, CommandError>
     ensures { result ≡ store_of (words_of operands.now) }
 {
@@ -161,7 +168,7 @@ fn read_store(operands: &[u8]) -> Result<Command<'_>, CommandError>
     }
 }
 
-/// The two halves that the PSW is given.
+/// Returns the two halves that the PSW is given.
 fn read_psw(operands: &[u8]) -> Result<Command<'_>, CommandError>
     ensures { result ≡ change_of Place.Psw (words_of operands.now) }
 {
@@ -173,7 +180,7 @@ fn read_psw(operands: &[u8]) -> Result<Command<'_>, CommandError>
     ended(4, Command::Store(Change::Psw(psw)), rest)
 }
 
-/// The contents that a register is given.
+/// Returns the contents that a register is given.
 fn read_general(register: Register, operands: &[u8]) -> Result<Command<'_>, CommandError>
     ensures { result ≡ change_of (Place.General register) (words_of operands.now) }
 {
@@ -182,7 +189,7 @@ fn read_general(register: Register, operands: &[u8]) -> Result<Command<'_>, Comm
     ended(3, Command::Store(Change::General(register, contents)), rest)
 }
 
-/// The bytes that storage is given from an address on.
+/// Returns the bytes that storage is given from an address on.
 fn read_storage(address: Addr24, operands: &[u8]) -> Result<Command<'_>, CommandError>
     ensures { result ≡ change_of (Place.Storage address) (words_of operands.now) }
 {
@@ -191,7 +198,7 @@ fn read_storage(address: Addr24, operands: &[u8]) -> Result<Command<'_>, Command
     ended(3, Command::Store(Change::Storage(address, bytes)), rest)
 }
 
-/// What is displayed or changed: `PSW`, a register, a key or storage.
+/// Returns what is displayed or changed: `PSW`, a register, a key or storage.
 fn place_of(word: &[u8]) -> Option<Place>
     ensures { result ≡ place_of word.now }
 {

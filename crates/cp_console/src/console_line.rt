@@ -1,11 +1,9 @@
 //! A line that was written on a console.
-ghost use Rattle.std.specs.Prelude.{◌≡◌, ◌≤◌, ◌++◌, length, take, OnOk};
-ghost use Rattle.cp_console.specs.ConsoleLine.{characters_of, line_bytes};
+ghost use Rattle.std.specs.Prelude.{◌≡◌, ◌≤◌, length, take};
+ghost use Rattle.cp_console.specs.ConsoleLine.{characters_of};
 
-use saved_bytes::{Input, put_bytes, put_number};
-use std::alloc::AllocError;
-
-/// The most characters of a line that is written on a console: a message of a user's name and text has at most so many.
+/// The most characters of a line that is written on a console: a message of a user's name and text
+/// has at most so many.
 pub const MOST_CHARACTERS: usize = 144;
 
 /// A line that a program, or another user, wrote on a console.
@@ -16,7 +14,7 @@ pub struct ConsoleLine {
 }
 
 impl ConsoleLine {
-    /// A line of these characters, of which at most [`MOST_CHARACTERS`] are taken.
+    /// Returns a line of these characters, of which at most [`MOST_CHARACTERS`] are taken.
     pub fn of(text: &[u8]) -> ConsoleLine
         ensures { characters_of result ≡ take 144 text.now }
     {
@@ -29,34 +27,12 @@ impl ConsoleLine {
         }
     }
 
-    /// Its characters.
+    /// Returns its characters.
     pub fn as_slice(&self) -> &[u8]
         ensures characters { result.now ≡ characters_of self.now }
         ensures short { length result.now ≤ 144 }
     {
         let length = usize::from(self.length).min(MOST_CHARACTERS);
         &self.characters[..length]
-    }
-
-    /// Appends all of it, what stands after its characters too.
-    pub fn save(&self, out: &mut Vec<u8>) -> Result<(), AllocError>
-        ensures { OnOk result (out.new.items ≡ out.old.items ++ line_bytes self.now) }
-    {
-        // Exhaustive: a new field fails to compile here.
-        let ConsoleLine { characters, length } = self;
-        put_bytes(out, characters)?;
-        put_number(out, u64::from(*length))
-    }
-
-    /// The line that comes next.
-    pub fn restored(input: &mut Input<'_>) -> Option<ConsoleLine> {
-        let bytes = input.bytes()?;
-        if bytes.len() != MOST_CHARACTERS {
-            return None;
-        }
-        let mut characters = [b' '; 144];
-        characters.copy_from_slice(bytes);
-        let length = input.small()?;
-        Some(ConsoleLine { characters, length })
     }
 }

@@ -1,6 +1,8 @@
 //! The commands that concern the devices of a machine, their files and other users.
 ghost use Rattle.std.specs.Prelude.{◌≡◌};
-ghost use Rattle.cp_console.specs.DeviceCommands.{close_of, device_command_named, ipl_of, message_of, message_text, purge_of, query_of, spool_of};
+ghost use Rattle.cp_console.specs.DeviceCommands.{close_of, device_command_named, ipl_of};
+ghost use Rattle.cp_console.specs.DeviceCommands.{message_of, message_text, purge_of, query_of};
+ghost use Rattle.cp_console.specs.DeviceCommands.{spool_of};
 ghost use Rattle.text_words.specs.Words.{words_of};
 
 use crate::commands::{Command, CommandError};
@@ -23,16 +25,17 @@ pub enum DeviceCommand<'a> {
     Close(DevAddr),
     /// `PURGE`: the file of this number is dropped.
     Purge(u64),
-    /// `MSG`: the user of this name is told this text.
+    /// `MSG`: the user of this name is given this text.
     Message(LinePart<'a>, LinePart<'a>),
 }
 
-/// The command of a name that no command of a machine has, with its operands.
+/// Returns the command of a name that no command of a machine has, with its operands.
 pub(crate) fn read_device_named<'a>(
     name: &[u8],
     operands: &'a [u8],
 ) -> Result<Command<'a>, CommandError>
-    ensures { result ≡ device_command_named name.now (words_of operands.now) (message_text operands.now) }
+    ensures { result ≡ device_command_named name.now (words_of operands.now)
+        (message_text operands.now) }
 {
     if name == b"IPL".as_slice() {
         read_ipl(operands)
@@ -51,7 +54,7 @@ pub(crate) fn read_device_named<'a>(
     }
 }
 
-/// `IPL` and a device.
+/// Reads `IPL` and a device.
 fn read_ipl(operands: &[u8]) -> Result<Command<'_>, CommandError>
     ensures { result ≡ ipl_of (words_of operands.now) }
 {
@@ -60,7 +63,7 @@ fn read_ipl(operands: &[u8]) -> Result<Command<'_>, CommandError>
     ended(2, Command::Ipl(device), rest)
 }
 
-/// `QUERY FILES` or `QUERY USERS`.
+/// Reads `QUERY FILES` or `QUERY USERS`.
 fn read_query(operands: &[u8]) -> Result<Command<'_>, CommandError>
     ensures { result ≡ query_of (words_of operands.now) }
 {
@@ -74,7 +77,7 @@ fn read_query(operands: &[u8]) -> Result<Command<'_>, CommandError>
     }
 }
 
-/// `SPOOL`, a device, `TO` and a name.
+/// Reads `SPOOL`, a device, `TO` and a name.
 fn read_spool(operands: &[u8]) -> Result<Command<'_>, CommandError>
     ensures { result ≡ spool_of (words_of operands.now) }
 {
@@ -89,7 +92,7 @@ fn read_spool(operands: &[u8]) -> Result<Command<'_>, CommandError>
     ended(4, Command::Device(spool), rest)
 }
 
-/// `CLOSE` and a device.
+/// Reads `CLOSE` and a device.
 fn read_close(operands: &[u8]) -> Result<Command<'_>, CommandError>
     ensures { result ≡ close_of (words_of operands.now) }
 {
@@ -98,7 +101,7 @@ fn read_close(operands: &[u8]) -> Result<Command<'_>, CommandError>
     ended(2, Command::Device(DeviceCommand::Close(device)), rest)
 }
 
-/// `PURGE` and the number of a file.
+/// Reads `PURGE` and the number of a file.
 fn read_purge(operands: &[u8]) -> Result<Command<'_>, CommandError>
     ensures { result ≡ purge_of (words_of operands.now) }
 {
@@ -107,7 +110,7 @@ fn read_purge(operands: &[u8]) -> Result<Command<'_>, CommandError>
     ended(2, Command::Device(DeviceCommand::Purge(file)), rest)
 }
 
-/// `MSG`, a name and a text, which is the rest of the line with its blanks.
+/// Reads `MSG`, a name and a text, which is the rest of the line with its blanks.
 fn read_message(operands: &[u8]) -> Result<Command<'_>, CommandError>
     ensures { result ≡ message_of (words_of operands.now) (message_text operands.now) }
 {

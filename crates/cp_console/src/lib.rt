@@ -1,11 +1,11 @@
 //! The console of a user: the lines typed at it, the commands that they give, and the responses.
 //!
-//! One theorem: a text is read as exactly the command that the grammar of `docs/COMMANDS.md` gives it,
-//! and a text that the grammar refuses is told by its first wrong, missing or surplus word
+//! One theorem: a text is read as exactly the command that the grammar of `docs/COMMANDS.md` gives
+//! it, and a text that the grammar refuses is reported by its first wrong, missing or surplus word
 //! ([`commands::read_command`], [`commands::reads_grammar`]).
 //!
-//! Before that a line is cut and cleaned ([`lines::ConsoleText`]), and its first word says whether it
-//! speaks to the control program ([`lines::asked_of`]). What a response says is one text
+//! Before that a line is cut and cleaned ([`lines::ConsoleText`]), and its first word says whether
+//! it speaks to the control program ([`lines::asked_of`]). What a response says is one text
 //! ([`printing::reply`]).
 //!
 //! ```

@@ -20,14 +20,14 @@ impl<'a> Model for LinePart<'a> {
 }
 
 impl<'a> LinePart<'a> {
-    /// The part that has these characters.
+    /// Returns the part that has these characters.
     pub fn new(characters: &'a [u8]) -> LinePart<'a>
         ensures { result ≡ characters.now }
     {
         LinePart { characters }
     }
 
-    /// The characters of the part.
+    /// Returns the characters of the part.
     pub fn as_slice(&self) -> &'a [u8]
         ensures { result.now ≡ self.now }
     {

@@ -28,7 +28,7 @@ impl Model for ConsoleText {
 }
 
 impl ConsoleText {
-    /// The line that these characters are taken as.
+    /// Returns the line that these characters are taken as.
     pub fn new(typed: &[u8]) -> ConsoleText
         ensures { result ≡ cleaned typed.now }
     {
@@ -41,7 +41,7 @@ impl ConsoleText {
         ConsoleText { characters, count }
     }
 
-    /// The characters of the line.
+    /// Returns the characters of the line.
     pub fn as_slice(&self) -> &[u8]
         ensures value { result.now ≡ self.now }
         ensures bound { length result.now ≤ LINE_LENGTH }
@@ -50,7 +50,7 @@ impl ConsoleText {
     }
 }
 
-/// The characters of a line that are taken.
+/// Returns the characters of a line that are taken.
 fn first_characters(typed: &[u8]) -> &[u8]
     ensures value { result.now ≡ take 130 typed.now }
     ensures bound { length result.now ≤ 130 }
@@ -62,7 +62,7 @@ fn first_characters(typed: &[u8]) -> &[u8]
     }
 }
 
-/// The character itself, or a blank in place of one that the EBCDIC alphabet does not have.
+/// Returns the character itself, or a blank in place of one that the EBCDIC alphabet does not have.
 fn character_of(c: u8) -> u8
     ensures { result ≡ character_of c }
 {
@@ -80,7 +80,7 @@ pub enum Asked<'a> {
     Plain(&'a [u8]),
 }
 
-/// What a line asks for, by its first word. The line is one that was cut and cleaned.
+/// Returns what a line asks for, by its first word. The line is one that was cut and cleaned.
 pub fn asked_of(line: &[u8]) -> Asked<'_>
     ensures { asked result ≡ asked_of line.now }
 {

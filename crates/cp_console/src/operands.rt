@@ -1,7 +1,10 @@
 //! The operands of commands: addresses, registers and the bytes that are stored.
-ghost use Rattle.std.specs.Prelude.{◌≡◌, ◌+◌, ◌*◌, ◌-◌, if◌then◌else◌, ◌<◌, ◌≤◌, ◌++◌, ◌∷◌, [], length, IfSome, IfNone, Option, Some, None};
+ghost use Rattle.std.specs.Prelude.{◌≡◌, ◌+◌, ◌*◌, ◌-◌, if◌then◌else◌, ◌<◌, ◌≤◌, ◌++◌, ◌∷◌, []};
+ghost use Rattle.std.specs.Prelude.{length, IfSome, IfNone, Option, Some, None};
 ghost use Rattle.text_words.specs.Numbers.{is_digit};
-ghost use Rattle.cp_console.specs.Operands.{address_of, byte_of, bytes_of, bytes_spelled, contents_of, device_of, file_of, in_64_bits, register_of};
+ghost use Rattle.cp_console.specs.Operands.{address_of, byte_of, bytes_of, bytes_spelled};
+ghost use Rattle.cp_console.specs.Operands.{contents_of, device_of, file_of, in_64_bits};
+ghost use Rattle.cp_console.specs.Operands.{register_of};
 
 use s370_num::{Addr24, DevAddr, Register, Word};
 use std::marker::Model;
@@ -24,7 +27,10 @@ impl Model for StoredBytes {
 
     ghost invariant = { λ s. IsPadded s.bytes s.count };
 
-    ghost inverse = { λ xs. record { bytes = xs ++ replicate (16 - length xs) 0; count = length xs } };
+    ghost inverse = { λ xs. record {
+      bytes = xs ++ replicate (16 - length xs) 0;
+      count = length xs;
+    } };
 }
 
 impl StoredBytes {
@@ -38,7 +44,7 @@ impl StoredBytes {
         }
     }
 
-    /// These bytes and one more, at the end.
+    /// Returns these bytes and one more, at the end.
     fn with(self, byte: u8) -> StoredBytes
         requires { length self < 16 }
         ensures { result ≡ self ++ byte ∷ [] }
@@ -51,7 +57,7 @@ impl StoredBytes {
         }
     }
 
-    /// The bytes in the order in which they are stored.
+    /// Returns the bytes in the order in which they are stored.
     pub fn as_slice(&self) -> &[u8]
         ensures value { result.now ≡ self.now }
         ensures bound { length result.now ≤ 16 }
@@ -60,21 +66,21 @@ impl StoredBytes {
     }
 }
 
-/// An address of storage, 1 to 6 hexadecimal digits.
+/// Returns an address of storage, 1 to 6 hexadecimal digits.
 pub fn address_of(word: &[u8]) -> Option<Addr24>
     ensures { result ≡ address_of word.now }
 {
     Addr24::new(hexadecimal_of(1, 6, word)?)
 }
 
-/// The contents of a register, 8 hexadecimal digits.
+/// Returns the contents of a register, 8 hexadecimal digits.
 pub fn contents_of(word: &[u8]) -> Option<Word>
     ensures { result ≡ contents_of word.now }
 {
     Some(Word::from_unsigned(hexadecimal_of(8, 8, word)?))
 }
 
-/// The number of a register, decimal without a leading zero.
+/// Returns the number of a register, decimal without a leading zero.
 pub fn register_of(word: &[u8]) -> Option<Register>
     ensures { result ≡ register_of word.now }
 {
@@ -85,14 +91,14 @@ pub fn register_of(word: &[u8]) -> Option<Register>
     }
 }
 
-/// The address of a device, three hexadecimal digits.
+/// Returns the address of a device, three hexadecimal digits.
 pub fn device_of(word: &[u8]) -> Option<DevAddr>
     ensures { result ≡ device_of word.now }
 {
     Some(DevAddr::new(hexadecimal_of(3, 3, word)? as u16))
 }
 
-/// The number of a file, decimal with any leading zeros.
+/// Returns the number of a file, decimal with any leading zeros.
 #[tactic(auto, using(crate::proofs::FileNumbers::fits))]
 pub fn file_of(word: &[u8]) -> Option<u64>
     ensures { result ≡ file_of word.now }
@@ -107,7 +113,7 @@ pub fn file_of(word: &[u8]) -> Option<u64>
     Some(number)
 }
 
-/// The number with one more decimal digit at its right.
+/// Returns the number with one more decimal digit at its right.
 fn with_digit(number: u64, digit: u8) -> Option<u64>
     ensures { result ≡ (if is_digit digit then in_64_bits (number * 10 + (digit - 48)) else None) }
 {
@@ -117,7 +123,7 @@ fn with_digit(number: u64, digit: u8) -> Option<u64>
     number.checked_mul(10)?.checked_add(u64::from(digit - b'0'))
 }
 
-/// The bytes that pairs of hexadecimal digits spell.
+/// Returns the bytes that pairs of hexadecimal digits spell.
 fn bytes_spelled(word: &[u8]) -> Option<StoredBytes>
     requires { length word.now ≤ 32 }
     ensures { result ≡ bytes_spelled word.now }
@@ -131,7 +137,7 @@ fn bytes_spelled(word: &[u8]) -> Option<StoredBytes>
     if rest.is_empty() { Some(bytes) } else { None }
 }
 
-/// The first two digits, and those after them.
+/// Returns the first two digits, and those after them.
 fn cut_pair(digits: &[u8]) -> Option<(u8, u8, &[u8])>
     ensures found { IfSome result (λ cut. digits.now ≡ cut.0 ∷ cut.1 ∷ cut.2.now) }
     ensures none { IfNone result (length digits.now < 2) }
@@ -142,7 +148,7 @@ fn cut_pair(digits: &[u8]) -> Option<(u8, u8, &[u8])>
     }
 }
 
-/// The bytes to be stored, 1 to 16 of them, each of two hexadecimal digits.
+/// Returns the bytes to be stored, 1 to 16 of them, each of two hexadecimal digits.
 pub fn bytes_of(word: &[u8]) -> Option<StoredBytes>
     ensures { result ≡ bytes_of word.now }
 {
@@ -152,7 +158,7 @@ pub fn bytes_of(word: &[u8]) -> Option<StoredBytes>
     bytes_spelled(word)
 }
 
-/// The byte that two hexadecimal digits spell.
+/// Returns the byte that two hexadecimal digits spell.
 fn byte_of(left: u8, right: u8) -> Option<u8>
     ensures { result ≡ byte_of left right }
 {

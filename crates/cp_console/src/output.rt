@@ -1,5 +1,6 @@
 //! What a console has printed.
-ghost use Rattle.std.specs.Prelude.{◌≡◌, ◌+◌, ◌<◌, ◌≤◌, ◌==◌, ◌++◌, [], ◌∷◌, length, OnOk, OnErr, slice_get, slice_index_or, slice_range};
+ghost use Rattle.std.specs.Prelude.{◌≡◌, ◌+◌, ◌<◌, ◌≤◌, ◌==◌, ◌++◌, [], ◌∷◌, length, OnOk, OnErr};
+ghost use Rattle.std.specs.Prelude.{slice_get, slice_index_or, slice_range};
 ghost use Rattle.std.specs.Option.{option_map};
 ghost use Rattle.cp_console.specs.Responses.{text_of};
 ghost use Rattle.cp_console.specs.Saved.{printed_bytes};
@@ -11,13 +12,14 @@ use saved_bytes::{Input, put_bytes, put_one, put_zero};
 use std::alloc::{AllocError, Global};
 use std::marker::Model;
 
-/// The lines that a console has printed, the oldest first, and room for more. A line takes its characters and eight
-/// bytes.
+/// The lines that a console has printed, the oldest first, and room for more. A line takes its
+/// characters and eight bytes.
 ///
-/// A machine that stops says so and may take no memory for it: the room for that line is made before the machine runs.
+/// A machine that stops says so and may take no memory for it: the room for that line is made
+/// before the machine runs.
 #[derive(Drop)]
 pub struct ConsoleOutput {
-    /// The characters of all lines, one line behind the other.
+    /// The characters of all lines, one line after the other.
     text: Vec<u8>,
     /// Where each line ends among them.
     ends: Vec<usize>,
@@ -39,7 +41,7 @@ impl Model for ConsoleOutput {
 }
 
 impl ConsoleOutput {
-    /// A console that has printed nothing.
+    /// Returns a console that has printed nothing.
     pub fn new(alloc: Global) -> ConsoleOutput
         ensures { result.lines ≡ [] }
     {
@@ -50,7 +52,12 @@ impl ConsoleOutput {
         }
     }
 
-    /// Makes room for so many lines. What is printed stays, and so does the room where memory is refused.
+    /// Makes room for so many lines. What is printed stays, and so does the room where memory is
+    /// refused.
+    ///
+    /// # Errors
+    ///
+    /// `AllocError` if memory is refused; what this is then is not specified.
     pub fn make_room(&mut self, lines: usize) -> Result<(), AllocError>
         ensures lines { self.new.lines ≡ self.old.lines }
         ensures ok { OnOk result (lines ≤ self.new.room) }
@@ -80,18 +87,29 @@ impl ConsoleOutput {
         self.room -= 1;
     }
 
-    /// How many lines were printed.
+    /// Forgets the lines that were printed, and gives back their memory but for the room.
+    pub fn forget(&mut self)
+        ensures lines { self.new.lines ≡ [] }
+        ensures room { self.new.room ≡ self.old.room }
+    {
+        self.text.clear();
+        self.ends.clear();
+        self.text.shrink_to(self.room * MOST_CHARACTERS);
+        self.ends.shrink_to(self.room);
+    }
+
+    /// Returns how many lines were printed.
     pub fn len(&self) -> usize
         ensures { result ≡ length self.now.lines }
     {
         self.ends.len()
     }
 
-    /// Whether nothing was printed.
+    /// Returns whether nothing was printed.
     pub fn is_empty(&self) -> bool
         ensures { result ≡ (length self.now.lines == 0) }
     {
-        // All its fields: what is added to them is seen here.
+        // Exhaustive: a new field fails to compile here.
         let ConsoleOutput {
             text: _,
             ends,
@@ -100,7 +118,7 @@ impl ConsoleOutput {
         ends.is_empty()
     }
 
-    /// The text of a line that was printed.
+    /// Returns the text of a line that was printed.
     pub fn get(&self, line: usize) -> Option<&[u8]>
         ensures { option_map (λ text. text.now) result ≡ slice_get self.now.lines line }
     {
@@ -112,7 +130,7 @@ impl ConsoleOutput {
     }
 }
 
-/// The bytes of a text from a place on to another.
+/// Returns the bytes of a text from a place on to another.
 fn part_of(text: &[u8], start: usize, end: usize) -> &[u8]
     requires start { start ≤ end }
     requires end { end ≤ length text.now }
@@ -121,7 +139,7 @@ fn part_of(text: &[u8], start: usize, end: usize) -> &[u8]
     &text[start..end]
 }
 
-/// Where a line starts: where the one before it ends.
+/// Returns where a line starts: where the one before it ends.
 fn start_of(ends: &[usize], line: usize) -> usize
     requires { line < length ends.now }
     ensures { result ≡ slice_index_or (0 ∷ ends.now) line 0 }
@@ -134,6 +152,10 @@ fn start_of(ends: &[usize], line: usize) -> usize
 
 impl ConsoleOutput {
     /// Appends the lines that were printed.
+    ///
+    /// # Errors
+    ///
+    /// `AllocError` if memory is refused; `out` may have a part of it then.
     pub fn save(&self, out: &mut Vec<u8>) -> Result<(), AllocError>
         ensures { OnOk result (out.new.items ≡ out.old.items ++ printed_bytes self.now.lines) }
     {
@@ -147,7 +169,7 @@ impl ConsoleOutput {
         put_zero(out)
     }
 
-    /// Takes the lines that come next, after those that were printed.
+    /// Takes the lines that are next, after those that were printed.
     pub fn restore(&mut self, input: &mut Input<'_>) -> Option<()> {
         for _ in 0..u64::MAX {
             if !input.flag()? {

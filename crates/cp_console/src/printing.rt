@@ -7,7 +7,11 @@ use crate::responses::Response;
 use crate::texts::add_text;
 use std::alloc::{AllocError, Global};
 
-/// The text of a response, without the end of a line. Only want of memory is an error.
+/// Returns the text of a response, without the end of a line. Only lack of memory is an error.
+///
+/// # Errors
+///
+/// `AllocError` if memory is refused.
 pub fn reply(alloc: Global, response: &Response) -> Result<Vec<u8>, AllocError>
     ensures { IfOk result (λ text. text.items ≡ text_of response.now) }
 {
@@ -17,12 +21,16 @@ pub fn reply(alloc: Global, response: &Response) -> Result<Vec<u8>, AllocError>
     Ok(text)
 }
 
-/// The line that tells of a file: its number, who sent it, and how many cards it has. Only want of
-/// memory is an error.
+/// Returns the line that reports a file: its number, who sent it, and how many cards it has. Only
+/// lack of memory is an error.
 ///
 /// ```text
 /// let line = file_line(alloc, 1, b"A", 3)?; // b"FILE 0001 FROM A CARDS 3"
 /// ```
+///
+/// # Errors
+///
+/// `AllocError` if memory is refused.
 pub fn file_line(
     alloc: Global,
     file: u64,
@@ -38,18 +46,23 @@ pub fn file_line(
     Ok(line)
 }
 
-/// A file's number in at least four digits, before the name of its sender.
+/// Returns a file's number in at least four digits, before the name of its sender.
 fn file_start(alloc: Global, file: u64) -> Result<String, AllocError>
     ensures { IfOk result (λ text. string_bytes text ≡ file_start file) }
 {
     format!(in alloc; "FILE {file:04} FROM ")
 }
 
-/// The line in which a user is told what another one says. Only want of memory is an error.
+/// Returns the line in which a user reads what another one says. Only lack of memory is an
+/// error.
 ///
 /// ```text
 /// let line = message_line(alloc, b"A", b"HELLO")?; // b"MSG FROM A: HELLO"
 /// ```
+///
+/// # Errors
+///
+/// `AllocError` if memory is refused.
 pub fn message_line(alloc: Global, sender: &[u8], text: &[u8]) -> Result<Vec<u8>, AllocError>
     ensures { IfOk result (λ line. line.items ≡ told_text sender.now text.now) }
 {

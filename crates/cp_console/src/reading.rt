@@ -6,7 +6,7 @@ ghost use Rattle.text_words.specs.Words.{after_first_word, words_of};
 use crate::commands::{Command, CommandError};
 use text_words::words::next_word;
 
-/// The command, where no operand is left; a surplus one is told by its place.
+/// Returns the command, where no operand is left; a surplus one is reported by its place.
 pub(crate) fn ended<'a>(
     place: u64,
     command: Command<'a>,
@@ -20,9 +20,10 @@ pub(crate) fn ended<'a>(
     }
 }
 
-/// The operand at this place, and what follows it; a missing one is told by its place.
+/// Returns the operand at this place, and what follows it; a missing one is reported by its place.
 pub(crate) fn operand(place: u64, operands: &[u8]) -> Result<(&[u8], &[u8]), CommandError>
-    ensures words { MatchResult result (λ cut. words_of operands.now ≡ cut.0.now ∷ words_of cut.1.now)
+    ensures words { MatchResult result
+        (λ cut. words_of operands.now ≡ cut.0.now ∷ words_of cut.1.now)
         (λ error. (words_of operands.now ≡ []) × (error ≡ CommandError.Operand place)) }
     ensures rest { IfOk result (λ cut. cut.1.now ≡ after_first_word operands.now) }
 {

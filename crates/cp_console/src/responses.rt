@@ -26,7 +26,8 @@ pub enum Response {
     Control(Register, Word),
     /// An address of storage, and the key of the block in which it lies.
     Key(Addr24, StorageKey),
-    /// An address of storage, and the sixteen bytes at that address rounded down to a multiple of sixteen.
+    /// An address of storage, and the sixteen bytes at that address rounded down to a multiple of
+    /// sixteen.
     Storage(Addr24, [u8; 16]),
     /// What was to be stored was.
     Stored,
@@ -58,7 +59,7 @@ pub enum Response {
     Purged,
     /// No file that can be dropped has the number.
     FileNotFound,
-    /// The text was told to the user who was named.
+    /// The text was sent to the user who was named.
     Sent,
     /// The machine was not loaded.
     IplFailed,
@@ -73,7 +74,7 @@ pub enum Response {
 }
 
 impl Response {
-    /// Whether the console keeps the response among its output.
+    /// Returns whether the console keeps the response among its output.
     pub fn is_panel(&self) -> bool
         ensures { result ≡ is_panel self.now }
     {

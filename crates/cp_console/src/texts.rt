@@ -1,7 +1,9 @@
 //! The texts of responses, added to a text that has room for them: this takes no memory.
-ghost use Rattle.std.specs.Prelude.{◌≡◌, ◌+◌, ◌*◌, ◌/◌, ◌<◌, ◌≤◌, ◌++◌, ◌^◌, decimal, length, vec_capacity, vec_len};
+ghost use Rattle.std.specs.Prelude.{◌≡◌, ◌+◌, ◌*◌, ◌/◌, ◌<◌, ◌≤◌, ◌++◌, ◌^◌, decimal, length};
+ghost use Rattle.std.specs.Prelude.{vec_capacity, vec_len};
 ghost use Rattle.s370_num.specs.Address.{address_text, digit_of, two_digits, word_text};
-ghost use Rattle.cp_console.specs.Responses.{closed_text, control_text, general_text, key_text, psw_text, storage_text, text_of, word_at};
+ghost use Rattle.cp_console.specs.Responses.{closed_text, control_text, general_text, key_text};
+ghost use Rattle.cp_console.specs.Responses.{psw_text, storage_text, text_of, word_at};
 
 use crate::responses::Response;
 use byteorder::{BigEndian, ByteOrder};
@@ -64,7 +66,7 @@ fn add(text: &mut Vec<u8>, bytes: &[u8])
     }
 }
 
-/// Adds a number behind a word.
+/// Adds a number after a word.
 fn add_counted(text: &mut Vec<u8>, word: &[u8], number: u64)
     requires { vec_len text.old + (length word.now + 20) ≤ vec_capacity text.old }
     ensures items { text.new.items ≡ text.old.items ++ (word.now ++ decimal number) }
@@ -145,7 +147,7 @@ fn add_storage(text: &mut Vec<u8>, address: Addr24, bytes: &[u8; 16])
     add_word(text, word_at(bytes, 12));
 }
 
-/// The word that four bytes are.
+/// Returns the word that four bytes are.
 fn word_at(bytes: &[u8; 16], at: usize) -> u32
     requires { at + 4 ≤ 16 }
     ensures { result ≡ word_at bytes.now at }
@@ -197,14 +199,14 @@ fn add_address(text: &mut Vec<u8>, address: u32)
     add(text, &byte_digits((address % 0x100) as u8));
 }
 
-/// The two digits of a byte.
+/// Returns the two digits of a byte.
 fn byte_digits(byte: u8) -> [u8; 2]
     ensures { result ≡ two_digits byte }
 {
     [digit(byte / 16), digit(byte % 16)]
 }
 
-/// A hexadecimal digit.
+/// Returns a hexadecimal digit.
 fn digit(value: u8) -> u8
     requires { value < 16 }
     ensures { result ≡ digit_of value }

@@ -9,5 +9,6 @@ use Rattle.cp_core.proofs.Led.{lives_on}
 pub history : EachIsBare
 history first last [] e user = ap (λ (s : SystemView). user_at s user) e
 history first last (step ∷ steps) h user =
-    lives_on as_reached (local user first step) (own user step.seen steps) (user_at first user) (user_at step.seen user) (user_at last user)
+    lives_on as_reached (local user first step) (own user step.seen steps) (user_at first user) (user_at step.seen user)
+    (user_at last user)
     (h.0.replied.applied user) (history step.seen last steps h.1 user)

@@ -10,7 +10,7 @@ pub mod Loans
 pub mod Owned
 pub mod Lending
 pub mod Reused
-pub mod Unkept
+pub mod Forgotten
 mod Keeping
 mod SystemCodes
 mod Restored

@@ -5,25 +5,27 @@ use Rattle.machine_channels.specs.declared.channels.UnitRecord.{UnitRecord}
 use Rattle.machine_devices.specs.declared.places.Kind.{Kind}
 use Rattle.machine_devices.specs.declared.places.Kind.TheVariants as kinds
 use Rattle.machine_devices.specs.declared.request.Request.{Request}
-use Rattle.machine_devices.specs.declared.request.Request.TheVariants.{LogsOn, LogsOff, Resets, Types, Loads, Asks, Alone}
+use Rattle.machine_devices.specs.declared.request.Request.TheVariants.{LogsOn, LogsOff, Resets, Types, Loads, Asks}
+use Rattle.machine_devices.specs.declared.request.Request.TheVariants.{Alone}
 use Rattle.machine_devices.specs.Devices.{kind_at}
 use Rattle.machine_devices.specs.Equipped.{Equipped}
 use Rattle.machine_devices.specs.Lines.{can_load}
 use Rattle.machine_devices.specs.Reuses.{LineForgets, LoadForgets, StartReuses}
 use Rattle.cp_dat.specs.declared.dat.Dat.{Dat}
 use Rattle.cp_resident.specs.Reuse.{HasReused, HasReusedDisk}
-use Rattle.cp_resident.specs.Resident.{Forgets, reuse_of}
-use Rattle.cp_resident.specs.declared.resident.Resident.{Resident}
+use Rattle.cp_resident.specs.GuestChannels.{Forgets, reuse_of}
+use Rattle.cp_resident.specs.declared.resident.GuestChannels.{GuestChannels}
 use Rattle.cp_core.specs.Keeps.{IsForgotten, Starts}
 
 -- how the channels of a user keep programs
-abbrev pub UnitReuses : Resident → Dat → Caw → UnitRecord → Bool → Resident → Type 0
+abbrev pub UnitReuses : GuestChannels → Dat → Caw → UnitRecord → Bool → GuestChannels → Type 0
 UnitReuses r d start unit done s = HasReused (reuse_of r) d start unit done (reuse_of s)
 
-abbrev pub DiskReuses : Resident → Dat → Caw → ℕ → Bool → Resident → Type 0
+abbrev pub DiskReuses : GuestChannels → Dat → Caw → ℕ → Bool → GuestChannels → Type 0
 DiskReuses r d start index done s = HasReusedDisk (reuse_of r) d start index done (reuse_of s)
 
-pub starts : (r s : Resident) (d : Dat) (kind : Option Kind) (start : Option Caw) (done : Bool) → StartReuses UnitReuses DiskReuses r d s kind start done → Starts (reuse_of r) d (reuse_of s) kind start done
+pub starts : (r s : GuestChannels) (d : Dat) (kind : Option Kind) (start : Option Caw) (done : Bool)
+    → StartReuses UnitReuses DiskReuses r d s kind start done → Starts (reuse_of r) d (reuse_of s) kind start done
 starts r s d None start done same = ap reuse_of same
 starts r s d (Some kind) None done same = ap reuse_of same
 starts r s d (Some kinds.Console) (Some start) done ran = ran
@@ -32,11 +34,13 @@ starts r s d (Some kinds.Punch) (Some start) done ran = ran
 starts r s d (Some kinds.Printer) (Some start) done ran = ran
 starts r s d (Some (kinds.Disk index)) (Some start) done ran = ran
 
-loads : (r s : Resident) (b : Bool) → LoadForgets Forgets r s b → LoadForgets IsForgotten (reuse_of r) (reuse_of s) b
+loads : (r s : GuestChannels) (b : Bool) → LoadForgets Forgets r s b
+    → LoadForgets IsForgotten (reuse_of r) (reuse_of s) b
 loads r s true left = left
 loads r s false left = ap reuse_of left
 
-pub forgets : (r s : Resident) (asked : Request) (e : Equipped) → LineForgets Forgets r s asked e → LineForgets IsForgotten (reuse_of r) (reuse_of s) asked e
+pub forgets : (r s : GuestChannels) (asked : Request) (e : Equipped) → LineForgets Forgets r s asked e
+    → LineForgets IsForgotten (reuse_of r) (reuse_of s) asked e
 forgets r s LogsOn e left = left
 forgets r s LogsOff e left = left
 forgets r s Resets e left = left
@@ -46,6 +50,8 @@ forgets r s (Asks command) e left = ap reuse_of left
 forgets r s (Alone asked) e left = ap reuse_of left
 
 -- where a device has no program, all is as it was
-pub none_starts : {C S : Type 0} (Reuses : C → S → Caw → UnitRecord → Bool → C → Type 0) (ReusesDisk : C → S → Caw → ℕ → Bool → C → Type 0) (c : C) (s : S) (kind : Option Kind) (done : Bool) → StartReuses Reuses ReusesDisk c s c kind None done
+pub none_starts : {C S : Type 0} (Reuses : C → S → Caw → UnitRecord → Bool → C → Type 0)
+    (ReusesDisk : C → S → Caw → ℕ → Bool → C → Type 0) (c : C) (s : S) (kind : Option Kind) (done : Bool)
+    → StartReuses Reuses ReusesDisk c s c kind None done
 none_starts Reuses ReusesDisk c s None done = refl
 none_starts Reuses ReusesDisk c s (Some kind) done = refl

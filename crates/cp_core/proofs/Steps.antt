@@ -1,5 +1,7 @@
--- What each event leaves is a step: to every user, as the reply tells, and of the frames.
-use Rattle.std.proofs.Common.{◌≡◌, ◌∙◌, ◌⊎◌, ℕ, ◌+◌, ◌-◌, ◌<◌, ◌==◌, ◌&&◌, Bool, true, false, List, [], ◌∷◌, ◌++◌, length, get_or, set, Option, Some, None, Result, Ok, Err, refl, sym, ap, subst, inl, inr, arith, nat_lt}
+-- What each event leaves is a step: to every user, as the reply says, and of the frames.
+use Rattle.std.proofs.Common.{◌≡◌, ◌∙◌, ◌⊎◌, ℕ, ◌+◌, ◌-◌, ◌<◌, ◌==◌, ◌&&◌, Bool, true, false, List, [], ◌∷◌, ◌++◌}
+use Rattle.std.proofs.Common.{length, get_or, set, Option, Some, None, Result, Ok, Err, refl, sym, ap, subst, inl, inr}
+use Rattle.std.proofs.Common.{arith, nat_lt}
 use Rattle.std.specs.Prelude.{◌||◌, slice_get, if◌then◌else◌, IfErr, OnErr}
 use Rattle.std.specs.Borrow.{Bor}
 use Rattle.std.proofs.lemmas.Bool.{false≢true}
@@ -8,7 +10,8 @@ use Rattle.std.proofs.lemmas.List.{append-nil, length-set}
 use Rattle.s370_store.specs.declared.supply.FramesOut.{FramesOut as NoRoom}
 use Rattle.s370_channel.specs.Reading.{as_reached}
 use Rattle.s370_intr.specs.declared.next.Reason.{Reason}
-use Rattle.s370_intr.specs.declared.next.Reason.TheVariants.{Stopped, Count, EcMode, Wait, DisabledWait, FramesOut as RunFramesOut}
+use Rattle.s370_intr.specs.declared.next.Reason.TheVariants.{Stopped, Count, EcMode, Wait, DisabledWait}
+use Rattle.s370_intr.specs.declared.next.Reason.TheVariants.{FramesOut as RunFramesOut}
 use Rattle.s370_intr.specs.declared.run.Ran.{Ran as RanUnits}
 use Rattle.unit_record.specs.declared.reader.Sender.TheVariants as senders
 use Rattle.unit_record.specs.Output.{FileValue}
@@ -22,16 +25,17 @@ use Rattle.machine_panel.specs.declared.machine.Mode.TheVariants as modes
 use Rattle.machine_panel.specs.Machine.{Machine}
 use Rattle.machine_panel.specs.Run.{MachineRun, TellsRun, notice_of, run}
 use Rattle.machine_panel.specs.Tick.{ticked, ticked_in}
-use Rattle.machine_devices.specs.declared.line.Told.{Told}
+use Rattle.machine_devices.specs.declared.line.LineOutcome.{LineOutcome}
 use Rattle.machine_devices.specs.declared.reply.Saying.{Saying}
 use Rattle.machine_devices.specs.declared.reply.Saying.TheVariants.{Nothing}
 use Rattle.machine_devices.specs.declared.files.FileKind.TheVariants as kinds
 use Rattle.machine_devices.specs.Equipped.{Equipped, nobody}
-use Rattle.machine_devices.specs.Life.{Event as Local, Units, Serve as Serves, Line as Types, Tick as Ticks, Deck as Gets, Leaves, Lives}
+use Rattle.machine_devices.specs.Life.{Event as Local, Units, Serve as Serves, Line as Types, Tick as Ticks}
+use Rattle.machine_devices.specs.Life.{Deck as Gets, Leaves, Lives}
 use Rattle.machine_devices.specs.Lines.{files_closed, requested}
 use Rattle.cp_spool.specs.Queues.{cards_of}
 use Rattle.machine_devices.specs.Comes.{NeedsMemory, closes, is_cut, is_ipl}
-use Rattle.cp_core.specs.Come.{HasCome}
+use Rattle.cp_core.specs.Come.{HasReceived}
 use Rattle.machine_devices.specs.Coming.{comes_by_line, comes_from_operator}
 use Rattle.machine_devices.specs.Notes.{closed_by, next_file, note_where, noted, stands_in}
 use Rattle.cp_core.specs.Histories.{IsReplied}
@@ -43,8 +47,7 @@ use Rattle.cp_core.specs.Supply.{IsGivenBack}
 use Rattle.cp_core.specs.System.{SystemView, machine_at, user_at, world_of}
 use Rattle.machine_devices.specs.Notes.{deck_noted}
 use Rattle.machine_devices.specs.Replies.{delivered_by, given, said_to_line, saying}
-use Rattle.cp_core.specs.Told.{with_delivered}
-use Rattle.cp_core.specs.Work.{HasRun, HasServed, HasTicked, HasTyped}
+use Rattle.cp_core.specs.UserOp.{HasRun, HasServed, HasTicked, HasTyped}
 use Rattle.machine_devices.specs.declared.reply.Delivered.{Delivered}
 use Rattle.machine_devices.specs.declared.reply.Delivery.{Delivery}
 use Rattle.machine_devices.specs.declared.reply.Delivery.TheVariants as deliveries
@@ -59,25 +62,40 @@ use Rattle.cp_core.proofs.Switches.{switch_wants_none}
 
 -- a work on one user's machine changes him and the frames alone
 abbrev pub IsLent : SystemView → ℕ → SystemView → Type 0
-IsLent old user new = new ≡ record old { users = set old.users user (user_at new user); supply = new.supply; volumes = new.volumes; kept = new.kept }
+IsLent old user new = new
+    ≡ record old {
+      users = set old.users user (user_at new user);
+      supply = new.supply;
+      volumes = new.volumes;
+      kept = new.kept;
+    }
 
 -- where nothing happened to him, nothing but the frames has changed
-unchanged : (old new : SystemView) (user : ℕ) → IsLent old user new → user_at new user ≡ user_at old user → new ≡ record old { supply = new.supply; volumes = new.volumes; kept = new.kept }
+unchanged : (old new : SystemView) (user : ℕ) → IsLent old user new → user_at new user ≡ user_at old user
+    → new ≡ record old { supply = new.supply; volumes = new.volumes; kept = new.kept }
 unchanged old new user lent same =
-    lent ∙ ap (λ (us : List Equipped). record old { users = us; supply = new.supply; volumes = new.volumes; kept = new.kept }) (ap (set old.users user) same ∙ sym (set_own old.users user nobody))
+    lent ∙ ap (λ (us : List Equipped).
+    record old { users = us; supply = new.supply; volumes = new.volumes; kept = new.kept })
+    (ap (set old.users user) same ∙ sym (set_own old.users user nobody))
 
-same_lines : (a b : Equipped) → a.machine.output ≡ b.machine.output → 0 ≡ length a.machine.output - length b.machine.output
+same_lines : (a b : Equipped) → a.machine.output ≡ b.machine.output
+    → 0 ≡ length a.machine.output - length b.machine.output
 same_lines a b same = omega (arith, ap (λ (lines : List (List ℕ)). length lines) same)
 
 -- to each user a step is his own part of it alone, where nothing comes of it
-alone : (old new : SystemView) (user : ℕ) (events : List Local) → IsLent old user new → Lives as_reached events (user_at old user) (user_at new user) → (u : ℕ) → Lives as_reached ((if user == u then events else []) ++ []) (user_at old u) (user_at new u)
+alone : (old new : SystemView) (user : ℕ) (events : List Local) → IsLent old user new
+    → Lives as_reached events (user_at old user) (user_at new user) → (u : ℕ)
+    → Lives as_reached ((if user == u then events else []) ++ []) (user_at old u) (user_at new u)
 alone old new user events lent lives u =
-    subst (λ (es : List Local). Lives as_reached es (user_at old u) (user_at new u)) (sym (append-nil (if user == u then events else [])))
+    subst (λ (es : List Local). Lives as_reached es (user_at old u) (user_at new u))
+    (sym (append-nil (if user == u then events else [])))
     (led_alone user events old.users new.users (ap (λ (s : SystemView). s.users) lent) lives u)
 
 -- ---- a run
 
-run_is : (asked units : ℕ) (reason : Reason) (notice : Option Response) (old new : Machine) (is_short : ℕ → Type 0) → TellsRun asked old (record { machine = new; units = units; reason = reason; notice = notice }) is_short → (run (units_of asked (record { units = units; reason = reason })) old).machine ≡ new
+run_is : (asked units : ℕ) (reason : Reason) (notice : Option Response) (old new : Machine) (is_short : ℕ → Type 0)
+    → TellsRun asked old (record { machine = new; units = units; reason = reason; notice = notice }) is_short
+    → (run (units_of asked (record { units = units; reason = reason })) old).machine ≡ new
 run_is asked units RunFramesOut notice old new is_short h = ap (λ (r : MachineRun). r.machine) h.done
 run_is asked units Stopped notice old new is_short h = ap (λ (r : MachineRun). r.machine) h
 run_is asked units Count notice old new is_short h = ap (λ (r : MachineRun). r.machine) h
@@ -85,25 +103,48 @@ run_is asked units EcMode notice old new is_short h = ap (λ (r : MachineRun). r
 run_is asked units Wait notice old new is_short h = ap (λ (r : MachineRun). r.machine) h
 run_is asked units DisabledWait notice old new is_short h = ap (λ (r : MachineRun). r.machine) h
 
-run_lives : (asked user : ℕ) (old new : Equipped) (before after : FrameSupply) (ran : RanUnits) → HasRun asked user old before ran new after → Lives as_reached (run_of asked (Ran ran)) old new
-run_lives asked user old new before after ran h =
-    (new, (sym (run_is asked ran.units ran.reason (notice_of ran.reason) old.machine new.machine _ h.told), h.devices, h.disks), refl)
+run_lives : (asked user : ℕ) (old new : Equipped) (before after : FrameSupply) (ran : RanUnits)
+    → HasRun asked user old before ran new after → Lives as_reached (run_of asked (Ran ran)) old new
+run_lives asked user old new before after ran h = (
+  new,
+  (
+    sym (run_is asked ran.units ran.reason (notice_of ran.reason) old.machine new.machine _ h.reported),
+    h.devices,
+    h.disks,
+  ),
+  refl,
+)
 
-pub run_step : (old new : SystemView) (user asked : ℕ) (ran : RanUnits) (told : Saying) (lines : ℕ) → HasRun asked user (user_at old user) old.supply ran (user_at new user) new.supply → IsLent old user new → IsBetweenUnits old.supply → IsBetweenUnits new.supply → told ≡ saying (notice_of ran.reason) → lines ≡ length (machine_at new user).output - length (machine_at old user).output
-    → IsReplied old (record { event = Run user asked; reply = record { ended = Ran ran; said = told; lines = lines; delivered = None }; seen = new })
-run_step old new user asked ran told lines h lent rest between s l = record {
-  applied = alone old new user (run_of asked (Ran ran)) lent (run_lives asked user (user_at old user) (user_at new user) old.supply new.supply ran h);
-  told = record {
-    tells = (h.told, s, refl);
+pub run_step : (old new : SystemView) (user asked : ℕ) (ran : RanUnits) (reported : Saying) (lines : ℕ)
+    → HasRun asked user (user_at old user) old.supply ran (user_at new user) new.supply → IsLent old user new
+    → IsBetweenUnits old.supply → IsBetweenUnits new.supply → reported ≡ saying (notice_of ran.reason)
+    → lines ≡ length (machine_at new user).output - length (machine_at old user).output
+    → IsReplied old (record {
+      event = Run user asked;
+      reply = record { ended = Ran ran; said = reported; lines = lines; delivered = None };
+      seen = new;
+    })
+run_step old new user asked ran reported lines h lent rest between s l = record {
+  applied = alone old new user (run_of asked (Ran ran)) lent
+      (run_lives asked user (user_at old user) (user_at new user) old.supply new.supply ran h);
+  reported = record {
+    tells = (h.reported, s, refl);
     lines = l;
     files = ap (λ (x : SystemView). x.files) lent ∙ sym (append-nil old.files);
-    deliveries = ap (λ (x : SystemView). x.deliveries) lent;
   };
   supplied = record {
     between_before = rest;
     between = between;
     given_back = λ on. absurd (false≢true on);
-    brought = λ off. (h.brought.0, h.brought.1, (h.brought.2, h.brought.3, omega (arith, h.brought.3, nine_each (machine_at old user).core 0 h.brought.0 h.brought.2)));
+    brought = λ off. (
+      h.brought.0,
+      h.brought.1,
+      (
+        h.brought.2,
+        h.brought.3,
+        omega (arith, h.brought.3, nine_each (machine_at old user).core 0 h.brought.0 h.brought.2),
+      ),
+    );
   };
 }
 
@@ -114,108 +155,153 @@ ticked_output modes.Running m = refl
 ticked_output modes.Stopped m = refl
 ticked_output modes.Off m = refl
 
-pub tick_done : (old new : SystemView) (user : ℕ) (done : Unit {0}) → HasTicked user (user_at old user) old.supply (Ok done) (user_at new user) new.supply → IsLent old user new → IsBetweenUnits old.supply → IsBetweenUnits new.supply → IsReplied old (record { event = Tick user; reply = silent Done; seen = new })
+pub tick_done : (old new : SystemView) (user : ℕ) (done : Unit {0})
+    → HasTicked user (user_at old user) old.supply (Ok done) (user_at new user) new.supply → IsLent old user new
+    → IsBetweenUnits old.supply → IsBetweenUnits new.supply
+    → IsReplied old (record { event = Tick user; reply = silent Done; seen = new })
 tick_done old new user done h lent rest between =
-    let m : (machine_at new user).output ≡ (machine_at old user).output = ap (λ (x : Machine). x.output) h.leaves.0 ∙ ticked_output (machine_at old user).mode (machine_at old user) in
+    let m : (machine_at new user).output ≡ (machine_at old user).output =
+    ap (λ (x : Machine). x.output) h.leaves.0 ∙ ticked_output (machine_at old user).mode (machine_at old user) in
     record {
       applied = alone old new user (Ticks ∷ []) lent (user_at new user, (h.leaves.0, h.leaves.1, h.leaves.2), refl);
-      told = record {
+      reported = record {
         tells = (refl, refl);
         lines = same_lines (user_at new user) (user_at old user) m;
         files = ap (λ (x : SystemView). x.files) lent ∙ sym (append-nil old.files);
-        deliveries = ap (λ (x : SystemView). x.deliveries) lent;
       };
       supplied = record {
         between_before = rest;
         between = between;
         given_back = λ on. absurd (false≢true on);
-        brought = λ off. (h.brought.0 ∷ [], h.brought.1, ((h.brought.0, refl, h.brought.2), omega (arith, h.brought.3, ap (λ (xs : List ℕ). length xs) (append-nil h.brought.0))));
+        brought = λ off. (
+          h.brought.0 ∷ [],
+          h.brought.1,
+          (
+            (h.brought.0, refl, h.brought.2),
+            omega (arith, h.brought.3, ap (λ (xs : List ℕ). length xs) (append-nil h.brought.0)),
+          ),
+        );
       };
     }
 
-pub tick_out : (old new : SystemView) (user : ℕ) (out : NoRoom) → HasTicked user (user_at old user) old.supply (Err out) (user_at new user) new.supply → IsLent old user new → IsBetweenUnits old.supply → IsBetweenUnits new.supply → IsReplied old (record { event = Tick user; reply = silent FramesOut; seen = new })
+pub tick_out : (old new : SystemView) (user : ℕ) (out : NoRoom)
+    → HasTicked user (user_at old user) old.supply (Err out) (user_at new user) new.supply → IsLent old user new
+    → IsBetweenUnits old.supply → IsBetweenUnits new.supply
+    → IsReplied old (record { event = Tick user; reply = silent FramesOut; seen = new })
 tick_out old new user out h lent rest between = record {
   applied = alone old new user [] lent h.leaves.0;
-  told = record {
+  reported = record {
     tells = record { silent = refl; none = refl; same = unchanged old new user lent h.leaves.0; lacking = h.leaves.1 };
     lines = same_lines (user_at new user) (user_at old user) (ap (λ (e : Equipped). e.machine.output) h.leaves.0);
     files = ap (λ (x : SystemView). x.files) lent ∙ sym (append-nil old.files);
-    deliveries = ap (λ (x : SystemView). x.deliveries) lent;
   };
   supplied = record {
     between_before = rest;
     between = between;
     given_back = λ on. absurd (false≢true on);
-    brought = λ off. (h.brought.0 ∷ [], h.brought.1, ((h.brought.0, refl, h.brought.2), omega (arith, h.brought.3, ap (λ (xs : List ℕ). length xs) (append-nil h.brought.0))));
+    brought = λ off. (
+      h.brought.0 ∷ [],
+      h.brought.1,
+      (
+        (h.brought.0, refl, h.brought.2),
+        omega (arith, h.brought.3, ap (λ (xs : List ℕ). length xs) (append-nil h.brought.0)),
+      ),
+    );
   };
 }
 
 -- ---- a line
 
 deck_from : (number user : ℕ) (p : List FileValue) (index : ℕ) → Local
-deck_from number user p index = Gets (record { label = number; sender = senders.User user; cards = cards_of (slice_get p index) })
+deck_from number user p index =
+    Gets (record { label = number; sender = senders.User user; cards = cards_of (slice_get p index) })
 
--- what comes of it is told as it has come
-come_same : (old middle seen : SystemView) (user punched : ℕ) (typed : Bor (List ℕ)) (reply : Reply) → punched ≡ length (user_at old user).devices.punched → (user_at seen user).devices.punched ≡ (user_at middle user).devices.punched → (what : Delivery) → comes_by_line user punched (user_at middle user) what ≡ coming old (record { event = Line user typed; reply = reply; seen = seen }) what
+-- what comes of it is reported as it has come
+come_same : (old middle seen : SystemView) (user punched : ℕ) (typed : Bor (List ℕ)) (reply : Reply)
+    → punched ≡ length (user_at old user).devices.punched
+    → (user_at seen user).devices.punched ≡ (user_at middle user).devices.punched → (what : Delivery)
+    → comes_by_line user punched (user_at middle user) what
+    ≡ coming old (record { event = Line user typed; reply = reply; seen = seen }) what
 unfolding deck_from
 come_same old middle seen user punched typed reply at same (deliveries.Deck number) =
-    ap (λ (p : List FileValue). deck_from number user p punched) (sym same) ∙ ap (deck_from number user (user_at seen user).devices.punched) at
+    ap (λ (p : List FileValue). deck_from number user p punched) (sym same) ∙ ap
+    (deck_from number user (user_at seen user).devices.punched) at
 come_same old middle seen user punched typed reply at same (deliveries.Message line) = refl
 
 -- what was closed is closed while its files stay
-noted_same : (user : ℕ) (old e e' : Equipped) → e.devices.punched ≡ e'.devices.punched → e.devices.printed ≡ e'.devices.printed → closed_by user old e ≡ closed_by user old e'
+noted_same : (user : ℕ) (old e e' : Equipped) → e.devices.punched ≡ e'.devices.punched
+    → e.devices.printed ≡ e'.devices.printed → closed_by user old e ≡ closed_by user old e'
 noted_same user old e e' r s =
     let a = length old.devices.punched in
     let b = length old.devices.printed in
-    ap (λ (x : List FileValue). note_where (nat_lt a (length x)) user (kinds.Punch a) ++ note_where (nat_lt b (length e.devices.printed)) user (kinds.Printer b)) r
-    ∙ ap (λ (x : List FileValue). note_where (nat_lt a (length e'.devices.punched)) user (kinds.Punch a) ++ note_where (nat_lt b (length x)) user (kinds.Printer b)) s
+    ap (λ (x : List FileValue). note_where (nat_lt a (length x)) user (kinds.Punch a)
+    ++ note_where (nat_lt b (length e.devices.printed)) user (kinds.Printer b)) r
+    ∙ ap (λ (x : List FileValue). note_where (nat_lt a (length e'.devices.punched)) user (kinds.Punch a)
+    ++ note_where (nat_lt b (length x)) user (kinds.Printer b)) s
 
-delivered_same : (d : Option Delivered) (s t : SystemView) → s.deliveries ≡ t.deliveries → with_delivered d s ≡ with_delivered d t
-delivered_same None s t h = h
-delivered_same (Some d) s t h = ap (λ (ds : List (List Delivery)). set ds d.to (get_or ds d.to [] ++ d.what ∷ [])) h
-
-pub line_done : (old middle new : SystemView) (user : ℕ) (typed : Bor (List ℕ)) (told : Told) (said' : Saying) (lines : ℕ) (delivered : Option Delivered)
-    → HasTyped (world_of old user) user typed.now (user_at old user) old.supply (Ok told) (user_at middle user) middle.supply
+pub line_done : (old middle new : SystemView) (user : ℕ) (typed : Bor (List ℕ)) (reported : LineOutcome)
+    (said' : Saying) (lines : ℕ) (delivered : Option Delivered)
+    → HasTyped (world_of old user) user typed.now (user_at old user) old.supply (Ok reported) (user_at middle user)
+    middle.supply
     → IsLent old user middle → IsBetweenUnits old.supply → IsBetweenUnits middle.supply
-    → delivered ≡ delivered_by (length middle.users) (next_file middle.files) (stands_in (files_closed told).punched (user_at middle user).devices.punched) told (user_at middle user)
-    → new.files ≡ middle.files ++ noted user (files_closed told)
-    → HasCome (comes_by_line user (stands_in (files_closed told).punched (user_at middle user).devices.punched) (user_at middle user)) delivered middle new
-    → new.deliveries ≡ with_delivered delivered middle
+    → delivered ≡ delivered_by (length middle.users) (next_file middle.files)
+    (stands_in (files_closed reported).punched (user_at middle user).devices.punched) reported (user_at middle user)
+    → new.files ≡ middle.files ++ noted user (files_closed reported)
+    → HasReceived (comes_by_line user (stands_in (files_closed reported).punched (user_at middle user).devices.punched)
+    (user_at middle user)) delivered middle new
     → new.supply ≡ middle.supply
-    → said' ≡ said_to_line (next_file old.files) told
+    → said' ≡ said_to_line (next_file old.files) reported
     → lines ≡ length (machine_at new user).output - length (machine_at old user).output
-    → IsReplied old (record { event = Line user typed; reply = record { ended = Done; said = said'; lines = lines; delivered = delivered }; seen = new })
-line_done old middle new user typed told said' lines delivered h lent rest between d f come ds supply s l =
-    let closed = files_closed told in
+    → IsReplied old (record {
+      event = Line user typed;
+      reply = record { ended = Done; said = said'; lines = lines; delivered = delivered };
+      seen = new;
+    })
+line_done old middle new user typed reported said' lines delivered h lent rest between d f come supply s l =
+    let closed = files_closed reported in
     let punched = stands_in closed.punched (user_at middle user).devices.punched in
-    let stands = line_stands (world_of old user) typed.now (user_at old user) told (user_at middle user) h.leaves in
-    let step : Step = record { event = Line user typed; reply = record { ended = Done; said = said'; lines = lines; delivered = delivered }; seen = new } in
-    let many : length middle.users ≡ length old.users = ap (λ (x : SystemView). length x.users) lent ∙ length-set old.users user (user_at middle user) in
+    let placements = line_stands (world_of old user) typed.now (user_at old user) reported (user_at middle user)
+    h.leaves in
+    let step : Step = record {
+      event = Line user typed;
+      reply = record { ended = Done; said = said'; lines = lines; delivered = delivered };
+      seen = new;
+    } in
+    let many : length middle.users ≡ length old.users =
+    ap (λ (x : SystemView). length x.users) lent ∙ length-set old.users user (user_at middle user) in
     let files : middle.files ≡ old.files = ap (λ (x : SystemView). x.files) lent in
     let punch = punch_stays user punched (user_at middle user) delivered middle new come user in
     let printer = printer_stays user punched (user_at middle user) delivered middle new come user in
     record {
       applied = λ u. lives_on as_reached _ _ (user_at old u) (user_at middle u) (user_at new u)
-          (led_alone user (Types (world_of old user) typed.now ∷ []) old.users middle.users (ap (λ (x : SystemView). x.users) lent) (user_at middle user, (told, h.leaves), refl) u)
-          (come_led old step (comes_by_line user punched (user_at middle user)) delivered middle new come (come_same old middle new user punched typed step.reply stands.punched punch) u);
-      told = record {
+          (led_alone user (Types (world_of old user) typed.now ∷ []) old.users middle.users
+          (ap (λ (x : SystemView). x.users) lent) (user_at middle user, (reported, h.leaves), refl) u)
+          (come_led old step (comes_by_line user punched (user_at middle user)) delivered middle new come
+          (come_same old middle new user punched typed step.reply placements.punched punch) u);
+      reported = record {
         tells = record {
-          told = told;
+          reported = reported;
           answered = user_at middle user;
           line = h.leaves;
           said = s;
-          delivered = d ∙ ap (λ (n : ℕ). delivered_by n (next_file middle.files) punched told (user_at middle user)) many ∙ ap (λ (xs : List FileNote). delivered_by (length old.users) (next_file xs) punched told (user_at middle user)) files ∙ ap (λ (n : ℕ). delivered_by (length old.users) (next_file old.files) n told (user_at middle user)) stands.punched;
+          delivered = d ∙ ap (λ (n : ℕ). delivered_by n (next_file middle.files) punched reported (user_at middle user))
+              many ∙ ap (λ (xs : List FileNote).
+              delivered_by (length old.users) (next_file xs) punched reported (user_at middle user)) files ∙ ap
+              (λ (n : ℕ). delivered_by (length old.users) (next_file old.files) n reported (user_at middle user))
+              placements.punched;
         };
         lines = l;
         files = f ∙ ap (λ (xs : List FileNote). xs ++ noted user closed) files
-            ∙ ap (λ (xs : List FileNote). old.files ++ xs) (stands.notes user ∙ noted_same user (user_at old user) (user_at middle user) (user_at new user) (sym punch) (sym printer));
-        deliveries = ds ∙ delivered_same delivered middle old (ap (λ (x : SystemView). x.deliveries) lent);
+            ∙ ap (λ (xs : List FileNote). old.files ++ xs)
+            (placements.notes user ∙ noted_same user (user_at old user) (user_at middle user) (user_at new user)
+            (sym punch) (sym printer));
       };
       supplied = record {
         between_before = rest;
         between = subst IsBetweenUnits (sym supply) between;
         given_back = λ on. subst (λ (x : FrameSupply). IsGivenBack user old.supply x) (sym supply) (h.given_back on);
-        brought = λ off. (let b = h.brought off in (b.0, subst (λ (x : FrameSupply). IsBroughtInUnits user b.0 old.supply x) (sym supply) b.1, b.2));
+        brought = λ off. (let b = h.brought off in
+            (b.0, subst (λ (x : FrameSupply). IsBroughtInUnits user b.0 old.supply x) (sym supply) b.1, b.2));
       };
     }
 
@@ -226,15 +312,18 @@ none_since n = grind (arith, nat_tests)
 none_closed : (user : ℕ) (e : Equipped) → closed_by user e e ≡ []
 none_closed user e = rw (none_since (length e.devices.punched), none_since (length e.devices.printed)) refl
 
-pub line_out : (old new : SystemView) (user : ℕ) (typed : Bor (List ℕ)) → HasTyped (world_of old user) user typed.now (user_at old user) old.supply (Err errors.FramesOut) (user_at new user) new.supply → IsLent old user new → IsBetweenUnits old.supply → IsBetweenUnits new.supply
+pub line_out : (old new : SystemView) (user : ℕ) (typed : Bor (List ℕ))
+    → HasTyped (world_of old user) user typed.now (user_at old user) old.supply (Err errors.FramesOut)
+    (user_at new user) new.supply → IsLent old user new → IsBetweenUnits old.supply → IsBetweenUnits new.supply
     → IsReplied old (record { event = Line user typed; reply = silent FramesOut; seen = new })
 line_out old new user typed h lent rest between = record {
   applied = alone old new user [] lent h.leaves.0;
-  told = record {
+  reported = record {
     tells = record { silent = refl; none = refl; same = unchanged old new user lent h.leaves.0; lacking = h.leaves.1 };
     lines = same_lines (user_at new user) (user_at old user) (ap (λ (e : Equipped). e.machine.output) h.leaves.0);
-    files = ap (λ (x : SystemView). x.files) lent ∙ sym (ap (λ (e : Equipped). old.files ++ closed_by user (user_at old user) e) h.leaves.0 ∙ ap (λ (xs : List FileNote). old.files ++ xs) (none_closed user (user_at old user)) ∙ append-nil old.files);
-    deliveries = ap (λ (x : SystemView). x.deliveries) lent;
+    files = ap (λ (x : SystemView). x.files) lent ∙ sym
+        (ap (λ (e : Equipped). old.files ++ closed_by user (user_at old user) e) h.leaves.0 ∙ ap
+        (λ (xs : List FileNote). old.files ++ xs) (none_closed user (user_at old user)) ∙ append-nil old.files);
   };
   supplied = record {
     between_before = rest;
@@ -245,9 +334,13 @@ line_out old new user typed h lent rest between = record {
 }
 
 -- every user is as he was, but for one whose line is cut short
-follow_others : (old middle : SystemView) (user : ℕ) (u : ℕ) (b : Bool) (closing : Bool) → IsLent old user middle → (closing ≡ false → user_at middle user ≡ user_at old user) → (user == u) ≡ b → (if b then closing else false) ≡ false → user_at middle u ≡ user_at old u
-follow_others old middle user u true closing lent same t not = stays_each (λ (e : Equipped). e) user old.users middle.users (ap (λ (x : SystemView). x.users) lent) (same not) u
-follow_others old middle user u false closing lent same t not = others_stay user old.users middle.users (ap (λ (x : SystemView). x.users) lent) u t
+follow_others : (old middle : SystemView) (user : ℕ) (u : ℕ) (b : Bool) (closing : Bool) → IsLent old user middle
+    → (closing ≡ false → user_at middle user ≡ user_at old user) → (user == u) ≡ b
+    → (if b then closing else false) ≡ false → user_at middle u ≡ user_at old u
+follow_others old middle user u true closing lent same t not =
+    stays_each (λ (e : Equipped). e) user old.users middle.users (ap (λ (x : SystemView). x.users) lent) (same not) u
+follow_others old middle user u false closing lent same t not =
+    others_stay user old.users middle.users (ap (λ (x : SystemView). x.users) lent) u t
 
 and_if : (b c : Bool) → (b && c) ≡ false → (if b then c else false) ≡ false
 and_if true c h = h
@@ -261,7 +354,9 @@ plain_of : (q : Request) → is_cut q ≡ false → is_ipl q ≡ false
 plain_of q none = plain_parts (closes q) (is_ipl q) none
 
 -- where the line was refused memory
-pub line_refused : (old new : SystemView) (user : ℕ) (typed : Bor (List ℕ)) → HasTyped (world_of old user) user typed.now (user_at old user) old.supply (Err errors.Memory) (user_at new user) new.supply → IsLent old user new → IsBetweenUnits old.supply → IsBetweenUnits new.supply
+pub line_refused : (old new : SystemView) (user : ℕ) (typed : Bor (List ℕ))
+    → HasTyped (world_of old user) user typed.now (user_at old user) old.supply (Err errors.Memory) (user_at new user)
+    new.supply → IsLent old user new → IsBetweenUnits old.supply → IsBetweenUnits new.supply
     → IsCutShort old (Line user typed) new
 line_refused old new user typed h lent rest between = record {
   may = h.leaves.1;
@@ -271,43 +366,55 @@ line_refused old new user typed h lent rest between = record {
     given_back = λ on. inr (h.given_back on);
     brought = λ off. (let b = h.brought off in (b.0, b.1, b.2));
   };
-  others = λ u not. (let q = requested typed.now (user_at old user) in follow_others old new user u (user == u) (is_cut q) lent (λ none. h.leaves.0 (plain_of q none)) refl (and_if (user == u) (is_cut q) not));
+  others = λ u not. (let q = requested typed.now (user_at old user) in follow_others old new user u (user == u)
+      (is_cut q) lent (λ none. h.leaves.0 (plain_of q none)) refl (and_if (user == u) (is_cut q) not));
 }
 
 -- where what comes of it was
-pub line_cut : (old middle new : SystemView) (user : ℕ) (typed : Bor (List ℕ)) (told : Told)
-    → HasTyped (world_of old user) user typed.now (user_at old user) old.supply (Ok told) (user_at middle user) middle.supply
+pub line_cut : (old middle new : SystemView) (user : ℕ) (typed : Bor (List ℕ)) (reported : LineOutcome)
+    → HasTyped (world_of old user) user typed.now (user_at old user) old.supply (Ok reported) (user_at middle user)
+    middle.supply
     → IsLent old user middle → IsBetweenUnits old.supply → IsBetweenUnits middle.supply
-    → NeedsMemory told
+    → NeedsMemory reported
     → new.users ≡ middle.users → new.supply ≡ middle.supply
     → IsCutShort old (Line user typed) new
-line_cut old middle new user typed told h lent rest between needs users supply =
+line_cut old middle new user typed reported h lent rest between needs users supply =
     let e = user_at old user in
     let w = world_of old user in
     let q = requested typed.now e in
     record {
-      may = follow_may w typed.now e told (user_at middle user) h.leaves needs;
+      may = follow_may w typed.now e reported (user_at middle user) h.leaves needs;
       supplied = record {
         between_before = rest;
         between = subst IsBetweenUnits (sym supply) between;
-        given_back = λ on. inl (subst (λ (x : FrameSupply). IsGivenBack user old.supply x) (sym supply) (h.given_back on));
-        brought = λ off. (let b = h.brought off in (b.0, subst (λ (x : FrameSupply). IsBroughtInUnits user b.0 old.supply x) (sym supply) b.1, b.2));
+        given_back = λ on. inl (subst (λ (x : FrameSupply). IsGivenBack user old.supply x) (sym supply)
+            (h.given_back on));
+        brought = λ off. (let b = h.brought off in
+            (b.0, subst (λ (x : FrameSupply). IsBroughtInUnits user b.0 old.supply x) (sym supply) b.1, b.2));
       };
-      others = λ u not. ap (λ (us : List Equipped). get_or us u nobody) users ∙ follow_others old middle user u (user == u) (is_cut q) lent (λ none. follow_same w typed.now e told (user_at middle user) none h.leaves needs) refl (and_if (user == u) (is_cut q) not);
+      others = λ u not. ap (λ (us : List Equipped). get_or us u nobody) users ∙ follow_others old middle user u
+          (user == u) (is_cut q) lent
+          (λ none. follow_same w typed.now e reported (user_at middle user) none h.leaves needs) refl
+          (and_if (user == u) (is_cut q) not);
     }
 
 -- ---- a serve
 
-pub serve_done : (old new : SystemView) (user device : ℕ) (done : Bool) (lines : ℕ) → HasServed device user (user_at old user) old.supply (Ok done) (user_at new user) new.supply → IsLent old user new → IsBetweenUnits old.supply → IsBetweenUnits new.supply
+pub serve_done : (old new : SystemView) (user device : ℕ) (done : Bool) (lines : ℕ)
+    → HasServed device user (user_at old user) old.supply (Ok done) (user_at new user) new.supply → IsLent old user new
+    → IsBetweenUnits old.supply → IsBetweenUnits new.supply
     → lines ≡ length (machine_at new user).output - length (machine_at old user).output
-    → IsReplied old (record { event = Serve user device; reply = record { ended = Served done; said = Nothing; lines = lines; delivered = None }; seen = new })
+    → IsReplied old (record {
+      event = Serve user device;
+      reply = record { ended = Served done; said = Nothing; lines = lines; delivered = None };
+      seen = new;
+    })
 serve_done old new user device done lines h lent rest between l = record {
   applied = alone old new user (Serves device ∷ []) lent (user_at new user, (done, h.leaves), refl);
-  told = record {
+  reported = record {
     tells = (h.leaves, refl, refl);
     lines = l;
     files = ap (λ (x : SystemView). x.files) lent ∙ sym (append-nil old.files);
-    deliveries = ap (λ (x : SystemView). x.deliveries) lent;
   };
   supplied = record {
     between_before = rest;
@@ -317,14 +424,16 @@ serve_done old new user device done lines h lent rest between l = record {
   };
 }
 
-pub serve_out : (old new : SystemView) (user device : ℕ) → HasServed device user (user_at old user) old.supply (Err errors.FramesOut) (user_at new user) new.supply → IsLent old user new → IsBetweenUnits old.supply → IsBetweenUnits new.supply → IsReplied old (record { event = Serve user device; reply = silent FramesOut; seen = new })
+pub serve_out : (old new : SystemView) (user device : ℕ)
+    → HasServed device user (user_at old user) old.supply (Err errors.FramesOut) (user_at new user) new.supply
+    → IsLent old user new → IsBetweenUnits old.supply → IsBetweenUnits new.supply
+    → IsReplied old (record { event = Serve user device; reply = silent FramesOut; seen = new })
 serve_out old new user device h lent rest between = record {
   applied = alone old new user [] lent h.leaves.0;
-  told = record {
+  reported = record {
     tells = record { silent = refl; none = refl; same = unchanged old new user lent h.leaves.0; lacking = h.leaves.1 };
     lines = same_lines (user_at new user) (user_at old user) (ap (λ (e : Equipped). e.machine.output) h.leaves.0);
     files = ap (λ (x : SystemView). x.files) lent ∙ sym (append-nil old.files);
-    deliveries = ap (λ (x : SystemView). x.deliveries) lent;
   };
   supplied = record {
     between_before = rest;
@@ -334,7 +443,10 @@ serve_out old new user device h lent rest between = record {
   };
 }
 
-pub serve_cut : (old new : SystemView) (user device : ℕ) → HasServed device user (user_at old user) old.supply (Err errors.Memory) (user_at new user) new.supply → IsLent old user new → IsBetweenUnits old.supply → IsBetweenUnits new.supply → IsCutShort old (Serve user device) new
+pub serve_cut : (old new : SystemView) (user device : ℕ)
+    → HasServed device user (user_at old user) old.supply (Err errors.Memory) (user_at new user) new.supply
+    → IsLent old user new → IsBetweenUnits old.supply → IsBetweenUnits new.supply
+    → IsCutShort old (Serve user device) new
 serve_cut old new user device h lent rest between = record {
   may = h.leaves;
   supplied = record {
@@ -354,21 +466,22 @@ quiet user old new same = record {
   brought = subst (λ (s : FrameSupply). IsBroughtFor user [] old s) (sym same) (record {
     same_frames = refl;
     same_slots = refl;
-    kept = λ u page stands. stands;
+    kept = λ u page placements. placements;
     framed = λ u page there. inl there;
-    came = λ u page stands. inl stands;
+    paged_in = λ u page placements. inl placements;
     page_ins = refl;
   });
 }
 
-pub no_deck : (old : SystemView) (user : ℕ) (cards : Bor (List (List ℕ))) → IsBetweenUnits old.supply → cards.now ≡ [] → IsReplied old (record { event = Deck user cards; reply = silent Done; seen = old })
+pub no_deck : (old : SystemView) (user : ℕ) (cards : Bor (List (List ℕ))) → IsBetweenUnits old.supply → cards.now ≡ []
+    → IsReplied old (record { event = Deck user cards; reply = silent Done; seen = old })
 no_deck old user cards rest none = record {
-  applied = λ u. (alone old old user [] (ap (λ (us : List Equipped). record old { users = us }) (set_own old.users user nobody)) refl u);
-  told = record {
+  applied = λ u. (alone old old user []
+      (ap (λ (us : List Equipped). record old { users = us }) (set_own old.users user nobody)) refl u);
+  reported = record {
     tells = (refl, rw none refl);
     lines = same_lines (user_at old user) (user_at old user) refl;
     files = rw none (sym (append-nil old.files));
-    deliveries = refl;
   };
   supplied = record {
     between_before = rest;
@@ -378,11 +491,13 @@ no_deck old user cards rest none = record {
   };
 }
 
-some_given : (user : ℕ) (files : List FileNote) (cards : List (List ℕ)) → (cards ≡ [] → ⊥) → given user (next_file files) cards ≡ Some (record { to = user; what = deliveries.Deck (next_file files) })
+some_given : (user : ℕ) (files : List FileNote) (cards : List (List ℕ)) → (cards ≡ [] → ⊥)
+    → given user (next_file files) cards ≡ Some (record { to = user; what = deliveries.Deck (next_file files) })
 some_given user files [] some = absurd (some refl)
 some_given user files (card ∷ cards) some = refl
 
-some_noted : (user : ℕ) (cards : List (List ℕ)) → (cards ≡ [] → ⊥) → deck_noted user cards ≡ record { user = user; kind = kinds.Deck } ∷ []
+some_noted : (user : ℕ) (cards : List (List ℕ)) → (cards ≡ [] → ⊥)
+    → deck_noted user cards ≡ record { user = user; kind = kinds.Deck } ∷ []
 some_noted user [] some = absurd (some refl)
 some_noted user (card ∷ cards) some = refl
 
@@ -390,28 +505,44 @@ some_cards : (cards : List (List ℕ)) → (cards ≡ [] → ⊥) → 0 < length
 some_cards [] some = absurd (some refl)
 some_cards (card ∷ cards) some = omega arith
 
-deck_same : (old seen : SystemView) (user : ℕ) (cards : Bor (List (List ℕ))) (reply : Reply) (what : Delivery) → comes_from_operator cards.now what ≡ coming old (record { event = Deck user cards; reply = reply; seen = seen }) what
+deck_same : (old seen : SystemView) (user : ℕ) (cards : Bor (List (List ℕ))) (reply : Reply) (what : Delivery)
+    → comes_from_operator cards.now what
+    ≡ coming old (record { event = Deck user cards; reply = reply; seen = seen }) what
 deck_same old seen user cards reply (deliveries.Deck number) = refl
 deck_same old seen user cards reply (deliveries.Message line) = refl
 
-pub deck_given : (old new : SystemView) (user : ℕ) (cards : Bor (List (List ℕ))) (delivered : Delivered) → IsBetweenUnits old.supply → (cards.now ≡ [] → ⊥)
+pub deck_given : (old new : SystemView) (user : ℕ) (cards : Bor (List (List ℕ))) (delivered : Delivered)
+    → IsBetweenUnits old.supply → (cards.now ≡ [] → ⊥)
     → delivered ≡ record { to = user; what = deliveries.Deck (next_file old.files) }
-    → HasCome (comes_from_operator cards.now) (Some delivered) old new
-    → new ≡ record old { users = new.users; files = old.files ++ record { user = user; kind = kinds.Deck } ∷ []; deliveries = with_delivered (Some delivered) old }
-    → IsReplied old (record { event = Deck user cards; reply = record { ended = Done; said = Nothing; lines = 0; delivered = Some delivered }; seen = new })
+    → HasReceived (comes_from_operator cards.now) (Some delivered) old new
+    → new ≡ record old { users = new.users; files = old.files ++ record { user = user; kind = kinds.Deck } ∷ [] }
+    → IsReplied old (record {
+      event = Deck user cards;
+      reply = record { ended = Done; said = Nothing; lines = 0; delivered = Some delivered };
+      seen = new;
+    })
 deck_given old new user cards delivered rest some is come left =
-    let step : Step = record { event = Deck user cards; reply = record { ended = Done; said = Nothing; lines = 0; delivered = Some delivered }; seen = new } in
+    let step : Step = record {
+      event = Deck user cards;
+      reply = record { ended = Done; said = Nothing; lines = 0; delivered = Some delivered };
+      seen = new;
+    } in
     let supply : new.supply ≡ old.supply = ap (λ (x : SystemView). x.supply) left in
     let to : delivered.to ≡ user = ap (λ (x : Delivered). x.to) is in
-    let came : Leaves as_reached (comes_from_operator cards.now (deliveries.Deck (next_file old.files))) (user_at old user) (user_at new user) =
-    subst (λ (x : Delivered). Leaves as_reached (comes_from_operator cards.now x.what) (user_at old x.to) (user_at new x.to)) is come.comes in
+    let paged_in : Leaves as_reached (comes_from_operator cards.now (deliveries.Deck (next_file old.files)))
+    (user_at old user) (user_at new user) =
+    subst (λ (x : Delivered).
+    Leaves as_reached (comes_from_operator cards.now x.what) (user_at old x.to) (user_at new x.to)) is come.comes in
     record {
-      applied = λ u. lives_on as_reached _ _ (user_at old u) (user_at old u) (user_at new u) (led_alone user [] old.users old.users (set_own old.users user nobody) refl u) (come_led old step (comes_from_operator cards.now) (Some delivered) old new come (deck_same old new user cards step.reply) u);
-      told = record {
+      applied = λ u. lives_on as_reached _ _ (user_at old u) (user_at old u) (user_at new u)
+          (led_alone user [] old.users old.users (set_own old.users user nobody) refl u)
+          (come_led old step (comes_from_operator cards.now) (Some delivered) old new come
+          (deck_same old new user cards step.reply) u);
+      reported = record {
         tells = (refl, ap Some is ∙ sym (some_given user old.files cards.now some));
-        lines = same_lines (user_at new user) (user_at old user) (ap (λ (e : Equipped). e.machine.output) came);
-        files = ap (λ (x : SystemView). x.files) left ∙ sym (ap (λ (xs : List FileNote). old.files ++ xs) (some_noted user cards.now some));
-        deliveries = ap (λ (x : SystemView). x.deliveries) left;
+        lines = same_lines (user_at new user) (user_at old user) (ap (λ (e : Equipped). e.machine.output) paged_in);
+        files = ap (λ (x : SystemView). x.files) left ∙ sym
+            (ap (λ (xs : List FileNote). old.files ++ xs) (some_noted user cards.now some));
       };
       supplied = record {
         between_before = rest;
@@ -421,7 +552,8 @@ deck_given old new user cards delivered rest some is come left =
       };
     }
 
-pub deck_cut : (old new : SystemView) (user : ℕ) (cards : Bor (List (List ℕ))) → IsBetweenUnits old.supply → (cards.now ≡ [] → ⊥) → new ≡ record old { files = new.files; deliveries = new.deliveries } → IsCutShort old (Deck user cards) new
+pub deck_cut : (old new : SystemView) (user : ℕ) (cards : Bor (List (List ℕ))) → IsBetweenUnits old.supply
+    → (cards.now ≡ [] → ⊥) → new ≡ record old { files = new.files } → IsCutShort old (Deck user cards) new
 deck_cut old new user cards rest some left =
     let supply : new.supply ≡ old.supply = ap (λ (x : SystemView). x.supply) left in
     record {

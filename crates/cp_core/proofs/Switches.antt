@@ -3,7 +3,8 @@ use Rattle.std.proofs.Common.{◌≡◌, ℕ, List, [], ◌∷◌, true, inl, in
 use Rattle.s370_store.specs.Access.{Touches}
 use Rattle.s370_intr.specs.Run.{AllNeeded}
 use Rattle.machine_devices.specs.declared.request.Request.{Request}
-use Rattle.machine_devices.specs.declared.request.Request.TheVariants.{LogsOn, LogsOff, Resets, Types, Loads, Asks, Alone}
+use Rattle.machine_devices.specs.declared.request.Request.TheVariants.{LogsOn, LogsOff, Resets, Types, Loads, Asks}
+use Rattle.machine_devices.specs.declared.request.Request.TheVariants.{Alone}
 use Rattle.machine_devices.specs.Comes.{LoadWants, is_ipl}
 use Rattle.machine_devices.specs.Equipped.{Equipped}
 use Rattle.machine_devices.specs.Lines.{requested}
@@ -20,7 +21,8 @@ no_ipl (Loads device) ipl on = cc
 no_ipl (Asks command) ipl on = cc
 no_ipl (Alone asked) ipl on = cc
 
-pub switch_no_ipl : (typed : List ℕ) (e : Equipped) → is_ipl (requested typed e) ≡ true → switches (requested typed e) ≡ true → ⊥
+pub switch_no_ipl : (typed : List ℕ) (e : Equipped) → is_ipl (requested typed e) ≡ true
+    → switches (requested typed e) ≡ true → ⊥
 switch_no_ipl typed e ipl on = no_ipl (requested typed e) ipl on
 
 wants_none : (q : Request) (e : Equipped) (page : ℕ) → switches q ≡ true → Touches (needs_of q) page → ⊥
@@ -41,7 +43,8 @@ loads_none (Loads device) e page on want = cc
 loads_none (Asks command) e page on want = cc
 loads_none (Alone asked) e page on want = cc
 
-pub switch_wants_none : (typed : List ℕ) (e : Equipped) (page : ℕ) → switches (requested typed e) ≡ true → LineWants typed e page → ⊥
+pub switch_wants_none : (typed : List ℕ) (e : Equipped) (page : ℕ) → switches (requested typed e) ≡ true
+    → LineWants typed e page → ⊥
 switch_wants_none typed e page on want = elim want [
   | inl need ↦ wants_none (requested typed e) e page on need
   | inr loads ↦ loads_none (requested typed e) e page on loads
@@ -49,14 +52,17 @@ switch_wants_none typed e page on want = elim want [
 
 -- ---- what a line needs is wanted
 
-pub wanted : (typed : List ℕ) (e : Equipped) (page : ℕ) → Touches (needs_of (requested typed e)) page → LineWants typed e page
+pub wanted : (typed : List ℕ) (e : Equipped) (page : ℕ) → Touches (needs_of (requested typed e)) page
+    → LineWants typed e page
 wanted typed e page need = inl need
 
-pub load_wanted : (typed : List ℕ) (e : Equipped) (page : ℕ) → LoadWants (requested typed e) e page → LineWants typed e page
+pub load_wanted : (typed : List ℕ) (e : Equipped) (page : ℕ) → LoadWants (requested typed e) e page
+    → LineWants typed e page
 load_wanted typed e page need = inr need
 
 -- ---- lists of pages
 
-pub all_wanted : (typed : List ℕ) (e : Equipped) (pages : List ℕ) → AllNeeded (Touches (needs_of (requested typed e))) pages → AllNeeded (LineWants typed e) pages
+pub all_wanted : (typed : List ℕ) (e : Equipped) (pages : List ℕ)
+    → AllNeeded (Touches (needs_of (requested typed e))) pages → AllNeeded (LineWants typed e) pages
 all_wanted typed e [] all = tt
 all_wanted typed e (page ∷ pages) all = (inl all.0, all_wanted typed e pages all.1)

@@ -1,5 +1,6 @@
--- What is done with a machine while its storage is lent, by what its own calls leave.
-use Rattle.std.proofs.Common.{◌≡◌, ◌∙◌, MutBor, ap, sym, subst, ℕ, Bool, true, false, List, [], ◌∷◌, ◌++◌, ◌*◌, ◌<◌, length, replicate, refl, Option, None, Some, Result, Ok, Err, inl, inr}
+-- What is done with a machine while its storage is borrowed, by what its own calls leave.
+use Rattle.std.proofs.Common.{◌≡◌, ◌∙◌, MutBor, ap, sym, subst, ℕ, Bool, true, false, List, [], ◌∷◌, ◌++◌, ◌*◌, ◌<◌}
+use Rattle.std.proofs.Common.{length, replicate, refl, Option, None, Some, Result, Ok, Err, inl, inr}
 use Rattle.std.specs.Prelude.{All, IfOk, IsSome, OnErr, OnOk, is_some}
 use Rattle.std.proofs.lemmas.List.{get_or_default, length-replicate}
 use Rattle.s370_store.specs.Access.{Touches}
@@ -15,17 +16,18 @@ use Rattle.cp_dat.specs.declared.dat.Dat.{Dat}
 use Rattle.cp_dat.specs.Bringing.{found_from}
 use Rattle.cp_dat.specs.Lent.{KeepsFrames, is_lent_page, keeps_frames_on, lent_bytes, lent_pool, user_of}
 use Rattle.cp_dat.specs.Letting.{between_again, came_on, let_go_came}
-use Rattle.cp_dat.specs.Supplied.{GivesBack, HasNoRoom, HasSuch, IsBetweenUnits, IsBroughtInUnits, IsPagedFor, Supplied, SuppliedUnits, TakesPins, unpinned}
+use Rattle.cp_dat.specs.Supplied.{GivesBack, HasNoRoom, HasSuch, IsBetweenUnits, IsBroughtInUnits, IsPagedFor, Supplied}
+use Rattle.cp_dat.specs.Supplied.{SuppliedUnits, TakesPins, unpinned}
 use Rattle.machine_panel.specs.declared.line.LineError.{LineError}
 use Rattle.machine_panel.specs.declared.line.LineError.TheVariants as errors
 use Rattle.machine_devices.specs.Requests.{needs_of, switches}
-use Rattle.machine_channels.specs.Channels.{Brings, LacksRoom, NoRoom}
-use Rattle.machine_devices.specs.declared.line.Told.{Told}
+use Rattle.machine_channels.specs.Channels.{Brings, IsOutOfFrames, NoRoom}
+use Rattle.machine_devices.specs.declared.line.LineOutcome.{LineOutcome}
 use Rattle.machine_devices.specs.Equipped.{Equipped}
 use Rattle.machine_devices.specs.Lines.{IsLine, requested}
 use Rattle.machine_devices.specs.Serve.{IsServedAt}
-use Rattle.machine_devices.specs.World.{World}
-use Rattle.cp_resident.specs.Resident.{CameIn, IsFilled}
+use Rattle.machine_devices.specs.UserDirectory.{UserDirectory}
+use Rattle.cp_resident.specs.GuestChannels.{PagedIn, IsFilled}
 use Rattle.cp_volumes.specs.Keeping.{neighbours_same}
 use Rattle.machine_devices.proofs.Beside.{beside_same}
 use Rattle.machine_panel.specs.Machine.{Parts}
@@ -35,7 +37,7 @@ use Rattle.cp_core.specs.Supply.{IsGivenBack, IsShort, LineBrings, NeedsAll}
 use Rattle.cp_core.specs.Typed.{IsLineLent}
 use Rattle.machine_devices.specs.Comes.{LineMay, LoadWants, is_ipl}
 use Rattle.cp_core.specs.Wants.{DeviceNeeds, LineWants}
-use Rattle.cp_core.specs.Work.{HasServed, HasTyped, LineGivesBack, LineLeaves, ServeLeaves}
+use Rattle.cp_core.specs.UserOp.{HasServed, HasTyped, LineGivesBack, LineLeaves, ServeLeaves}
 use Rattle.cp_core.proofs.Switches.{all_wanted, load_wanted, switch_no_ipl, wanted}
 use Rattle.cp_core.proofs.Kept.{either, given_back, given_for, lengths_left, line_short, marks_left}
 
@@ -43,35 +45,48 @@ use Rattle.cp_core.proofs.Kept.{either, given_back, given_for, lengths_left, lin
 
 -- there is no room for a page, or each present page of the user is one of these, in each frame
 abbrev pub no_room : Dat → (ℕ → Type 0) → ℕ → Type 0
-no_room d needs page = NoRoom (λ (e : Dat) (p : ℕ). HasNoRoom (lent_pool e).supply (user_of e) p) (λ (e : Dat) (p : ℕ). IsFilled (lent_pool e).supply (user_of e) p) is_lent_page d needs page
+no_room d needs page = NoRoom (λ (e : Dat) (p : ℕ). HasNoRoom (lent_pool e).supply (user_of e) p)
+    (λ (e : Dat) (p : ℕ). IsFilled (lent_pool e).supply (user_of e) p) is_lent_page d needs page
 
 is_taken : (o : Option UserPage) (page : UserPage) → o ≡ Some page → IsSome o
 is_taken None page e = cc
 is_taken (Some there) page e = refl
 
-held_there : (owners : List (Option UserPage)) (user page frame : ℕ) → Holds owners frame (owned user page) → is_there owners user page ≡ true
-held_there owners user page frame here = found_from (is_page user page) None 0 owners frame refl (ap (is_page user page) here ∙ is_this_page user page)
+held_there : (owners : List (Option UserPage)) (user page frame : ℕ) → Holds owners frame (owned user page)
+    → is_there owners user page ≡ true
+held_there owners user page frame here =
+    found_from (is_page user page) None 0 owners frame refl (ap (is_page user page) here ∙ is_this_page user page)
 
 filled_full : (supply : FrameSupply) (user page : ℕ) → IsFilled supply user page → All IsSome supply.owners
 filled_full supply user page filled = λ frame other within.
     (let one = filled.owned frame within in
     is_taken _ (owned user one.page) (get_or_default supply.owners frame other None within ∙ one.here))
 
-room_short : (d : Dat) (needs : ℕ → Type 0) (page : ℕ) → no_room d needs page → IsShort (lent_pool d).supply (user_of d) needs page
-room_short d needs page (inl out) = record { absent = out.absent; full = out.full; stuck = inl (out.full_slots, out.nowhere) }
+room_short : (d : Dat) (needs : ℕ → Type 0) (page : ℕ) → no_room d needs page
+    → IsShort (lent_pool d).supply (user_of d) needs page
+room_short d needs page (inl out) =
+    record { absent = out.absent; full = out.full; stuck = inl (out.full_slots, out.nowhere) }
 room_short d needs page (inr h) = record {
   absent = h.0.absent;
   full = filled_full (lent_pool d).supply (user_of d) page h.0;
-  stuck = inr (λ frame within. (let one = h.0.owned frame within in record { page = one.page; such = h.1 one.page (held_there (lent_pool d).supply.owners (user_of d) one.page frame one.here); here = one.here }));
+  stuck = inr (λ frame within.
+      (let one = h.0.owned frame within in
+      record {
+        page = one.page;
+        such = h.1 one.page (held_there (lent_pool d).supply.owners (user_of d) one.page frame one.here);
+        here = one.here;
+      }));
 }
 
-short_for : (supply : FrameSupply) (user : ℕ) (P Q : ℕ → Type 0) (page : ℕ) → ((p : ℕ) → P p → Q p) → IsShort supply user P page → IsShort supply user Q page
+short_for : (supply : FrameSupply) (user : ℕ) (P Q : ℕ → Type 0) (page : ℕ) → ((p : ℕ) → P p → Q p)
+    → IsShort supply user P page → IsShort supply user Q page
 short_for supply user P Q page more short = record {
   absent = short.absent;
   full = short.full;
   stuck = elim short.stuck [
     | inl none ↦ inl none
-    | inr each ↦ inr (λ frame within. (let one = each frame within in record { page = one.page; such = more one.page one.such; here = one.here }))
+    | inr each ↦ inr (λ frame within.
+        (let one = each frame within in record { page = one.page; such = more one.page one.such; here = one.here }))
   ];
 }
 
@@ -85,7 +100,8 @@ such_for : (P Q : ℕ → Type 0) → ((page : ℕ) → P page → Q page) → (
 such_for P Q more [] all = tt
 such_for P Q more (page ∷ pages) all = (more page all.0, such_for P Q more pages all.1)
 
-each_for : (P Q : ℕ → Type 0) → ((page : ℕ) → P page → Q page) → (units : List (List ℕ)) → EachSuch P units → EachSuch Q units
+each_for : (P Q : ℕ → Type 0) → ((page : ℕ) → P page → Q page) → (units : List (List ℕ)) → EachSuch P units
+    → EachSuch Q units
 each_for P Q more [] all = tt
 each_for P Q more (pages ∷ units) all = (such_for P Q more pages all.0, each_for P Q more units all.1)
 
@@ -96,44 +112,66 @@ one_brings false needs pages all = (pages, refl, all)
 -- where no frame is pinned, nothing is taken away with the pins
 still : (supply : FrameSupply) → IsBetweenUnits supply → unpinned supply ≡ supply
 still supply rest =
-    let count : length supply.owners ≡ length supply.pins = sym (ap (λ (ps : List Bool). length ps) rest.idle ∙ length-replicate (length supply.owners) false) in
+    let count : length supply.owners ≡ length supply.pins =
+    sym (ap (λ (ps : List Bool). length ps) rest.idle ∙ length-replicate (length supply.owners) false) in
     ap (λ (ps : List Bool). record supply { pins = ps }) (sym (rest.idle ∙ ap (λ (n : ℕ). replicate n false) count))
 
 -- ---- a line
 
 -- what it keeps, whether it switches the machine or not
-kept_where : (r : Result Told LineError) (old between : Dat) → OnOk r (GivesBack old between) → OnErr r (Supplied old [] between) → KeepsFrames old between
-kept_where (Ok told) old between cleared not = cleared.kept
+kept_where : (r : Result LineOutcome LineError) (old between : Dat) → OnOk r (GivesBack old between)
+    → OnErr r (Supplied old [] between) → KeepsFrames old between
+kept_where (Ok reported) old between cleared not = cleared.kept
 kept_where (Err error) old between cleared not = not.kept
 
-owners_where : (r : Result Told LineError) (old between : Dat) → OnOk r (GivesBack old between) → OnErr r (Supplied old [] between) → length (lent_pool between).supply.owners ≡ length (lent_pool old).supply.owners
-owners_where (Ok told) old between cleared not = lengths_left old between cleared
+owners_where : (r : Result LineOutcome LineError) (old between : Dat) → OnOk r (GivesBack old between)
+    → OnErr r (Supplied old [] between)
+    → length (lent_pool between).supply.owners ≡ length (lent_pool old).supply.owners
+owners_where (Ok reported) old between cleared not = lengths_left old between cleared
 owners_where (Err error) old between cleared not = not.paged.same_frames
 
-pins_where : (r : Result Told LineError) (old between : Dat) → OnOk r (GivesBack old between) → OnErr r (Supplied old [] between) → length (lent_pool between).supply.pins ≡ length (lent_pool old).supply.pins
-pins_where (Ok told) old between cleared not = marks_left old between cleared
+pins_where : (r : Result LineOutcome LineError) (old between : Dat) → OnOk r (GivesBack old between)
+    → OnErr r (Supplied old [] between) → length (lent_pool between).supply.pins ≡ length (lent_pool old).supply.pins
+pins_where (Ok reported) old between cleared not = marks_left old between cleared
 pins_where (Err error) old between cleared not = not.paged.same_marks
 
-given_where : (r : Result Told LineError) (old between new : Dat) → TakesPins between new → OnOk r (GivesBack old between) → OnOk r (IsGivenBack (user_of old) (lent_pool old).supply (lent_pool new).supply)
-given_where (Ok told) old between new taken cleared = given_for (user_of old) (lent_pool old).supply (lent_pool between).supply (lent_pool new).supply (given_back old between cleared) taken.supply
+given_where : (r : Result LineOutcome LineError) (old between new : Dat) → TakesPins between new
+    → OnOk r (GivesBack old between) → OnOk r (IsGivenBack (user_of old) (lent_pool old).supply (lent_pool new).supply)
+given_where (Ok reported) old between new taken cleared =
+    given_for (user_of old) (lent_pool old).supply (lent_pool between).supply (lent_pool new).supply
+    (given_back old between cleared) taken.supply
 given_where (Err error) old between new taken cleared = tt
 
-same_where : (r : Result Told LineError) (old between new : Dat) → IsBetweenUnits (lent_pool old).supply → TakesPins between new → OnErr r (Supplied old [] between) → OnErr r ((lent_pool new).supply ≡ (lent_pool old).supply)
-same_where (Ok told) old between new rest taken not = tt
-same_where (Err error) old between new rest taken not = taken.supply ∙ ap unpinned not.paged.page_ins_are ∙ still (lent_pool old).supply rest
+same_where : (r : Result LineOutcome LineError) (old between new : Dat) → IsBetweenUnits (lent_pool old).supply
+    → TakesPins between new → OnErr r (Supplied old [] between)
+    → OnErr r ((lent_pool new).supply ≡ (lent_pool old).supply)
+same_where (Ok reported) old between new rest taken not = tt
+same_where (Err error) old between new rest taken not =
+    taken.supply ∙ ap unpinned not.paged.page_ins_are ∙ still (lent_pool old).supply rest
 
--- a line promises it of the storage that is lent to it, once the pins are taken away
-pub plainly_lent : (typed : List ℕ) (before : Equipped) (old between new : Dat) (r : Result Told LineError) → IsBetweenUnits (lent_pool old).supply → TakesPins between new
-    → (r ≡ Err errors.FramesOut → IsLacking (Touches (needs_of (requested typed before))) (length before.machine.core.processor.bytes) (λ page. IsRefused (lent_pool between).supply (user_of between) page))
-    → (switches (requested typed before) ≡ true → OnOk r (GivesBack old between)) → (switches (requested typed before) ≡ true → OnErr r (Supplied old [] between))
-    → (switches (requested typed before) ≡ false → (pages : List ℕ) × Supplied old pages between × AllNeeded (Touches (needs_of (requested typed before))) pages)
+-- a line promises it of the storage that is borrowed to it, once the pins are taken away
+pub plainly_lent : (typed : List ℕ) (before : Equipped) (old between new : Dat) (r : Result LineOutcome LineError)
+    → IsBetweenUnits (lent_pool old).supply → TakesPins between new
+    → (r ≡ Err errors.FramesOut
+    → IsLacking (Touches (needs_of (requested typed before))) (length before.machine.core.processor.bytes)
+    (λ page. IsRefused (lent_pool between).supply (user_of between) page))
+    → (switches (requested typed before) ≡ true → OnOk r (GivesBack old between))
+    → (switches (requested typed before) ≡ true → OnErr r (Supplied old [] between))
+    → (switches (requested typed before) ≡ false
+    → (pages : List ℕ) × Supplied old pages between × AllNeeded (Touches (needs_of (requested typed before))) pages)
     → IsLineLent typed before old new r
 plainly_lent typed before old between new r rest taken frames cleared not_cleared supply =
     let needs : ℕ → Type 0 = LineWants typed before in
-    let kept : KeepsFrames old between = either (switches (requested typed before)) _ (λ on. kept_where r old between (cleared on) (not_cleared on)) (λ off. (supply off).1.kept) in
-    let owners = either (switches (requested typed before)) _ (λ on. owners_where r old between (cleared on) (not_cleared on)) (λ off. (supply off).1.paged.same_frames) in
-    let pins = either (switches (requested typed before)) _ (λ on. pins_where r old between (cleared on) (not_cleared on)) (λ off. (supply off).1.paged.same_marks) in
-    let paged : switches (requested typed before) ≡ false → (pages : List ℕ) × IsPagedFor (user_of old) pages (lent_pool old).supply (lent_pool between).supply × AllNeeded needs pages =
+    let kept : KeepsFrames old between =
+    either (switches (requested typed before)) _ (λ on. kept_where r old between (cleared on) (not_cleared on))
+    (λ off. (supply off).1.kept) in
+    let owners = either (switches (requested typed before)) _
+    (λ on. owners_where r old between (cleared on) (not_cleared on)) (λ off. (supply off).1.paged.same_frames) in
+    let pins = either (switches (requested typed before)) _
+    (λ on. pins_where r old between (cleared on) (not_cleared on)) (λ off. (supply off).1.paged.same_marks) in
+    let paged : switches (requested typed before) ≡ false
+    → (pages : List ℕ) × IsPagedFor (user_of old) pages (lent_pool old).supply (lent_pool between).supply
+    × AllNeeded needs pages =
     λ off. (let s = supply off in (s.0, s.1.paged, all_wanted typed before s.0 s.2)) in
     record {
       kept = keeps_frames_on old between new kept taken.kept;
@@ -143,31 +181,45 @@ plainly_lent typed before old between new r rest taken frames cleared not_cleare
             page = l.page;
             inside = l.inside;
             needed = need;
-            short = line_short typed before (user_of old) l.page (lent_pool old).supply (lent_pool between).supply (lent_pool new).supply rest paged need taken.supply (subst (λ (n : ℕ). IsRefused (lent_pool between).supply n l.page) kept.same_user l.short);
+            short = line_short typed before (user_of old) l.page (lent_pool old).supply (lent_pool between).supply
+                (lent_pool new).supply rest paged need taken.supply
+                (subst (λ (n : ℕ). IsRefused (lent_pool between).supply n l.page) kept.same_user l.short);
           });
       cleared = λ on. given_where r old between new taken (cleared on);
       not_cleared = λ on. same_where r old between new rest taken (not_cleared on);
-      supply = λ off. (let s = supply off in (s.0 ∷ [], let_go_came old between new s.0 s.1 taken, one_brings (is_ipl (requested typed before)) needs s.0 (all_wanted typed before s.0 s.2)));
-      between = between_again (lent_pool old).supply (lent_pool between).supply (lent_pool new).supply rest owners pins taken.supply;
+      supply = λ off. (let s = supply off in (
+        s.0 ∷ [],
+        let_go_came old between new s.0 s.1 taken,
+        one_brings (is_ipl (requested typed before)) needs s.0 (all_wanted typed before s.0 s.2),
+      ));
+      between = between_again (lent_pool old).supply (lent_pool between).supply (lent_pool new).supply rest owners pins
+          taken.supply;
     }
 
 -- and so does a line that loads the machine: it is ready then, so there are no pins to take away
-pub loading_lent : (typed : List ℕ) (before : Equipped) (old middle new : Dat) (r : Result Told LineError) → is_ipl (requested typed before) ≡ true
-    → length (lent_bytes old) ≡ length before.machine.core.processor.bytes → IsBetweenUnits (lent_pool middle).supply → TakesPins middle new
-    → (r ≡ Err errors.FramesOut → LacksRoom (length (lent_bytes old)) (LoadWants (requested typed before) before) (no_room middle (LoadWants (requested typed before) before)))
-    → Brings CameIn old (LoadWants (requested typed before) before) middle
+pub loading_lent : (typed : List ℕ) (before : Equipped) (old middle new : Dat) (r : Result LineOutcome LineError)
+    → is_ipl (requested typed before) ≡ true
+    → length (lent_bytes old) ≡ length before.machine.core.processor.bytes → IsBetweenUnits (lent_pool middle).supply
+    → TakesPins middle new
+    → (r ≡ Err errors.FramesOut
+    → IsOutOfFrames (length (lent_bytes old)) (LoadWants (requested typed before) before)
+    (no_room middle (LoadWants (requested typed before) before)))
+    → Brings PagedIn old (LoadWants (requested typed before) before) middle
     → IsLineLent typed before old new r
 loading_lent typed before old middle new r ipl size between taken out brought =
     let loads : ℕ → Type 0 = LoadWants (requested typed before) before in
     let needs : ℕ → Type 0 = LineWants typed before in
     let more : (page : ℕ) → loads page → needs page = load_wanted typed before in
-    let same : (lent_pool new).supply ≡ (lent_pool middle).supply = taken.supply ∙ still (lent_pool middle).supply between in
-    let came = brought.1.came in
+    let same : (lent_pool new).supply ≡ (lent_pool middle).supply =
+    taken.supply ∙ still (lent_pool middle).supply between in
+    let paged_in = brought.1.paged_in in
     record {
-      kept = keeps_frames_on old middle new came.kept taken.kept;
+      kept = keeps_frames_on old middle new paged_in.kept taken.kept;
       frames = λ failed. (let l = out failed in
-          let short : IsShort (lent_pool middle).supply (user_of old) needs l.page = subst (λ (n : ℕ). IsShort (lent_pool middle).supply n needs l.page) came.kept.same_user
-          (short_for (lent_pool middle).supply (user_of middle) loads needs l.page more (room_short middle loads l.page l.out)) in
+          let short : IsShort (lent_pool middle).supply (user_of old) needs l.page =
+          subst (λ (n : ℕ). IsShort (lent_pool middle).supply n needs l.page) paged_in.kept.same_user
+          (short_for (lent_pool middle).supply (user_of middle) loads needs l.page more
+          (room_short middle loads l.page l.out)) in
           record {
             page = l.page;
             inside = subst (λ (n : ℕ). l.page * 4096 < n) size l.inside;
@@ -179,8 +231,9 @@ loading_lent typed before old middle new r ipl size between taken out brought =
       supply = λ off. (
         brought.0,
         record {
-          kept = keeps_frames_on old middle new came.kept taken.kept;
-          brought = subst (λ (s : FrameSupply). IsBroughtInUnits (user_of old) brought.0 (lent_pool old).supply s) (sym same) came.brought;
+          kept = keeps_frames_on old middle new paged_in.kept taken.kept;
+          brought = subst (λ (s : FrameSupply). IsBroughtInUnits (user_of old) brought.0 (lent_pool old).supply s)
+              (sym same) paged_in.brought;
         },
         subst (λ (b : Bool). LineBrings b needs brought.0) (sym ipl) (each_for loads needs more brought.0 brought.2),
       );
@@ -189,37 +242,57 @@ loading_lent typed before old middle new r ipl size between taken out brought =
 
 -- ---- what a line leaves
 
-leaves_where : (world : World) (user : ℕ) (typed : List ℕ) (before after : Equipped) (r : Result Told LineError) (supply : FrameSupply)
-    → IfOk r (λ told. IsLine world typed before told after) → (r ≡ Err errors.FramesOut → after ≡ before) → (r ≡ Err errors.Memory → is_ipl (requested typed before) ≡ false → after ≡ before) → (r ≡ Err errors.Memory → LineMay typed before)
-    → (r ≡ Err errors.FramesOut → IsLacking (LineWants typed before) (length before.machine.core.processor.bytes) (IsShort supply user (LineWants typed before)))
+leaves_where : (world : UserDirectory) (user : ℕ) (typed : List ℕ) (before after : Equipped)
+    (r : Result LineOutcome LineError) (supply : FrameSupply)
+    → IfOk r (λ reported. IsLine world typed before reported after) → (r ≡ Err errors.FramesOut → after ≡ before)
+    → (r ≡ Err errors.Memory → is_ipl (requested typed before) ≡ false → after ≡ before)
+    → (r ≡ Err errors.Memory → LineMay typed before)
+    → (r ≡ Err errors.FramesOut
+    → IsLacking (LineWants typed before) (length before.machine.core.processor.bytes)
+    (IsShort supply user (LineWants typed before)))
     → LineLeaves world user typed before r after supply
-leaves_where world user typed before after (Ok told) supply ok same kept memory frames = ok
-leaves_where world user typed before after (Err errors.Memory) supply ok same kept memory frames = (kept refl, memory refl)
-leaves_where world user typed before after (Err errors.FramesOut) supply ok same kept memory frames = (same refl, frames refl)
+leaves_where world user typed before after (Ok reported) supply ok same kept memory frames = ok
+leaves_where world user typed before after (Err errors.Memory) supply ok same kept memory frames =
+    (kept refl, memory refl)
+leaves_where world user typed before after (Err errors.FramesOut) supply ok same kept memory frames =
+    (same refl, frames refl)
 
-gives_where : (user : ℕ) (before after : FrameSupply) (r : Result Told LineError) → OnOk r (IsGivenBack user before after) → OnErr r (after ≡ before) → LineGivesBack user before r after
-gives_where user before after (Ok told) given same = given
+gives_where : (user : ℕ) (before after : FrameSupply) (r : Result LineOutcome LineError)
+    → OnOk r (IsGivenBack user before after) → OnErr r (after ≡ before) → LineGivesBack user before r after
+gives_where user before after (Ok reported) given same = given
 gives_where user before after (Err error) given same = same
 
-pub typed_work : (world : World) (user : ℕ) (typed : List ℕ) (before after : Equipped) (old new : Dat) (r : Result Told LineError)
+pub typed_work : (world : UserDirectory) (user : ℕ) (typed : List ℕ) (before after : Equipped) (old new : Dat)
+    (r : Result LineOutcome LineError)
     → user_of old ≡ user → IsLineLent typed before old new r
-    → IfOk r (λ told. IsLine world typed before told after) → (r ≡ Err errors.FramesOut → after ≡ before) → (r ≡ Err errors.Memory → is_ipl (requested typed before) ≡ false → after ≡ before) → (r ≡ Err errors.Memory → LineMay typed before)
+    → IfOk r (λ reported. IsLine world typed before reported after) → (r ≡ Err errors.FramesOut → after ≡ before)
+    → (r ≡ Err errors.Memory → is_ipl (requested typed before) ≡ false → after ≡ before)
+    → (r ≡ Err errors.Memory → LineMay typed before)
     → HasTyped world user typed before (lent_pool old).supply r after (lent_pool new).supply
 typed_work world user typed before after old new r u lent ok out kept memory =
     let needs : ℕ → Type 0 = LineWants typed before in
     record {
       leaves = leaves_where world user typed before after r (lent_pool new).supply ok out kept memory
-          (subst (λ (n : ℕ). r ≡ Err errors.FramesOut → IsLacking needs (length before.machine.core.processor.bytes) (IsShort (lent_pool new).supply n needs)) u lent.frames);
+          (subst (λ (n : ℕ). r ≡ Err errors.FramesOut
+          → IsLacking needs (length before.machine.core.processor.bytes) (IsShort (lent_pool new).supply n needs)) u
+          lent.frames);
       given_back = λ on. gives_where user (lent_pool old).supply (lent_pool new).supply r
-          (subst (λ (n : ℕ). OnOk r (IsGivenBack n (lent_pool old).supply (lent_pool new).supply)) u (lent.cleared on)) (lent.not_cleared on);
-      brought = λ off. (let s = lent.supply off in (s.0, subst (λ (n : ℕ). IsBroughtInUnits n s.0 (lent_pool old).supply (lent_pool new).supply) u s.1.brought, s.2));
+          (subst (λ (n : ℕ). OnOk r (IsGivenBack n (lent_pool old).supply (lent_pool new).supply)) u (lent.cleared on))
+          (lent.not_cleared on);
+      brought = λ off. (let s = lent.supply off in (
+        s.0,
+        subst (λ (n : ℕ). IsBroughtInUnits n s.0 (lent_pool old).supply (lent_pool new).supply) u s.1.brought,
+        s.2,
+      ));
     }
 
 -- ---- what a serve leaves
 
 serve_leaves : (device user : ℕ) (before after : Equipped) (r : Result Bool LineError) (supply : FrameSupply)
     → IfOk r (λ done. IsServedAt as_reached device before done after) → (r ≡ Err errors.FramesOut → after ≡ before)
-    → (r ≡ Err errors.FramesOut → IsLacking (DeviceNeeds device before) (length before.machine.core.processor.bytes) (IsShort supply user (DeviceNeeds device before)))
+    → (r ≡ Err errors.FramesOut
+    → IsLacking (DeviceNeeds device before) (length before.machine.core.processor.bytes)
+    (IsShort supply user (DeviceNeeds device before)))
     → (r ≡ Err errors.Memory → IsSome (program_of device before.machine.core.subchannels))
     → ServeLeaves device user before r after supply
 serve_leaves device user before after (Ok done) supply ok same frames memory = ok
@@ -227,30 +300,41 @@ serve_leaves device user before after (Err errors.Memory) supply ok same frames 
 serve_leaves device user before after (Err errors.FramesOut) supply ok same frames memory = (same refl, frames refl)
 
 pub serve_work : (device user : ℕ) (before after : Equipped) (old new : Dat) (r : Result Bool LineError)
-    → user_of old ≡ user → Brings CameIn old (DeviceNeeds device before) new
+    → user_of old ≡ user → Brings PagedIn old (DeviceNeeds device before) new
     → IfOk r (λ done. IsServedAt as_reached device before done after) → (r ≡ Err errors.FramesOut → after ≡ before)
-    → (r ≡ Err errors.FramesOut → LacksRoom (length before.machine.core.processor.bytes) (DeviceNeeds device before) (no_room new (DeviceNeeds device before)))
+    → (r ≡ Err errors.FramesOut
+    → IsOutOfFrames (length before.machine.core.processor.bytes) (DeviceNeeds device before)
+    (no_room new (DeviceNeeds device before)))
     → (r ≡ Err errors.Memory → IsSome (program_of device before.machine.core.subchannels))
     → HasServed device user before (lent_pool old).supply r after (lent_pool new).supply
 serve_work device user before after old new r u brought ok same out memory =
     let needs : ℕ → Type 0 = DeviceNeeds device before in
-    let lacking : r ≡ Err errors.FramesOut → IsLacking needs (length before.machine.core.processor.bytes) (IsShort (lent_pool new).supply user needs) =
+    let lacking : r ≡ Err errors.FramesOut
+    → IsLacking needs (length before.machine.core.processor.bytes) (IsShort (lent_pool new).supply user needs) =
     λ failed. (let l = out failed in
     record {
       page = l.page;
       inside = l.inside;
       needed = l.needed;
-      short = subst (λ (n : ℕ). IsShort (lent_pool new).supply n needs l.page) (brought.1.came.kept.same_user ∙ u) (room_short new needs l.page l.out);
+      short = subst (λ (n : ℕ). IsShort (lent_pool new).supply n needs l.page) (brought.1.paged_in.kept.same_user ∙ u)
+          (room_short new needs l.page l.out);
     }) in
     record {
       leaves = serve_leaves device user before after r (lent_pool new).supply ok same lacking memory;
-      brought = (brought.0, subst (λ (n : ℕ). IsBroughtInUnits n brought.0 (lent_pool old).supply (lent_pool new).supply) u brought.1.came.brought, brought.2);
+      brought = (
+        brought.0,
+        subst
+            (λ (n : ℕ). IsBroughtInUnits n brought.0 (lent_pool old).supply (lent_pool new).supply) u
+            brought.1.paged_in.brought,
+        brought.2,
+      );
     }
 
--- ---- what is lent beside the storage
+-- ---- what is borrowed next to the storage
 
 -- a work on the machine alone
-pub lent_still : (lent : Lent) (machine : MutBor Parts) → machine.ghost_name ≡ lent.machine.ghost_name → KeepsLent lent (record lent { machine = machine })
+pub lent_still : (lent : Lent) (machine : MutBor Parts) → machine.ghost_name ≡ lent.machine.ghost_name
+    → KeepsLent lent (record lent { machine = machine })
 lent_still lent machine same = record {
   same_machine = same;
   same_devices = refl;
@@ -258,6 +342,6 @@ lent_still lent machine same = record {
   same_volumes = refl;
   same_minidisks = refl;
   same_reuse = refl;
-  beside = beside_same lent.devices.now lent.queues.now lent.queues.now refl;
-  neighbours = neighbours_same (disks_of lent);
+  other_users = beside_same lent.devices.now lent.queues.now lent.queues.now refl;
+  other_disks = neighbours_same (disks_of lent);
 }

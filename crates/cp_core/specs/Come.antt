@@ -7,11 +7,14 @@ use Rattle.machine_devices.specs.declared.reply.Delivered.{Delivered}
 use Rattle.machine_devices.specs.declared.reply.Delivery.{Delivery}
 
 -- it has come to its receiver, and every other user's machine stays
-pub record ComesTo (coming : Delivery → Local) (delivered : Delivered) (old new : SystemView) : Type 0 where
+pub record ComesTo (coming : Delivery → Local) (delivered : Delivered)
+    (old new : SystemView) : Type 0 where
   pub inside : delivered.to < length old.users
-  pub comes : Leaves as_reached (coming delivered.what) (user_at old delivered.to) (user_at new delivered.to)
+  pub comes : Leaves as_reached (coming delivered.what) (user_at old delivered.to)
+      (user_at new delivered.to)
   pub others : new.users ≡ slice_set old.users delivered.to (user_at new delivered.to)
 
-abbrev pub HasCome : (Delivery → Local) → Option Delivered → SystemView → SystemView → Type 0
-HasCome coming None old new = new.users ≡ old.users
-HasCome coming (Some delivered) old new = ComesTo coming delivered old new
+-- the receiver has what was delivered, and no machine has changed otherwise
+abbrev pub HasReceived : (Delivery → Local) → Option Delivered → SystemView → SystemView → Type 0
+HasReceived coming None old new = new.users ≡ old.users
+HasReceived coming (Some delivered) old new = ComesTo coming delivered old new

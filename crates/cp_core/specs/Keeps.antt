@@ -1,5 +1,7 @@
--- What is kept of the programs of a user's devices, as a work leaves it that is done with his machine.
-use Rattle.std.specs.Prelude.{◌≡◌, ℕ, Bool, true, false, List, OnErr, OnOk, Option, Result, Err, Ok, slice_set}
+-- What is kept of the programs of a user's devices, as a work leaves it that is done with his
+-- machine.
+use Rattle.std.specs.Prelude.{◌≡◌, ℕ, Bool, true, false, List, OnErr, OnOk, Option, Result, Err, Ok}
+use Rattle.std.specs.Prelude.{slice_set}
 use Rattle.s370_channel.specs.declared.words.Caw.{Caw}
 use Rattle.s370_subchannels.specs.Programs.{program_of}
 use Rattle.machine_panel.specs.declared.line.LineError.{LineError}
@@ -9,7 +11,7 @@ use Rattle.machine_devices.specs.Devices.{kind_at}
 use Rattle.machine_devices.specs.Equipped.{Equipped, storage_in}
 use Rattle.machine_devices.specs.Lines.{requested}
 use Rattle.machine_devices.specs.Reuses.{LineForgets, StartReuses}
-use Rattle.machine_devices.specs.declared.line.Told.{Told}
+use Rattle.machine_devices.specs.declared.line.LineOutcome.{LineOutcome}
 use Rattle.machine_devices.specs.declared.reply.Ended.{Ended}
 use Rattle.machine_devices.specs.declared.reply.Ended.TheVariants as ends
 use Rattle.machine_devices.specs.declared.places.Kind.{Kind}
@@ -25,62 +27,75 @@ use Rattle.cp_core.specs.declared.events.Event.TheVariants.{Run, Line, Tick, Dec
 abbrev pub IsForgotten : ReuseValue → ReuseValue → Type 0
 IsForgotten old new = new ≡ dropped old
 
--- LOGON, LOGOFF, SYSTEM RESET, and an IPL that finds its device drop what is kept; any other line leaves it as it was, and so does one
--- that is refused, but an IPL for which memory is
-pub record LineKeeps (typed : List ℕ) (e : Equipped) (result : Result Told LineError) (old new : ReuseValue) : Type 0 where
+-- LOGON, LOGOFF, SYSTEM RESET, and an IPL that finds its device drop what is kept; any other line
+-- leaves it as it was, and so does one that is refused, but an IPL for which memory is
+pub record LineKeeps (typed : List ℕ) (e : Equipped) (result : Result LineOutcome LineError)
+    (old new : ReuseValue) : Type 0 where
   pub forgets : OnOk result (LineForgets IsForgotten old new (requested typed e) e)
   pub stays : is_ipl (requested typed e) ≡ false → OnErr result (new ≡ old)
   pub without_room : result ≡ Err errors.FramesOut → new ≡ old
 
--- this is a user's storage, which is lent from these frames
+-- this is a user's storage, which is borrowed from these frames
 pub record IsLentSo (d : Dat) (user : ℕ) (e : Equipped) (supply : FrameSupply) : Type 0 where
   pub whose : user_of d ≡ user
   pub memory : lent_memory d ≡ storage_in e.machine
   pub frames : (lent_pool d).supply ≡ supply
 
--- the program of a device, where it works on one, runs again where the one that is kept may, over that storage
+-- the program of a device, where it works on one, runs again where the one that is kept may, over
+-- that storage
 abbrev pub Starts : ReuseValue → Dat → ReuseValue → Option Kind → Option Caw → Bool → Type 0
 Starts old d new kind start done = StartReuses HasReused HasReusedDisk old d new kind start done
 
-pub record ServeKeeps (device user : ℕ) (e : Equipped) (supply : FrameSupply) (result : Result Bool LineError) (old new : ReuseValue) : Type 0 where
+-- what a serve does to the user's cached programs
+pub record ServeKeeps (device user : ℕ) (e : Equipped) (supply : FrameSupply)
+    (result : Result Bool LineError) (old new : ReuseValue) : Type 0 where
   pub storage : Dat
   pub lent : IsLentSo storage user e supply
-  pub kept : OnOk result (Starts old storage new (kind_at e.devices e.disks device) (program_of device e.machine.core.subchannels) true)
-  pub refused : OnErr result ((done : Bool) × Starts old storage new (kind_at e.devices e.disks device) (program_of device e.machine.core.subchannels) done)
+  pub kept : OnOk result (Starts old storage new (kind_at e.devices e.disks device)
+      (program_of device e.machine.core.subchannels) true)
+  pub refused : OnErr result
+      ((done : Bool) × Starts old storage new (kind_at e.devices e.disks device)
+      (program_of device e.machine.core.subchannels) done)
 
 -- ---- events
 
 -- the programs of a user's devices are kept so, and those of all other users as they were
-pub record HasKept (user : ℕ) (old new : SystemView) (Keeps : ReuseValue → ReuseValue → Type 0) : Type 0 where
+pub record HasKept (user : ℕ) (old new : SystemView)
+    (Keeps : ReuseValue → ReuseValue → Type 0) : Type 0 where
   pub own : Keeps (kept_at old user) (kept_at new user)
   pub others : new.kept ≡ slice_set old.kept user (kept_at new user)
 
 -- how a line ends that is answered so, and a serve
-abbrev pub line_ended : Result Told LineError → Ended
-line_ended (Ok told) = ends.Done
+abbrev pub line_ended : Result LineOutcome LineError → Ended
+line_ended (Ok reported) = ends.Done
 line_ended (Err error) = ends.FramesOut
 
+-- how a serve ends
 abbrev pub serve_ended : Result Bool LineError → Ended
 serve_ended (Ok done) = ends.Served done
 serve_ended (Err error) = ends.FramesOut
 
 -- a line of a user that ends so, and a serve of a device of his
-pub record LineKept (user : ℕ) (typed : List ℕ) (old : SystemView) (ended : Ended) (new : SystemView) : Type 0 where
-  pub result : Result Told LineError
+pub record LineKept (user : ℕ) (typed : List ℕ) (old : SystemView) (ended : Ended)
+    (new : SystemView) : Type 0 where
+  pub result : Result LineOutcome LineError
   pub ends : ended ≡ line_ended result
   pub kept : HasKept user old new (LineKeeps typed (user_at old user) result)
 
-pub record ServeKept (user device : ℕ) (old : SystemView) (ended : Ended) (new : SystemView) : Type 0 where
+-- what a serve did to the user's cached programs
+pub record ServeKept (user device : ℕ) (old : SystemView) (ended : Ended)
+    (new : SystemView) : Type 0 where
   pub result : Result Bool LineError
   pub ends : ended ≡ serve_ended result
   pub kept : HasKept user old new (ServeKeeps device user (user_at old user) old.supply result)
 
 -- a line of a user that is refused memory, itself or for what comes of it
 pub record LineKeptShort (user : ℕ) (typed : List ℕ) (old new : SystemView) : Type 0 where
-  pub result : Result Told LineError
+  pub result : Result LineOutcome LineError
   pub kept : HasKept user old new (LineKeeps typed (user_at old user) result)
 
--- an event that ends so leaves the programs that are kept so: a line and a serve those of their user, any other event all of them
+-- an event that ends so leaves the programs that are kept so: a line and a serve those of their
+-- user, any other event all of them
 abbrev pub EventKeeps : SystemView → Event → Ended → SystemView → Type 0
 EventKeeps old (Run user units) ended new = new.kept ≡ old.kept
 EventKeeps old (Line user typed) ended new = LineKept user typed.now old ended new

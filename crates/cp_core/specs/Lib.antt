@@ -2,14 +2,14 @@ pub mod Events
 pub mod UserMachines
 pub mod System
 pub mod Stated
-pub mod Among
+pub mod UserList
 pub mod Boot
 pub mod Wants
 pub mod Typed
 pub mod Local
 pub mod Parcels
-pub mod Told
-pub mod Work
+pub mod LineOutcome
+pub mod UserOp
 pub mod Supply
 pub mod Come
 pub mod Memory
@@ -21,3 +21,4 @@ pub mod Owners
 pub mod Lending
 pub mod Keeps
 pub mod Saved
+pub mod Forgotten

@@ -1,12 +1,14 @@
 -- What an event of the system is to each user: his own part of it, and what comes to him by it.
-use Rattle.std.specs.Prelude.{ℕ, ◌==◌, if◌then◌else◌, List, [], ◌∷◌, ◌++◌, length, Option, Some, None}
+use Rattle.std.specs.Prelude.{ℕ, ◌==◌, if◌then◌else◌, List, [], ◌∷◌, ◌++◌, length, Option, Some}
+use Rattle.std.specs.Prelude.{None}
 use Rattle.s370_channel.specs.Reading.{as_reached}
 use Rattle.s370_intr.specs.declared.next.Reason.TheVariants.{FramesOut as RunFramesOut}
 use Rattle.s370_intr.specs.declared.run.Ran.{Ran as RanUnits}
 use Rattle.unit_record.specs.declared.reader.Sender.TheVariants as senders
 use Rattle.unit_record.specs.Reader.{DeckValue}
 use Rattle.cp_console.specs.ConsoleLine.{characters_of}
-use Rattle.machine_devices.specs.Life.{Event as Local, Units, Serve as Serves, Line as Types, Tick as Ticks, Deck as Gets, Message as Hears, Lives}
+use Rattle.machine_devices.specs.Life.{Event as Local, Units, Serve as Serves, Line as Types}
+use Rattle.machine_devices.specs.Life.{Tick as Ticks, Deck as Gets, Message as Hears, Lives}
 use Rattle.machine_devices.specs.Spooling.{deck_punched}
 use Rattle.cp_core.specs.Events.{user_of}
 use Rattle.cp_core.specs.System.{SystemView, user_at, world_of}
@@ -27,10 +29,11 @@ pub record Step : Type 0 where
 
 -- ---- the part of the user whom the event names
 
--- of the units that were asked for, those that were done where frames were lacking
+-- of the units that were asked for, those that were done where it was out of frames
 abbrev pub units_of : ℕ → RanUnits → ℕ
 units_of asked ran = elim ran.reason [ RunFramesOut ↦ ran.units | _ ↦ asked ]
 
+-- a run, as an event of the user's own machine
 abbrev pub run_of : ℕ → Ended → List Local
 run_of asked (Ran ran) = Units (units_of asked ran) ∷ []
 run_of asked (Served done) = []
@@ -68,29 +71,37 @@ local_event old (Serve user device) ended = serve_of device ended
 
 -- ---- what comes to a user
 
--- the deck with this number that came by an event: the operator's cards, or those of the file that the user's punch closed, which
--- is the first after those of before
+-- the deck with this number that came by an event: the operator's cards, or those of the file that
+-- the user's punch closed, which is the first after those of before
 abbrev pub deck_by : Event → SystemView → SystemView → ℕ → DeckValue
-deck_by (Deck user cards) old seen number = record { label = number; sender = senders.System; cards = cards.now }
+deck_by (Deck user cards) old seen number =
+    record { label = number; sender = senders.System; cards = cards.now }
 deck_by (Line user typed) old seen number =
-    deck_punched (user_at seen user).devices (length (user_at old user).devices.punched) number (senders.User user)
-deck_by (Run user asked) old seen number = record { label = number; sender = senders.System; cards = [] }
+    deck_punched (user_at seen user).devices (length (user_at old user).devices.punched) number
+    (senders.User user)
+deck_by (Run user asked) old seen number =
+    record { label = number; sender = senders.System; cards = [] }
 deck_by (Tick user) old seen number = record { label = number; sender = senders.System; cards = [] }
-deck_by (Serve user device) old seen number = record { label = number; sender = senders.System; cards = [] }
+deck_by (Serve user device) old seen number =
+    record { label = number; sender = senders.System; cards = [] }
 
 -- a deck comes to the reader, and a message to the console
 abbrev pub coming : SystemView → Step → Delivery → Local
 coming old step (deliveries.Deck number) = Gets (deck_by step.event old step.seen number)
 coming old step (deliveries.Message line) = Hears (characters_of line)
 
+-- what an event delivers to a user
 abbrev pub comes_to : ℕ → SystemView → Step → Option Delivered → List Local
 comes_to user old step None = []
-comes_to user old step (Some delivered) = if delivered.to == user then coming old step delivered.what ∷ [] else []
+comes_to user old step (Some delivered) = if delivered.to == user
+    then coming old step delivered.what ∷ [] else []
 
 -- ---- a step
 
+-- what an event is to its own user
 abbrev pub own_part : ℕ → SystemView → Step → List Local
-own_part user old step = if user_of step.event == user then local_event old step.event step.reply.ended else []
+own_part user old step = if user_of step.event == user
+    then local_event old step.event step.reply.ended else []
 
 -- what a step is to a user
 abbrev pub local : ℕ → SystemView → Step → List Local
@@ -98,4 +109,5 @@ local user old step = own_part user old step ++ comes_to user old step step.repl
 
 -- to each user the step is what his own part of it, and what comes to him, leaves of his machine
 abbrev pub IsApplied : SystemView → Step → Type 0
-IsApplied old step = (user : ℕ) → Lives as_reached (local user old step) (user_at old user) (user_at step.seen user)
+IsApplied old step = (user : ℕ)
+    → Lives as_reached (local user old step) (user_at old user) (user_at step.seen user)

@@ -8,25 +8,31 @@ use Rattle.cp_core.specs.System.{SystemView, machine_at, user_at}
 use Rattle.cp_core.specs.declared.events.Event.{Event}
 use Rattle.cp_core.specs.declared.events.Event.TheVariants.{Run, Line, Tick, Deck, Serve}
 
--- the events that may take memory: such lines of a machine with devices, decks, and a device that is served and works on a program
+-- the events that may take memory: such lines of a machine with devices, decks, and a device that
+-- is served and works on a program
 abbrev pub MayTakeMemory : SystemView → Event → Type 0
 MayTakeMemory old (Run user asked) = ⊥
 MayTakeMemory old (Line user typed) = LineMay typed.now (user_at old user)
 MayTakeMemory old (Tick user) = ⊥
 MayTakeMemory old (Deck user cards) = 0 < length cards.now
-MayTakeMemory old (Serve user device) = IsSome (program_of device (machine_at old user).core.subchannels)
+MayTakeMemory old (Serve user device) =
+    IsSome (program_of device (machine_at old user).core.subchannels)
 
--- a user whose own line is one of those, or whose device is served: nothing is said of his machine then
+-- a user whose own line is one of those, or whose device is served: nothing is said of his machine
+-- then
 abbrev pub is_cut_short : SystemView → Event → ℕ → Bool
-is_cut_short old (Line named typed) user = (named == user) && is_cut (requested typed.now (user_at old named))
+is_cut_short old (Line named typed) user =
+    (named == user) && is_cut (requested typed.now (user_at old named))
 is_cut_short old (Run named asked) user = false
 is_cut_short old (Tick named) user = false
 is_cut_short old (Deck named cards) user = false
 is_cut_short old (Serve named device) user = named == user
 
--- what is left where memory was refused: pages have come and left as the event lets them, and each user is as he was, but for
--- one whose own line closes files or is an IPL, or whose device is served
+-- what is left where memory was refused: pages have come and left as the event lets them, and each
+-- user is as he was, but for one whose own line closes files or is an IPL, or whose device is
+-- served
 pub record IsCutShort (old : SystemView) (event : Event) (new : SystemView) : Type 0 where
   pub may : MayTakeMemory old event
   pub supplied : IsSuppliedInPart old event new
-  pub others : (user : ℕ) → is_cut_short old event user ≡ false → user_at new user ≡ user_at old user
+  pub others : (user : ℕ) → is_cut_short old event user ≡ false
+      → user_at new user ≡ user_at old user

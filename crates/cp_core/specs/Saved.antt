@@ -1,4 +1,5 @@
--- The bytes of a system in a saved state, and what a system that is restored has of the one in whose place it is.
+-- The bytes of a system in a saved state, and what a system that is restored has of the one in
+-- whose place it is.
 use Rattle.std.specs.Prelude.{◌≡◌, ℕ, List, Bool, ◌++◌, length, map}
 use Rattle.saved_bytes.specs.Codes.{each, flag, number}
 use Rattle.ckd_saved.specs.Saved.{volume_bytes}
@@ -10,37 +11,47 @@ use Rattle.cp_resident.specs.Reuse.{ReuseValue, kept_none}
 use Rattle.cp_spool.specs.Queues.{QueuesValue, UserFiles, files_of}
 use Rattle.cp_spool.specs.Saved.{files_bytes}
 use Rattle.cp_volumes.specs.Saved.{disk_bytes}
-use Rattle.cp_volumes.specs.Shared.{SharedMinidisk, Stand, stands_of, volume_at}
+use Rattle.cp_volumes.specs.Shared.{SharedMinidisk, Placement, placements_of, volume_at}
 use Rattle.machine_panel.specs.Machine.{Parts}
 use Rattle.machine_panel.specs.Saved.{SavedParts, saved_of, saved_parts_bytes}
 use Rattle.machine_devices.specs.Lent.{DevicesParts, devices_with}
-use Rattle.machine_devices.specs.Saved.{delivery_bytes, devices_bytes, note_bytes}
+use Rattle.machine_devices.specs.Saved.{devices_bytes, note_bytes}
 use Rattle.machine_devices.specs.declared.files.FileNote.{FileNote}
-use Rattle.machine_devices.specs.declared.reply.Delivery.{Delivery}
-use Rattle.cp_core.specs.System.{SystemView, deliveries_of, stands_among, users_of}
+use Rattle.cp_core.specs.System.{SystemView, placements_among, users_of}
 use Rattle.cp_core.specs.UserMachines.{SeatParts, UserParts}
 
 -- ---- a user
 
--- what is saved of a user: the machine but for its storage, the devices, the spool files, the minidisks but for their cylinders, the
--- storage keys, and what was delivered. Programs that are kept of his devices are not saved.
+-- what is saved of a user: the machine but for its storage, the devices, the spool files, the
+-- minidisks but for their cylinders, and the storage keys. Programs that are kept of his devices
+-- are not saved.
 pub record SavedUser : Type 0 where
   pub machine : SavedParts
   pub devices : DevicesParts
   pub files : UserFiles
   pub minidisks : List SharedMinidisk
   pub keys : List ℕ
-  pub deliveries : List Delivery
 
+-- what a saved state has of a user
 abbrev pub saved_user : QueuesValue → SeatParts → SavedUser
-saved_user queues s = record { machine = saved_of s.parts; devices = s.devices; files = files_of queues.users s.devices.user; minidisks = s.minidisks; keys = s.keys; deliveries = s.deliveries }
+saved_user queues s = record {
+  machine = saved_of s.parts;
+  devices = s.devices;
+  files = files_of queues.users s.devices.user;
+  minidisks = s.minidisks;
+  keys = s.keys;
+}
 
+-- the bytes of a user's machine, devices and files
 abbrev pub devices_part_bytes : SavedUser → List ℕ
-devices_part_bytes u = saved_parts_bytes u.machine ++ (devices_bytes u.devices ++ files_bytes u.files)
+devices_part_bytes u = saved_parts_bytes u.machine
+    ++ (devices_bytes u.devices ++ files_bytes u.files)
 
+-- the bytes of a user's minidisks, keys and deliveries
 abbrev pub lists_bytes : SavedUser → List ℕ
-lists_bytes u = each disk_bytes u.minidisks ++ (each number u.keys ++ each delivery_bytes u.deliveries)
+lists_bytes u = each disk_bytes u.minidisks ++ each number u.keys
 
+-- the bytes of a user
 abbrev pub user_bytes : SavedUser → List ℕ
 user_bytes u = devices_part_bytes u ++ lists_bytes u
 
@@ -50,16 +61,29 @@ seat_bytes queues s = user_bytes (saved_user queues s)
 
 -- the parts of a machine, with no room on its console
 abbrev pub parts_of : SavedParts → Parts
-parts_of p = record { cpu = p.cpu; pending = p.pending; subchannels = p.subchannels; mode = p.mode; output = p.output; room = 0 }
+parts_of p = record {
+  cpu = p.cpu;
+  pending = p.pending;
+  subchannels = p.subchannels;
+  mode = p.mode;
+  output = p.output;
+  room = 0;
+}
 
 -- the user's machine that it is, with no program kept
 abbrev pub user_of : SavedUser → UserParts
-user_of u = record { parts = parts_of u.machine; devices = devices_with u.devices u.files; minidisks = u.minidisks; keys = u.keys; deliveries = u.deliveries; reuse = kept_none 0 }
+user_of u = record {
+  parts = parts_of u.machine;
+  devices = devices_with u.devices u.files;
+  minidisks = u.minidisks;
+  keys = u.keys;
+  reuse = kept_none 0;
+}
 
 -- ---- a system
 
--- what is saved of a system: the volumes, the users, the frames with what stands in them, the notes of files, and whether want of
--- memory has ended it
+-- what is saved of a system: the volumes, the users, the frames with what is in them, the notes of
+-- files, and whether lack of memory has ended it
 pub record SavedSystem : Type 0 where
   pub volumes : List VolumeFormat
   pub users : List SavedUser
@@ -67,8 +91,10 @@ pub record SavedSystem : Type 0 where
   pub files : List FileNote
   pub is_spent : Bool
 
+-- the bytes of a system
 abbrev pub system_bytes : SavedSystem → List ℕ
-system_bytes s = (each volume_bytes s.volumes ++ each user_bytes s.users) ++ (pool_bytes s.pool ++ (each note_bytes s.files ++ flag s.is_spent))
+system_bytes s = (each volume_bytes s.volumes ++ each user_bytes s.users)
+    ++ (pool_bytes s.pool ++ (each note_bytes s.files ++ flag s.is_spent))
 
 -- the system that it is, with this directory and these programs kept
 abbrev pub view_of : SavedSystem → List DirectoryUser → List ReuseValue → SystemView
@@ -77,9 +103,8 @@ view_of s directory kept = record {
   directory = directory;
   supply = s.pool.supply;
   files = s.files;
-  deliveries = deliveries_of (map user_of s.users);
   volumes = s.volumes;
-  stands = stands_among (map user_of s.users);
+  placements = placements_among (map user_of s.users);
   kept = kept;
   is_spent = s.is_spent;
 }
@@ -95,7 +120,7 @@ pub record IsSaved (view : SystemView) (bytes : List ℕ) : Type 0 where
 -- the same users have their minidisks at the same places
 pub record HasSameBase (one other : SystemView) : Type 0 where
   pub directory : other.directory ≡ one.directory
-  pub stands : other.stands ≡ one.stands
+  pub placements : other.placements ≡ one.placements
   pub users : length other.users ≡ length one.users
 
 -- all is the same but which programs are kept
@@ -104,19 +129,27 @@ AgreeButKept one other = other ≡ record one { kept = other.kept }
 
 -- bytes are those of one system of a directory, but for which programs it keeps
 abbrev pub IsOneBySaved : Type 0
-IsOneBySaved = (one other : SystemView) (bytes : List ℕ) → other.directory ≡ one.directory → IsSaved one bytes → IsSaved other bytes → AgreeButKept one other
+IsOneBySaved = (one other : SystemView) (bytes : List ℕ) → other.directory ≡ one.directory
+    → IsSaved one bytes → IsSaved other bytes → AgreeButKept one other
 
 -- ---- parts while they are restored
 
 -- the volumes have as many cylinders as these
 abbrev pub AreAsLarge : List VolumeFormat → List VolumeFormat → Type 0
-AreAsLarge old new = (index : ℕ) → length (volume_at new index).cylinders ≡ length (volume_at old index).cylinders
+AreAsLarge old new = (index : ℕ)
+    → length (volume_at new index).cylinders ≡ length (volume_at old index).cylinders
 
--- where its minidisks stand, whose it is, and how many storage keys it has, which nothing that is restored changes
+-- where its minidisks are, whose it is, and how many storage keys it has, which nothing that is
+-- restored changes
 pub record SeatBase : Type 0 where
-  pub stands : List Stand
+  pub placements : List Placement
   pub user : ℕ
   pub keys : ℕ
 
+-- what no event changes of a user
 abbrev pub base_of : SeatParts → SeatBase
-base_of s = record { stands = stands_of s.minidisks; user = s.devices.user; keys = length s.keys }
+base_of s = record {
+  placements = placements_of s.minidisks;
+  user = s.devices.user;
+  keys = length s.keys;
+}

@@ -5,6 +5,7 @@ use Rattle.cp_core.specs.System.{SystemView}
 use Rattle.cp_core.specs.declared.events.Event.{Event}
 use Rattle.cp_core.specs.declared.events.Event.TheVariants.{Run, Line, Tick, Deck, Serve}
 
+-- whether the directory gives the user a device with this address
 abbrev pub states_device : ℕ → Option DirectoryUser → Bool
 states_device address None = false
 states_device address (Some user) = has_device address user

@@ -1,6 +1,7 @@
--- What an event does to the frames and slots in which users' pages stand. How pages come for units is said by
--- cp_dat/specs/Supplied.antt.
-use Rattle.std.specs.Prelude.{◌≡◌, ℕ, ◌*◌, ◌<◌, ◌≤◌, ◌⊎◌, All, length, IsSome, Bool, true, false, List, [], ◌∷◌}
+-- What an event does to the frames and slots in which users' pages are. How pages come for units is
+-- said by cp_dat/specs/Supplied.antt.
+use Rattle.std.specs.Prelude.{◌≡◌, ℕ, ◌*◌, ◌<◌, ◌≤◌, ◌⊎◌, All, length, IsSome, Bool, true, false}
+use Rattle.std.specs.Prelude.{List, [], ◌∷◌}
 use Rattle.std.specs.List.{concat}
 use Rattle.s370_channel.specs.Supplied.{EachSuch}
 use Rattle.s370_intr.specs.Run.{AllNeeded, EachBrings}
@@ -22,16 +23,18 @@ use Rattle.cp_core.specs.declared.events.Event.TheVariants.{Run, Line, Tick, Dec
 
 -- ---- no room
 
--- every slot is taken, and the page stands in none
+-- every slot is taken, and the page is in none
 abbrev pub HasNoSlot : FrameSupply → ℕ → ℕ → Type 0
 HasNoSlot supply user page = All IsSome supply.slots × (is_there supply.slots user page ≡ false)
 
 -- every frame has a page of this user that is needed
 abbrev pub NeedsAll : FrameSupply → ℕ → (ℕ → Type 0) → Type 0
-NeedsAll supply user needs = (frame : ℕ) → frame < length supply.owners → HasSuch user needs supply.owners frame
+NeedsAll supply user needs = (frame : ℕ) → frame < length supply.owners
+    → HasSuch user needs supply.owners frame
 
--- there is no room for a page of a user of whom a line needs these: it stands in no frame, and every frame is taken; and there
--- is no slot for what it would take the place of, or each frame has a page that is needed too
+-- there is no room for a page of a user of whom a line needs these: it is in no frame, and every
+-- frame is taken; and there is no slot for what it would take the place of, or each frame has a
+-- page that is needed too
 pub record IsShort (supply : FrameSupply) (user : ℕ) (needs : ℕ → Type 0) (page : ℕ) : Type 0 where
   pub absent : is_there supply.owners user page ≡ false
   pub full : All IsSome supply.owners
@@ -39,7 +42,8 @@ pub record IsShort (supply : FrameSupply) (user : ℕ) (needs : ℕ → Type 0) 
 
 -- ---- pages that leave
 
--- the user's pages have left their frames and slots, and no other page has; the frames keep their order
+-- the user's pages have left their frames and slots, and no other page has; the frames keep their
+-- order
 pub record IsGivenBack (user : ℕ) (old new : FrameSupply) : Type 0 where
   pub owners : new.owners ≡ cleared_of user old.owners
   pub slots : new.slots ≡ cleared_of user old.slots
@@ -58,9 +62,11 @@ gives_back old (Serve user device) = false
 
 -- ---- pages that come
 
+-- the pages that a run brings
 abbrev pub RunBrings : Machine → Ended → List (List ℕ) → Type 0
 RunBrings m (Ran ran) units =
-    EachBrings m.core 0 units × (length units ≤ begun ran.units ran.reason) × (length (concat units) ≤ 9 * begun ran.units ran.reason)
+    EachBrings m.core 0 units × (length units ≤ begun ran.units ran.reason)
+    × (length (concat units) ≤ 9 * begun ran.units ran.reason)
 RunBrings m (Served done) units = ⊥
 RunBrings m Done units = ⊥
 RunBrings m FramesOut units = ⊥
@@ -74,27 +80,33 @@ abbrev pub LineBrings : Bool → (ℕ → Type 0) → List (List ℕ) → Type 0
 LineBrings true needs units = EachSuch needs units
 LineBrings false needs units = OneBrings needs units
 
--- what the units of an event may bring: each unit of a run, and the one that lacked a page, nine pages that it needs; a line
--- those of the bytes that it shows or changes, and of a loading page 0 and those that its program touches; a tick the page of the
--- timer, of a machine that runs; a deck none; a serve those that the program of the device needs
+-- what the units of an event may bring: each unit of a run, and the one that lacked a page, nine
+-- pages that it needs; a line those of the bytes that it shows or changes, and of a loading page 0
+-- and those that its program touches; a tick the page of the timer, of a machine that runs; a deck
+-- none; a serve those that the program of the device needs
 abbrev pub MayBring : SystemView → Event → Ended → List (List ℕ) → Type 0
 MayBring old (Run user asked) ended units = RunBrings (machine_at old user) ended units
 MayBring old (Line user typed) ended units =
-    LineBrings (is_ipl (requested typed.now (user_at old user))) (LineWants typed.now (user_at old user)) units
-MayBring old (Tick user) ended units = OneBrings (TickNeeds (machine_at old user)) units × (length (concat units) ≤ 1)
+    LineBrings (is_ipl (requested typed.now (user_at old user)))
+    (LineWants typed.now (user_at old user)) units
+MayBring old (Tick user) ended units = OneBrings (TickNeeds (machine_at old user)) units
+    × (length (concat units) ≤ 1)
 MayBring old (Deck user cards) ended units = units ≡ []
-MayBring old (Serve user device) ended units = EachSuch (DeviceNeeds device (user_at old user)) units
+MayBring old (Serve user device) ended units =
+    EachSuch (DeviceNeeds device (user_at old user)) units
 
 -- pages came as an event's units may bring them, and no others
 abbrev pub IsBroughtBy : SystemView → Event → Ended → SystemView → Type 0
 IsBroughtBy old event ended new =
-    (units : List (List ℕ)) × IsBroughtInUnits (user_of event) units old.supply new.supply × MayBring old event ended units
+    (units : List (List ℕ)) × IsBroughtInUnits (user_of event) units old.supply new.supply
+    × MayBring old event ended units
 
 -- ---- an event
 
--- no frame is pinned before or after an event; where the user's machine is switched on or off, all his pages are given back, and
--- else only pages that its units need are brought
-pub record IsSupplied (old : SystemView) (event : Event) (ended : Ended) (new : SystemView) : Type 0 where
+-- no frame is pinned before or after an event; where the user's machine is switched on or off, all
+-- his pages are given back, and else only pages that its units need are brought
+pub record IsSupplied (old : SystemView) (event : Event) (ended : Ended)
+    (new : SystemView) : Type 0 where
   pub between_before : IsBetweenUnits old.supply
   pub between : IsBetweenUnits new.supply
   pub given_back : gives_back old event ≡ true → IsGivenBack (user_of event) old.supply new.supply
@@ -104,5 +116,6 @@ pub record IsSupplied (old : SystemView) (event : Event) (ended : Ended) (new : 
 pub record IsSuppliedInPart (old : SystemView) (event : Event) (new : SystemView) : Type 0 where
   pub between_before : IsBetweenUnits old.supply
   pub between : IsBetweenUnits new.supply
-  pub given_back : gives_back old event ≡ true → IsGivenBack (user_of event) old.supply new.supply ⊎ (new.supply ≡ old.supply)
+  pub given_back : gives_back old event ≡ true
+      → IsGivenBack (user_of event) old.supply new.supply ⊎ (new.supply ≡ old.supply)
   pub brought : gives_back old event ≡ false → IsBroughtBy old event Done new

@@ -7,24 +7,23 @@ use Rattle.cp_directory.specs.Users.{DirectoryUser}
 use Rattle.cp_frames.specs.Layout.{FrameSupply}
 use Rattle.machine_panel.specs.Machine.{Machine}
 use Rattle.machine_devices.specs.Equipped.{Equipped, nobody}
-use Rattle.machine_devices.specs.World.{World, is_logged_on}
-use Rattle.cp_volumes.specs.Shared.{Stand, stands_of}
+use Rattle.machine_devices.specs.UserDirectory.{UserDirectory, is_logged_on}
+use Rattle.cp_volumes.specs.Shared.{Placement, placements_of}
 use Rattle.cp_resident.specs.Reuse.{ReuseValue, kept_none}
 use Rattle.cp_core.specs.UserMachines.{UserParts, user_with}
-use Rattle.machine_devices.specs.declared.reply.Delivery.{Delivery}
 use Rattle.machine_devices.specs.declared.files.FileNote.{FileNote}
 
--- each user's machine with its devices, the users of the directory, where pages stand and how many have come, what each file
--- was when it got its number and whose it is, what was delivered to each user, the volumes as they are now, where each user's
--- minidisks stand on them, the programs that are kept of each user's devices, and whether want of memory has ended the system
+-- each user's machine with its devices, the users of the directory, where pages are and how many
+-- have come, what each file was when it got its number and whose it is, the volumes as they are
+-- now, where each user's minidisks are on them, the programs that are kept of each user's
+-- devices, and whether lack of memory has ended the system
 pub record SystemView : Type 0 where
   pub users : List Equipped
   pub directory : List DirectoryUser
   pub supply : FrameSupply
   pub files : List FileNote
-  pub deliveries : List (List Delivery)
   pub volumes : List VolumeFormat
-  pub stands : List (List Stand)
+  pub placements : List (List Placement)
   pub kept : List ReuseValue
   pub is_spent : Bool
 
@@ -32,14 +31,14 @@ pub record SystemView : Type 0 where
 abbrev pub users_of : List UserParts → List VolumeFormat → List (List ℕ) → List Equipped
 users_of [] volumes storages = []
 users_of (u ∷ us) volumes [] = []
-users_of (u ∷ us) volumes (bytes ∷ storages) = user_with u volumes bytes ∷ users_of us volumes storages
+users_of (u ∷ us) volumes (bytes ∷ storages) =
+    user_with u volumes bytes ∷ users_of us volumes storages
 
-abbrev pub deliveries_of : List UserParts → List (List Delivery)
-deliveries_of users = map (λ (u : UserParts). u.deliveries) users
+-- where the minidisks of each user are
+abbrev pub placements_among : List UserParts → List (List Placement)
+placements_among users = map (λ (u : UserParts). placements_of u.minidisks) users
 
-abbrev pub stands_among : List UserParts → List (List Stand)
-stands_among users = map (λ (u : UserParts). stands_of u.minidisks) users
-
+-- the cached programs of each user
 abbrev pub kept_of : List UserParts → List ReuseValue
 kept_of users = map (λ (u : UserParts). u.reuse) users
 
@@ -51,13 +50,9 @@ user_at s user = slice_index_or s.users user nobody
 abbrev pub machine_at : SystemView → ℕ → Machine
 machine_at s user = (user_at s user).machine
 
--- what was delivered to a user
-abbrev pub deliveries_at : SystemView → ℕ → List Delivery
-deliveries_at s user = slice_index_or s.deliveries user []
-
--- where his minidisks stand
-abbrev pub stands_at : SystemView → ℕ → List Stand
-stands_at s user = slice_index_or s.stands user []
+-- where his minidisks are
+abbrev pub placements_at : SystemView → ℕ → List Placement
+placements_at s user = slice_index_or s.placements user []
 
 -- the programs that are kept of his devices
 abbrev pub kept_at : SystemView → ℕ → ReuseValue
@@ -67,8 +62,9 @@ kept_at s user = slice_index_or s.kept user (kept_none 0)
 abbrev pub reuses_in : List ReuseValue → ℕ
 reuses_in kept = min (sum_by (λ (r : ReuseValue). r.reuses) kept) 18446744073709551615
 
--- ---- what is known beside the machine of a user
+-- ---- what is known next to the machine of a user
 
+-- the names of all users
 abbrev pub names_of : List DirectoryUser → List (List ℕ)
 names_of directory = map (λ (user : DirectoryUser). user.name) directory
 
@@ -77,8 +73,10 @@ abbrev pub logged_on_of : List Equipped → List Bool
 logged_on_of users = map (λ (e : Equipped). is_logged_on e.machine.mode) users
 
 -- these users by their names, one of them by his, and who of them is logged on
-abbrev pub world_among : List DirectoryUser → ℕ → List Bool → World
-world_among directory user on = record { names = names_of directory; own = name_of (names_of directory) user; on = on }
+abbrev pub world_among : List DirectoryUser → ℕ → List Bool → UserDirectory
+world_among directory user on =
+    record { names = names_of directory; own = name_of (names_of directory) user; on = on }
 
-abbrev pub world_of : SystemView → ℕ → World
+-- the users whom the machine of one user knows
+abbrev pub world_of : SystemView → ℕ → UserDirectory
 world_of s user = world_among s.directory user (logged_on_of s.users)

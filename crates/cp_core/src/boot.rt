@@ -1,8 +1,10 @@
 //! Boot: a system from a directory.
-ghost use Rattle.std.specs.Prelude.{◌≡◌, ◌<◌, ◌≤◌, ◌↔◌, ℕ, All, Err, IfOk, IfSome, IsOk, IsSome, List, None, Some, true, length, map, slice_get};
+ghost use Rattle.std.specs.Prelude.{◌≡◌, ◌<◌, ◌≤◌, ◌↔◌, ℕ, All, Err, IfOk, IfSome, IsOk, IsSome};
+ghost use Rattle.std.specs.Prelude.{List, None, Some, true, length, map, slice_get};
 ghost use Rattle.std.specs.List.{find, position};
 ghost use Rattle.cp_core.specs.Boot.{IsBooted, boot_error, places_in};
-ghost use Rattle.cp_seating.specs.Seating.{AreLawful, IsFirstPast, first_lacking, has_twins, minidisks_at, user_is_past, user_lacks};
+ghost use Rattle.cp_seating.specs.Seating.{AreLawful, IsFirstPast, first_missing, has_twins};
+ghost use Rattle.cp_seating.specs.Seating.{minidisks_at, user_is_past, user_lacks};
 ghost use Rattle.cp_core.specs.UserMachines.{SeatParts, unowned};
 ghost use Rattle.cp_core.specs.Whole.{AreNew};
 ghost use Rattle.machine_devices.specs.declared.attaching.AttachError.TheVariants as attaching;
@@ -14,7 +16,7 @@ use crate::user_machine::UserMachine;
 use ckd_volume::Volume;
 use cp_directory::{Directory, User, UserDevices};
 use cp_frames::Frames;
-use cp_seating::{has_twins, lacking_volume, past_end, seats_of};
+use cp_seating::{has_twins, missing_volume, past_end, seats_of};
 use cp_spool::Queues;
 use cp_volumes::Volumes;
 use machine_devices::{AttachError, Places};
@@ -43,7 +45,8 @@ impl Model for Sizes {
 }
 
 impl Sizes {
-    /// So many frames of real storage and slots for pages, if there are no more than 4096 and 65,536.
+    /// Returns the sizes of this many frames of real storage and slots for pages, if there are no
+    /// more than 4096 and 65,536.
     pub fn new(frames: u32, slots: u32) -> Option<Sizes>
         ensures some { IsSome result ↔ ((frames ≤ 4096) × (slots ≤ 65536)) }
         ensures value { IfSome result (λ sizes. sizes ≡ record { frames = frames; slots = slots }) }
@@ -60,7 +63,7 @@ impl Sizes {
         })
     }
 
-    /// How many frames.
+    /// Returns how many frames.
     pub fn frames(self) -> u16
         ensures value { result ≡ self.frames }
         ensures most { result ≤ 4096 }
@@ -68,7 +71,7 @@ impl Sizes {
         self.frames
     }
 
-    /// How many slots.
+    /// Returns how many slots.
     pub fn slots(self) -> u32
         ensures value { result ≡ self.slots }
         ensures most { result ≤ 65536 }
@@ -78,9 +81,26 @@ impl Sizes {
 }
 
 impl System {
-    /// The system that a directory states, on these volumes, and on so many frames and slots: every user is off, and
-    /// storage is zero; each minidisk stands on the cylinders of its extent. `DuplicateDevice` is told of no directory
-    /// that was read, and `ExtentPastEnd` only where every volume is there.
+    /// Boots the system that a directory states, on these volumes, frames and slots: every user is
+    /// off, storage is zero, and each minidisk is on the cylinders of its extent. `DuplicateDevice`
+    /// is never returned for a directory that was read, and `ExtentPastEnd` only where every volume
+    /// is there.
+    ///
+    /// # Errors
+    ///
+    /// A `BootError`: the first reason why these sizes, volumes and this directory make no system.
+    ///
+    /// # Examples
+    ///
+    /// ```
+    /// use cp_core::{BootError, Sizes, System};
+    /// use cp_directory::read_directory;
+    ///
+    /// let directory = read_directory(alloc, b"USER A PW 8K\n")?;
+    /// let sizes = Sizes::new(16, 8).ok_or("too many frames or slots")?;
+    /// let system = System::boot(alloc, directory, Vec::new(alloc), sizes)?;
+    /// assert_eq!(rt; system.page_ins(), 0);
+    /// ```
     pub fn boot(
         alloc: Global,
         directory: Directory,
@@ -88,15 +108,19 @@ impl System {
         sizes: Sizes,
     ) -> Result<System, BootError>
         requires { length directory ≤ 64 }
-        ensures ok { IfOk result (λ system. IsBooted directory volumes.items sizes.frames sizes.slots system) }
+        ensures ok { IfOk result
+            (λ system. IsBooted directory volumes.items sizes.frames sizes.slots system) }
         ensures too_few { (result ≡ Err BootError.TooFewFrames) ↔ (sizes.frames < 16) }
         ensures duplicate { (result ≡ Err BootError.DuplicateVolume)
             ↔ ((16 ≤ sizes.frames) × (has_twins volumes.items ≡ true)) }
         ensures no_volume { (volser : List ℕ) → result ≡ Err (BootError.NoVolume volser)
-            → first_lacking volumes.items (find (user_lacks volumes.items) directory) ≡ Some volser }
+            → first_missing volumes.items (find (user_lacks volumes.items) directory)
+            ≡ Some volser }
         ensures past { (user address : ℕ) → result ≡ Err (BootError.ExtentPastEnd user address)
-            → IsFirstPast volumes.items directory user address × (find (user_lacks volumes.items) directory ≡ None) }
-        ensures device { result ≡ Err BootError.DuplicateDevice → All HasLawfulDevices directory → ⊥ }
+            → IsFirstPast volumes.items directory user address
+            × (find (user_lacks volumes.items) directory ≡ None) }
+        ensures device { result ≡ Err BootError.DuplicateDevice → All HasLawfulDevices directory
+            → ⊥ }
         ensures lacking { IsOk result → find (user_lacks volumes.items) directory ≡ None }
         ensures inside { IsOk result → position (user_is_past volumes.items) directory ≡ None }
     {
@@ -106,7 +130,7 @@ impl System {
         if has_twins(&volumes) {
             return Err(BootError::DuplicateVolume);
         }
-        if let Some(volser) = lacking_volume(&volumes, directory.users()) {
+        if let Some(volser) = missing_volume(&volumes, directory.users()) {
             return Err(BootError::NoVolume(volser));
         }
         if let Some((user, address)) = past_end(&volumes, directory.users()) {
@@ -166,7 +190,7 @@ fn places_in(devices: UserDevices) -> Places
     }
 }
 
-/// A machine for each user, with his minidisks on these volumes.
+/// Returns a machine for each user, with his minidisks on these volumes.
 fn machines_of(
     alloc: Global,
     volumes: &[Volume],
@@ -175,8 +199,11 @@ fn machines_of(
     requires there { find (user_lacks volumes.now) users.now ≡ None }
     requires inside { position (user_is_past volumes.now) users.now ≡ None }
     requires few { length users.now ≤ 64 }
-    ensures new { IfOk result (λ machines. AreNew volumes.now (map unowned machines.items) users.now) }
-    ensures owners { IfOk result (λ machines. (k : ℕ) (s : SeatParts) → slice_get machines.items k ≡ Some s → s.devices.user ≡ k) }
+    ensures new { IfOk result
+        (λ machines. AreNew volumes.now (map unowned machines.items) users.now) }
+    ensures owners { IfOk result
+        (λ machines. (k : ℕ) (s : SeatParts) → slice_get machines.items k ≡ Some s
+        → s.devices.user ≡ k) }
     ensures lawful { IfOk result (λ machines. (k : ℕ) → AreLawful (minidisks_at users.now k)) }
     ensures address { result ≡ Err attaching.Address → All HasLawfulDevices users.now → ⊥ }
 {
@@ -196,7 +223,7 @@ fn machines_of(
     Ok(machines)
 }
 
-/// How many pages of storage each user has.
+/// Returns how many pages of storage each user has.
 fn pages_of(alloc: Global, users: &[User]) -> Result<Vec<u32>, AllocError>
     ensures pages { IfOk result (λ pages. pages.items ≡ map (λ user. user.pages) users.now) }
     ensures few { IfOk result (λ pages. All (λ count. count ≤ 1024) pages.items) }

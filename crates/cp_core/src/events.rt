@@ -18,15 +18,15 @@ pub enum Event<'a> {
     Tick(UserNo),
     /// The operator gives a deck of these cards to a user's reader; no cards are no deck.
     Deck(UserNo, &'a [Card]),
-    /// The device of this address of a user's machine is served: the channel program that was started on it runs as a
-    /// whole.
+    /// The device of this address of a user's machine is served: the channel program that was
+    /// started on it runs as a whole.
     Serve(UserNo, DevAddr),
 }
 
 impl<'a> Event<'a> {
     ghost use Rattle.cp_core.specs.Events.{user_of};
 
-    /// The user whom the event names.
+    /// Returns the user whom the event names.
     pub fn user(&self) -> UserNo
         ensures { result ≡ user_of self.now }
     {

@@ -1,14 +1,15 @@
 //! The control program: many users on one System/370.
 //!
-//! Its one theorem: whatever the events, each user has the machine that a bare System/370 is after that user's own
-//! events ([`System::apply`], clause `views`, and [`each_is_bare`] for whole histories); each reply tells what a bare
-//! machine tells, or that frames are lacking (`told`); and only pages that the event needs are brought into frames,
-//! where others are given up to slots for them, and both are given back where the machine is switched on (`supplied`).
-//! What is written to a frame that is lent ([`System::frame_mut`]) is the content of the page that stands in it, and
-//! all else stays.
+//! Its one theorem: whatever the events, each user has the machine that a bare System/370 is after
+//! that user's own events ([`System::apply`], clause `views`, and [`each_is_bare`] for whole
+//! histories); each reply says what a bare machine says, or that it is out of frames (`reported`);
+//! and only pages that the event needs are brought into frames, where others are given up to slots
+//! for them, and both are given back where the machine is switched on (`supplied`). What is written
+//! to a frame that is borrowed ([`System::frame_mut`]) is the content of the page that is in it,
+//! and all else stays.
 //!
-//! It is given a directory, the volumes of its minidisks, and the numbers of frames and slots ([`System::boot`]), and then
-//! one event after another.
+//! It is given a directory, the volumes of its minidisks, and the numbers of frames and slots
+//! ([`System::boot`]), and then one event after another.
 //!
 //! ```
 //! use cp_console::responses::Response;
@@ -33,6 +34,7 @@
 mod boot;
 mod delivery;
 mod events;
+mod forgetting;
 mod lines;
 mod loan;
 mod ready;
@@ -48,5 +50,6 @@ pub use boot::Sizes;
 pub use cp_frames::{FRAME_SIZE, FrameNo};
 pub use cp_volumes::SeenDisk;
 pub use events::{BootError, CpError, Event};
+pub use forgetting::printed_lines_do_not_matter;
 pub use saved::one_by_saved;
 pub use system::{System, each_is_bare};

@@ -1,10 +1,12 @@
-//! Lines of users, and decks of the operator: what comes of them for the files of all, and for others.
-ghost use Rattle.std.specs.Prelude.{◌≡◌, ◌<◌, ◌≤◌, ◌++◌, [], ◌∷◌, None, Some, IfOk, IsSome, OnErr, OnOk, length, map, nat_lt, if◌then◌else◌, slice_get, slice_set};
+//! Lines of users, and decks of the operator: what comes of them for the files of all, and for
+//! others.
+ghost use Rattle.std.specs.Prelude.{◌≡◌, ◌<◌, ◌≤◌, ◌++◌, [], ◌∷◌, None, Some, IfOk, IsSome, OnErr};
+ghost use Rattle.std.specs.Prelude.{OnOk, length, map, nat_lt, if◌then◌else◌, slice_get, slice_set};
 ghost use Rattle.cp_dat.specs.Supplied.{IsBetweenUnits};
-ghost use Rattle.machine_devices.specs.World.{is_logged_on};
+ghost use Rattle.machine_devices.specs.UserDirectory.{is_logged_on};
 ghost use Rattle.cp_core.specs.declared.events.Event.TheVariants as happening;
 ghost use Rattle.machine_devices.specs.Comes.{HasClosed, NeedsMemory};
-ghost use Rattle.cp_core.specs.Come.{HasCome};
+ghost use Rattle.cp_core.specs.Come.{HasReceived};
 ghost use Rattle.machine_devices.specs.Coming.{comes_by_line, comes_from_operator};
 ghost use Rattle.machine_devices.specs.Lines.{files_closed};
 ghost use Rattle.machine_devices.specs.Notes.{next_file, noted, stands_in};
@@ -13,10 +15,10 @@ ghost use Rattle.cp_core.specs.Histories.{IsReplied};
 ghost use Rattle.cp_core.specs.Memory.{IsCutShort};
 ghost use Rattle.cp_core.specs.Parcels.{IsThere, contents, note_of};
 ghost use Rattle.cp_volumes.specs.Shared.{IsConfined};
-ghost use Rattle.cp_core.specs.System.{SystemView, logged_on_of, stands_at, user_at, world_of};
-ghost use Rattle.machine_devices.specs.Replies.{receiver_of, delivered_by, delivery_to, punched, said_to_line};
-ghost use Rattle.cp_core.specs.Told.{with_delivered};
-ghost use Rattle.cp_core.specs.Work.{HasTyped};
+ghost use Rattle.cp_core.specs.System.{SystemView, logged_on_of, placements_at, user_at, world_of};
+ghost use Rattle.machine_devices.specs.Replies.{receiver_of, delivered_by, delivery_to, punched};
+ghost use Rattle.machine_devices.specs.Replies.{said_to_line};
+ghost use Rattle.cp_core.specs.UserOp.{HasTyped};
 
 use crate::delivery::Parcel;
 use crate::system::System;
@@ -24,8 +26,8 @@ use crate::user_machine::UserMachine;
 use crate::work::Line;
 use arrayvec::ArrayVec;
 use machine_devices::{
-    ClosedFiles, Delivered, Delivery, Ended, FileKind, Reply, Saying, Told, copy_of, is_logged_on,
-    said_to_line,
+    ClosedFiles, Delivered, Delivery, Ended, FileKind, LineOutcome, Reply, Saying, copy_of,
+    is_logged_on, said_to_line,
 };
 use machine_panel::LineError;
 use std::alloc::AllocError;
@@ -45,29 +47,32 @@ fn logged_on_among(users: &[UserMachine]) -> ArrayVec<bool, 64>
 }
 
 impl System {
-    /// A line that a user types, and what comes of it for the files of all, and for others.
+    /// Types a line for a user, and does what follows from it for files and for other users.
     pub(crate) fn line(&mut self, user: usize, typed: &[u8]) -> Result<Reply, AllocError>
         requires { user < length self.old.users }
         ensures step { IfOk result
             (λ reply. IsReplied self.old
             (record { event = happening.Line user typed.entry; reply = reply; seen = self.new })) }
-        ensures cut { OnErr result (IsCutShort self.old (happening.Line user typed.entry) self.new) }
+        ensures cut { OnErr result
+            (IsCutShort self.old (happening.Line user typed.entry) self.new) }
         ensures kept { IfOk result
             (λ reply. EventKeeps self.old (happening.Line user typed.entry) reply.ended self.new) }
-        ensures kept_without_memory { OnErr result (KeepsCutShort self.old (happening.Line user typed.entry) self.new) }
-        ensures confined { IsConfined (stands_at self.old user) self.old.volumes self.new.volumes }
-        ensures stands { self.new.stands ≡ self.old.stands }
+        ensures kept_without_memory { OnErr result
+            (KeepsCutShort self.old (happening.Line user typed.entry) self.new) }
+        ensures confined { IsConfined (placements_at self.old user) self.old.volumes
+            self.new.volumes }
+        ensures placements { self.new.placements ≡ self.old.placements }
         ensures directory { self.new.directory ≡ self.old.directory }
         ensures spent { self.new.is_spent ≡ self.old.is_spent }
     {
         let printed = self.printed_by(user);
         let number = self.next_file();
         match self.type_line(user, typed) {
-            Ok(told) => {
-                let delivered = self.follow(user, &told)?;
+            Ok(reported) => {
+                let delivered = self.follow(user, &reported)?;
                 Ok(Reply {
                     ended: Ended::Done,
-                    said: said_to_line(number, &told),
+                    said: said_to_line(number, &reported),
                     lines: self.printed_by(user).saturating_sub(printed),
                     delivered,
                 })
@@ -85,9 +90,10 @@ impl System {
     }
 
     /// A line that a user types, in his world.
-    fn type_line(&mut self, user: usize, typed: &[u8]) -> Result<Told, LineError>
+    fn type_line(&mut self, user: usize, typed: &[u8]) -> Result<LineOutcome, LineError>
         requires { user < length self.old.users }
-        ensures typed { HasTyped (world_of self.old user) user typed.now (user_at self.old user) self.old.supply result
+        ensures typed { HasTyped (world_of self.old user) user typed.now (user_at self.old user)
+            self.old.supply result
             (user_at self.new user) self.new.supply }
         ensures rest { self.new ≡ record self.old {
           users = slice_set self.old.users user (user_at self.new user);
@@ -95,8 +101,10 @@ impl System {
           volumes = self.new.volumes;
           kept = self.new.kept;
         } }
-        ensures keeps { HasKept user self.old self.new (LineKeeps typed.now (user_at self.old user) result) }
-        ensures confined { IsConfined (stands_at self.old user) self.old.volumes self.new.volumes }
+        ensures keeps { HasKept user self.old self.new
+            (LineKeeps typed.now (user_at self.old user) result) }
+        ensures confined { IsConfined (placements_at self.old user) self.old.volumes
+            self.new.volumes }
         ensures between_before { IsBetweenUnits self.old.supply }
         ensures between { IsBetweenUnits self.new.supply }
     {
@@ -106,39 +114,47 @@ impl System {
             on: self.logged_on(),
             typed,
         };
-        self.lend(user, &line)
+        self.with_user(user, &line)
     }
 
-    /// What a line that was answered so brings about: each file that it closed has the next number, and the deck or the
-    /// message that is for a user comes to him.
-    fn follow(&mut self, user: usize, told: &Told) -> Result<Option<Delivered>, AllocError>
+    /// Does what follows from a line: numbers each file that it closed, and delivers the deck or
+    /// the message that is for a user.
+    fn follow(
+        &mut self,
+        user: usize,
+        reported: &LineOutcome,
+    ) -> Result<Option<Delivered>, AllocError>
         requires { user < length self.old.users }
-        ensures delivered { let before = stands_in (files_closed told.now).punched (user_at self.old user).devices.punched in
+        ensures delivered { let before = stands_in (files_closed reported.now).punched
+            (user_at self.old user).devices.punched in
             IfOk result (λ delivered. delivered ≡ delivered_by (length self.old.users)
-            (next_file self.old.files) before told.now (user_at self.old user)) }
-        ensures files { OnOk result (self.new.files ≡ self.old.files ++ noted user (files_closed told.now)) }
-        ensures come { let before = stands_in (files_closed told.now).punched (user_at self.old user).devices.punched in
-            IfOk result (λ delivered. HasCome (comes_by_line user before (user_at self.old user)) delivered self.old self.new) }
-        ensures deliveries { IfOk result (λ delivered. self.new.deliveries ≡ with_delivered delivered self.old) }
+            (next_file self.old.files) before reported.now (user_at self.old user)) }
+        ensures files { OnOk result
+            (self.new.files ≡ self.old.files ++ noted user (files_closed reported.now)) }
+        ensures come { let before = stands_in (files_closed reported.now).punched
+            (user_at self.old user).devices.punched in
+            IfOk result (λ delivered.
+            HasReceived (comes_by_line user before (user_at self.old user)) delivered self.old
+            self.new) }
         ensures err { OnErr result (self.new.users ≡ self.old.users) }
-        ensures memory { OnErr result (NeedsMemory told.now) }
+        ensures memory { OnErr result (NeedsMemory reported.now) }
         ensures supply { self.new.supply ≡ self.old.supply }
         ensures volumes { self.new.volumes ≡ self.old.volumes }
         ensures kept { self.new.kept ≡ self.old.kept }
-        ensures stands { self.new.stands ≡ self.old.stands }
+        ensures placements { self.new.placements ≡ self.old.placements }
         ensures directory { self.new.directory ≡ self.old.directory }
         ensures spent { self.new.is_spent ≡ self.old.is_spent }
     {
         let number = self.next_file();
-        let closed = told.closed();
+        let closed = reported.closed();
         self.note_closed(user, closed)?;
-        match told {
-            Told::Sent(to, line) => self.deliver_to(*to, Parcel::Message(*line)),
+        match reported {
+            LineOutcome::Sent(to, line) => self.deliver_to(*to, Parcel::Message(*line)),
             _ => self.deliver_punched(user, closed.punched, number),
         }
     }
 
-    /// Each of these files of a user has the next number, that of the punch first.
+    /// Numbers each of these files of a user, that of the punch first.
     fn note_closed(&mut self, user: usize, closed: ClosedFiles) -> Result<(), AllocError>
         requires { user < length self.old.users }
         ensures ok { OnOk result (self.new
@@ -156,8 +172,8 @@ impl System {
         Ok(())
     }
 
-    /// The punch's closed file of this place, where there is one that is for a user, comes to him as a deck with this
-    /// number.
+    /// Appends the punch's closed file at this place to its receiver's queue, as a deck with this
+    /// number, if it is for a user; the punch keeps it too.
     fn deliver_punched(
         &mut self,
         user: usize,
@@ -166,15 +182,15 @@ impl System {
     ) -> Result<Option<Delivered>, AllocError>
         requires { user < length self.old.users }
         ensures delivered { let index = stands_in place (user_at self.old user).devices.punched in
-            IfOk result (λ delivered. delivered ≡ punched (length self.old.users) number index (user_at self.old user)) }
+            IfOk result (λ delivered. delivered
+            ≡ punched (length self.old.users) number index (user_at self.old user)) }
         ensures come { let index = stands_in place (user_at self.old user).devices.punched in
-            IfOk result (λ delivered. HasCome (comes_by_line user index (user_at self.old user)) delivered self.old self.new) }
+            IfOk result (λ delivered.
+            HasReceived (comes_by_line user index (user_at self.old user)) delivered self.old
+            self.new) }
         ensures rest { IfOk result
-            (λ delivered. self.new ≡ record self.old {
-              users = self.new.users;
-              deliveries = with_delivered delivered self.old;
-            }) }
-        ensures err { OnErr result (self.new ≡ record self.old { deliveries = self.new.deliveries }) }
+            (λ delivered. self.new ≡ record self.old { users = self.new.users }) }
+        ensures err { OnErr result (self.new ≡ self.old) }
         ensures memory { OnErr result (IsSome place) }
     {
         let Some(index) = place else {
@@ -187,7 +203,7 @@ impl System {
         self.deliver_to(to, Parcel::File(from, index, number))
     }
 
-    /// For which user the punch's closed file of this index is, if it is there and for one.
+    /// Returns the user for whom the punch's closed file of this index is, if there is one.
     fn receiver_of(&self, user: usize, index: usize) -> Option<u8>
         requires { user < length self.now.users }
         ensures { result ≡ receiver_of (slice_get (user_at self.now user).devices.punched index) }
@@ -201,18 +217,17 @@ impl System {
         }
     }
 
-    /// A parcel comes to the user of this number, where there is one.
+    /// Delivers a parcel to the user of this number, if there is one.
     fn deliver_to(&mut self, to: u8, parcel: Parcel) -> Result<Option<Delivered>, AllocError>
         requires { IsThere self.old parcel }
         ensures delivered { IfOk result
             (λ delivered. delivered ≡ delivery_to (length self.old.users) to (note_of parcel)) }
-        ensures come { IfOk result (λ delivered. HasCome (λ note. contents self.old parcel) delivered self.old self.new) }
+        ensures come { IfOk result
+            (λ delivered. HasReceived (λ note. contents self.old parcel) delivered self.old
+            self.new) }
         ensures rest { IfOk result
-            (λ delivered. self.new ≡ record self.old {
-              users = self.new.users;
-              deliveries = with_delivered delivered self.old;
-            }) }
-        ensures err { OnErr result (self.new ≡ record self.old { deliveries = self.new.deliveries }) }
+            (λ delivered. self.new ≡ record self.old { users = self.new.users }) }
+        ensures err { OnErr result (self.new ≡ self.old) }
     {
         let place = usize::from(to);
         if place >= self.users() {
@@ -226,16 +241,17 @@ impl System {
         }))
     }
 
-    /// The operator gives a deck of these cards to a user; no cards are no deck.
+    /// Gives a user a deck of these cards from the operator; no cards are no deck.
     pub(crate) fn deck(&mut self, user: usize, cards: &[Card]) -> Result<Reply, AllocError>
         requires { user < length self.old.users }
         ensures step { IfOk result
             (λ reply. IsReplied self.old
             (record { event = happening.Deck user cards.entry; reply = reply; seen = self.new })) }
-        ensures cut { OnErr result (IsCutShort self.old (happening.Deck user cards.entry) self.new) }
+        ensures cut { OnErr result
+            (IsCutShort self.old (happening.Deck user cards.entry) self.new) }
         ensures volumes { self.new.volumes ≡ self.old.volumes }
         ensures kept { self.new.kept ≡ self.old.kept }
-        ensures stands { self.new.stands ≡ self.old.stands }
+        ensures placements { self.new.placements ≡ self.old.placements }
         ensures directory { self.new.directory ≡ self.old.directory }
         ensures spent { self.new.is_spent ≡ self.old.is_spent }
     {
@@ -252,21 +268,21 @@ impl System {
         })
     }
 
-    /// A deck of these cards, with this number, which is the next, comes to a user.
+    /// Gives a user a deck of these cards, with this number, which is the next.
     fn give(&mut self, user: usize, number: u64, cards: &[Card]) -> Result<Delivered, AllocError>
         requires user { user < length self.old.users }
         requires number { number ≡ next_file self.old.files }
         ensures delivered { IfOk result
-            (λ delivered. delivered ≡ record { to = user; what = Delivery.Deck (next_file self.old.files) }) }
+            (λ delivered. delivered ≡
+            record { to = user; what = Delivery.Deck (next_file self.old.files) }) }
         ensures come { IfOk result
-            (λ delivered. HasCome (comes_from_operator cards.now) (Some delivered) self.old self.new) }
+            (λ delivered. HasReceived (comes_from_operator cards.now) (Some delivered) self.old
+            self.new) }
         ensures rest { IfOk result (λ delivered. self.new ≡ record self.old {
           users = self.new.users;
           files = self.old.files ++ record { user = user; kind = FileKind.Deck } ∷ [];
-          deliveries = with_delivered (Some delivered) self.old;
         }) }
-        ensures err { OnErr result
-            (self.new ≡ record self.old { files = self.new.files; deliveries = self.new.deliveries }) }
+        ensures err { OnErr result (self.new ≡ record self.old { files = self.new.files }) }
     {
         let to = self.number_of(user);
         let copy = copy_of(self.alloc, cards)?;

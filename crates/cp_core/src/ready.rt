@@ -7,9 +7,9 @@ use crate::system::System;
 use user_names::UserNo;
 
 impl System {
-    /// Whether a user is ready for a slice: he is, unless a run of one unit of his machine would tell that it waits for
-    /// an interruption or is stopped. A user who is not logged on, or whom the directory does not have, is not ready.
-    /// This takes no memory.
+    /// Returns whether a user is ready for a slice: he is, unless a run of one unit of his machine
+    /// would say that it waits for an interruption or is stopped. A user who is not logged on, or
+    /// whom the directory does not have, is not ready. This takes no memory.
     pub fn is_ready(&self, user: UserNo) -> bool
         ensures { result ≡ is_ready (machine_at self.now user) }
     {

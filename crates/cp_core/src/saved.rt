@@ -1,14 +1,17 @@
 //! A system as the bytes of a saved state, and back.
 //!
-//! Bytes are those of one system of a directory, but for the programs that it keeps ([`one_by_saved`]). A system that is
-//! restored keeps its invariant whatever the bytes are. Nothing else is proved of it: save it again, and compare.
-ghost use Rattle.std.specs.Prelude.{◌≡◌, ◌++◌, ℕ, IfSome, List, OnOk, length, map, option_copied, true};
+//! Bytes are those of one system of a directory, but for the programs that it keeps
+//! ([`one_by_saved`]). A system that is restored keeps its invariant whatever the bytes are.
+//! Nothing else is proved of it: save it again, and compare.
+ghost use Rattle.std.specs.Prelude.{◌≡◌, ◌++◌, ℕ, IfSome, List, OnOk, length, map, option_copied};
+ghost use Rattle.std.specs.Prelude.{true};
 ghost use Rattle.saved_bytes.specs.Codes.{each, number};
 ghost use Rattle.ckd_saved.specs.Saved.{volume_bytes};
 ghost use Rattle.cp_volumes.specs.Saved.{disk_bytes};
-ghost use Rattle.cp_volumes.specs.Shared.{AreThere, stands_of, volume_or_none};
-ghost use Rattle.machine_devices.specs.Saved.{delivery_bytes, note_bytes};
-ghost use Rattle.cp_core.specs.Saved.{AreAsLarge, HasSameBase, IsOneBySaved, IsSaved, base_of, devices_part_bytes, lists_bytes, saved_user, seat_bytes};
+ghost use Rattle.cp_volumes.specs.Shared.{AreThere, placements_of, volume_or_none};
+ghost use Rattle.machine_devices.specs.Saved.{note_bytes};
+ghost use Rattle.cp_core.specs.Saved.{AreAsLarge, HasSameBase, IsOneBySaved, IsSaved, base_of};
+ghost use Rattle.cp_core.specs.Saved.{devices_part_bytes, lists_bytes, saved_user, seat_bytes};
 
 use crate::system::System;
 use crate::user_machine::UserMachine;
@@ -16,8 +19,8 @@ use ckd_saved::{put_volume, volume_of};
 use ckd_volume::Volume;
 use cp_spool::Queues;
 use cp_volumes::{SharedDisk, Volumes};
-use machine_devices::saved::{delivery_of, note_of, put_delivery, put_note};
-use machine_devices::{Delivery, FileNote};
+use machine_devices::FileNote;
+use machine_devices::saved::{note_of, put_note};
 use s370_num::StorageKey;
 use saved_bytes::{Input, put_flag, put_number, put_one, put_zero};
 use std::alloc::{AllocError, Global};
@@ -35,7 +38,7 @@ fn put_minidisks(out: &mut Vec<u8>, minidisks: &[SharedDisk]) -> Result<(), Allo
 
 /// Restores the arm and the sense of each of these minidisks.
 fn restore_minidisks(minidisks: &mut [SharedDisk], input: &mut Input<'_>) -> Option<()>
-    ensures { stands_of minidisks.new ≡ stands_of minidisks.old }
+    ensures { placements_of minidisks.new ≡ placements_of minidisks.old }
 {
     for disk in minidisks.iter_mut() {
         if !input.flag()? {
@@ -81,30 +84,6 @@ fn restore_keys(keys: &mut [StorageKey], input: &mut Input<'_>) -> Option<()>
     if input.flag()? { None } else { Some(()) }
 }
 
-/// Appends what was delivered to a user.
-#[tactic(auto, using(saved_bytes::proofs::Codes::each_got))]
-fn put_deliveries(out: &mut Vec<u8>, deliveries: &[Delivery]) -> Result<(), AllocError>
-    ensures { OnOk result (out.new.items ≡ out.old.items ++ each delivery_bytes deliveries.now) }
-{
-    for delivery in deliveries {
-        put_one(out)?;
-        put_delivery(out, delivery)?;
-    }
-    put_zero(out)
-}
-
-/// Reads a list of deliveries.
-fn deliveries_of(alloc: Global, input: &mut Input<'_>) -> Option<Vec<Delivery>> {
-    let mut deliveries = Vec::new(alloc);
-    for _ in 0..u64::MAX {
-        if !input.flag()? {
-            break;
-        }
-        deliveries.push(delivery_of(input)?).ok()?;
-    }
-    Some(deliveries)
-}
-
 impl UserMachine {
     /// Appends the machine, the devices and their files.
     fn put_devices(&self, queues: &Queues, out: &mut Vec<u8>) -> Result<(), AllocError>
@@ -116,15 +95,13 @@ impl UserMachine {
         queues.save(self.devices.user(), out)
     }
 
-    /// Appends the minidisks, the storage keys and what was delivered.
+    /// Appends the minidisks and the storage keys.
     fn put_lists(&self, out: &mut Vec<u8>) -> Result<(), AllocError>
         ensures { OnOk result (out.new.items
-            ≡ out.old.items ++ (each disk_bytes self.now.minidisks
-            ++ (each number self.now.keys ++ each delivery_bytes self.now.deliveries))) }
+            ≡ out.old.items ++ (each disk_bytes self.now.minidisks ++ each number self.now.keys)) }
     {
         put_minidisks(out, &self.minidisks)?;
-        put_keys(out, &self.keys)?;
-        put_deliveries(out, &self.deliveries)
+        put_keys(out, &self.keys)
     }
 
     /// Appends all but the storage, the cylinders, and the programs that are kept.
@@ -137,15 +114,14 @@ impl UserMachine {
             devices: _,
             minidisks: _,
             keys: _,
-            deliveries: _,
             reuse: _,
         } = self;
         self.put_devices(queues, out)?;
         self.put_lists(out)
     }
 
-    /// Restores a machine that was never switched on. Its user, the places of its minidisks and the number of its keys
-    /// stay the same, whatever the bytes are.
+    /// Restores a machine that was never switched on. Its user, the places of its minidisks and the
+    /// number of its keys stay the same, whatever the bytes are.
     fn restore(&mut self, alloc: Global, queues: &mut Queues, input: &mut Input<'_>) -> Option<()>
         ensures base { base_of self.new ≡ base_of self.old }
         ensures queues { length queues.new.users ≡ length queues.old.users }
@@ -154,15 +130,14 @@ impl UserMachine {
         self.devices.restore(alloc, input)?;
         queues.restore(alloc, self.devices.user(), input)?;
         restore_minidisks(&mut self.minidisks, input)?;
-        restore_keys(&mut self.keys, input)?;
-        self.deliveries = deliveries_of(alloc, input)?;
-        Some(())
+        restore_keys(&mut self.keys, input)
     }
 }
 
 /// Appends the users.
 fn put_users(out: &mut Vec<u8>, users: &[UserMachine], queues: &Queues) -> Result<(), AllocError>
-    ensures { OnOk result (out.new.items ≡ out.old.items ++ each (seat_bytes queues.now) users.now) }
+    ensures { OnOk result (out.new.items ≡ out.old.items
+        ++ each (seat_bytes queues.now) users.now) }
 {
     for user in users {
         put_one(out)?;
@@ -243,7 +218,8 @@ fn volumes_of(alloc: Global, input: &mut Input<'_>) -> Option<Vec<Volume>> {
 /// Returns whether a volume has the size and the serial number of another. There may be no other.
 fn is_alike(volume: &Volume, other: Option<&Volume>) -> bool
     ensures { result ≡ true
-        → length volume.now.cylinders ≡ length (volume_or_none (option_copied other.entry)).cylinders }
+        → length volume.now.cylinders
+        ≡ length (volume_or_none (option_copied other.entry)).cylinders }
 {
     match other {
         Some(other) => other.count() == volume.count() && other.volser() == volume.volser(),
@@ -285,6 +261,10 @@ impl System {
     /// Appends the bytes of its state.
     ///
     /// The directory and the programs that are kept are not in them.
+    ///
+    /// # Errors
+    ///
+    /// `AllocError` if memory is refused; `out` may have a part of it then.
     pub fn save(&self, out: &mut Vec<u8>) -> Result<(), AllocError>
         ensures { OnOk result
             ((bytes : List ℕ) × IsSaved self.now bytes × (out.new.items ≡ out.old.items ++ bytes)) }
@@ -307,8 +287,8 @@ impl System {
         put_flag(out, *is_spent)
     }
 
-    /// Restores the state that the next bytes are, in a system to which no event was applied. It is None if they are no
-    /// state of such a system, or if there is no memory for it.
+    /// Restores the state that the next bytes are, in a system to which no event was applied. It is
+    /// None if they are no state of such a system, or if there is no memory for it.
     ///
     /// Nothing is proved of what the bytes hold: save the system again, and compare.
     pub fn restore(self, input: &mut Input<'_>) -> Option<System>
@@ -342,7 +322,8 @@ impl System {
     }
 }
 
-/// States that bytes are those of one system of a directory, but for the programs that it keeps.
+/// States that the saved bytes of two systems of one directory are equal only if the systems are,
+/// except for their cached programs.
 pub fn one_by_saved()
     ensures { IsOneBySaved }
 {}

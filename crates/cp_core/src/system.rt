@@ -1,5 +1,7 @@
 //! The system: its users, their machines with their devices, and the frames that they share.
-ghost use Rattle.std.specs.Prelude.{◌≡◌, ◌<◌, ◌≤◌, ◌↔◌, ℕ, [], ◌∷◌, ◌++◌, ◌^◌, Err, Some, true, false, IfSome, IsOk, IfOk, OnErr, OnOk, length, map, option_copied, slice_get, slice_set};
+ghost use Rattle.std.specs.Prelude.{◌≡◌, ◌<◌, ◌≤◌, ◌↔◌, ℕ, [], ◌∷◌, ◌++◌, ◌^◌, Err, Some, true};
+ghost use Rattle.std.specs.Prelude.{false, IfSome, IsOk, IfOk, OnErr, OnOk, length, map};
+ghost use Rattle.std.specs.Prelude.{option_copied, slice_get, slice_set};
 ghost use Rattle.s370_channel.specs.Reading.{as_reached};
 ghost use Rattle.cp_dat.specs.Supplied.{IsBetweenUnits};
 ghost use Rattle.machine_devices.specs.Life.{Leaves};
@@ -10,17 +12,18 @@ ghost use Rattle.cp_core.specs.Histories.{EachIsBare, IsReplied};
 ghost use Rattle.cp_core.specs.Keeps.{EventKeeps, KeepsCutShort};
 ghost use Rattle.cp_core.specs.Local.{IsApplied};
 ghost use Rattle.cp_core.specs.Memory.{IsCutShort, MayTakeMemory, is_cut_short};
-ghost use Rattle.cp_core.specs.Parcels.{IsThere, contents, note_of};
+ghost use Rattle.cp_core.specs.Parcels.{IsThere, contents};
 ghost use Rattle.cp_core.specs.Stated.{LacksDevice, states_device};
 ghost use Rattle.cp_core.specs.Supply.{IsSupplied, IsSuppliedInPart};
 ghost use Rattle.cp_volumes.specs.Shared.{IsConfined};
-ghost use Rattle.cp_core.specs.System.{SystemView, deliveries_at, kept_at, machine_at, reuses_in, stands_at, user_at};
-ghost use Rattle.cp_core.specs.Told.{IsTold};
+ghost use Rattle.cp_core.specs.System.{SystemView, kept_at, machine_at, reuses_in, placements_at};
+ghost use Rattle.cp_core.specs.System.{user_at};
+ghost use Rattle.cp_core.specs.LineOutcome.{IsReply};
 
 use crate::delivery::Parcel;
 use crate::events::{CpError, Event};
 use crate::user_machine::UserMachine;
-use crate::work::{Service, Tick, Units, Work, lend};
+use crate::work::{Service, Tick, Units, UserOp, with_user};
 use ckd_volume::Volume;
 use cp_directory::Directory;
 use cp_frames::Frames;
@@ -47,7 +50,7 @@ pub struct System {
 }
 
 impl Model for System {
-    ghost use Rattle.cp_core.specs.System.{SystemView, deliveries_of, kept_of, stands_among, users_of};
+    ghost use Rattle.cp_core.specs.System.{SystemView, kept_of, placements_among, users_of};
     ghost use Rattle.cp_core.specs.Owners.{AreOwners};
     ghost use Rattle.cp_core.specs.UserMachines.{seats_on};
     ghost use Rattle.cp_core.specs.Whole.{IsSystem};
@@ -59,36 +62,35 @@ impl Model for System {
       directory = s.directory;
       supply = s.frames.supply;
       files = s.files.items;
-      deliveries = deliveries_of (seats_on s.queues s.users.items);
       volumes = s.volumes;
-      stands = stands_among (seats_on s.queues s.users.items);
+      placements = placements_among (seats_on s.queues s.users.items);
       kept = kept_of (seats_on s.queues s.users.items);
       is_spent = s.is_spent;
     } };
 
-    ghost invariant = { λ s. IsSystem (seats_on s.queues s.users.items) s.volumes s.frames s.directory
+    ghost invariant = { λ s.
+        IsSystem (seats_on s.queues s.users.items) s.volumes s.frames s.directory
         × AreOwners s.users.items s.queues };
 }
 
 impl System {
-    /// How many users the directory has.
+    /// Returns how many users the directory has.
     pub fn users(&self) -> usize
         ensures value { result ≡ length self.now.users }
         ensures directory { result ≡ length self.now.directory }
-        ensures deliveries { result ≡ length self.now.deliveries }
         ensures few { result ≤ 64 }
     {
         self.users.len()
     }
 
-    /// The directory.
+    /// Returns the directory.
     pub fn directory(&self) -> &Directory
         ensures { result.now ≡ self.now.directory }
     {
         &self.directory
     }
 
-    /// Whether want of memory has ended the system.
+    /// Returns whether lack of memory has ended the system.
     pub fn is_spent(&self) -> bool
         ensures { result ≡ self.now.is_spent }
     {
@@ -106,43 +108,45 @@ impl System {
         *is_spent
     }
 
-    /// How many pages have come into a frame since boot.
+    /// Returns how many pages have come into a frame since boot.
     pub fn page_ins(&self) -> u64
         ensures { result ≡ self.now.supply.page_ins }
     {
         self.frames.page_ins()
     }
 
-    /// How many programs of devices were run again as they were kept, since boot. It stays at its greatest value. Nothing
-    /// is said of the work that was saved.
+    /// Returns how many programs of devices were run again as they were kept, since boot. It stays
+    /// at its greatest value. Nothing is said of the work that was saved.
     pub fn reuses(&self) -> u64
         ensures { result ≡ reuses_in self.now.kept }
     {
         reuses_of(&self.users)
     }
 
-    /// What each file was when it got its number, and whose it is: the first has number 1.
+    /// Returns the owner and the kind of each file, in the order of their numbers: the first has
+    /// number 1.
     pub fn files(&self) -> &[FileNote]
         ensures { result.now ≡ self.now.files }
     {
         &self.files
     }
 
-    /// How many volumes the system was booted with.
+    /// Returns how many volumes the system was booted with.
     pub fn volumes(&self) -> usize
         ensures { result ≡ length self.now.volumes }
     {
         self.volumes.count()
     }
 
-    /// The volume of this index, in the order of the boot, as users have written to their minidisks on it.
+    /// Returns the volume of this index, in the order of the boot, as users have written to their
+    /// minidisks on it.
     pub fn volume(&self, index: usize) -> Option<&Volume>
         ensures { option_copied result ≡ slice_get self.now.volumes index }
     {
         self.volumes.volume(index)
     }
 
-    /// The number of the next file. A list ends before numbers do, so none is used again.
+    /// Returns the number of the next file. A list ends before numbers do, so none is used again.
     pub(crate) fn next_file(&self) -> u64
         ensures value { result ≡ next_file self.now.files }
         ensures fits { result ≤ 2 ^ 63 }
@@ -151,7 +155,7 @@ impl System {
         self.files.len() as u64 + 1
     }
 
-    /// Ends the system for want of memory.
+    /// Ends the system for lack of memory.
     fn spend(&mut self) -> CpError
         ensures error { result ≡ CpError.Memory }
         ensures spent { self.new ≡ record self.old { is_spent = true } }
@@ -160,7 +164,7 @@ impl System {
         CpError::Memory
     }
 
-    /// The place of a user's machine, in a system that applies events.
+    /// Returns the place of a user's machine, in a system that applies events.
     fn place_of(&self, user: UserNo) -> Result<usize, CpError>
         ensures place { IfOk result (λ place. place ≡ user) }
         ensures inside { IsOk result → user < length self.now.users }
@@ -182,7 +186,7 @@ impl System {
         Ok(place)
     }
 
-    /// Whether the directory gives a user a device of this address.
+    /// Returns whether the directory gives a user a device of this address.
     fn states_device(&self, user: usize, device: DevAddr) -> bool
         ensures { result ≡ states_device device (slice_get self.now.directory user) }
     {
@@ -192,7 +196,7 @@ impl System {
         }
     }
 
-    /// The number of a user.
+    /// Returns the number of a user.
     pub(crate) fn number_of(&self, user: usize) -> UserNo
         requires { user < length self.now.users }
         ensures { result ≡ user }
@@ -202,7 +206,7 @@ impl System {
         UserNo::new(user as u8)
     }
 
-    /// The devices of a user, with their files.
+    /// Returns the devices of a user, with their files.
     pub(crate) fn devices_of(&self, user: usize) -> SeenDevices<'_>
         requires { user < length self.now.users }
         ensures { result ≡ (user_at self.now user).devices }
@@ -210,7 +214,7 @@ impl System {
         SeenDevices::new(&self.users[user].devices, &self.queues)
     }
 
-    /// How many lines the console of a user has printed.
+    /// Returns how many lines the console of a user has printed.
     pub(crate) fn printed_by(&self, user: usize) -> usize
         requires { user < length self.now.users }
         ensures { result ≡ length (machine_at self.now user).output }
@@ -218,11 +222,12 @@ impl System {
         self.users[user].machine.printed()
     }
 
-    /// Does a work with the machine of a user, whose storage is lent to it.
+    /// Does an operation with a user's machine, whose storage is borrowed from the frames.
     #[inline(always)]
-    pub(crate) fn lend<W: Work>(&mut self, user: usize, work: &W) -> W::Answer
+    pub(crate) fn with_user<W: UserOp>(&mut self, user: usize, work: &W) -> W::Answer
         requires { user < length self.old.users }
-        ensures does { W.Does work.now self.old.directory user (user_at self.old user) self.old.supply result
+        ensures does { W.Does work.now self.old.directory user (user_at self.old user)
+            self.old.supply result
             (user_at self.new user) self.new.supply }
         ensures rest { self.new ≡ record self.old {
           users = slice_set self.old.users user (user_at self.new user);
@@ -233,7 +238,8 @@ impl System {
         ensures keeps { W.Keeps work.now user (user_at self.old user) self.old.supply result
             (kept_at self.old user) (kept_at self.new user) }
         ensures others_kept { self.new.kept ≡ slice_set self.old.kept user (kept_at self.new user) }
-        ensures confined { IsConfined (stands_at self.old user) self.old.volumes self.new.volumes }
+        ensures confined { IsConfined (placements_at self.old user) self.old.volumes
+            self.new.volumes }
         ensures between_before { IsBetweenUnits self.old.supply }
         ensures between { IsBetweenUnits self.new.supply }
     {
@@ -245,10 +251,9 @@ impl System {
             devices,
             minidisks,
             keys,
-            deliveries: _,
             reuse,
         } = seat;
-        lend(
+        with_user(
             machine,
             devices,
             &mut self.queues,
@@ -263,16 +268,16 @@ impl System {
         )
     }
 
-    /// A parcel comes to a user. Where memory is refused, each user's machine stays.
+    /// A parcel comes to a user. If memory is refused, each user's machine stays.
     pub(crate) fn deliver(&mut self, to: usize, parcel: Parcel) -> Result<(), AllocError>
         requires to { to < length self.old.users }
         requires there { IsThere self.old parcel }
-        ensures ok { OnOk result (Leaves as_reached (contents self.old parcel) (user_at self.old to) (user_at self.new to)) }
-        ensures rest { OnOk result (self.new ≡ record self.old {
-          users = slice_set self.old.users to (user_at self.new to);
-          deliveries = slice_set self.old.deliveries to (deliveries_at self.old to ++ note_of parcel ∷ []);
-        }) }
-        ensures err { OnErr result (self.new ≡ record self.old { deliveries = self.new.deliveries }) }
+        ensures ok { OnOk result
+            (Leaves as_reached (contents self.old parcel) (user_at self.old to)
+            (user_at self.new to)) }
+        ensures rest { OnOk result (self.new
+            ≡ record self.old { users = slice_set self.old.users to (user_at self.new to) }) }
+        ensures err { OnErr result (self.new ≡ self.old) }
     {
         self.users[to].receive(&mut self.queues, parcel)
     }
@@ -280,45 +285,81 @@ impl System {
     /// A file of a user gets the next number.
     pub(crate) fn note(&mut self, user: UserNo, kind: FileKind) -> Result<(), AllocError>
         ensures ok { OnOk result (self.new
-            ≡ record self.old { files = self.old.files ++ record { user = user; kind = kind } ∷ [] }) }
+            ≡ record self.old {
+              files = self.old.files
+                  ++ record { user = user; kind = kind } ∷ [];
+            }) }
         ensures err { OnErr result (self.new ≡ self.old) }
     {
         self.files.push(FileNote { user, kind })?;
         Ok(())
     }
 
-    /// Applies an event: to the user whom it names, and to whom it delivers something, it is what happens to a machine
-    /// of his own; every other user's machine stays.
+    /// Applies an event: to the user whom it names, and to whom it delivers something, it is what
+    /// happens to a machine of his own; every other user's machine stays.
     ///
     /// A system for which memory was refused is spent: from then on it answers nothing else.
+    ///
+    /// # Errors
+    ///
+    /// A `CpError`: no such user or device, a spent system, or refused memory, which ends the
+    /// system.
+    ///
+    /// # Examples
+    ///
+    /// ```
+    /// use cp_console::responses::Response;
+    /// use cp_core::{CpError, Event, Sizes, System};
+    /// use cp_directory::read_directory;
+    /// use machine_devices::Saying;
+    /// use user_names::UserNo;
+    ///
+    /// let directory = read_directory(alloc, b"USER A PW 8K\n")?;
+    /// let sizes = Sizes::new(16, 0).ok_or("too many frames")?;
+    /// let mut system = System::boot(alloc, directory, Vec::new(alloc), sizes)?;
+    /// let reply = system.apply(Event::Line(UserNo::new(0), b"LOGON"))?;
+    /// assert_eq!(rt; reply.said, Saying::Said(Response::LogonOk));
+    /// let nobody = system.apply(Event::Tick(UserNo::new(7))).err();
+    /// assert_eq!(rt; nobody, Some(CpError::NoSuchUser));
+    /// ```
     #[inline(always)]
     pub fn apply(&mut self, event: Event<'_>) -> Result<Reply, CpError>
         ensures views { IfOk result
-            (λ reply. IsApplied self.old (record { event = event.entry; reply = reply; seen = self.new })) }
-        ensures told { IfOk result
-            (λ reply. IsTold self.old (record { event = event.entry; reply = reply; seen = self.new })) }
-        ensures supplied { IfOk result (λ reply. IsSupplied self.old event.entry reply.ended self.new) }
-        ensures supplied_without_memory { result ≡ Err CpError.Memory → IsSuppliedInPart self.old event.entry self.new }
+            (λ reply. IsApplied self.old
+            (record { event = event.entry; reply = reply; seen = self.new })) }
+        ensures reported { IfOk result
+            (λ reply. IsReply self.old
+            (record { event = event.entry; reply = reply; seen = self.new })) }
+        ensures supplied { IfOk result
+            (λ reply. IsSupplied self.old event.entry reply.ended self.new) }
+        ensures supplied_without_memory { result ≡ Err CpError.Memory
+            → IsSuppliedInPart self.old event.entry self.new }
         ensures user { IsOk result → user_of event.entry < length self.old.users }
         ensures directory { self.new.directory ≡ self.old.directory }
-        ensures confined { IsConfined (stands_at self.old (user_of event.entry)) self.old.volumes self.new.volumes }
-        ensures stands { self.new.stands ≡ self.old.stands }
+        ensures confined { IsConfined (placements_at self.old (user_of event.entry))
+            self.old.volumes
+            self.new.volumes }
+        ensures placements { self.new.placements ≡ self.old.placements }
         ensures kept { IfOk result (λ reply. EventKeeps self.old event.entry reply.ended self.new) }
-        ensures kept_without_memory { result ≡ Err CpError.Memory → KeepsCutShort self.old event.entry self.new }
+        ensures kept_without_memory { result ≡ Err CpError.Memory
+            → KeepsCutShort self.old event.entry self.new }
         ensures alive { IsOk result → self.new.is_spent ≡ false }
         ensures spent { (result ≡ Err CpError.Spent) ↔ (self.old.is_spent ≡ true) }
         ensures unchanged_if_spent { result ≡ Err CpError.Spent → self.new ≡ self.old }
         ensures no_such_user { (result ≡ Err CpError.NoSuchUser)
             ↔ ((self.old.is_spent ≡ false) × (length self.old.users ≤ user_of event.entry)) }
-        ensures not_stated { result ≡ Err CpError.NoSuchUser → length self.old.directory ≤ user_of event.entry }
+        ensures not_stated { result ≡ Err CpError.NoSuchUser
+            → length self.old.directory ≤ user_of event.entry }
         ensures unchanged_for_nobody { result ≡ Err CpError.NoSuchUser → self.new ≡ self.old }
         ensures no_such_device { (result ≡ Err CpError.NoSuchDevice)
             ↔ ((self.old.is_spent ≡ false) × (user_of event.entry < length self.old.users)
             × LacksDevice self.old event.entry) }
         ensures unchanged_for_no_device { result ≡ Err CpError.NoSuchDevice → self.new ≡ self.old }
-        ensures memory { result ≡ Err CpError.Memory → (self.new.is_spent ≡ true) × MayTakeMemory self.old event.entry }
+        ensures memory { result ≡ Err CpError.Memory
+            → (self.new.is_spent ≡ true) × MayTakeMemory self.old event.entry }
         ensures unchanged_without_memory { result ≡ Err CpError.Memory → (user : ℕ)
-            → is_cut_short self.old event.entry user ≡ false → user_at self.new user ≡ user_at self.old user }
+            → is_cut_short self.old event.entry user ≡ false
+            → user_at self.new user ≡ user_at self.old user }
     {
         match event {
             Event::Run(user, units) => {
@@ -332,33 +373,42 @@ impl System {
         }
     }
 
-    /// Applies an event that is no run. It is out of line, so that a run has not to make room for what the others say.
+    /// Applies an event that is no run. It is out of line, so that a run need not make room for
+    /// what the others say.
     #[inline(never)]
     fn apply_apart(&mut self, event: Event<'_>) -> Result<Reply, CpError>
         requires { IsNoRun event }
         ensures step { IfOk result
-            (λ reply. IsReplied self.old (record { event = event.entry; reply = reply; seen = self.new })) }
-        ensures supplied_without_memory { result ≡ Err CpError.Memory → IsSuppliedInPart self.old event.entry self.new }
+            (λ reply. IsReplied self.old
+            (record { event = event.entry; reply = reply; seen = self.new })) }
+        ensures supplied_without_memory { result ≡ Err CpError.Memory
+            → IsSuppliedInPart self.old event.entry self.new }
         ensures user { IsOk result → user_of event.entry < length self.old.users }
         ensures directory { self.new.directory ≡ self.old.directory }
-        ensures confined { IsConfined (stands_at self.old (user_of event.entry)) self.old.volumes self.new.volumes }
-        ensures stands { self.new.stands ≡ self.old.stands }
+        ensures confined { IsConfined (placements_at self.old (user_of event.entry))
+            self.old.volumes
+            self.new.volumes }
+        ensures placements { self.new.placements ≡ self.old.placements }
         ensures kept { IfOk result (λ reply. EventKeeps self.old event.entry reply.ended self.new) }
-        ensures kept_without_memory { result ≡ Err CpError.Memory → KeepsCutShort self.old event.entry self.new }
+        ensures kept_without_memory { result ≡ Err CpError.Memory
+            → KeepsCutShort self.old event.entry self.new }
         ensures alive { IsOk result → self.new.is_spent ≡ false }
         ensures spent { (result ≡ Err CpError.Spent) ↔ (self.old.is_spent ≡ true) }
         ensures unchanged_if_spent { result ≡ Err CpError.Spent → self.new ≡ self.old }
         ensures no_such_user { (result ≡ Err CpError.NoSuchUser)
             ↔ ((self.old.is_spent ≡ false) × (length self.old.users ≤ user_of event.entry)) }
-        ensures not_stated { result ≡ Err CpError.NoSuchUser → length self.old.directory ≤ user_of event.entry }
+        ensures not_stated { result ≡ Err CpError.NoSuchUser
+            → length self.old.directory ≤ user_of event.entry }
         ensures unchanged_for_nobody { result ≡ Err CpError.NoSuchUser → self.new ≡ self.old }
         ensures no_such_device { (result ≡ Err CpError.NoSuchDevice)
             ↔ ((self.old.is_spent ≡ false) × (user_of event.entry < length self.old.users)
             × LacksDevice self.old event.entry) }
         ensures unchanged_for_no_device { result ≡ Err CpError.NoSuchDevice → self.new ≡ self.old }
-        ensures memory { result ≡ Err CpError.Memory → (self.new.is_spent ≡ true) × MayTakeMemory self.old event.entry }
+        ensures memory { result ≡ Err CpError.Memory
+            → (self.new.is_spent ≡ true) × MayTakeMemory self.old event.entry }
         ensures unchanged_without_memory { result ≡ Err CpError.Memory → (user : ℕ)
-            → is_cut_short self.old event.entry user ≡ false → user_at self.new user ≡ user_at self.old user }
+            → is_cut_short self.old event.entry user ≡ false
+            → user_at self.new user ≡ user_at self.old user }
     {
         match event {
             Event::Run(_, _) => unreachable!(),
@@ -397,15 +447,17 @@ impl System {
     #[inline(always)]
     fn run(&mut self, user: usize, units: u32) -> Reply
         requires { user < length self.old.users }
-        ensures step { IsReplied self.old (record { event = Event.Run user units; reply = result; seen = self.new }) }
+        ensures step { IsReplied self.old
+            (record { event = Event.Run user units; reply = result; seen = self.new }) }
         ensures directory { self.new.directory ≡ self.old.directory }
-        ensures confined { IsConfined (stands_at self.old user) self.old.volumes self.new.volumes }
-        ensures stands { self.new.stands ≡ self.old.stands }
+        ensures confined { IsConfined (placements_at self.old user) self.old.volumes
+            self.new.volumes }
+        ensures placements { self.new.placements ≡ self.old.placements }
         ensures kept { self.new.kept ≡ self.old.kept }
         ensures spent { self.new.is_spent ≡ self.old.is_spent }
     {
         let before = self.printed_by(user);
-        let ran = self.lend(user, &Units(units));
+        let ran = self.with_user(user, &Units(units));
         Reply {
             ended: Ended::Ran(ran),
             said: Saying::of(notice_of(ran.reason)),
@@ -417,14 +469,16 @@ impl System {
     /// The timer of a user's machine ticks. This takes no memory.
     fn tick(&mut self, user: usize) -> Reply
         requires { user < length self.old.users }
-        ensures step { IsReplied self.old (record { event = Event.Tick user; reply = result; seen = self.new }) }
+        ensures step { IsReplied self.old
+            (record { event = Event.Tick user; reply = result; seen = self.new }) }
         ensures directory { self.new.directory ≡ self.old.directory }
-        ensures confined { IsConfined (stands_at self.old user) self.old.volumes self.new.volumes }
-        ensures stands { self.new.stands ≡ self.old.stands }
+        ensures confined { IsConfined (placements_at self.old user) self.old.volumes
+            self.new.volumes }
+        ensures placements { self.new.placements ≡ self.old.placements }
         ensures kept { self.new.kept ≡ self.old.kept }
         ensures spent { self.new.is_spent ≡ self.old.is_spent }
     {
-        match self.lend(user, &Tick) {
+        match self.with_user(user, &Tick) {
             Ok(()) => Reply::silent(Ended::Done),
             Err(_) => Reply::silent(Ended::FramesOut),
         }
@@ -438,10 +492,13 @@ impl System {
             (record { event = Event.Serve user device; reply = reply; seen = self.new })) }
         ensures cut { OnErr result (IsCutShort self.old (Event.Serve user device) self.new) }
         ensures directory { self.new.directory ≡ self.old.directory }
-        ensures confined { IsConfined (stands_at self.old user) self.old.volumes self.new.volumes }
-        ensures stands { self.new.stands ≡ self.old.stands }
-        ensures kept { IfOk result (λ reply. EventKeeps self.old (Event.Serve user device) reply.ended self.new) }
-        ensures kept_without_memory { OnErr result (KeepsCutShort self.old (Event.Serve user device) self.new) }
+        ensures confined { IsConfined (placements_at self.old user) self.old.volumes
+            self.new.volumes }
+        ensures placements { self.new.placements ≡ self.old.placements }
+        ensures kept { IfOk result
+            (λ reply. EventKeeps self.old (Event.Serve user device) reply.ended self.new) }
+        ensures kept_without_memory { OnErr result
+            (KeepsCutShort self.old (Event.Serve user device) self.new) }
         ensures spent { self.new.is_spent ≡ self.old.is_spent }
     {
         let before = self.printed_by(user);
@@ -449,7 +506,7 @@ impl System {
             alloc: self.alloc,
             device,
         };
-        match self.lend(user, &service) {
+        match self.with_user(user, &service) {
             Ok(done) => Ok(Reply {
                 ended: Ended::Served(done),
                 said: Saying::Nothing,
@@ -462,7 +519,7 @@ impl System {
     }
 }
 
-/// How often programs of these users' devices were run again.
+/// Returns how often programs of these users' devices were run again.
 fn reuses_of(users: &[UserMachine]) -> u64
     ensures { result ≡ reuses_in (map (λ user. user.reuse) users.now) }
 {
@@ -473,7 +530,8 @@ fn reuses_of(users: &[UserMachine]) -> u64
     sum
 }
 
-/// Whatever the events: each user's machine with its devices is the bare machine that was given that user's own.
+/// States that after any events each user's machine is the bare machine that was given that user's
+/// own events.
 pub fn each_is_bare()
     ensures { EachIsBare }
 {}

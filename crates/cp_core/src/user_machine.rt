@@ -1,14 +1,15 @@
-//! A user's machine with its devices, of which the storage stands in frames.
-ghost use Rattle.std.specs.Prelude.{◌≡◌, ◌<◌, ◌≤◌, ◌*◌, ◌++◌, ◌∷◌, [], ℕ, List, Err, IfOk, OnErr, OnOk, false, length, map, replicate};
+//! A user's machine with its devices, of which the storage is in frames.
+ghost use Rattle.std.specs.Prelude.{◌≡◌, ◌<◌, ◌≤◌, ◌*◌, ◌++◌, ℕ, List, Err, IfOk, OnErr, OnOk};
+ghost use Rattle.std.specs.Prelude.{false, length, map, replicate};
 ghost use Rattle.s370_channel.specs.Reading.{as_reached};
 ghost use Rattle.machine_devices.specs.Devices.{can_attach, devices_new, places_of};
 ghost use Rattle.machine_devices.specs.declared.attaching.AttachError.TheVariants as attaching;
 ghost use Rattle.machine_devices.specs.Life.{Leaves};
-ghost use Rattle.machine_devices.specs.Lent.{KeepsBeside, parts_new};
-ghost use Rattle.cp_core.specs.Parcels.{IsThereIn, contents_in, note_of};
+ghost use Rattle.machine_devices.specs.Lent.{KeepsOtherUsers, parts_new};
+ghost use Rattle.cp_core.specs.Parcels.{IsThereIn, contents_in};
 ghost use Rattle.cp_core.specs.UserMachines.{IsUnused, seat_on, user_with};
 ghost use Rattle.ckd_volume.specs.Volume.{VolumeFormat};
-ghost use Rattle.cp_volumes.specs.Shared.{disks_on, stands_of};
+ghost use Rattle.cp_volumes.specs.Shared.{disks_on, placements_of};
 ghost use Rattle.cp_resident.specs.Reuse.{kept_none};
 
 use crate::delivery::Parcel;
@@ -16,7 +17,7 @@ use cp_console::responses::Response;
 use cp_resident::Reuse;
 use cp_spool::Queues;
 use cp_volumes::SharedDisk;
-use machine_devices::{AttachError, Delivery, Devices, Places};
+use machine_devices::{AttachError, Devices, Places};
 use machine_panel::Machine;
 use s370_num::{DevAddr, StorageKey};
 use std::alloc::{AllocError, Global};
@@ -24,15 +25,14 @@ use std::marker::Model;
 use unit_record::Sender;
 use user_names::UserNo;
 
-/// A user's machine with its devices but for the bytes of its storage and the cylinders of its minidisks, and what was
-/// delivered to him.
+/// A user's machine with its devices but for the bytes of its storage and the cylinders of its
+/// minidisks.
 #[derive(Drop)]
 pub(crate) struct UserMachine {
     pub(crate) machine: Machine,
     pub(crate) devices: Devices,
     pub(crate) minidisks: Vec<SharedDisk>,
     pub(crate) keys: Vec<StorageKey>,
-    pub(crate) deliveries: Vec<Delivery>,
     pub(crate) reuse: Reuse,
 }
 
@@ -46,14 +46,13 @@ impl Model for UserMachine {
       devices = u.devices;
       minidisks = u.minidisks.items;
       keys = u.keys.items;
-      deliveries = u.deliveries.items;
       reuse = u.reuse;
     } };
 }
 
 impl UserMachine {
-    /// A machine that is off, with zero keys for this many pages of 4096 bytes, devices at these places, and these
-    /// minidisks.
+    /// Returns a machine that is off, with zero keys for this many pages of 4096 bytes, devices at
+    /// these places, and these minidisks.
     pub(crate) fn new(
         alloc: Global,
         user: UserNo,
@@ -64,11 +63,12 @@ impl UserMachine {
         requires { pages ≤ 1024 }
         ensures keys { IfOk result (λ user. user.keys ≡ replicate (pages * 2) 0) }
         ensures parts { (volumes : List VolumeFormat)
-            → IfOk result (λ user. IsUnused user.parts (devices_new places) (disks_on volumes minidisks.items)) }
+            → IfOk result (λ user. IsUnused user.parts (devices_new places)
+            (disks_on volumes minidisks.items)) }
         ensures devices { IfOk result (λ seat. seat.devices ≡ parts_new places user) }
         ensures minidisks { IfOk result (λ user. user.minidisks ≡ minidisks.items) }
-        ensures deliveries { IfOk result (λ user. user.deliveries ≡ []) }
-        ensures kept { IfOk result (λ user. user.reuse ≡ kept_none (length (stands_of minidisks.items))) }
+        ensures kept { IfOk result
+            (λ user. user.reuse ≡ kept_none (length (placements_of minidisks.items))) }
         ensures address { result ≡ Err attaching.Address
             → can_attach (places_of places ++ map (λ disk. disk.address) minidisks.items) ≡ false }
     {
@@ -88,14 +88,13 @@ impl UserMachine {
                 devices,
                 minidisks,
                 keys,
-                deliveries: Vec::new(alloc),
                 reuse,
             }),
             Err(error) => Err(error),
         }
     }
 
-    /// A parcel comes to the user. Where memory is refused, his machine stays.
+    /// A parcel comes to the user. If memory is refused, his machine stays.
     pub(crate) fn receive(&mut self, queues: &mut Queues, parcel: Parcel) -> Result<(), AllocError>
         requires owner { self.old.devices.user < length queues.old.users }
         requires there { IsThereIn queues.old parcel }
@@ -106,13 +105,12 @@ impl UserMachine {
         ensures err { (volumes : List VolumeFormat) (bytes : List ℕ)
             → OnErr result (user_with (seat_on queues.new self.new) volumes bytes
             ≡ user_with (seat_on queues.old self.old) volumes bytes) }
-        ensures beside { KeepsBeside self.old.devices queues.old self.new.devices queues.new }
+        ensures other_users { KeepsOtherUsers self.old.devices queues.old self.new.devices
+            queues.new }
         ensures minidisks { self.new.minidisks ≡ self.old.minidisks }
-        ensures noted { OnOk result (self.new.deliveries ≡ self.old.deliveries ++ note_of parcel ∷ []) }
         ensures keys { self.new.keys ≡ self.old.keys }
         ensures kept { self.new.reuse ≡ self.old.reuse }
     {
-        self.deliveries.push(parcel.note())?;
         match parcel {
             Parcel::Deck(number, cards) => {
                 self.devices.deck(queues, number, Sender::System, cards)
@@ -127,7 +125,7 @@ impl UserMachine {
     }
 }
 
-/// The address of each of these minidisks.
+/// Returns the address of each of these minidisks.
 fn addresses_of(alloc: Global, minidisks: &[SharedDisk]) -> Result<Vec<DevAddr>, AllocError>
     ensures { IfOk result (λ made. made.items ≡ map (λ disk. disk.address) minidisks.now) }
 {

@@ -1,5 +1,5 @@
-//! What is seen of a user's machine with its devices. No view takes memory; where there is no such user the answer is
-//! `None`.
+//! What is seen of a user's machine with its devices. No view takes memory; where there is no such
+//! user the answer is `None`.
 ghost use Rattle.std.specs.Prelude.{◌≡◌, ◌<◌, ◌↔◌, IfSome, IsSome, length, slice_get};
 ghost use Rattle.std.specs.List.{find};
 ghost use Rattle.std.specs.Option.{option_map};
@@ -7,12 +7,12 @@ ghost use Rattle.s370_subchannels.specs.Subchannels.{AreAscending};
 ghost use Rattle.machine_channels.specs.Disks.{is_disk_at};
 ghost use Rattle.cp_volumes.specs.Seen.{seen_disk};
 ghost use Rattle.cp_core.specs.UserMachines.{seat_with, user_with};
-ghost use Rattle.cp_core.specs.System.{deliveries_at, machine_at, user_at};
+ghost use Rattle.cp_core.specs.System.{machine_at, user_at};
 
 use crate::system::System;
 use crate::user_machine::UserMachine;
 use cp_volumes::SeenDisk;
-use machine_devices::{Delivery, SeenDevices};
+use machine_devices::SeenDevices;
 use machine_panel::Mode;
 use s370_intr::Pending;
 use s370_num::{DevAddr, StorageKey};
@@ -21,14 +21,13 @@ use s370_subchannels::Subchannel;
 use user_names::UserNo;
 
 impl System {
-    /// A user's machine with its devices but for the bytes of its storage.
+    /// Returns a user's machine with its devices but for the bytes of its storage.
     pub(crate) fn user(&self, user: UserNo) -> Option<&UserMachine>
         ensures some { IsSome result ↔ (user < length self.now.users) }
         ensures user { IfSome result
             (λ found. user_at self.now user
             ≡ user_with (seat_with (user_at self.now user).devices found.now) self.now.volumes
             (machine_at self.now user).core.processor.bytes) }
-        ensures deliveries { IfSome result (λ found. deliveries_at self.now user ≡ found.now.deliveries) }
     {
         let place = user.index();
         if place >= self.users() {
@@ -37,10 +36,11 @@ impl System {
         Some(&self.users[place])
     }
 
-    /// The general registers.
+    /// Returns the general registers.
     pub fn registers(&self, user: UserNo) -> Option<[u32; 16]>
         ensures some { IsSome result ↔ (user < length self.now.users) }
-        ensures value { IfSome result (λ general. general ≡ (machine_at self.now user).core.processor.cpu.general) }
+        ensures value { IfSome result
+            (λ general. general ≡ (machine_at self.now user).core.processor.cpu.general) }
     {
         match self.user(user) {
             Some(user) => Some(user.machine.cpu().general),
@@ -48,10 +48,11 @@ impl System {
         }
     }
 
-    /// The control registers.
+    /// Returns the control registers.
     pub fn control(&self, user: UserNo) -> Option<[u32; 16]>
         ensures some { IsSome result ↔ (user < length self.now.users) }
-        ensures value { IfSome result (λ control. control ≡ (machine_at self.now user).core.processor.cpu.control) }
+        ensures value { IfSome result
+            (λ control. control ≡ (machine_at self.now user).core.processor.cpu.control) }
     {
         match self.user(user) {
             Some(user) => Some(user.machine.cpu().control),
@@ -59,10 +60,11 @@ impl System {
         }
     }
 
-    /// The PSW.
+    /// Returns the PSW.
     pub fn psw(&self, user: UserNo) -> Option<Psw>
         ensures some { IsSome result ↔ (user < length self.now.users) }
-        ensures value { IfSome result (λ psw. psw ≡ (machine_at self.now user).core.processor.cpu.psw) }
+        ensures value { IfSome result
+            (λ psw. psw ≡ (machine_at self.now user).core.processor.cpu.psw) }
     {
         match self.user(user) {
             Some(user) => Some(user.machine.cpu().psw),
@@ -70,7 +72,7 @@ impl System {
         }
     }
 
-    /// Whether the machine is on, and whether it runs.
+    /// Returns whether the machine is on, and whether it runs.
     pub fn mode(&self, user: UserNo) -> Option<Mode>
         ensures some { IsSome result ↔ (user < length self.now.users) }
         ensures value { IfSome result (λ mode. mode ≡ (machine_at self.now user).mode) }
@@ -81,10 +83,11 @@ impl System {
         }
     }
 
-    /// The external conditions that are pending.
+    /// Returns the external conditions that are pending.
     pub fn pending(&self, user: UserNo) -> Option<Pending>
         ensures some { IsSome result ↔ (user < length self.now.users) }
-        ensures value { IfSome result (λ pending. pending ≡ (machine_at self.now user).core.pending) }
+        ensures value { IfSome result
+            (λ pending. pending ≡ (machine_at self.now user).core.pending) }
     {
         match self.user(user) {
             Some(user) => Some(user.machine.pending()),
@@ -92,11 +95,12 @@ impl System {
         }
     }
 
-    /// The subchannels of the devices, in the order of their addresses: each with the state of its device, and the
-    /// program that it was given or the status that is pending.
+    /// Returns the subchannels of the devices, in the order of their addresses: each with the state
+    /// of its device, and the program that it was given or the status that is pending.
     pub fn subchannels(&self, user: UserNo) -> Option<&[Subchannel]>
         ensures some { IsSome result ↔ (user < length self.now.users) }
-        ensures value { IfSome result (λ list. list.now ≡ (machine_at self.now user).core.subchannels) }
+        ensures value { IfSome result
+            (λ list. list.now ≡ (machine_at self.now user).core.subchannels) }
         ensures order { IfSome result (λ list. AreAscending list.now) }
     {
         match self.user(user) {
@@ -105,7 +109,7 @@ impl System {
         }
     }
 
-    /// The key of a block of 2048 bytes, `None` past storage too.
+    /// Returns the key of a block of 2048 bytes, `None` past storage too.
     pub fn key(&self, user: UserNo, block: u32) -> Option<StorageKey>
         ensures { result ≡ slice_get (machine_at self.now user).core.processor.keys block }
     {
@@ -115,7 +119,7 @@ impl System {
         }
     }
 
-    /// A byte of storage, `None` past storage too.
+    /// Returns a byte of storage, `None` past storage too.
     pub fn storage(&self, user: UserNo, address: u32) -> Option<u8>
         ensures { result ≡ slice_get (machine_at self.now user).core.processor.bytes address }
     {
@@ -125,7 +129,7 @@ impl System {
         self.frames.byte(user, address)
     }
 
-    /// How many lines the console has printed.
+    /// Returns how many lines the console has printed.
     pub fn printed(&self, user: UserNo) -> Option<usize>
         ensures some { IsSome result ↔ (user < length self.now.users) }
         ensures value { IfSome result (λ lines. lines ≡ length (machine_at self.now user).output) }
@@ -136,10 +140,11 @@ impl System {
         }
     }
 
-    /// The text of a line that the console has printed; `None` past the last line too. The line that is not finished
-    /// and those that wait are in [`System::spool`]'s console.
+    /// Returns the text of a line that the console has printed; `None` past the last line too. The
+    /// line that is not finished and those that wait are in [`System::spool`]'s console.
     pub fn console_output(&self, user: UserNo, line: usize) -> Option<&[u8]>
-        ensures { option_map (λ text. text.now) result ≡ slice_get (machine_at self.now user).output line }
+        ensures { option_map (λ text. text.now) result
+            ≡ slice_get (machine_at self.now user).output line }
     {
         match self.user(user) {
             Some(user) => user.machine.console_output(line),
@@ -147,8 +152,8 @@ impl System {
         }
     }
 
-    /// The console, reader, punch and printer: the reader's decks with their numbers, the open files of punch and
-    /// printer, and those that they have closed, each with its target.
+    /// Returns the console, reader, punch and printer: the reader's decks with their numbers, the
+    /// open files of punch and printer, and those that they have closed, each with its target.
     pub fn spool(&self, user: UserNo) -> Option<SeenDevices<'_>>
         ensures some { IsSome result ↔ (user < length self.now.users) }
         ensures value { IfSome result (λ devices. devices ≡ (user_at self.now user).devices) }
@@ -160,23 +165,14 @@ impl System {
         Some(self.devices_of(place))
     }
 
-    /// The disk at this address: its cylinders, its arm and its sense; `None` where the user has none there.
+    /// Returns the disk at this address: its cylinders, its arm and its sense; `None` where the
+    /// user has none there.
     pub fn minidisk(&self, user: UserNo, device: DevAddr) -> Option<SeenDisk<'_>>
         ensures { option_map seen_disk result
-            ≡ option_map (λ disk. disk.unit) (find (is_disk_at device) (user_at self.now user).disks) }
+            ≡ option_map (λ disk. disk.unit)
+            (find (is_disk_at device) (user_at self.now user).disks) }
     {
         let user = self.user(user)?;
         self.volumes.seen(&user.minidisks, device)
-    }
-
-    /// What replies told as delivered to the user since boot, in order.
-    pub fn deliveries(&self, user: UserNo) -> Option<&[Delivery]>
-        ensures some { IsSome result ↔ (user < length self.now.users) }
-        ensures value { IfSome result (λ list. list.now ≡ deliveries_at self.now user) }
-    {
-        match self.user(user) {
-            Some(user) => Some(user.deliveries.as_slice()),
-            None => None,
-        }
     }
 }

@@ -1,5 +1,5 @@
-//! What is done with the machine of one user while its storage is lent from frames: a run, a tick, a line,
-//! a serve.
+//! What is done with the machine of one user while its storage is borrowed from frames: a run, a
+//! tick, a line, a serve.
 ghost use Rattle.s370_store.specs.Memory.{memory_of};
 ghost use Rattle.std.specs.Prelude.{◌≡◌, ◌*◌, ℕ, ◌<◌, ◌≤◌, List, length, slice_set};
 ghost use Rattle.cp_directory.specs.Users.{DirectoryUser};
@@ -7,22 +7,22 @@ ghost use Rattle.cp_frames.specs.Layout.{FrameSupply, bytes_of};
 ghost use Rattle.cp_dat.specs.Lent.{KeepsFrames, lent_bytes, lent_memory, lent_pool, user_of};
 ghost use Rattle.cp_dat.specs.Supplied.{IsBetweenUnits};
 ghost use Rattle.machine_devices.specs.Equipped.{Equipped, equipped};
-ghost use Rattle.machine_devices.specs.Lent.{KeepsBeside, devices_on};
+ghost use Rattle.machine_devices.specs.Lent.{KeepsOtherUsers, devices_on};
 ghost use Rattle.cp_core.specs.Lending.{KeepsLent, MayBeLent, kept_in, machine_of};
 ghost use Rattle.cp_resident.specs.Reuse.{ReuseValue};
-ghost use Rattle.cp_volumes.specs.Shared.{IsUsers, KeepsNeighbours, disks_on, stands_of};
+ghost use Rattle.cp_volumes.specs.Shared.{IsUsers, KeepsOtherDisks, disks_on, placements_of};
 
 use crate::serving::{serve_supplied, type_supplied};
-use crate::world::Among;
+use crate::world::UserList;
 use arrayvec::ArrayVec;
 use cp_dat::Dat;
 use cp_directory::Directory;
 use cp_frames::Frames;
-use cp_resident::{Resident, Reuse};
+use cp_resident::{GuestChannels, Reuse};
 use cp_spool::Queues;
 use cp_trap::VirtualCpu;
 use cp_volumes::{SharedDisk, Volumes};
-use machine_devices::{Devices, Told};
+use machine_devices::{Devices, LineOutcome};
 use machine_panel::{LineError, Machine};
 use s370_intr::Ran;
 use s370_num::{DevAddr, StorageKey};
@@ -30,7 +30,8 @@ use s370_store::FramesOut;
 use std::alloc::Global;
 use user_names::UserNo;
 
-/// What is lent to a work beside the storage: the machine with its devices, and what users share.
+/// What is lent to an operation next to the storage: the machine with its devices, and what users
+/// share.
 #[derive(Drop)]
 pub(crate) struct Lent<'a> {
     pub(crate) machine: &'a mut Machine,
@@ -43,16 +44,20 @@ pub(crate) struct Lent<'a> {
 }
 
 /// What is done with the machine of one user.
-pub(crate) trait Work {
-    /// What it tells.
+pub(crate) trait UserOp {
+    /// What it says.
     type Answer;
 
-    /// Among these users, what it leaves of the machine with its devices and of the frames of this one, and tells.
-    ghost Does: { Self → List DirectoryUser → ℕ → Equipped → FrameSupply → Self.Answer → Equipped → FrameSupply
+    /// Among these users, what it leaves of the machine with its devices and of the frames of this
+    /// one, and says.
+    ghost Does: { Self → List DirectoryUser → ℕ → Equipped → FrameSupply → Self.Answer → Equipped
+        → FrameSupply
         → Type 0 };
 
-    /// To this one with this machine, over these frames, what it leaves of the programs that are kept.
-    ghost Keeps: { Self → ℕ → Equipped → FrameSupply → Self.Answer → ReuseValue → ReuseValue → Type 0 };
+    /// To this one with this machine, over these frames, what it leaves of the programs that are
+    /// kept.
+    ghost Keeps: { Self → ℕ → Equipped → FrameSupply → Self.Answer → ReuseValue → ReuseValue
+        → Type 0 };
 
     /// Does it. No frame is pinned before and after.
     fn work(
@@ -64,7 +69,8 @@ pub(crate) trait Work {
         requires { MayBeLent lent.old (lent_bytes storage.old) (lent_pool storage.old).supply }
         ensures does { let before = machine_of lent.old (lent_memory storage.old) in
             let after = machine_of lent.new (lent_memory storage.new) in
-            Does self.now directory.now (user_of storage.old) before (lent_pool storage.old).supply result
+            Does self.now directory.now (user_of storage.old) before (lent_pool storage.old).supply
+            result
             after (lent_pool storage.new).supply }
         ensures keeps { let before = machine_of lent.old (lent_memory storage.old) in
             Keeps self.now (user_of storage.old) before (lent_pool storage.old).supply result
@@ -74,9 +80,9 @@ pub(crate) trait Work {
         ensures between { IsBetweenUnits (lent_pool storage.new).supply };
 }
 
-/// Does a work with a machine, whose storage is lent from frames, with these keys.
+/// Does an operation with a machine, whose storage is borrowed from the frames, with these keys.
 #[inline(always)]
-pub(crate) fn lend<W: Work>(
+pub(crate) fn with_user<W: UserOp>(
     machine: &mut Machine,
     devices: &mut Devices,
     queues: &mut Queues,
@@ -92,21 +98,26 @@ pub(crate) fn lend<W: Work>(
     requires large { 8192 ≤ length (bytes_of frames.old user) }
     requires keyed { length (bytes_of frames.old user) ≤ 2048 * length keys.old }
     requires between { IsBetweenUnits frames.old.supply }
-    requires users { IsUsers volumes.old (stands_of minidisks.old.items) }
+    requires users { IsUsers volumes.old (placements_of minidisks.old.items) }
     requires owner { devices.old.user < length queues.old.users }
-    ensures does { let before = equipped machine.old (devices_on devices.old queues.old) (disks_on volumes.old minidisks.old.items)
+    ensures does { let before = equipped machine.old (devices_on devices.old queues.old)
+        (disks_on volumes.old minidisks.old.items)
         (memory_of (bytes_of frames.old user) keys.old) in
-        let after = equipped machine.new (devices_on devices.new queues.new) (disks_on volumes.new minidisks.new.items)
+        let after = equipped machine.new (devices_on devices.new queues.new)
+        (disks_on volumes.new minidisks.new.items)
         (memory_of (bytes_of frames.new user) keys.new) in
         W.Does work.now directory.now user before frames.old.supply result after frames.new.supply }
-    ensures keeps { let before = equipped machine.old (devices_on devices.old queues.old) (disks_on volumes.old minidisks.old.items)
+    ensures keeps { let before = equipped machine.old (devices_on devices.old queues.old)
+        (disks_on volumes.old minidisks.old.items)
         (memory_of (bytes_of frames.old user) keys.old) in
         W.Keeps work.now user before frames.old.supply result reuse.old reuse.new }
-    ensures others { frames.new.storages ≡ slice_set frames.old.storages user (bytes_of frames.new user) }
+    ensures others { frames.new.storages
+        ≡ slice_set frames.old.storages user (bytes_of frames.new user) }
     ensures size { length (bytes_of frames.new user) ≡ length (bytes_of frames.old user) }
     ensures between { IsBetweenUnits frames.new.supply }
-    ensures beside { KeepsBeside devices.old queues.old devices.new queues.new }
-    ensures neighbours { KeepsNeighbours (record { volumes = volumes.old; minidisks = minidisks.old.items })
+    ensures other_users { KeepsOtherUsers devices.old queues.old devices.new queues.new }
+    ensures other_disks { KeepsOtherDisks
+        (record { volumes = volumes.old; minidisks = minidisks.old.items })
         (record { volumes = volumes.new; minidisks = minidisks.new.items }) }
 {
     let mut lent = Lent {
@@ -125,10 +136,10 @@ pub(crate) fn lend<W: Work>(
 #[derive(Clone, Copy)]
 pub(crate) struct Units(pub(crate) u32);
 
-impl Work for Units {
+impl UserOp for Units {
     type Answer = Ran;
 
-    ghost use Rattle.cp_core.specs.Work.{HasRun};
+    ghost use Rattle.cp_core.specs.UserOp.{HasRun};
 
     ghost Does = { λ units directory. HasRun units.0 };
 
@@ -144,10 +155,10 @@ impl Work for Units {
 #[derive(Clone, Copy)]
 pub(crate) struct Tick;
 
-impl Work for Tick {
+impl UserOp for Tick {
     type Answer = Result<(), FramesOut>;
 
-    ghost use Rattle.cp_core.specs.Work.{HasTicked};
+    ghost use Rattle.cp_core.specs.UserOp.{HasTicked};
 
     ghost Does = { λ tick directory. HasTicked };
 
@@ -174,30 +185,36 @@ pub(crate) struct Line<'a> {
     pub(crate) typed: &'a [u8],
 }
 
-impl<'a> Work for Line<'a> {
-    type Answer = Result<Told, LineError>;
+impl<'a> UserOp for Line<'a> {
+    type Answer = Result<LineOutcome, LineError>;
 
-    ghost use Rattle.cp_core.specs.Among.{world_by};
+    ghost use Rattle.cp_core.specs.UserList.{world_by};
     ghost use Rattle.cp_core.specs.Keeps.{LineKeeps};
-    ghost use Rattle.cp_core.specs.Work.{HasTyped};
+    ghost use Rattle.cp_core.specs.UserOp.{HasTyped};
 
     ghost Does = { λ line directory user. HasTyped (world_by directory line) user line.typed.now };
 
-    ghost Keeps = { λ line user e supply told old new. LineKeeps line.typed.now e told old new };
+    ghost Keeps = { λ line user e supply reported old new.
+        LineKeeps line.typed.now e reported old new };
 
     fn work(
         &self,
         directory: &Directory,
         lent: &mut Lent<'_>,
         storage: &mut Dat<'_>,
-    ) -> Result<Told, LineError> {
-        let world = Among {
+    ) -> Result<LineOutcome, LineError> {
+        let world = UserList {
             users: directory.users(),
             own: self.user,
             on: self.on.as_slice(),
         };
-        let mut channels = Resident::take(self.alloc, lent.volumes, lent.minidisks, lent.reuse);
-        let told = type_supplied(
+        let mut channels = GuestChannels::take(
+            self.alloc,
+            lent.volumes,
+            lent.minidisks,
+            lent.reuse,
+        );
+        let reported = type_supplied(
             self.alloc,
             lent.devices,
             lent.queues,
@@ -208,7 +225,7 @@ impl<'a> Work for Line<'a> {
             self.typed,
         );
         channels.give(lent.volumes, lent.minidisks, lent.reuse);
-        told
+        reported
     }
 }
 
@@ -219,11 +236,11 @@ pub(crate) struct Service {
     pub(crate) device: DevAddr,
 }
 
-impl Work for Service {
+impl UserOp for Service {
     type Answer = Result<bool, LineError>;
 
     ghost use Rattle.cp_core.specs.Keeps.{ServeKeeps};
-    ghost use Rattle.cp_core.specs.Work.{HasServed};
+    ghost use Rattle.cp_core.specs.UserOp.{HasServed};
 
     ghost Does = { λ service directory. HasServed service.device };
 
@@ -235,7 +252,12 @@ impl Work for Service {
         lent: &mut Lent<'_>,
         storage: &mut Dat<'_>,
     ) -> Result<bool, LineError> {
-        let mut channels = Resident::take(self.alloc, lent.volumes, lent.minidisks, lent.reuse);
+        let mut channels = GuestChannels::take(
+            self.alloc,
+            lent.volumes,
+            lent.minidisks,
+            lent.reuse,
+        );
         let served = serve_supplied(
             lent.devices,
             lent.queues,

@@ -2,12 +2,12 @@
 ghost use Rattle.std.specs.Prelude.{◌≤◌, length};
 
 use cp_directory::User;
-use machine_devices::World;
+use machine_devices::UserDirectory;
 use user_names::{UserNo, name_of, user_of};
 
-/// What the control program knows beside the machine of one user.
+/// What the control program knows next to the machine of one user.
 #[derive(Clone, Copy)]
-pub(crate) struct Among<'a> {
+pub(crate) struct UserList<'a> {
     /// The users of the directory.
     pub(crate) users: &'a [User],
     /// The user whose machine it is.
@@ -17,8 +17,8 @@ pub(crate) struct Among<'a> {
     ghost few: { length users.now ≤ 64 },
 }
 
-impl<'a> World for Among<'a> {
-    ghost use Rattle.cp_core.specs.Among.{known_of};
+impl<'a> UserDirectory for UserList<'a> {
+    ghost use Rattle.cp_core.specs.UserList.{known_of};
 
     ghost known = { known_of };
 

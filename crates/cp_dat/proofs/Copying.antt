@@ -1,10 +1,13 @@
 -- Bytes that are copied out and put back, and pages that come for that.
-use Rattle.std.proofs.Common.{ℕ, ◌+◌, ◌-◌, ◌/◌, ◌%◌, ◌<◌, ◌≤◌, ◌≡◌, ◌++◌, List, [], ◌∷◌, Bool, true, false, Result, Ok, Err, OnOk, OnErr, length, get_or, take, drop, replicate, refl, sym, ap, subst, ◌∙◌, inl, inr, arith}
+use Rattle.std.proofs.Common.{ℕ, ◌+◌, ◌-◌, ◌/◌, ◌%◌, ◌<◌, ◌≤◌, ◌≡◌, ◌++◌, List, [], ◌∷◌, Bool, true, false, Result, Ok}
+use Rattle.std.proofs.Common.{Err, OnOk, OnErr, length, get_or, take, drop, replicate, refl, sym, ap, subst, ◌∙◌, inl}
+use Rattle.std.proofs.Common.{inr, arith}
 use Rattle.std.specs.Prelude.{slice_range, slice_index_or}
 use Rattle.std.specs.Bool.{⊤}
 use Rattle.std.proofs.Math.Seq.{take-add}
 use Rattle.std.proofs.lemmas.Bool.{cases_lt}
-use Rattle.std.proofs.lemmas.List.{ext_get_or, get_or-append_right, get_or_append_left, length-take-le, get_or-replicate}
+use Rattle.std.proofs.lemmas.List.{ext_get_or, get_or-append_right, get_or_append_left, length-take-le}
+use Rattle.std.proofs.lemmas.List.{get_or-replicate}
 use Rattle.std.proofs.lemmas.Grind.{common_steps}
 use Rattle.s370_store.specs.Access.{put}
 use Rattle.s370_store.specs.Memory.{Memory, with_stored}
@@ -14,36 +17,48 @@ use Rattle.cp_frames.specs.Layout.{IsZeroPage}
 use Rattle.cp_frames.specs.Paging.{IsRefused}
 use Rattle.cp_dat.specs.declared.dat.Dat.{Dat}
 use Rattle.cp_dat.specs.Copies.{AllAre, EachAre, CameOnly, StandAll, SameBeside, is_wanted}
-use Rattle.cp_dat.specs.Lent.{KeepsStored, is_lent_page, lent_bytes, lent_keys, lent_memory, lent_pool, user_of, keeps_stored_same}
+use Rattle.cp_dat.specs.Lent.{KeepsStored, is_lent_page, lent_bytes, lent_keys, lent_memory, lent_pool, user_of}
+use Rattle.cp_dat.specs.Lent.{keeps_stored_same}
 use Rattle.cp_dat.specs.Letting.{between_kept, came_none, came_on, let_go_came, let_go_out}
 use Rattle.cp_dat.specs.Supplied.{HasNoRoom, IsBetweenUnits, Stands, Supplied, TakesPins}
 
 -- ---- bytes
-put_within : (bytes xs : List ℕ) (start a : ℕ) → start + length xs ≤ length bytes → start ≤ a → a < start + length xs → get_or (put bytes start xs) a 0 ≡ get_or xs (a - start) 0
+put_within : (bytes xs : List ℕ) (start a : ℕ) → start + length xs ≤ length bytes → start ≤ a → a < start + length xs
+    → get_or (put bytes start xs) a 0 ≡ get_or xs (a - start) 0
 unfolding put
 put_within bytes xs start a h low high =
     let long : length (take start bytes) ≡ start = length-take-le start bytes (omega arith) in
-    get_or-append_right (take start bytes) (xs ++ drop (length xs) (drop start bytes)) start a 0 long low ∙ get_or_append_left xs (drop (length xs) (drop start bytes)) 0 (a - start) (omega arith)
+    get_or-append_right (take start bytes) (xs ++ drop (length xs) (drop start bytes)) start a 0 long low ∙
+    get_or_append_left xs (drop (length xs) (drop start bytes)) 0 (a - start) (omega arith)
 
-pub length-chunk : (xs : List ℕ) (start : ℕ) → start + 256 ≤ length xs → length (slice_range xs start (start + 256)) ≡ 256
+pub length-chunk : (xs : List ℕ) (start : ℕ) → start + 256 ≤ length xs
+    → length (slice_range xs start (start + 256)) ≡ 256
 length-chunk xs start inside = grind (arith, common_steps)
 
-pub chunk_at : (xs : List ℕ) (start k : ℕ) → start + 256 ≤ length xs → k < 256 → get_or (slice_range xs start (start + 256)) k 0 ≡ get_or xs (start + k) 0
+pub chunk_at : (xs : List ℕ) (start k : ℕ) → start + 256 ≤ length xs → k < 256
+    → get_or (slice_range xs start (start + 256)) k 0 ≡ get_or xs (start + k) 0
 chunk_at xs start k inside few = grind (arith, common_steps)
 
 -- what has the bytes of a part is the part
-pub is_chunk : (xs ys : List ℕ) (start : ℕ) → start + 256 ≤ length xs → length ys ≡ 256 → ((k : ℕ) → k < 256 → get_or ys k 0 ≡ get_or xs (start + k) 0) → ys ≡ slice_range xs start (start + 256)
+pub is_chunk : (xs ys : List ℕ) (start : ℕ) → start + 256 ≤ length xs → length ys ≡ 256
+    → ((k : ℕ) → k < 256 → get_or ys k 0 ≡ get_or xs (start + k) 0) → ys ≡ slice_range xs start (start + 256)
 is_chunk xs ys start inside long same =
-    ext_get_or 0 ys (slice_range xs start (start + 256)) (long ∙ sym (length-chunk xs start inside)) (λ k lt. (let few : k < 256 = omega (arith, lt, long) in same k few ∙ sym (chunk_at xs start k inside few)))
+    ext_get_or 0 ys (slice_range xs start (start + 256)) (long ∙ sym (length-chunk xs start inside))
+    (λ k lt. (let few : k < 256 = omega (arith, lt, long) in same k few ∙ sym (chunk_at xs start k inside few)))
 
-pub zero_chunk : (xs ys : List ℕ) (start : ℕ) → start + 256 ≤ length xs → start % 256 ≡ 0 → IsZeroPage xs (start / 4096) → ys ≡ replicate 256 0 → ys ≡ slice_range xs start (start + 256)
+pub zero_chunk : (xs ys : List ℕ) (start : ℕ) → start + 256 ≤ length xs → start % 256 ≡ 0 → IsZeroPage xs (start / 4096)
+    → ys ≡ replicate 256 0 → ys ≡ slice_range xs start (start + 256)
 zero_chunk xs ys start inside aligned zeros is =
     let long : length ys ≡ 256 = ap length is ∙ refl in
-    is_chunk xs ys start inside long (λ k few. (let page : (start + k) / 4096 ≡ start / 4096 = omega (arith, aligned, few) in ap (λ zs. get_or zs k 0) is ∙ get_or-replicate 256 k 0 0 few ∙ sym (zeros (start + k) page)))
+    is_chunk xs ys start inside long
+    (λ k few. (let page : (start + k) / 4096
+    ≡ start / 4096 = omega (arith, aligned, few) in ap (λ zs. get_or zs k 0) is ∙ get_or-replicate 256 k 0 0 few ∙
+    sym (zeros (start + k) page)))
 
 -- one more part is copied
 pub chunk_on : (xs : List ℕ) (start : ℕ) → take start xs ++ slice_range xs start (start + 256) ≡ take (start + 256) xs
-chunk_on xs start = let e : start + 256 - start ≡ 256 = omega arith in ap (λ k. take start xs ++ take k (drop start xs)) e ∙ sym (take-add start 256 xs)
+chunk_on xs start = let e : start + 256 - start ≡ 256 =
+    omega arith in ap (λ k. take start xs ++ take k (drop start xs)) e ∙ sym (take-add start 256 xs)
 
 -- the bytes below are those of one list, the others of another
 pub record IsPutTo (start : ℕ) (from old new : List ℕ) : Type 0 where
@@ -54,7 +69,9 @@ pub record IsPutTo (start : ℕ) (from old new : List ℕ) : Type 0 where
 pub put_none : (from old : List ℕ) → IsPutTo 0 from old old
 put_none from old = record { size = refl; below = λ a low. absurd (omega (arith, low)); above = λ a low. refl }
 
-pub put_part : (start : ℕ) (from old middle new : List ℕ) → length from ≡ length old → start + 256 ≤ length old → IsPutTo start from old middle → new ≡ put middle start (slice_range from start (start + 256)) → IsPutTo (start + 256) from old new
+pub put_part : (start : ℕ) (from old middle new : List ℕ) → length from ≡ length old → start + 256 ≤ length old
+    → IsPutTo start from old middle → new ≡ put middle start (slice_range from start (start + 256))
+    → IsPutTo (start + 256) from old new
 put_part start from old middle new long inside before is =
     let part : List ℕ = slice_range from start (start + 256) in
     let size : length part ≡ 256 = length-chunk from start (omega (arith, long, inside)) in
@@ -65,12 +82,16 @@ put_part start from old middle new long inside before is =
       below = λ a low. (elim (cases_lt a start) [
         | inl under ↦ ap (λ xs. get_or xs a 0) is ∙ put_before middle part start a fits under ∙ before.below a under
         | inr over ↦ (let e : start + (a - start) ≡ a = omega (arith, over) in
-            ap (λ xs. get_or xs a 0) is ∙ put_within middle part start a fits over (omega (arith, size, low)) ∙ chunk_at from start (a - start) (omega (arith, long, inside)) (omega (arith, low, over)) ∙ ap (λ k. get_or from k 0) e)
+            ap (λ xs. get_or xs a 0) is ∙ put_within middle part start a fits over (omega (arith, size, low)) ∙ chunk_at
+            from start (a - start) (omega (arith, long, inside)) (omega (arith, low, over)) ∙ ap
+            (λ k. get_or from k 0) e)
       ]);
-      above = λ a high. ap (λ xs. get_or xs a 0) is ∙ put_after middle part start a fits (omega (arith, size, high)) ∙ before.above a (omega (arith, high));
+      above = λ a high. ap (λ xs. get_or xs a 0) is ∙ put_after middle part start a fits (omega (arith, size, high)) ∙
+          before.above a (omega (arith, high));
     }
 
-pub put_same : (start : ℕ) (from old new : List ℕ) → IsPutTo start from old new → ((a : ℕ) → start ≤ a → a < start + 256 → get_or from a 0 ≡ get_or old a 0) → IsPutTo (start + 256) from old new
+pub put_same : (start : ℕ) (from old new : List ℕ) → IsPutTo start from old new
+    → ((a : ℕ) → start ≤ a → a < start + 256 → get_or from a 0 ≡ get_or old a 0) → IsPutTo (start + 256) from old new
 put_same start from old new before same = record {
   size = before.size;
   below = λ a low. (elim (cases_lt a start) [
@@ -80,76 +101,101 @@ put_same start from old new before same = record {
   above = λ a high. before.above a (omega (arith, high));
 }
 
-pub put_all : (start : ℕ) (from old new : List ℕ) → length from ≡ length old → IsPutTo start from old new → length old ≤ start → new ≡ from
+pub put_all : (start : ℕ) (from old new : List ℕ) → length from ≡ length old → IsPutTo start from old new
+    → length old ≤ start → new ≡ from
 put_all start from old new long before all =
     let size : length new ≡ length old = before.size in
     ext_get_or 0 new from (size ∙ sym long) (λ a lt. before.below a (omega (arith, lt, size, all)))
 
-pub unwanted_same : (wanted : List Bool) (start : ℕ) (old from : List ℕ) → start % 256 ≡ 0 → slice_index_or wanted (start / 4096) false ≡ false → SameBeside wanted old from → (a : ℕ) → start ≤ a → a < start + 256 → get_or from a 0 ≡ get_or old a 0
-unwanted_same wanted start old from aligned away beside a low high =
+pub unwanted_same : (wanted : List Bool) (start : ℕ) (old from : List ℕ) → start % 256 ≡ 0
+    → slice_index_or wanted (start / 4096) false ≡ false → SameBeside wanted old from → (a : ℕ) → start ≤ a
+    → a < start + 256 → get_or from a 0 ≡ get_or old a 0
+unwanted_same wanted start old from aligned away other_users a low high =
     let page : a / 4096 ≡ start / 4096 = omega (arith, aligned, low, high) in
-    beside a (ap (λ k. slice_index_or wanted k false) page ∙ away)
+    other_users a (ap (λ k. slice_index_or wanted k false) page ∙ away)
 
 -- ---- pages
 module _ (s t u : Dat) (page : ℕ) where
-  pub out_told : (r : Result ⊤ FramesOut) → IsBetweenUnits (lent_pool s).supply → OnErr r (Supplied s [] t) → OnErr r (IsRefused (lent_pool t).supply (user_of t) page) → TakesPins t u → OnErr r (HasNoRoom (lent_pool u).supply (user_of u) page)
+  pub out_told : (r : Result ⊤ FramesOut) → IsBetweenUnits (lent_pool s).supply → OnErr r (Supplied s [] t)
+      → OnErr r (IsRefused (lent_pool t).supply (user_of t) page) → TakesPins t u
+      → OnErr r (HasNoRoom (lent_pool u).supply (user_of u) page)
   out_told (Ok _) between refused short let_go = tt
   out_told (Err e) between refused short let_go = let_go_out s t u [] page between refused (omega arith) short let_go
 
-  pub came_told : (r : Result ⊤ FramesOut) → OnOk r (Supplied s (page ∷ []) t) → OnErr r (Supplied s [] t) → TakesPins t u → lent_keys u ≡ lent_keys s → CameOnly s (λ other. other ≡ page) u
-  came_told (Ok _) brought refused let_go keys = record { units = (page ∷ []) ∷ []; came = let_go_came s t u (page ∷ []) brought let_go; only = ((refl, tt), tt); keys = keys }
-  came_told (Err e) brought refused let_go keys = record { units = [] ∷ []; came = let_go_came s t u [] refused let_go; only = (tt, tt); keys = keys }
+  pub came_told : (r : Result ⊤ FramesOut) → OnOk r (Supplied s (page ∷ []) t) → OnErr r (Supplied s [] t)
+      → TakesPins t u → lent_keys u ≡ lent_keys s → CameOnly s (λ other. other ≡ page) u
+  came_told (Ok _) brought refused let_go keys =
+      record {
+        units = (page ∷ []) ∷ [];
+        paged_in = let_go_came s t u (page ∷ []) brought let_go;
+        only = ((refl, tt), tt);
+        keys = keys;
+      }
+  came_told (Err e) brought refused let_go keys =
+      record { units = [] ∷ []; paged_in = let_go_came s t u [] refused let_go; only = (tt, tt); keys = keys }
 
-pub came_nothing : (s t : Dat) (is_such : ℕ → Type 0) → IsBetweenUnits (lent_pool s).supply → KeepsStored s t → CameOnly s is_such t
-came_nothing s t is_such between kept = record { units = []; came = came_none s t 0 between kept.rest; only = tt; keys = kept.keys }
+pub came_nothing : (s t : Dat) (is_such : ℕ → Type 0) → IsBetweenUnits (lent_pool s).supply → KeepsStored s t
+    → CameOnly s is_such t
+came_nothing s t is_such between kept =
+    record { units = []; paged_in = came_none s t 0 between kept.rest; only = tt; keys = kept.keys }
 
 all_such : (P Q : ℕ → Type 0) → ((page : ℕ) → P page → Q page) → (pages : List ℕ) → AllAre P pages → AllAre Q pages
 all_such P Q more [] all = tt
 all_such P Q more (page ∷ pages) all = (more page all.0, all_such P Q more pages all.1)
 
-each_such : (P Q : ℕ → Type 0) → ((page : ℕ) → P page → Q page) → (units : List (List ℕ)) → EachAre P units → EachAre Q units
+each_such : (P Q : ℕ → Type 0) → ((page : ℕ) → P page → Q page) → (units : List (List ℕ)) → EachAre P units
+    → EachAre Q units
 each_such P Q more [] all = tt
 each_such P Q more (pages ∷ units) all = (all_such P Q more pages all.0, each_such P Q more units all.1)
 
-each_on : (P : ℕ → Type 0) (before after : List (List ℕ)) → EachAre P before → EachAre P after → EachAre P (before ++ after)
+each_on : (P : ℕ → Type 0) (before after : List (List ℕ)) → EachAre P before → EachAre P after
+    → EachAre P (before ++ after)
 each_on P [] after a b = b
 each_on P (pages ∷ before) after a b = (a.0, each_on P before after a.1 b)
 
-pub came_more : (s t u : Dat) (P Q : ℕ → Type 0) → ((page : ℕ) → P page → Q page) → CameOnly s Q t → CameOnly t P u → CameOnly s Q u
+pub came_more : (s t u : Dat) (P Q : ℕ → Type 0) → ((page : ℕ) → P page → Q page) → CameOnly s Q t → CameOnly t P u
+    → CameOnly s Q u
 came_more s t u P Q more a b = record {
   units = a.units ++ b.units;
-  came = came_on s t u a.units b.units a.came b.came;
+  paged_in = came_on s t u a.units b.units a.paged_in b.paged_in;
   only = each_on Q a.units b.units a.only (each_such P Q more b.units b.only);
   keys = b.keys ∙ a.keys;
 }
 
--- what stands somewhere goes on standing somewhere
-pub stands_on : (s t : Dat) (is_such : ℕ → Type 0) (page : ℕ) → CameOnly s is_such t → Stands (lent_pool s).supply (user_of s) page → Stands (lent_pool t).supply (user_of t) page
+-- what is somewhere goes on standing somewhere
+pub stands_on : (s t : Dat) (is_such : ℕ → Type 0) (page : ℕ) → CameOnly s is_such t
+    → Stands (lent_pool s).supply (user_of s) page → Stands (lent_pool t).supply (user_of t) page
 stands_on s t is_such page c stands =
-    subst (λ (user : ℕ). Stands (lent_pool t).supply user page) (sym c.came.kept.same_user) (c.came.brought.brought.kept (user_of s) page stands)
+    subst (λ (user : ℕ). Stands (lent_pool t).supply user page) (sym c.paged_in.kept.same_user)
+    (c.paged_in.brought.brought.kept (user_of s) page stands)
 
 -- ---- where pages are placed, and bytes put back
-pub wanted_page : (wanted : List Bool) (page : ℕ) → slice_index_or wanted page false ≡ true → (other : ℕ) → other ≡ page → is_wanted wanted other
+pub wanted_page : (wanted : List Bool) (page : ℕ) → slice_index_or wanted page false ≡ true → (other : ℕ) → other ≡ page
+    → is_wanted wanted other
 wanted_page wanted page it other same = ap (λ k. slice_index_or wanted k false) same ∙ it
 
 -- one more page has its place
-pub placed_on : (s t : Dat) (is_such : ℕ → Type 0) (wanted : List Bool) (page : ℕ) → CameOnly s is_such t → ((k : ℕ) → k < page → is_wanted wanted k → Stands (lent_pool s).supply (user_of s) k)
-    → (is_wanted wanted page → Stands (lent_pool t).supply (user_of t) page) → (k : ℕ) → k < page + 1 → is_wanted wanted k → Stands (lent_pool t).supply (user_of t) k
-placed_on s t is_such wanted page came before this k low it =
+pub placed_on : (s t : Dat) (is_such : ℕ → Type 0) (wanted : List Bool) (page : ℕ) → CameOnly s is_such t
+    → ((k : ℕ) → k < page → is_wanted wanted k → Stands (lent_pool s).supply (user_of s) k)
+    → (is_wanted wanted page → Stands (lent_pool t).supply (user_of t) page) → (k : ℕ) → k < page + 1
+    → is_wanted wanted k → Stands (lent_pool t).supply (user_of t) k
+placed_on s t is_such wanted page paged_in before this k low it =
     elim (cases_lt k page) [
-      | inl under ↦ stands_on s t is_such k came (before k under it)
+      | inl under ↦ stands_on s t is_such k paged_in (before k under it)
       | inr over ↦ (let same : k ≡ page = omega (arith, low, over) in
-          subst (λ (i : ℕ). Stands (lent_pool t).supply (user_of t) i) (sym same) (this (ap (λ i. slice_index_or wanted i false) (sym same) ∙ it)))
+          subst (λ (i : ℕ). Stands (lent_pool t).supply (user_of t) i) (sym same)
+          (this (ap (λ i. slice_index_or wanted i false) (sym same) ∙ it)))
     ]
 
-pub stand_on : (s t : Dat) (is_such : ℕ → Type 0) (wanted : List Bool) → CameOnly s is_such t → StandAll s wanted → StandAll t wanted
-stand_on s t is_such wanted came all page it = stands_on s t is_such page came (all page it)
+pub stand_on : (s t : Dat) (is_such : ℕ → Type 0) (wanted : List Bool) → CameOnly s is_such t → StandAll s wanted
+    → StandAll t wanted
+stand_on s t is_such wanted paged_in all page it = stands_on s t is_such page paged_in (all page it)
 
 -- each wanted page below this one has its place
 pub record IsPlacedTo (old : Dat) (wanted : List Bool) (page : ℕ) (new : Dat) : Type 0 where
   pub few : page ≤ length wanted
   pub stand : (k : ℕ) → k < page → is_wanted wanted k → Stands (lent_pool new).supply (user_of new) k
-  pub came : CameOnly old (is_wanted wanted) new
+  pub paged_in : CameOnly old (is_wanted wanted) new
   pub between : IsBetweenUnits (lent_pool new).supply
   pub memory : lent_memory new ≡ lent_memory old
 
@@ -157,17 +203,20 @@ pub placed_none : (old : Dat) (wanted : List Bool) → IsBetweenUnits (lent_pool
 placed_none old wanted between = record {
   few = omega arith;
   stand = λ k low it. absurd (omega (arith, low));
-  came = came_nothing old old (is_wanted wanted) between (keeps_stored_same old);
+  paged_in = came_nothing old old (is_wanted wanted) between (keeps_stored_same old);
   between = between;
   memory = refl;
 }
 
-pub placed_page : (old : Dat) (wanted : List Bool) (page : ℕ) (middle new : Dat) → page < length wanted → slice_index_or wanted page false ≡ true → IsPlacedTo old wanted page middle
-    → is_lent_page new page ≡ true → CameOnly middle (λ other. other ≡ page) new → IsBetweenUnits (lent_pool new).supply → lent_memory new ≡ lent_memory middle → IsPlacedTo old wanted (page + 1) new
-placed_page old wanted page middle new low it before there came between memory = record {
+pub placed_page : (old : Dat) (wanted : List Bool) (page : ℕ) (middle new : Dat) → page < length wanted
+    → slice_index_or wanted page false ≡ true → IsPlacedTo old wanted page middle
+    → is_lent_page new page ≡ true → CameOnly middle (λ other. other ≡ page) new → IsBetweenUnits (lent_pool new).supply
+    → lent_memory new ≡ lent_memory middle → IsPlacedTo old wanted (page + 1) new
+placed_page old wanted page middle new low it before there paged_in between memory = record {
   few = omega (arith, low);
-  stand = placed_on middle new (λ other. other ≡ page) wanted page came before.stand (λ _. inl there);
-  came = came_more old middle new (λ other. other ≡ page) (is_wanted wanted) (wanted_page wanted page it) before.came came;
+  stand = placed_on middle new (λ other. other ≡ page) wanted page paged_in before.stand (λ _. inl there);
+  paged_in = came_more old middle new (λ other. other ≡ page) (is_wanted wanted) (wanted_page wanted page it)
+      before.paged_in paged_in;
   between = between;
   memory = memory ∙ before.memory;
 }
@@ -175,7 +224,8 @@ placed_page old wanted page middle new low it before there came between memory =
 differ : {b : Bool} → b ≡ false → b ≡ true → ⊥
 differ away there = cc
 
-pub placed_by : (old : Dat) (wanted : List Bool) (page : ℕ) (new : Dat) → page < length wanted → slice_index_or wanted page false ≡ false → IsPlacedTo old wanted page new → IsPlacedTo old wanted (page + 1) new
+pub placed_by : (old : Dat) (wanted : List Bool) (page : ℕ) (new : Dat) → page < length wanted
+    → slice_index_or wanted page false ≡ false → IsPlacedTo old wanted page new → IsPlacedTo old wanted (page + 1) new
 placed_by old wanted page new low away before = record {
   few = omega (arith, low);
   stand = λ k under it. (elim (cases_lt k page) [
@@ -183,7 +233,7 @@ placed_by old wanted page new low away before = record {
     | inr over ↦ (let same : k ≡ page = omega (arith, under, over) in
         absurd (differ away (ap (λ i. slice_index_or wanted i false) (sym same) ∙ it)))
   ]);
-  came = before.came;
+  paged_in = before.paged_in;
   between = before.between;
   memory = before.memory;
 }
@@ -194,42 +244,56 @@ pub record IsBackTo (old : Dat) (from : List ℕ) (wanted : List Bool) (start : 
   pub few : start ≤ length (lent_bytes old)
   pub put : IsPutTo start from (lent_bytes old) (lent_bytes new)
   pub stand : StandAll new wanted
-  pub came : CameOnly old (is_wanted wanted) new
+  pub paged_in : CameOnly old (is_wanted wanted) new
   pub between : IsBetweenUnits (lent_pool new).supply
 
-pub back_none : (old : Dat) (from : List ℕ) (wanted : List Bool) → StandAll old wanted → IsBetweenUnits (lent_pool old).supply → IsBackTo old from wanted 0 old
+pub back_none : (old : Dat) (from : List ℕ) (wanted : List Bool) → StandAll old wanted
+    → IsBetweenUnits (lent_pool old).supply → IsBackTo old from wanted 0 old
 back_none old from wanted stand between = record {
   aligned = refl;
   few = omega arith;
   put = put_none from (lent_bytes old);
   stand = stand;
-  came = came_nothing old old (is_wanted wanted) between (keeps_stored_same old);
+  paged_in = came_nothing old old (is_wanted wanted) between (keeps_stored_same old);
   between = between;
 }
 
-module _ (old : Dat) (from : List ℕ) (wanted : List Bool) (start : ℕ) (middle : Dat) (whole : length (lent_bytes old) % 4096 ≡ 0) (low : start < length (lent_bytes old)) (long : length from ≡ length (lent_bytes old)) (before : IsBackTo old from wanted start middle) where
+module _ (old : Dat) (from : List ℕ) (wanted : List Bool) (start : ℕ) (middle : Dat)
+    (whole : length (lent_bytes old) % 4096 ≡ 0) (low : start < length (lent_bytes old))
+    (long : length from ≡ length (lent_bytes old)) (before : IsBackTo old from wanted start middle) where
   pub inside : start + 256 ≤ length (lent_bytes old)
   inside = let aligned = before.aligned in omega (arith, aligned, whole, low)
 
-  pub back_by : SameBeside wanted (lent_bytes old) from → slice_index_or wanted (start / 4096) false ≡ false → IsBackTo old from wanted (start + 256) middle
-  back_by beside away = record {
+  pub back_by : SameBeside wanted (lent_bytes old) from → slice_index_or wanted (start / 4096) false ≡ false
+      → IsBackTo old from wanted (start + 256) middle
+  back_by other_users away = record {
     aligned = (let aligned = before.aligned in omega (arith, aligned));
     few = inside;
-    put = put_same start from (lent_bytes old) (lent_bytes middle) before.put (unwanted_same wanted start (lent_bytes old) from before.aligned away beside);
+    put = put_same start from (lent_bytes old) (lent_bytes middle) before.put
+        (unwanted_same wanted start (lent_bytes old) from before.aligned away other_users);
     stand = before.stand;
-    came = before.came;
+    paged_in = before.paged_in;
     between = before.between;
   }
 
-  pub back_on : (fetched new : Dat) → slice_index_or wanted (start / 4096) false ≡ true → CameOnly middle (λ other. other ≡ start / 4096) fetched → IsBetweenUnits (lent_pool fetched).supply → lent_memory fetched ≡ lent_memory middle
-      → KeepsStored fetched new → lent_memory new ≡ with_stored (lent_memory fetched) start (slice_range from start (start + 256)) → IsBackTo old from wanted (start + 256) new
-  back_on fetched new it came between same kept stored =
-      let all : CameOnly middle (λ other. other ≡ start / 4096) new = came_more middle fetched new (λ other. ⊥) (λ other. other ≡ start / 4096) (λ page none. absurd none) came (came_nothing fetched new (λ other. ⊥) between kept) in
+  pub back_on : (fetched new : Dat) → slice_index_or wanted (start / 4096) false ≡ true
+      → CameOnly middle (λ other. other ≡ start / 4096) fetched → IsBetweenUnits (lent_pool fetched).supply
+      → lent_memory fetched ≡ lent_memory middle
+      → KeepsStored fetched new
+      → lent_memory new ≡ with_stored (lent_memory fetched) start (slice_range from start (start + 256))
+      → IsBackTo old from wanted (start + 256) new
+  back_on fetched new it paged_in between same kept stored =
+      let all : CameOnly middle (λ other. other ≡ start / 4096) new =
+      came_more middle fetched new (λ other. ⊥) (λ other. other ≡ start / 4096) (λ page none. absurd none) paged_in
+      (came_nothing fetched new (λ other. ⊥) between kept) in
       record {
         aligned = (let aligned = before.aligned in omega (arith, aligned));
         few = inside;
-        put = put_part start from (lent_bytes old) (lent_bytes middle) (lent_bytes new) long inside before.put (ap (λ (m : Memory). m.bytes) (stored ∙ ap (λ (m : Memory). with_stored m start (slice_range from start (start + 256))) same));
+        put = put_part start from (lent_bytes old) (lent_bytes middle) (lent_bytes new) long inside before.put
+            (ap (λ (m : Memory). m.bytes)
+            (stored ∙ ap (λ (m : Memory). with_stored m start (slice_range from start (start + 256))) same));
         stand = stand_on middle new (λ other. other ≡ start / 4096) wanted all before.stand;
-        came = came_more old middle new (λ other. other ≡ start / 4096) (is_wanted wanted) (wanted_page wanted (start / 4096) it) before.came all;
+        paged_in = came_more old middle new (λ other. other ≡ start / 4096) (is_wanted wanted)
+            (wanted_page wanted (start / 4096) it) before.paged_in all;
         between = between_kept fetched new kept.rest between;
       }

@@ -10,7 +10,8 @@ use Rattle.cp_dat.proofs.Brought.{at_there, one_for}
 first_held : (user page : ℕ) (old new : FrameSupply) → IsPageIn user old page new → IsHeld new user page
 first_held user page old new step = (one_for user page old new step).held page (0, omega arith, refl)
 
-stays_held : (user page other : ℕ) (old new : FrameSupply) → IsPageIn user old page new → IsHeld old user other → IsHeld new user other
+stays_held : (user page other : ℕ) (old new : FrameSupply) → IsPageIn user old page new → IsHeld old user other
+    → IsHeld new user other
 stays_held user page other old new step at =
     let stays = (one_for user page old new step).stays at.frame at.pinned in
     record { frame = at.frame; here = stays.kept ∙ at.here; pinned = stays.pinned }
@@ -19,25 +20,33 @@ held_there : (user page : ℕ) (supply : FrameSupply) → IsHeld supply user pag
 held_there user page supply at = at_there supply.owners user page at.frame at.here
 
 -- a page that is held doesn't come
-not_again : (user other : ℕ) (pages : List ℕ) (old held : FrameSupply) → IsHeld old user other → ArePageIns user old pages held → Contains pages other → ⊥
+not_again : (user other : ℕ) (pages : List ℕ) (old held : FrameSupply) → IsHeld old user other
+    → ArePageIns user old pages held → Contains pages other → ⊥
 not_again user other [] old held at chain (k, less, same) = absurd (omega (arith, less))
 not_again user other (page ∷ pages) old held at (next, step, rest) (zero, less, same) =
-    let there : is_there old.owners user page ≡ true = subst (λ (p : ℕ). is_there old.owners user p ≡ true) (sym same) (held_there user other old at) in
+    let there : is_there old.owners user page ≡ true =
+    subst (λ (p : ℕ). is_there old.owners user p ≡ true) (sym same) (held_there user other old at) in
     differ (ap (λ (o : Option ℕ). is_some o) step.absent) there
 not_again user other (page ∷ pages) old held at (next, step, rest) (suc k, less, same) =
     not_again user other pages next held (stays_held user page other old next step at) rest (k, omega arith, same)
 
-pub comes_once : (user : ℕ) (pages : List ℕ) (old held : FrameSupply) → ArePageIns user old pages held → AreDistinct pages
+pub comes_once : (user : ℕ) (pages : List ℕ) (old held : FrameSupply) → ArePageIns user old pages held
+    → AreDistinct pages
 comes_once user [] old held chain = tt
-comes_once user (page ∷ pages) old held (next, step, rest) =
-    (λ listed. not_again user page pages next held (first_held user page old next step) rest listed, comes_once user pages next held rest)
+comes_once user (page ∷ pages) old held (next, step, rest) = (
+  λ listed. not_again user page pages next held (first_held user page old next step) rest listed,
+  comes_once user pages next held rest,
+)
 
 -- what is held stays so until the unit ends
-held_on : (user other : ℕ) (pages : List ℕ) (old held : FrameSupply) → IsHeld old user other → ArePageIns user old pages held → IsHeld held user other
+held_on : (user other : ℕ) (pages : List ℕ) (old held : FrameSupply) → IsHeld old user other
+    → ArePageIns user old pages held → IsHeld held user other
 held_on user other [] old held at same = subst (λ (s : FrameSupply). IsHeld s user other) (sym same) at
-held_on user other (page ∷ pages) old held at (next, step, rest) = held_on user other pages next held (stays_held user page other old next step at) rest
+held_on user other (page ∷ pages) old held at (next, step, rest) =
+    held_on user other pages next held (stays_held user page other old next step at) rest
 
-pub stays_to_the_end : (user : ℕ) (pages : List ℕ) (old held : FrameSupply) (page : ℕ) → ArePageIns user old pages held → Contains pages page → is_there held.owners user page ≡ true
+pub stays_to_the_end : (user : ℕ) (pages : List ℕ) (old held : FrameSupply) (page : ℕ) → ArePageIns user old pages held
+    → Contains pages page → is_there held.owners user page ≡ true
 stays_to_the_end user [] old held page chain (k, less, same) = absurd (omega (arith, less))
 stays_to_the_end user (p ∷ pages) old held page (next, step, rest) (zero, less, same) =
     let at : IsHeld next user page = subst (λ (x : ℕ). IsHeld next user x) same (first_held user p old next step) in

@@ -1,5 +1,6 @@
 -- A user's storage as bytes, of which pages are put back.
-use Rattle.std.specs.Prelude.{◌≡◌, ℕ, ◌/◌, Bool, true, false, List, [], ◌∷◌, slice_index, slice_index_or}
+use Rattle.std.specs.Prelude.{◌≡◌, ℕ, ◌/◌, Bool, true, false, List, [], ◌∷◌, slice_index}
+use Rattle.std.specs.Prelude.{slice_index_or}
 use Rattle.cp_dat.specs.declared.dat.Dat.{Dat}
 use Rattle.cp_dat.specs.Lent.{lent_keys, lent_pool, user_of}
 use Rattle.cp_dat.specs.Supplied.{Stands, SuppliedUnits}
@@ -13,22 +14,25 @@ abbrev pub AllAre : (ℕ → Type 0) → List ℕ → Type 0
 AllAre is_such [] = Unit {0}
 AllAre is_such (page ∷ pages) = is_such page × AllAre is_such pages
 
+-- each page of each unit is such
 abbrev pub EachAre : (ℕ → Type 0) → List (List ℕ) → Type 0
 EachAre is_such [] = Unit {0}
 EachAre is_such (pages ∷ units) = AllAre is_such pages × EachAre is_such units
 
--- just such pages of the user came, in units, and no key was set: the same user of the same frames, with as many bytes, where
--- each other user has the bytes he had
+-- just such pages of the user came, in units, and no key was set: the same user of the same frames,
+-- with as many bytes, where each other user has the bytes he had
 pub record CameOnly (old : Dat) (is_such : ℕ → Type 0) (new : Dat) : Type 0 where
   pub units : List (List ℕ)
-  pub came : SuppliedUnits old units new
+  pub paged_in : SuppliedUnits old units new
   pub only : EachAre is_such units
   pub keys : lent_keys new ≡ lent_keys old
 
--- each wanted page stands in a frame or in a slot
+-- each wanted page is in a frame or in a slot
 abbrev pub StandAll : Dat → List Bool → Type 0
-StandAll d wanted = (page : ℕ) → is_wanted wanted page → Stands (lent_pool d).supply (user_of d) page
+StandAll d wanted = (page : ℕ) → is_wanted wanted page
+    → Stands (lent_pool d).supply (user_of d) page
 
 -- the bytes of pages that are not wanted are the same
 abbrev pub SameBeside : List Bool → List ℕ → List ℕ → Type 0
-SameBeside wanted old new = (address : ℕ) → slice_index_or wanted (address / 4096) false ≡ false → slice_index new address ≡ slice_index old address
+SameBeside wanted old new = (address : ℕ) → slice_index_or wanted (address / 4096) false ≡ false
+    → slice_index new address ≡ slice_index old address

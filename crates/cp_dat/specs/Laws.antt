@@ -10,8 +10,10 @@ AreDistinct (page ∷ pages) = (Contains pages page → ⊥) × AreDistinct page
 
 -- no page comes twice for a unit
 abbrev pub ComesOnce : Type 0
-ComesOnce = (user : ℕ) (pages : List ℕ) (old held : FrameSupply) → ArePageIns user old pages held → AreDistinct pages
+ComesOnce = (user : ℕ) (pages : List ℕ) (old held : FrameSupply) → ArePageIns user old pages held
+    → AreDistinct pages
 
--- each page that has come for a unit stands in a frame until the unit ends
+-- each page that has come for a unit is in a frame until the unit ends
 abbrev pub StaysToTheEnd : Type 0
-StaysToTheEnd = (user : ℕ) (pages : List ℕ) (old held : FrameSupply) (page : ℕ) → ArePageIns user old pages held → Contains pages page → is_there held.owners user page ≡ true
+StaysToTheEnd = (user : ℕ) (pages : List ℕ) (old held : FrameSupply) (page : ℕ)
+    → ArePageIns user old pages held → Contains pages page → is_there held.owners user page ≡ true

@@ -1,8 +1,10 @@
-//! A user's storage as bytes: copied out, wherever its pages stand, and put back page by page.
+//! A user's storage as bytes: copied out, wherever its pages are, and put back page by page.
 //!
-//! So a program can be tried on a copy: no page is brought for that. The pages that it needs are placed then, for which
-//! there may be no room; and only once they stand somewhere are the bytes put back, which nothing refuses.
-ghost use Rattle.std.specs.Prelude.{◌≡◌, ℕ, ◌+◌, ◌*◌, ◌/◌, ◌%◌, ◌<◌, ◌≤◌, true, length, slice_range, IfOk, IfErr, OnOk, OnErr};
+//! So a program can be tried on a copy: no page is brought for that. The pages that it needs are
+//! placed then, for which there may be no room; and only once they are somewhere are the bytes put
+//! back, which nothing refuses.
+ghost use Rattle.std.specs.Prelude.{◌≡◌, ℕ, ◌+◌, ◌*◌, ◌/◌, ◌%◌, ◌<◌, ◌≤◌, true, length};
+ghost use Rattle.std.specs.Prelude.{slice_range, IfOk, IfErr, OnOk, OnErr};
 ghost use Rattle.s370_store.specs.Access.{put};
 
 use crate::Dat;
@@ -15,10 +17,11 @@ const CHUNK: u32 = 256;
 
 impl<'a> Dat<'a> {
     ghost use Rattle.cp_dat.specs.Copies.{CameOnly, SameBeside, StandAll, is_wanted};
-    ghost use Rattle.cp_dat.specs.Lent.{lent_bytes, lent_keys, lent_memory, lent_pool, is_lent_page, user_of};
+    ghost use Rattle.cp_dat.specs.Lent.{lent_bytes, lent_keys, lent_memory, lent_pool};
+    ghost use Rattle.cp_dat.specs.Lent.{is_lent_page, user_of};
     ghost use Rattle.cp_dat.specs.Supplied.{HasNoRoom, IsBetweenUnits, Stands};
 
-    /// Copies 256 bytes of a page out, wherever it stands.
+    /// Copies 256 bytes of a page out, wherever it is.
     fn copy_chunk(&self, start: u32, into: &mut [u8])
         requires aligned { start % 256 ≡ 0 }
         requires inside { start + 256 ≤ length (lent_bytes self.now) }
@@ -52,7 +55,11 @@ impl<'a> Dat<'a> {
         }
     }
 
-    /// All bytes of the storage. No page has to stand in a frame for that.
+    /// Returns all bytes of the storage. No page has to be in a frame for that.
+    ///
+    /// # Errors
+    ///
+    /// `AllocError` if memory is refused.
     pub fn copy_out(&self, alloc: Global) -> Result<Vec<u8>, AllocError>
         ensures { IfOk result (λ made. made.items ≡ lent_bytes self.now) }
     {
@@ -67,7 +74,11 @@ impl<'a> Dat<'a> {
         Ok(made)
     }
 
-    /// The key of each block.
+    /// Returns the key of each block.
+    ///
+    /// # Errors
+    ///
+    /// `AllocError` if memory is refused.
     pub fn copy_keys(&self, alloc: Global) -> Result<Vec<StorageKey>, AllocError>
         ensures { IfOk result (λ made. made.items ≡ lent_keys self.now) }
     {
@@ -78,15 +89,21 @@ impl<'a> Dat<'a> {
         Ok(made)
     }
 
-    /// Brings a page into a frame, where it stands in none, and lets go of it. A page that stands somewhere is never
-    /// refused.
+    /// Brings a page into a frame, if it is in none, and unpins it. A page that is somewhere is
+    /// never refused.
+    ///
+    /// # Errors
+    ///
+    /// `FramesOut` if there is no room for a page that is needed; no byte has changed.
     pub fn fetch(&mut self, page: Page) -> Result<(), FramesOut>
         requires inside { page.0 * 4096 < length (lent_bytes self.old) }
         requires between { IsBetweenUnits (lent_pool self.old).supply }
         ensures there { OnOk result (is_lent_page self.new page.0 ≡ true) }
-        ensures out { OnErr result (HasNoRoom (lent_pool self.new).supply (user_of self.new) page.0) }
-        ensures nowhere { OnErr result (Stands (lent_pool self.old).supply (user_of self.old) page.0 → ⊥) }
-        ensures came { CameOnly self.old (λ other. other ≡ page.0) self.new }
+        ensures out { OnErr result
+            (HasNoRoom (lent_pool self.new).supply (user_of self.new) page.0) }
+        ensures nowhere { OnErr result
+            (Stands (lent_pool self.old).supply (user_of self.old) page.0 → ⊥) }
+        ensures paged_in { CameOnly self.old (λ other. other ≡ page.0) self.new }
         ensures between { IsBetweenUnits (lent_pool self.new).supply }
         ensures memory { lent_memory self.new ≡ lent_memory self.old }
     {
@@ -98,15 +115,19 @@ impl<'a> Dat<'a> {
         brought
     }
 
-    /// Sees that each wanted page stands somewhere, in a frame or in a slot. Where there is no room for one, this is told;
-    /// no byte has changed.
+    /// Brings each wanted page that is nowhere, so that each is in a frame or in a slot. If there
+    /// is no room for one, this is reported; no byte has changed.
+    ///
+    /// # Errors
+    ///
+    /// `FramesOut` if there is no room for a page that is needed; no byte has changed.
     pub fn place(&mut self, wanted: &[bool]) -> Result<(), FramesOut>
         requires inside { length wanted.now * 4096 ≤ length (lent_bytes self.old) }
         requires between { IsBetweenUnits (lent_pool self.old).supply }
         ensures stand { OnOk result (StandAll self.new wanted.now) }
         ensures out { OnErr result ((page : ℕ) × is_wanted wanted.now page
             × HasNoRoom (lent_pool self.new).supply (user_of self.new) page) }
-        ensures came { CameOnly self.old (is_wanted wanted.now) self.new }
+        ensures paged_in { CameOnly self.old (is_wanted wanted.now) self.new }
         ensures between { IsBetweenUnits (lent_pool self.new).supply }
         ensures memory { lent_memory self.new ≡ lent_memory self.old }
     {
@@ -120,15 +141,16 @@ impl<'a> Dat<'a> {
         Ok(())
     }
 
-    /// Puts bytes into the wanted pages, which stand somewhere; the others have these bytes. Nothing refuses it.
+    /// Puts bytes into the wanted pages, which are somewhere; the others have these bytes. Nothing
+    /// refuses it.
     pub fn put_back(&mut self, from: &[u8], wanted: &[bool])
         requires long { length from.now ≡ length (lent_bytes self.old) }
         requires flags { length wanted.now * 4096 ≡ length (lent_bytes self.old) }
-        requires beside { SameBeside wanted.now (lent_bytes self.old) from.now }
+        requires other_users { SameBeside wanted.now (lent_bytes self.old) from.now }
         requires stand { StandAll self.old wanted.now }
         requires between { IsBetweenUnits (lent_pool self.old).supply }
         ensures bytes { lent_bytes self.new ≡ from.now }
-        ensures came { CameOnly self.old (is_wanted wanted.now) self.new }
+        ensures paged_in { CameOnly self.old (is_wanted wanted.now) self.new }
         ensures between { IsBetweenUnits (lent_pool self.new).supply }
     {
         let mut start = 0u32;
@@ -136,7 +158,7 @@ impl<'a> Dat<'a> {
             if wanted[(start / PAGE_SIZE) as usize] {
                 match self.fetch(Page(start / PAGE_SIZE)) {
                     Ok(()) => {}
-                    // It stands somewhere.
+                    // It is somewhere.
                     Err(FramesOut) => unreachable!(),
                 }
                 let first = start as usize;

@@ -1,5 +1,7 @@
 //! One user's storage, lent from the frames.
-ghost use Rattle.std.specs.Prelude.{◌≡◌, ◌+◌, ◌*◌, ◌/◌, ◌<◌, ◌≤◌, ◌↔◌, ◌%◌, true, length, replicate, slice_index_or, slice_set, is_some, Ok, IfOk, IfSome, IfNone, IsSome, OnErr, Some, None, false, [], ◌∷◌};
+ghost use Rattle.std.specs.Prelude.{◌≡◌, ◌+◌, ◌*◌, ◌/◌, ◌<◌, ◌≤◌, ◌↔◌, ◌%◌, true, length};
+ghost use Rattle.std.specs.Prelude.{replicate, slice_index_or, slice_set, is_some, Ok, IfOk};
+ghost use Rattle.std.specs.Prelude.{IfSome, IfNone, IsSome, OnErr, Some, None, false, [], ◌∷◌};
 ghost use Rattle.s370_store.specs.Access.{IsVerdict, tested};
 ghost use Rattle.cp_frames.specs.Layout.{bytes_of, frame_of, number_of, IsZeroPage};
 ghost use Rattle.cp_frames.specs.Paging.{IsBrought, IsOpen, IsRefused};
@@ -8,16 +10,17 @@ ghost use Rattle.cp_frames.specs.Tables.{segment_entry, page_entry};
 use cp_frames::{FrameNo, Frames};
 use s370_num::{AccessKey, StorageKey};
 use s370_store::{
-    Access, BLOCK_SIZE, Block, Fault, FramesOut, Keyed, Listed, PAGE_SIZE, Page, Range, Storage,
+    Access, BLOCK_SIZE, Block, Fault, FramesOut, KeySlice, Keyed, PAGE_SIZE, Page, Range, Storage,
     Supply, UnitSupply, may_access_block, passes_in_block, test_range,
 };
 use user_names::UserNo;
 
-/// One user's pages, of which those that stand in frames are present, and his storage keys.
+/// One user's pages, of which those that are in frames are present, and his storage keys.
 ///
-/// As a `Supply` it brings a page that is absent and pins it, so that it is not given up again before the pins are
-/// taken away, as `UnitSupply::let_go` does at the end of a unit. Where each frame is taken, the page longest in its
-/// frame among those not pinned is given up; where there is none, or no slot for it, it answers `FramesOut`.
+/// As a `Supply` it brings a page that is absent and pins it, so that it is not given up again
+/// before the pins are taken away, as `UnitSupply::let_go` does at the end of a unit. Where each
+/// frame is taken, the page longest in its frame among those not pinned is given up; where there is
+/// none, or no slot for it, it answers `FramesOut`.
 #[derive(Drop)]
 pub struct Dat<'a> {
     pub(crate) frames: &'a mut Frames,
@@ -30,9 +33,11 @@ pub struct Dat<'a> {
 }
 
 impl<'a> Dat<'a> {
-    ghost use Rattle.cp_dat.specs.Lent.{lent_bytes, lent_keys, lent_pool, lent_frame, is_lent_page, user_of, KeepsFrames};
+    ghost use Rattle.cp_dat.specs.Lent.{lent_bytes, lent_keys, lent_pool, lent_frame, is_lent_page};
+    ghost use Rattle.cp_dat.specs.Lent.{user_of, KeepsFrames};
 
-    /// Lends a user's pages, with a key for each 2048 bytes of his storage. A user who is not there has no bytes.
+    /// Borrows a user's pages as one storage, with a key for each 2048 bytes. A user who is not
+    /// there has no bytes.
     pub fn new(frames: &'a mut Frames, keys: &'a mut [StorageKey], user: UserNo) -> Dat<'a>
         requires { length (bytes_of frames.old user) ≤ 2048 * length keys.old }
         ensures same_frames { result.frames.ghost_name ≡ frames.entry.ghost_name }
@@ -50,7 +55,7 @@ impl<'a> Dat<'a> {
         }
     }
 
-    /// How many frames there are, whoever's pages stand in them.
+    /// Returns how many frames there are, whoever's pages are in them.
     pub fn frame_count(&self) -> u32
         ensures count { result ≡ length (lent_pool self.now).supply.owners }
         ensures few { result ≤ 4096 }
@@ -58,7 +63,7 @@ impl<'a> Dat<'a> {
         self.frames.count()
     }
 
-    /// The frame in which a page stands. A page that stands in none, and in no slot, is all zero.
+    /// Returns the frame in which a page is. A page that is in none, and in no slot, is all zero.
     pub fn frame_of(&self, page: Page) -> Option<FrameNo>
         requires { page.0 * 4096 < length (lent_bytes self.now) }
         ensures frame { number_of result ≡ lent_frame self.now page.0 }
@@ -69,15 +74,16 @@ impl<'a> Dat<'a> {
         self.frames.frame_of(self.user, page)
     }
 
-    /// The entry of a segment of 64K in the user's segment table.
+    /// Returns the entry of a segment of 64K in the user's segment table.
     pub fn segment_entry(&self, segment: u32) -> u32
         requires { segment < 64 }
-        ensures { result ≡ segment_entry (user_of self.now) (length (lent_bytes self.now) / 4096) segment }
+        ensures { result ≡ segment_entry (user_of self.now) (length (lent_bytes self.now) / 4096)
+            segment }
     {
         self.frames.segment_entry(self.user, segment)
     }
 
-    /// The entry of a page in the user's page tables.
+    /// Returns the entry of a page in the user's page tables.
     pub fn page_entry(&self, page: Page) -> u16
         requires { page.0 < 1024 }
         ensures { result ≡ page_entry (lent_frame self.now page.0) }
@@ -85,7 +91,7 @@ impl<'a> Dat<'a> {
         self.frames.page_entry(self.user, page)
     }
 
-    /// The user's page that stands in a frame; None where no page does, or another user's.
+    /// Returns the user's page that is in a frame; None if no page is in it, or another user's.
     pub fn page_in(&self, frame: FrameNo) -> Option<Page>
         ensures once { (p : Page) → (result ≡ Some p) ↔ (lent_frame self.now p.0 ≡ Some frame.0) }
         ensures inside { IfSome result (λ p. p.0 * 4096 < length (lent_bytes self.now)) }
@@ -100,7 +106,11 @@ impl<'a> Dat<'a> {
         }
     }
 
-    /// Brings a page into a frame, where it stands in none. No byte of any user changes.
+    /// Brings a page into a frame, where it is in none. No byte of any user changes.
+    ///
+    /// # Errors
+    ///
+    /// `FramesOut` if there is no room for a page that is needed; no byte has changed.
     pub fn bring(&mut self, page: Page) -> Result<FrameNo, FramesOut>
         requires { page.0 * 4096 < length (lent_bytes self.old) }
         ensures rest { KeepsFrames self.old self.new }
@@ -112,7 +122,8 @@ impl<'a> Dat<'a> {
             (user_of self.old) page.0 frame.0) }
         ensures unpinned { is_lent_page self.old page.0 ≡ false
             → IfOk result (λ frame. IsOpen (lent_pool self.old).supply.pins frame.0) }
-        ensures refused { OnErr result (IsRefused (lent_pool self.old).supply (user_of self.old) page.0) }
+        ensures refused { OnErr result
+            (IsRefused (lent_pool self.old).supply (user_of self.old) page.0) }
         ensures err { OnErr result ((lent_pool self.new).supply ≡ (lent_pool self.old).supply) }
     {
         self.frames.bring(self.user, page)
@@ -138,39 +149,45 @@ impl<'a> Dat<'a> {
         ensures storages { (lent_pool self.new).storages ≡ (lent_pool self.old).storages }
         ensures keys { lent_keys self.new ≡ lent_keys self.old }
         ensures supply { (lent_pool self.new).supply
-            ≡ record (lent_pool self.old).supply { pins = replicate (length (lent_pool self.old).supply.pins) false } }
+            ≡ record (lent_pool self.old).supply {
+              pins = replicate
+                  (length (lent_pool self.old).supply.pins) false;
+            } }
     {
         self.frames.unpin_all();
     }
 
-    /// The place among the bytes of all frames of an access within one block that one look grants: size and key pass
-    /// it, and its page stands in a frame.
+    /// Returns the place among the bytes of all frames of an access within one block that one look
+    /// grants: size and key pass it, and its page is in a frame.
     #[inline(always)]
     fn open_place(&self, range: Range, access: Access, key: AccessKey) -> Option<usize>
         requires some { 0 < range.count }
         requires one_block { range.start % 2048 + range.count ≤ 2048 }
         ensures granted { IsSome result
-            → IsVerdict (length (lent_bytes self.now)) (lent_keys self.now) (is_lent_page self.now) key
+            → IsVerdict (length (lent_bytes self.now)) (lent_keys self.now) (is_lent_page self.now)
+            key
             (tested access range ∷ []) (Ok tt) }
         ensures inside { IsSome result → range.start + range.count ≤ length (lent_bytes self.now) }
-        ensures frame { IfSome result (λ place. lent_frame self.now (range.start / 4096) ≡ Some (place / 4096)) }
+        ensures frame { IfSome result
+            (λ place. lent_frame self.now (range.start / 4096) ≡ Some (place / 4096)) }
         ensures offset { IfSome result (λ place. place % 4096 ≡ range.start % 4096) }
     {
         // A storage has whole blocks, so one that has a byte of a block has all of it.
         if range.start >= self.size {
             return None;
         }
-        if !passes_in_block(&Listed { keys: self.keys }, range, access, key) {
+        if !passes_in_block(&KeySlice { keys: self.keys }, range, access, key) {
             return None;
         }
         self.frames.place_at(self.user, range.start)
     }
 }
 
-/// The page of an address, for a page that is absent.
+/// Returns the page of an address, for a page that is absent.
 ///
-/// It is out of line so that the page's number is needed for nothing but the slot's place where the page is present:
-/// then the place has one form in the test and in the access that follows it, and the slot is looked at once.
+/// It is out of line so that the page's number is needed for nothing but the slot's place where the
+/// page is present: then the place has one form in the test and in the access that follows it, and
+/// the slot is looked at once.
 #[inline(never)]
 fn page_of(address: u32) -> Page
     ensures { result.0 ≡ address / 4096 }
@@ -179,7 +196,8 @@ fn page_of(address: u32) -> Page
 }
 
 impl<'a> Storage for Dat<'a> {
-    ghost use Rattle.cp_dat.specs.Lent.{lent_memory, is_lent_page, KeepsStored, keeps_stored_same, keeps_stored_on, keeps_rest_present};
+    ghost use Rattle.cp_dat.specs.Lent.{lent_memory, is_lent_page, KeepsStored, keeps_stored_same};
+    ghost use Rattle.cp_dat.specs.Lent.{keeps_stored_on, keeps_rest_present};
     ghost use Rattle.cp_dat.specs.Blocks.{IsInFrame, in_frame_kept};
 
     ghost memory = { lent_memory };
@@ -197,7 +215,7 @@ impl<'a> Storage for Dat<'a> {
 
     #[inline(always)]
     fn check(&self, range: Range, access: Access, key: AccessKey) -> Result<(), Fault> {
-        test_range(self.size, &Listed { keys: self.keys }, range, access, key)?;
+        test_range(self.size, &KeySlice { keys: self.keys }, range, access, key)?;
         let Range { start, count } = range;
         if count == 0 {
             return Ok(());
@@ -242,7 +260,7 @@ impl<'a> Storage for Dat<'a> {
 
     #[inline(always)]
     fn find_block(&self, start: u32, access: Access, key: AccessKey) -> Option<Block> {
-        if !may_access_block(self.size, &Listed { keys: self.keys }, start, access, key) {
+        if !may_access_block(self.size, &KeySlice { keys: self.keys }, start, access, key) {
             return None;
         }
         let first = start / BLOCK_SIZE * BLOCK_SIZE;
@@ -363,11 +381,12 @@ impl<'a> Supply for Dat<'a> {
 
     ghost brought_on = { supplied_on };
 
-    ghost spare_kept = { λ s t k. ap (λ (supply : FrameSupply). unpinned_count supply.pins) k.same_supply };
+    ghost spare_kept = { λ s t k.
+        ap (λ (supply : FrameSupply). unpinned_count supply.pins) k.same_supply };
 }
 
-/// What is brought for a unit is held by pins. With 16 frames, and none of them pinned before it, a unit of nine pages
-/// finds one to give up as long as there is a slot for it.
+/// What is brought for a unit is held by pins. With 16 frames, and none of them pinned before it, a
+/// unit of nine pages finds one to give up as long as there is a slot for it.
 impl<'a> UnitSupply for Dat<'a> {
     ghost use Rattle.cp_dat.specs.Lent.{lent_pool, user_of};
     ghost use Rattle.cp_dat.specs.Supplied.{HasNoRoom, IsBetweenUnits, SuppliedUnits, TakesPins};
@@ -397,7 +416,7 @@ impl<'a> UnitSupply for Dat<'a> {
 
     ghost came_none = { laws.came_none };
 
-    ghost came_size = { λ s t units came. came.kept.same_size };
+    ghost came_size = { λ s t units paged_in. paged_in.kept.same_size };
 
     ghost came_on = { laws.came_on };
 }

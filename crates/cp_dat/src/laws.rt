@@ -1,7 +1,8 @@
 //! What comes for a unit, whatever the unit.
 ghost use Rattle.cp_dat.specs.Laws.{ComesOnce, StaysToTheEnd};
 
-/// No page comes twice for a unit, and each that has come stands in a frame until the unit ends.
+/// States that no page is brought twice for a unit, and that each that was brought is in a frame
+/// until the unit ends.
 pub fn a_page_comes_once_for_a_unit()
     ensures once { ComesOnce }
     ensures stays { StaysToTheEnd }

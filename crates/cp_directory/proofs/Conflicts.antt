@@ -87,7 +87,7 @@ first_on extent disk disks line true e hyp h =
       split = refl;
       free = All-nil (λ (d : Minidisk). Conflicts extent d.extent → ⊥);
       conflicts = conflict_found extent disk.extent e;
-      told = cc;
+      reported = cc;
     }
 first_on extent disk disks line false e hyp h =
     let r = hyp h in
@@ -98,10 +98,10 @@ first_on extent disk disks line false e hyp h =
       split = ap (λ (l : List Minidisk). disk ∷ l) r.split;
       free = All-cons (λ (d : Minidisk). Conflicts extent d.extent → ⊥) disk r.before (free extent disk.extent e) r.free;
       conflicts = r.conflicts;
-      told = r.told;
+      reported = r.reported;
     }
 
--- the line that is told is that of the first
+-- the line that is reported is that of the first
 pub first_found : (extent : Extent) (disks : List Minidisk) (line : ℕ) → first_conflict extent disks ≡ Some line → IsFirstConflict extent disks line
 first_found extent [] line h = cc
 first_found extent (disk ∷ disks) line h = first_on extent disk disks line (conflicts extent disk.extent) refl (first_found extent disks line) h
@@ -113,9 +113,9 @@ again_on extent (one ∷ before) disk after h k =
     let P : Minidisk → Type 0 = λ d. Conflicts extent d.extent → ⊥ in
     rw (taken extent one.extent (All-head P one before h) (conflicts extent one.extent) refl) (again_on extent before disk after (All-tail P one before h) k)
 
--- the line of the first is told
+-- the line of the first is reported
 pub first_again : (extent : Extent) (disks : List Minidisk) (line : ℕ) → IsFirstConflict extent disks line → first_conflict extent disks ≡ Some line
-first_again extent disks line h = ap (first_conflict extent) h.split ∙ again_on extent h.before h.disk h.after h.free h.conflicts ∙ ap Some (sym h.told)
+first_again extent disks line h = ap (first_conflict extent) h.split ∙ again_on extent h.before h.disk h.after h.free h.conflicts ∙ ap Some (sym h.reported)
 
 none_on : (extent : Extent) (disk : Minidisk) (disks : List Minidisk) (b : Bool) → conflicts extent disk.extent ≡ b → (first_conflict extent disks ≡ None → All (λ (d : Minidisk). Conflicts extent d.extent → ⊥) disks)
     → option_map (λ (d : Minidisk). d.line) (cond b (Some disk) (find (λ (d : Minidisk). conflicts extent d.extent) disks)) ≡ None → All (λ (d : Minidisk). Conflicts extent d.extent → ⊥) (disk ∷ disks)

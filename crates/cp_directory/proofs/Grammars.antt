@@ -1,4 +1,4 @@
--- What is read is in the grammar, what is in the grammar is read, and another text has its first fault told.
+-- What is read is in the grammar, what is in the grammar is read, and another text has its first fault reported.
 use Rattle.std.proofs.Common.{◌≡◌, ℕ, ◌+◌, ◌≤◌, ◌⊎◌, inl, inr, Bool, true, false, cond, List, [], ◌∷◌, ◌++◌, length, Result, Ok, Err, refl, ap, sym, ◌∙◌, subst, arith}
 use Rattle.text_words.specs.Lines.{and_then, is_comment, lines_of, read_lines}
 use Rattle.text_words.specs.Words.{words_of}
@@ -119,8 +119,8 @@ unread_on users verb operands fault e (Misspelled named same) =
     })
 
 bad_on : (number : ℕ) (users : List DirectoryUser) (verb : List ℕ) (operands : List (List ℕ)) (fault : LineFault) (r : Result Stated LineFault) → stated_by verb operands ≡ r → and_then r (placed number users) ≡ Err fault → Judged users (verb ∷ operands) fault
-bad_on number users verb operands fault (Err told) e h =
-    let same : told ≡ fault = cc in
+bad_on number users verb operands fault (Err reported) e h =
+    let same : reported ≡ fault = cc in
     let refused : stated_by verb operands ≡ Err fault = e ∙ ap Err same in
     unread_on users verb operands fault refused (unread verb operands fault refused)
 bad_on number users verb operands fault (Ok s) e h = wrong_found number users (verb ∷ operands) s fault (found verb operands s e) h
@@ -155,19 +155,19 @@ first_bad lines number fault h =
       first = judged.1.first;
     }
 
--- ---- and the first fault is told
+-- ---- and the first fault is reported
 
-refused_on : (n : ℕ) (lines rest : List (List ℕ)) (users : List DirectoryUser) (told : ℕ × LineFault) (r : Result (List DirectoryUser) (ℕ × LineFault))
-    → ((next : List DirectoryUser) → read_lines directory_step (n + 1) next lines ≡ Ok users → read_lines directory_step (n + 1) next rest ≡ Err told)
-    → and_then r (λ next. read_lines directory_step (n + 1) next lines) ≡ Ok users → and_then r (λ next. read_lines directory_step (n + 1) next rest) ≡ Err told
-refused_on n lines rest users told (Err other) hyp h = cc
-refused_on n lines rest users told (Ok next) hyp h = hyp next h
+refused_on : (n : ℕ) (lines rest : List (List ℕ)) (users : List DirectoryUser) (reported : ℕ × LineFault) (r : Result (List DirectoryUser) (ℕ × LineFault))
+    → ((next : List DirectoryUser) → read_lines directory_step (n + 1) next lines ≡ Ok users → read_lines directory_step (n + 1) next rest ≡ Err reported)
+    → and_then r (λ next. read_lines directory_step (n + 1) next lines) ≡ Ok users → and_then r (λ next. read_lines directory_step (n + 1) next rest) ≡ Err reported
+refused_on n lines rest users reported (Err other) hyp h = cc
+refused_on n lines rest users reported (Ok next) hyp h = hyp next h
 
 refused_first : (n : ℕ) (s users : List DirectoryUser) (line : List ℕ) (after : List (List ℕ)) (number : ℕ) (fault : LineFault) → s ≡ users → number ≡ n → line_placed number users line ≡ Err fault
     → read_lines directory_step n s (line ∷ after) ≡ Err (number, fault)
 refused_first n s users line after number fault e m h = rw (e, ← m, h) refl
 
--- where the lines before this one are read, and it is refused, it is told
+-- where the lines before this one are read, and it is refused, it is reported
 refused_at : (n : ℕ) (s : List DirectoryUser) (before : List (List ℕ)) (line : List ℕ) (after : List (List ℕ)) (users : List DirectoryUser) (number : ℕ) (fault : LineFault)
     → read_lines directory_step n s before ≡ Ok users → number ≡ n + length before → line_placed number users line ≡ Err fault → read_lines directory_step n s (before ++ line ∷ after) ≡ Err (number, fault)
 refused_at n s [] line after users number fault h m k = let same : s ≡ users = cc in refused_first n s users line after number fault same (omega (arith, m)) k
@@ -184,11 +184,11 @@ first_again_on number users line fault (Ok next) e counted has first = elim (lin
   ]
   | inr k ↦ let states = k.1 in absurd (states.right fault (own users (words_of line) k.0 fault states.says has))
 ]
-first_again_on number users line fault (Err told) e counted has first =
-    let judged = bad_found number users line told e in
+first_again_on number users line fault (Err reported) e counted has first =
+    let judged = bad_found number users line reported e in
     let early = judged.1.first fault has in
-    let late = first told judged.1.has in
-    e ∙ ap Err (one_fault users (words_of line) told fault judged.1.has has (omega arith))
+    let late = first reported judged.1.has in
+    e ∙ ap Err (one_fault users (words_of line) reported fault judged.1.has has (omega arith))
 
 first_again : (lines : List (List ℕ)) (number : ℕ) (fault : LineFault) → IsFirstFault lines number fault → read_lines directory_step 1 [] lines ≡ Err (number, fault)
 first_again lines number fault h =

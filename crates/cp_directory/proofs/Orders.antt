@@ -1,4 +1,4 @@
--- The first of a list of faults, where they stand in the order in which they are told.
+-- The first of a list of faults, where they are in the order in which they are reported.
 use Rattle.std.proofs.Common.{◌≡◌, ℕ, ◌≤◌, ◌⊎◌, inl, inr, Bool, true, false, List, [], ◌∷◌, Option, Some, None, refl, ap, subst, arith}
 use Rattle.std.specs.Option.{option_map}
 use Rattle.cp_directory.specs.Statements.{fault_if, first_fault}
@@ -11,11 +11,11 @@ abbrev pub Tells : List (Option LineFault) → LineFault → Type 0
 Tells [] fault = ⊥
 Tells (o ∷ os) fault = (o ≡ Some fault) ⊎ Tells os fault
 
--- none of them is told before this place of the order
+-- none of them is reported before this place of the order
 abbrev pub AtLeast : ℕ → List (Option LineFault) → Type 0
 AtLeast n faults = (fault : LineFault) → Tells faults fault → n ≤ order fault
 
--- none of them is told before one that stands earlier
+-- none of them is reported before one that is earlier
 abbrev pub Ascends : List (Option LineFault) → Type 0
 Ascends [] = Unit {0}
 Ascends (o ∷ os) = ((fault : LineFault) → o ≡ Some fault → AtLeast (order fault) os) × Ascends os
@@ -54,7 +54,7 @@ told_if false f fault h = cc
 pub if_told : (b : Bool) (f : LineFault) → b ≡ true → fault_if b f ≡ Some f
 if_told b f e = rw e refl
 
--- they stand in their order, and none is told before this place of it
+-- they are in their order, and none is reported before this place of it
 pub record From (n : ℕ) (faults : List (Option LineFault)) : Type 0 where
   pub at_least : AtLeast n faults
   pub ascends : Ascends faults
@@ -62,7 +62,7 @@ pub record From (n : ℕ) (faults : List (Option LineFault)) : Type 0 where
 pub from_nil : (n : ℕ) → From n []
 from_nil n = record { at_least = λ fault t. absurd t; ascends = tt }
 
--- one fault more before those that are told behind it
+-- one fault more before those that are reported after it
 from_one : (o : Option LineFault) (n m : ℕ) (faults : List (Option LineFault)) → n ≤ m → ((fault : LineFault) → o ≡ Some fault → m ≡ order fault) → From m faults → From n (o ∷ faults)
 from_one o n m faults less place rest = record {
   at_least = λ fault t. elim t [ inl e ↦ omega (arith, place fault e) | inr t ↦ let later = rest.at_least fault t in omega arith ];

@@ -78,7 +78,7 @@ bad_extent start count h = elim h [
   | inr past ↦ let test : leb (start + count) 808 ≡ false = grind (arith, nat_tests) in rw test (and_false (leb 1 count))
 ]
 
--- ---- faults stand in their order
+-- ---- faults are in their order
 
 in_order : (users : List DirectoryUser) (s : Stated) → From 0 (faults_of users s)
 in_order users (User name k) =
@@ -180,7 +180,7 @@ unless_none o x e = rw e refl
 pub right_again : (line : ℕ) (users : List DirectoryUser) (s : Stated) → ((fault : LineFault) → Breaks users s fault → ⊥) → placed line users s ≡ Ok (added line users s)
 right_again line users s right = unless_none (first_fault (faults_of users s)) (added line users s) (nothing_told (faults_of users s) (λ fault t. right fault (breaks users s fault t)))
 
--- a fault of words, and no fault of theirs is told before it
+-- a fault of words, and no fault of theirs is reported before it
 pub record Judged (users : List DirectoryUser) (words : List (List ℕ)) (fault : LineFault) : Type 0 where
   pub has : HasFault users words fault
   pub first : (other : LineFault) → HasFault users words other → order fault ≤ order other
@@ -232,10 +232,10 @@ wrong_on (Some f) x fault h = cc
 -- the fault for which a statement is not placed is its first
 pub wrong_found : (line : ℕ) (users : List DirectoryUser) (words : List (List ℕ)) (s : Stated) (fault : LineFault) → Says words s → placed line users s ≡ Err fault → Judged users words fault
 wrong_found line users words s fault says h =
-    let told = wrong_on (first_fault (faults_of users s)) (added line users s) fault h in
+    let reported = wrong_on (first_fault (faults_of users s)) (added line users s) fault h in
     record {
-      has = wrong users words fault (record { statement = s; says = says; breaks = breaks users s fault (first_told (faults_of users s) fault told) });
-      first = λ other k. least (faults_of users s) fault other (in_order users s).ascends told (tells users s other (own users words s other says k));
+      has = wrong users words fault (record { statement = s; says = says; breaks = breaks users s fault (first_told (faults_of users s) fault reported) });
+      first = λ other k. least (faults_of users s) fault other (in_order users s).ascends reported (tells users s other (own users words s other says k));
     }
 
 -- ---- a line has one first fault

@@ -35,7 +35,7 @@ mapped f (Some a) b h = (a, refl, cc)
 pub is_word : (xs ys : List ℕ) → bytes_eq xs ys ≡ true → xs ≡ ys
 is_word xs ys h = (bytes_eq-Decides xs ys).0 h
 
--- a word is what stands before its last character, and that
+-- a word is what is before its last character, and that
 ends : (word : List ℕ) → 0 < length word → word ≡ take (length word - 1) word ++ get_or word (length word - 1) 0 ∷ []
 ends word some =
     let count : length word ≡ length word - 1 + 1 = omega arith in
@@ -259,11 +259,11 @@ formed : (o : Option Stated) (s : Stated) → well_formed o ≡ Ok s → o ≡ S
 formed None s h = cc
 formed (Some t) s h = cc
 
--- the words behind a first word that is this one
+-- the words after a first word that is this one
 behind : (verb name : List ℕ) (operands : List (List ℕ)) (s : Stated) → bytes_eq verb name ≡ true → Says (name ∷ operands) s → Says (verb ∷ operands) s
 behind verb name operands s e h = subst (λ (v : List ℕ). Says (v ∷ operands) s) (sym (is_word verb name e)) h
 
--- what is read behind each first word
+-- what is read after each first word
 abbrev by_mdisk : List ℕ → List (List ℕ) → Result Stated LineFault
 by_mdisk verb operands = cond (bytes_eq verb (codes "MDISK")) (well_formed (disk_stated operands)) (Err UnknownStatement)
 

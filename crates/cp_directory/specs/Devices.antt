@@ -2,7 +2,8 @@
 use Rattle.std.specs.Prelude.{ℕ, List, ◌++◌, Option, Some}
 use Rattle.std.specs.Option.{option_to_list}
 use Rattle.cp_directory.specs.declared.devices.DeviceKind.{DeviceKind}
-use Rattle.cp_directory.specs.declared.devices.DeviceKind.TheVariants.{Console, Reader, Punch, Printer}
+use Rattle.cp_directory.specs.declared.devices.DeviceKind.TheVariants.{Console, Reader, Punch}
+use Rattle.cp_directory.specs.declared.devices.DeviceKind.TheVariants.{Printer}
 use Rattle.cp_directory.specs.declared.devices.UserDevices.{UserDevices}
 
 -- where the device of this kind is
@@ -21,4 +22,6 @@ with_place devices Printer address = record devices { printer = Some address }
 
 -- the addresses of those that are there
 abbrev pub places_of : UserDevices → List ℕ
-places_of devices = option_to_list devices.console ++ (option_to_list devices.reader ++ (option_to_list devices.punch ++ option_to_list devices.printer))
+places_of devices = option_to_list devices.console
+    ++ (option_to_list devices.reader
+    ++ (option_to_list devices.punch ++ option_to_list devices.printer))

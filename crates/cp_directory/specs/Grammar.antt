@@ -1,5 +1,6 @@
 -- The grammar of directories, as a relation between lines and users.
-use Rattle.std.specs.Prelude.{◌≡◌, ℕ, ◌+◌, ◌*◌, ◌==◌, ◌<◌, ◌≤◌, ◌⊎◌, true, false, List, [], ◌∷◌, ◌++◌, length, codes, All, IsSome, Some, Ok, Err}
+use Rattle.std.specs.Prelude.{◌≡◌, ℕ, ◌+◌, ◌*◌, ◌==◌, ◌<◌, ◌≤◌, ◌⊎◌, true, false, List, [], ◌∷◌}
+use Rattle.std.specs.Prelude.{◌++◌, length, codes, All, IsSome, Some, Ok, Err}
 use Rattle.std.specs.List.{AllPairs, list_any}
 use Rattle.std.specs.Str.{bytes_eq}
 use Rattle.text_words.specs.Lines.{LineAt, is_comment, lines_of}
@@ -9,14 +10,19 @@ use Rattle.cp_directory.specs.Names.{is_name, is_short_word}
 use Rattle.cp_directory.specs.Sizes.{is_number, is_size, number, unit_of}
 use Rattle.cp_directory.specs.Devices.{place_of}
 use Rattle.cp_directory.specs.Extents.{Extent, is_volser}
-use Rattle.cp_directory.specs.Users.{DirectoryUser, addresses_of, has_device, last_user, minidisks_of}
+use Rattle.cp_directory.specs.Users.{DirectoryUser, addresses_of, has_device, last_user}
+use Rattle.cp_directory.specs.Users.{minidisks_of}
 use Rattle.cp_directory.specs.Statements.{Stated, User, Device, Disk, added, has_name}
 use Rattle.cp_directory.specs.Directories.{directory_of}
-use Rattle.cp_directory.specs.declared.devices.DeviceKind.TheVariants.{Console, Reader, Punch, Printer}
+use Rattle.cp_directory.specs.declared.devices.DeviceKind.TheVariants.{Console, Reader, Punch}
+use Rattle.cp_directory.specs.declared.devices.DeviceKind.TheVariants.{Printer}
 use Rattle.cp_directory.specs.declared.extent.DiskMode.{DiskMode}
 use Rattle.cp_directory.specs.declared.extent.DiskMode.TheVariants.{ReadOnly, Writable}
 use Rattle.cp_directory.specs.declared.faults.LineFault.{LineFault}
-use Rattle.cp_directory.specs.declared.faults.LineFault.TheVariants.{UnknownStatement, Syntax, DuplicateUser, DuplicateDevice, BadStorage, BadExtent, Overlap, TooMany}
+use Rattle.cp_directory.specs.declared.faults.LineFault.TheVariants.{UnknownStatement, Syntax}
+use Rattle.cp_directory.specs.declared.faults.LineFault.TheVariants.{DuplicateUser, DuplicateDevice}
+use Rattle.cp_directory.specs.declared.faults.LineFault.TheVariants.{BadStorage, BadExtent, Overlap}
+use Rattle.cp_directory.specs.declared.faults.LineFault.TheVariants.{TooMany}
 use Rattle.cp_directory.specs.declared.minidisk.Minidisk.{Minidisk}
 
 -- ---- what the words of a line say
@@ -56,8 +62,8 @@ abbrev pub letter_of : DiskMode → List ℕ
 letter_of ReadOnly = codes "R"
 letter_of Writable = codes "W"
 
--- the words are `MDISK`, an address, `3330`, the first cylinder and the number of cylinders, each of one to four digits, the
--- serial number of the volume and the letter of the mode
+-- the words are `MDISK`, an address, `3330`, the first cylinder and the number of cylinders, each
+-- of one to four digits, the serial number of the volume and the letter of the mode
 pub record SaysDisk (words : List (List ℕ)) (address : ℕ) (extent : Extent) : Type 0 where
   pub place : List ℕ
   pub start : List ℕ
@@ -99,7 +105,7 @@ pub record IsFirstConflict (extent : Extent) (disks : List Minidisk) (line : ℕ
   pub split : disks ≡ before ++ disk ∷ after
   pub free : All (λ other. Conflicts extent other.extent → ⊥) before
   pub conflicts : Conflicts extent disk.extent
-  pub told : line ≡ disk.line
+  pub reported : line ≡ disk.line
 
 -- ---- what is wrong with a line
 
@@ -111,12 +117,15 @@ Breaks users (User name kilobytes) TooMany = 64 ≤ length users
 Breaks users (User name kilobytes) _ = ⊥
 Breaks users (Device kind address) Syntax = users ≡ []
 Breaks users (Device kind address) DuplicateDevice = has_device address (last_user users) ≡ true
-Breaks users (Device kind address) TooMany = (32 ≤ length (addresses_of (last_user users))) ⊎ IsSome (place_of (last_user users).devices kind)
+Breaks users (Device kind address) TooMany = (32 ≤ length (addresses_of (last_user users)))
+    ⊎ IsSome (place_of (last_user users).devices kind)
 Breaks users (Device kind address) _ = ⊥
 Breaks users (Disk address extent) Syntax = users ≡ []
 Breaks users (Disk address extent) DuplicateDevice = has_device address (last_user users) ≡ true
-Breaks users (Disk address extent) BadExtent = (extent.count ≡ 0) ⊎ (808 < extent.start + extent.count)
-Breaks users (Disk address extent) (Overlap first) = IsFirstConflict extent (minidisks_of users) first
+Breaks users (Disk address extent) BadExtent = (extent.count ≡ 0)
+    ⊎ (808 < extent.start + extent.count)
+Breaks users (Disk address extent) (Overlap first) =
+    IsFirstConflict extent (minidisks_of users) first
 Breaks users (Disk address extent) TooMany = 32 ≤ length (addresses_of (last_user users))
 Breaks users (Disk address extent) _ = ⊥
 
@@ -140,7 +149,8 @@ pub record IsMisspelled (words : List (List ℕ)) : Type 0 where
   pub silent : (statement : Stated) → Says words statement → ⊥
 
 -- the words say a statement with which this is wrong
-pub record SaysWrong (users : List DirectoryUser) (words : List (List ℕ)) (fault : LineFault) : Type 0 where
+pub record SaysWrong (users : List DirectoryUser) (words : List (List ℕ))
+    (fault : LineFault) : Type 0 where
   pub statement : Stated
   pub says : Says words statement
   pub breaks : Breaks users statement fault
@@ -156,7 +166,7 @@ HasFault users words BadExtent = SaysWrong users words BadExtent
 HasFault users words (Overlap first) = SaysWrong users words (Overlap first)
 HasFault users words TooMany = SaysWrong users words TooMany
 
--- the order in which the faults of one line are told
+-- the order in which the faults of one line are reported
 abbrev pub order : LineFault → ℕ
 order UnknownStatement = 0
 order Syntax = 1
@@ -184,36 +194,44 @@ abbrev pub Continues : ℕ → List DirectoryUser → List (List ℕ) → List D
 Continues number before [] users = users ≡ before
 Continues number before (line ∷ lines) users =
     (IsIgnored line × Continues (number + 1) before lines users)
-    ⊎ ((statement : Stated) × States before line statement × Continues (number + 1) (added number before statement) lines users)
+    ⊎ ((statement : Stated) × States before line statement
+    × Continues (number + 1) (added number before statement) lines users)
 
 -- the lines are a directory of these users
 abbrev pub IsDirectory : List (List ℕ) → List DirectoryUser → Type 0
 IsDirectory lines users = Continues 1 [] lines users
 
--- the lines before this one are a directory, and this line has this fault after them, and none that is told before it
+-- the lines before this one are a directory, and this line has this fault after them, and none that
+-- is reported before it
 pub record IsFirstFault (lines : List (List ℕ)) (number : ℕ) (fault : LineFault) : Type 0 where
   pub at : LineAt lines number
   pub users : List DirectoryUser
   pub accepted : IsDirectory at.before users
   pub counted : is_comment at.line ≡ false
   pub has : HasFault users (words_of at.line) fault
-  pub first : (other : LineFault) → HasFault users (words_of at.line) other → order fault ≤ order other
+  pub first : (other : LineFault) → HasFault users (words_of at.line) other
+      → order fault ≤ order other
 
--- a text of the grammar is read as the users that it states, and no other; another is refused for the first fault of its first
--- faulty line, and for no other
+-- a text of the grammar is read as the users that it states, and no other; another is refused for
+-- the first fault of its first faulty line, and for no other
 abbrev pub ReadsGrammar : Type 0
 ReadsGrammar = (text : List ℕ) →
-    ((users : List DirectoryUser) → directory_of text ≡ Ok users → IsDirectory (lines_of text) users)
-    × ((users : List DirectoryUser) → IsDirectory (lines_of text) users → directory_of text ≡ Ok users)
-    × ((number : ℕ) (fault : LineFault) → directory_of text ≡ Err (number, fault) → IsFirstFault (lines_of text) number fault)
-    × ((number : ℕ) (fault : LineFault) → IsFirstFault (lines_of text) number fault → directory_of text ≡ Err (number, fault))
+    ((users : List DirectoryUser) → directory_of text ≡ Ok users
+    → IsDirectory (lines_of text) users)
+    × ((users : List DirectoryUser) → IsDirectory (lines_of text) users
+    → directory_of text ≡ Ok users)
+    × ((number : ℕ) (fault : LineFault) → directory_of text ≡ Err (number, fault)
+    → IsFirstFault (lines_of text) number fault)
+    × ((number : ℕ) (fault : LineFault) → IsFirstFault (lines_of text) number fault
+    → directory_of text ≡ Err (number, fault))
 
 -- ---- what every directory keeps
 
--- no number stands twice
+-- no number is twice
 abbrev pub AreDifferent : List ℕ → Type 0
 AreDifferent [] = Unit {0}
-AreDifferent (one ∷ others) = (list_any (λ other. other == one) others ≡ false) × AreDifferent others
+AreDifferent (one ∷ others) = (list_any (λ other. other == one) others ≡ false)
+    × AreDifferent others
 
 -- a user's devices are at most 32, of different addresses, none above 5FF
 pub record HasLawfulDevices (user : DirectoryUser) : Type 0 where
@@ -227,8 +245,9 @@ pub record HasLawfulExtent (disk : Minidisk) : Type 0 where
   pub within : disk.extent.start + disk.extent.count ≤ 808
   pub named : is_volser disk.extent.volser ≡ true
 
--- what the users of every directory keep: they are at most 64, of different names, each name and size is one that a user may
--- have, and no two minidisks of all of them conflict; minidisks stand in the order of their lines
+-- what the users of every directory keep: they are at most 64, of different names, each name and
+-- size is one that a user may have, and no two minidisks of all of them conflict; minidisks are in
+-- the order of their lines
 pub record IsLawful (users : List DirectoryUser) : Type 0 where
   pub few : length users ≤ 64
   pub different : AllPairs (λ one other. bytes_eq one.name other.name ≡ false) users

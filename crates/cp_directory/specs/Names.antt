@@ -14,7 +14,8 @@ is_letter_or_digit c = is_letter c || is_digit c
 
 -- one to eight letters and digits, as a password is
 abbrev pub is_short_word : List ℕ → Bool
-is_short_word word = nat_le 1 (length word) && nat_le (length word) 8 && list_all is_letter_or_digit word
+is_short_word word = nat_le 1 (length word) && nat_le (length word) 8 && list_all is_letter_or_digit
+    word
 
 -- a name is such a word that begins with a letter and is not `SYSTEM`
 abbrev pub is_name : List ℕ → Bool

@@ -1,5 +1,7 @@
 -- Sizes of storage.
-use Rattle.std.specs.Prelude.{ℕ, ◌+◌, ◌-◌, ◌*◌, ◌/◌, ◌%◌, ◌==◌, ◌&&◌, Bool, false, not, if◌then◌else◌, nat_le, List, [], ◌∷◌, length, take, slice_index, Option, Some, None}
+use Rattle.std.specs.Prelude.{ℕ, ◌+◌, ◌-◌, ◌*◌, ◌/◌, ◌%◌, ◌==◌, ◌&&◌, Bool, false, not}
+use Rattle.std.specs.Prelude.{if◌then◌else◌, nat_le, List, [], ◌∷◌, length, take, slice_index}
+use Rattle.std.specs.Prelude.{Option, Some, None}
 use Rattle.std.specs.Option.{option_map, option_and_then}
 use Rattle.std.specs.List.{list_all}
 use Rattle.text_words.specs.Numbers.{is_digit}
@@ -20,7 +22,8 @@ unit_of letter = if letter == 75 then Some 1 else if letter == 77 then Some 1024
 
 -- so many units, where the digits are a number
 abbrev pub kilobytes_by : List ℕ → ℕ → Option ℕ
-kilobytes_by digits letter = if is_number digits then option_map (λ unit. number 0 digits * unit) (unit_of letter) else None
+kilobytes_by digits letter = if is_number digits
+    then option_map (λ unit. number 0 digits * unit) (unit_of letter) else None
 
 -- the kilobytes that a word spells: a number and then the letter of a unit
 abbrev pub kilobytes_of : List ℕ → Option ℕ

@@ -1,5 +1,7 @@
 -- What one line states by its own words, and what is then wrong with it by the lines before it.
-use Rattle.std.specs.Prelude.{ℕ, ◌/◌, ◌==◌, ◌&&◌, ◌||◌, Bool, not, if◌then◌else◌, is_some, nat_le, List, [], ◌∷◌, ◌++◌, length, codes, Option, Some, None, Result, Ok, Err}
+use Rattle.std.specs.Prelude.{ℕ, ◌/◌, ◌==◌, ◌&&◌, ◌||◌, Bool, not, if◌then◌else◌, is_some, nat_le}
+use Rattle.std.specs.Prelude.{List, [], ◌∷◌, ◌++◌, length, codes, Option, Some, None, Result, Ok}
+use Rattle.std.specs.Prelude.{Err}
 use Rattle.std.specs.Option.{option_and_then, option_map}
 use Rattle.std.specs.List.{list_any}
 use Rattle.std.specs.Str.{bytes_eq}
@@ -10,14 +12,19 @@ use Rattle.cp_directory.specs.Names.{is_name, is_short_word}
 use Rattle.cp_directory.specs.Sizes.{is_size, kilobytes_of}
 use Rattle.cp_directory.specs.Devices.{place_of}
 use Rattle.cp_directory.specs.Extents.{Extent, is_extent, is_volser, mode_of}
-use Rattle.cp_directory.specs.Users.{DirectoryUser, first_conflict, has_device, is_full, last_user, minidisks_of, new_user, with_device, with_last, with_minidisk}
+use Rattle.cp_directory.specs.Users.{DirectoryUser, first_conflict, has_device, is_full, last_user}
+use Rattle.cp_directory.specs.Users.{minidisks_of, new_user, with_device, with_last, with_minidisk}
 use Rattle.cp_directory.specs.declared.devices.DeviceKind.{DeviceKind}
-use Rattle.cp_directory.specs.declared.devices.DeviceKind.TheVariants.{Console, Reader, Punch, Printer}
+use Rattle.cp_directory.specs.declared.devices.DeviceKind.TheVariants.{Console, Reader, Punch}
+use Rattle.cp_directory.specs.declared.devices.DeviceKind.TheVariants.{Printer}
 use Rattle.cp_directory.specs.declared.faults.LineFault.{LineFault}
-use Rattle.cp_directory.specs.declared.faults.LineFault.TheVariants.{UnknownStatement, Syntax, DuplicateUser, DuplicateDevice, BadStorage, BadExtent, Overlap, TooMany}
+use Rattle.cp_directory.specs.declared.faults.LineFault.TheVariants.{UnknownStatement, Syntax}
+use Rattle.cp_directory.specs.declared.faults.LineFault.TheVariants.{DuplicateUser, DuplicateDevice}
+use Rattle.cp_directory.specs.declared.faults.LineFault.TheVariants.{BadStorage, BadExtent, Overlap}
+use Rattle.cp_directory.specs.declared.faults.LineFault.TheVariants.{TooMany}
 
--- what a line states: a user of this name, with so many kilobytes; a device of this kind at this address; a minidisk at this
--- address, with this extent
+-- what a line states: a user of this name, with so many kilobytes; a device of this kind at this
+-- address; a minidisk at this address, with this extent
 pub data Stated : Type 0 where
   User : List ℕ → ℕ → Stated
   Device : DeviceKind → ℕ → Stated
@@ -27,7 +34,8 @@ pub data Stated : Type 0 where
 
 -- a user, where the name, the password and the size are spelled right
 abbrev pub user_of : List ℕ → List ℕ → List ℕ → Option Stated
-user_of name password size = if is_name name && is_short_word password then option_map (User name) (kilobytes_of size) else None
+user_of name password size = if is_name name && is_short_word password
+    then option_map (User name) (kilobytes_of size) else None
 
 -- the operands of `USER` are a name, a password and a size
 abbrev pub user_stated : List (List ℕ) → Option Stated
@@ -59,19 +67,30 @@ spool_kind_of word =
     else if bytes_eq word (codes "PRINTER") then Some Printer
     else None
 
+-- the statement SPOOL with these operands
 abbrev pub spool_of : List ℕ → List ℕ → Option Stated
-spool_of address kind = option_and_then (λ place. option_map (λ spooled. Device spooled place) (spool_kind_of kind)) (address_of address)
+spool_of address kind = option_and_then
+    (λ place. option_map (λ spooled. Device spooled place) (spool_kind_of kind))
+    (address_of address)
 
 -- the operands of `SPOOL` are an address and a kind
 abbrev pub spool_stated : List (List ℕ) → Option Stated
 spool_stated (address ∷ kind ∷ []) = spool_of address kind
 spool_stated _ = None
 
--- the extent of these cylinders, where all is spelled right: start and count are one to four decimal digits
+-- the extent of these cylinders, where all is spelled right: start and count are one to four
+-- decimal digits
 abbrev pub extent_spelled : List ℕ → List ℕ → List ℕ → List ℕ → Option Extent
 extent_spelled start count volser mode =
     if is_volser volser
-    then option_and_then (λ first. option_and_then (λ many. option_map (λ access. record { volser = volser; start = first; count = many; mode = access }) (mode_of mode)) (decimal_of 4 count)) (decimal_of 4 start)
+    then option_and_then (λ first.
+    option_and_then (λ many.
+    option_map (λ access. record {
+      volser = volser;
+      start = first;
+      count = many;
+      mode = access;
+    }) (mode_of mode)) (decimal_of 4 count)) (decimal_of 4 start)
     else None
 
 -- a minidisk is of a 3330
@@ -80,7 +99,8 @@ disk_of address model extent = if bytes_eq model (codes "3330") then option_and_
 
 -- the operands of `MDISK` are an address, the model, start, count, serial number and mode
 abbrev pub disk_stated : List (List ℕ) → Option Stated
-disk_stated (address ∷ model ∷ start ∷ count ∷ volser ∷ mode ∷ []) = disk_of address model (extent_spelled start count volser mode)
+disk_stated (address ∷ model ∷ start ∷ count ∷ volser ∷ mode ∷ []) =
+    disk_of address model (extent_spelled start count volser mode)
 disk_stated _ = None
 
 -- operands that do not have the form of their statement are a fault of syntax
@@ -121,7 +141,7 @@ is_nobodys users = length users == 0
 abbrev pub has_no_room : DeviceKind → DirectoryUser → Bool
 has_no_room kind user = is_full user || is_some (place_of user.devices kind)
 
--- the faults of a statement by the users stated before it, in the order in which they are told
+-- the faults of a statement by the users stated before it, in the order in which they are reported
 abbrev pub faults_of : List DirectoryUser → Stated → List (Option LineFault)
 faults_of users (User name kilobytes) =
     fault_if (list_any (has_name name) users) DuplicateUser
@@ -145,22 +165,27 @@ faults_of users (Disk address extent) =
 abbrev pub added : ℕ → List DirectoryUser → Stated → List DirectoryUser
 added line users (User name kilobytes) = users ++ new_user name (kilobytes / 4) ∷ []
 added line users (Device kind address) = with_last (with_device kind address) users
-added line users (Disk address extent) = with_last (with_minidisk (record { line = line; address = address; extent = extent })) users
+added line users (Disk address extent) =
+    with_last (with_minidisk (record { line = line; address = address; extent = extent })) users
 
 -- these users, or the fault that is there
-abbrev pub unless_fault : Option LineFault → List DirectoryUser → Result (List DirectoryUser) LineFault
+abbrev pub unless_fault : Option LineFault → List DirectoryUser
+    → Result (List DirectoryUser) LineFault
 unless_fault None users = Ok users
 unless_fault (Some fault) users = Err fault
 
 -- the users after a statement, or its first fault
 abbrev pub placed : ℕ → List DirectoryUser → Stated → Result (List DirectoryUser) LineFault
-placed line users statement = unless_fault (first_fault (faults_of users statement)) (added line users statement)
+placed line users statement =
+    unless_fault (first_fault (faults_of users statement)) (added line users statement)
 
 -- the users after a line of these words
-abbrev pub words_placed : ℕ → List DirectoryUser → List (List ℕ) → Result (List DirectoryUser) LineFault
+abbrev pub words_placed : ℕ → List DirectoryUser → List (List ℕ)
+    → Result (List DirectoryUser) LineFault
 words_placed line users [] = Ok users
 words_placed line users (verb ∷ operands) = and_then (stated_by verb operands) (placed line users)
 
 -- the users after a line of this number, or the first fault of that line
 abbrev pub line_placed : ℕ → List DirectoryUser → List ℕ → Result (List DirectoryUser) LineFault
-line_placed number users line = if is_comment line then Ok users else words_placed number users (words_of line)
+line_placed number users line = if is_comment line then Ok users
+    else words_placed number users (words_of line)

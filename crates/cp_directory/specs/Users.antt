@@ -1,5 +1,6 @@
 -- The users of a directory.
-use Rattle.std.specs.Prelude.{◌≡◌, ℕ, ◌==◌, ◌-◌, Bool, false, List, [], ◌∷◌, ◌++◌, length, map, slice_index_or, slice_set, nat_le, Option, None}
+use Rattle.std.specs.Prelude.{◌≡◌, ℕ, ◌==◌, ◌-◌, Bool, false, List, [], ◌∷◌, ◌++◌, length, map}
+use Rattle.std.specs.Prelude.{slice_index_or, slice_set, nat_le, Option, None}
 use Rattle.std.specs.List.{AllPairs, find, flat_map, list_any}
 use Rattle.std.specs.Option.{option_map}
 use Rattle.cp_directory.specs.Devices.{places_of, with_place}
@@ -8,8 +9,8 @@ use Rattle.cp_directory.specs.declared.devices.DeviceKind.{DeviceKind}
 use Rattle.cp_directory.specs.declared.devices.UserDevices.{UserDevices}
 use Rattle.cp_directory.specs.declared.minidisk.Minidisk.{Minidisk}
 
--- a user: the name, the pages of 4096 bytes that its storage has, its devices that are no disks, and its minidisks in the
--- order of their lines
+-- a user: the name, the pages of 4096 bytes that its storage has, its devices that are no disks,
+-- and its minidisks in the order of their lines
 pub record DirectoryUser : Type 0 where
   pub name : List ℕ
   pub pages : ℕ
@@ -58,8 +59,10 @@ minidisks_of users = flat_map (λ user. user.minidisks) users
 
 -- the line of the first of these minidisks with which an extent conflicts
 abbrev pub first_conflict : Extent → List Minidisk → Option ℕ
-first_conflict extent disks = option_map (λ disk. disk.line) (find (λ disk. conflicts extent disk.extent) disks)
+first_conflict extent disks =
+    option_map (λ disk. disk.line) (find (λ disk. conflicts extent disk.extent) disks)
 
 -- no two minidisks of the users conflict
 abbrev pub AreApart : List DirectoryUser → Type 0
-AreApart users = AllPairs (λ (one other : Minidisk). conflicts one.extent other.extent ≡ false) (minidisks_of users)
+AreApart users = AllPairs (λ (one other : Minidisk). conflicts one.extent other.extent ≡ false)
+    (minidisks_of users)

@@ -1,8 +1,10 @@
 //! What the words of a device's statement state.
 ghost use Rattle.std.specs.Prelude.{◌≡◌, map};
 ghost use Rattle.std.specs.Option.{option_map};
-ghost use Rattle.cp_directory.specs.Statements.{address_of, console_of, console_stated, disk_of, disk_stated};
-ghost use Rattle.cp_directory.specs.Statements.{extent_spelled, low_address, spool_kind_of, spool_of, spool_stated};
+ghost use Rattle.cp_directory.specs.Statements.{address_of, console_of, console_stated, disk_of};
+ghost use Rattle.cp_directory.specs.Statements.{disk_stated};
+ghost use Rattle.cp_directory.specs.Statements.{extent_spelled, low_address, spool_kind_of};
+ghost use Rattle.cp_directory.specs.Statements.{spool_of, spool_stated};
 ghost use Rattle.cp_directory.specs.Spelled.{stated};
 
 use crate::devices::DeviceKind;
@@ -51,7 +53,7 @@ fn spool_of<'a>(address: &'a [u8], kind: &[u8]) -> Option<Statement<'a>>
     Some(Statement::Device(kind, address))
 }
 
-/// What is spooled.
+/// Returns what is spooled.
 fn spool_kind_of(word: &[u8]) -> Option<DeviceKind>
     ensures { result ≡ spool_kind_of word.now }
 {
@@ -93,7 +95,7 @@ fn disk_of<'a>(
     Some(Statement::Minidisk(address, extent))
 }
 
-/// The cylinders of a volume, and how they may be used.
+/// Returns the cylinders of a volume, and how they may be used.
 fn extent_spelled(start: &[u8], count: &[u8], volser: &[u8], mode: &[u8]) -> Option<SpelledExtent>
     ensures { result ≡ extent_spelled start.now count.now volser.now mode.now }
 {
@@ -109,14 +111,14 @@ fn extent_spelled(start: &[u8], count: &[u8], volser: &[u8], mode: &[u8]) -> Opt
     })
 }
 
-/// The address of a device: three hexadecimal digits.
+/// Returns the address of a device: three hexadecimal digits.
 fn address_of(word: &[u8]) -> Option<DevAddr>
     ensures { result ≡ address_of word.now }
 {
     low_address(hexadecimal_of(3, 3, word)?)
 }
 
-/// The address, where a device may have it.
+/// Returns the address, where a device may have it.
 fn low_address(address: u32) -> Option<DevAddr>
     ensures { result ≡ low_address address }
 {

@@ -15,7 +15,8 @@ pub enum DeviceKind {
     Printer,
 }
 
-/// The addresses of a user's console, reader, punch and printer; None where the user has no such device.
+/// The addresses of a user's console, reader, punch and printer; None where the user has no such
+/// device.
 #[derive(Clone, Copy, Debug, PartialEq, Eq)]
 pub struct UserDevices {
     pub console: Option<DevAddr>,
@@ -33,7 +34,7 @@ impl UserDevices {
         printer: None,
     };
 
-    /// The address of the device of this kind.
+    /// Returns the address of the device of this kind.
     pub fn place_of(&self, kind: DeviceKind) -> Option<DevAddr>
         ensures { result ≡ place_of self.now kind }
     {
@@ -45,7 +46,7 @@ impl UserDevices {
         }
     }
 
-    /// Whether one of them has this address.
+    /// Returns whether one of them has this address.
     pub fn has(&self, address: DevAddr) -> bool
         ensures { result ≡ list_any (λ other. other == address) (places_of self.now) }
     {
@@ -62,7 +63,7 @@ impl UserDevices {
             || is_there(*printer, address)
     }
 
-    /// How many there are.
+    /// Returns how many there are.
     pub fn count(&self) -> usize
         ensures value { result ≡ length (places_of self.now) }
         ensures few { result ≤ 4 }
@@ -86,7 +87,7 @@ impl UserDevices {
     }
 }
 
-/// Whether a device has this address.
+/// Returns whether a device has this address.
 fn is_there(place: Option<DevAddr>, address: DevAddr) -> bool
     ensures { result ≡ list_any (λ other. other == address) (option_to_list place) }
 {

@@ -1,8 +1,10 @@
 //! A directory that was read, and its users.
-ghost use Rattle.std.specs.Prelude.{◌≡◌, ◌==◌, ◌<◌, ◌≤◌, ◌++◌, ◌∷◌, [], length, None, IfOk, IfSome, MatchOption, OnErr};
+ghost use Rattle.std.specs.Prelude.{◌≡◌, ◌==◌, ◌<◌, ◌≤◌, ◌++◌, ◌∷◌, [], length, None, IfOk, IfSome};
+ghost use Rattle.std.specs.Prelude.{MatchOption, OnErr};
 ghost use Rattle.std.specs.List.{list_any};
 ghost use Rattle.cp_directory.specs.Statements.{has_name};
-ghost use Rattle.cp_directory.specs.Users.{AreApart, first_conflict, has_device, is_full, last_user, minidisks_of};
+ghost use Rattle.cp_directory.specs.Users.{AreApart, first_conflict, has_device, is_full};
+ghost use Rattle.cp_directory.specs.Users.{last_user, minidisks_of};
 ghost use Rattle.cp_directory.specs.Users.{new_user, with_device, with_last, with_minidisk};
 
 use crate::devices::{DeviceKind, UserDevices};
@@ -41,7 +43,7 @@ impl Model for User {
 }
 
 impl User {
-    /// A user of this name with storage of this size and no device.
+    /// Returns a user of this name with storage of this size and no device.
     pub fn new(alloc: Global, name: UserName, storage: StorageSize) -> User
         ensures { result ≡ new_user name storage }
     {
@@ -53,14 +55,14 @@ impl User {
         }
     }
 
-    /// The characters of the name.
+    /// Returns the characters of the name.
     pub fn name(&self) -> &[u8]
         ensures { result.now ≡ self.now.name }
     {
         self.name.as_bytes()
     }
 
-    /// The size of the storage.
+    /// Returns the size of the storage.
     pub fn storage(&self) -> StorageSize
         ensures { result ≡ self.now.pages }
     {
@@ -74,35 +76,35 @@ impl User {
         *storage
     }
 
-    /// The devices that are no disks.
+    /// Returns the devices that are no disks.
     pub fn devices(&self) -> UserDevices
         ensures { result ≡ self.now.devices }
     {
         self.devices
     }
 
-    /// The minidisks, in the order of their lines.
+    /// Returns the minidisks, in the order of their lines.
     pub fn minidisks(&self) -> &[Minidisk]
         ensures { result.now ≡ self.now.minidisks }
     {
         self.minidisks.as_slice()
     }
 
-    /// Whether a device of the user has this address.
+    /// Returns whether a device of the user has this address.
     pub fn has_device(&self, address: DevAddr) -> bool
         ensures { result ≡ has_device address self.now }
     {
         self.devices.has(address) || self.minidisks.iter().any(|disk| disk.address == address)
     }
 
-    /// Whether the user has as many devices as one may have.
+    /// Returns whether the user has as many devices as one may have.
     pub fn is_full(&self) -> bool
         ensures { result ≡ is_full self.now }
     {
         self.minidisks.len() >= MOST_DEVICES - self.devices.count()
     }
 
-    /// The line of the first minidisk that conflicts with an extent.
+    /// Returns the line of the first minidisk that conflicts with an extent.
     fn first_conflict(&self, extent: &DiskExtent) -> Option<usize>
         ensures { result ≡ first_conflict extent.now self.now.minidisks }
     {
@@ -127,7 +129,7 @@ impl User {
         self.devices.put(kind, address);
     }
 
-    /// Adds a minidisk after the others. Where the growth is refused, nothing is added.
+    /// Adds a minidisk after the others. If the growth is refused, nothing is added.
     fn add_minidisk(&mut self, disk: Minidisk) -> Result<(), AllocError>
         ensures ok { IfOk result (λ _. self.new ≡ with_minidisk disk self.old) }
         ensures err { OnErr result (self.new ≡ self.old) }
@@ -136,7 +138,7 @@ impl User {
         Ok(())
     }
 
-    /// Whether this is the user's name.
+    /// Returns whether this is the user's name.
     pub fn has_name(&self, name: &[u8]) -> bool
         ensures { result ≡ has_name name.now self.now }
     {
@@ -152,7 +154,8 @@ impl Named for User {
     }
 }
 
-/// The users of a directory, in the order of their lines: at most [`MOST_USERS`], no two of whose minidisks conflict.
+/// The users of a directory, in the order of their lines: at most [`MOST_USERS`], no two of whose
+/// minidisks conflict.
 #[derive(Debug, Drop)]
 pub struct Directory {
     users: Vec<User>,
@@ -166,11 +169,12 @@ impl Model for Directory {
 
     ghost view = { λ directory. directory.users.items };
 
-    ghost invariant = { λ directory. (length directory.users.items ≤ 64) × AreApart directory.users.items };
+    ghost invariant = { λ directory. (length directory.users.items ≤ 64)
+        × AreApart directory.users.items };
 }
 
 impl Directory {
-    /// A directory without users.
+    /// Returns a directory without users.
     pub fn new(alloc: Global) -> Directory
         ensures { result ≡ [] }
     {
@@ -179,7 +183,11 @@ impl Directory {
         }
     }
 
-    /// Adds a user without minidisks after the others. Where the growth is refused, nothing is added.
+    /// Adds a user without minidisks after the others. If the growth is refused, nothing is added.
+    ///
+    /// # Errors
+    ///
+    /// `AllocError` if memory is refused; nothing has changed.
     pub fn push(&mut self, user: User) -> Result<(), AllocError>
         requires room { length self.old < MOST_USERS }
         requires none { user.minidisks ≡ [] }
@@ -190,7 +198,7 @@ impl Directory {
         Ok(())
     }
 
-    /// The users, in order.
+    /// Returns the users, in order.
     pub fn users(&self) -> &[User]
         ensures users { result.now ≡ self.now }
         ensures few { length result.now ≤ MOST_USERS }
@@ -201,7 +209,7 @@ impl Directory {
         users.as_slice()
     }
 
-    /// How many users there are.
+    /// Returns how many users there are.
     pub fn len(&self) -> usize
         ensures value { result ≡ length self.now }
         ensures few { result ≤ MOST_USERS }
@@ -209,16 +217,17 @@ impl Directory {
         self.users.len()
     }
 
-    /// Whether there is no user.
+    /// Returns whether there is no user.
     pub fn is_empty(&self) -> bool
         ensures { result ≡ (length self.now == 0) }
     {
         self.users.is_empty()
     }
 
-    /// The last user, to whom device statements belong.
+    /// Returns the last user, to whom device statements belong.
     pub(crate) fn last(&self) -> Option<&User>
-        ensures { MatchOption result (self.now ≡ []) (λ user. (0 < length self.now) × (user.now ≡ last_user self.now)) }
+        ensures { MatchOption result (self.now ≡ [])
+            (λ user. (0 < length self.now) × (user.now ≡ last_user self.now)) }
     {
         self.users.as_slice().last()
     }
@@ -232,8 +241,8 @@ impl Directory {
         self.users[last].put(kind, address);
     }
 
-    /// Gives the last user one minidisk more, which conflicts with no other. Where the growth is refused, nothing is
-    /// added.
+    /// Gives the last user one minidisk more, which conflicts with no other. If the growth is
+    /// refused, nothing is added.
     pub(crate) fn add_minidisk(&mut self, disk: Minidisk) -> Result<(), AllocError>
         requires some { 0 < length self.old }
         requires free { first_conflict disk.extent (minidisks_of self.old) ≡ None }
@@ -243,7 +252,7 @@ impl Directory {
         self.users[last].add_minidisk(disk)
     }
 
-    /// The line of the first minidisk of any user that conflicts with an extent.
+    /// Returns the line of the first minidisk of any user that conflicts with an extent.
     pub(crate) fn first_conflict(&self, extent: &DiskExtent) -> Option<usize>
         ensures { result ≡ first_conflict extent.now (minidisks_of self.now) }
     {
@@ -255,7 +264,7 @@ impl Directory {
         None
     }
 
-    /// Whether a user has this name.
+    /// Returns whether a user has this name.
     pub fn contains(&self, name: &[u8]) -> bool
         ensures { result ≡ list_any (has_name name.now) self.now }
     {

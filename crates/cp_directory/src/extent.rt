@@ -1,6 +1,7 @@
 //! Extents: cylinders of a volume that one minidisk has.
 ghost use Rattle.std.specs.Prelude.{◌≡◌, ◌+◌, ◌<◌, ◌≤◌, Option, Some, None, if◌then◌else◌};
-ghost use Rattle.cp_directory.specs.Extents.{conflicts, extent_of, is_read_only, is_volser, mode_of, padded};
+ghost use Rattle.cp_directory.specs.Extents.{conflicts, extent_of, is_read_only, is_volser};
+ghost use Rattle.cp_directory.specs.Extents.{mode_of, padded};
 ghost use Rattle.cp_directory.specs.Extents.{shares_cylinder};
 
 use crate::name::is_letter_or_digit;
@@ -17,7 +18,7 @@ pub enum DiskMode {
 }
 
 impl DiskMode {
-    /// The mode that a word spells: `R` or `W`.
+    /// Returns the mode that a word spells: `R` or `W`.
     pub fn new(word: &[u8]) -> Option<DiskMode>
         ensures { result ≡ mode_of word.now }
     {
@@ -28,7 +29,7 @@ impl DiskMode {
         }
     }
 
-    /// Whether a minidisk of this mode is only read.
+    /// Returns whether a minidisk of this mode is only read.
     pub fn is_read_only(self) -> bool
         ensures { result ≡ is_read_only self }
     {
@@ -65,7 +66,7 @@ impl Model for Volser {
 impl Volser {
     ghost use Rattle.std.specs.Prelude.{true};
 
-    /// The serial number that a word spells.
+    /// Returns the serial number that a word spells.
     pub fn new(word: &[u8]) -> Option<Volser>
         ensures { result ≡ (if is_volser word.now then Some word.now else None) }
     {
@@ -80,7 +81,7 @@ impl Volser {
         })
     }
 
-    /// Its characters.
+    /// Returns its characters.
     pub fn as_bytes(&self) -> &[u8]
         ensures bytes { result.now ≡ self.now }
         ensures lawful { is_volser result.now ≡ true }
@@ -88,7 +89,7 @@ impl Volser {
         &self.bytes[..self.len]
     }
 
-    /// The six characters that stand on the volume, blanks behind the others.
+    /// Returns the six characters that are on the volume, blanks after the others.
     pub fn padded(&self) -> [u8; 6]
         ensures { result ≡ padded self.now }
     {
@@ -96,7 +97,7 @@ impl Volser {
     }
 }
 
-/// Whether a word is one to six letters and digits.
+/// Returns whether a word is one to six letters and digits.
 fn is_volser(word: &[u8]) -> bool
     ensures { result ≡ is_volser word.now }
 {
@@ -120,10 +121,16 @@ impl Model for SpelledExtent {
 
     ghost Value = { Extent };
 
-    ghost view = { λ e. record { volser = e.volser; start = e.start; count = e.count; mode = e.mode } };
+    ghost view = { λ e. record {
+      volser = e.volser;
+      start = e.start;
+      count = e.count;
+      mode = e.mode;
+    } };
 }
 
-/// At least one cylinder of a volume, of those with the numbers 0 to 807, and whether they may be written to.
+/// At least one cylinder of a volume, of those with the numbers 0 to 807, and whether they may be
+/// written to.
 #[derive(Clone, Copy, Debug, PartialEq, Eq)]
 pub struct DiskExtent {
     volser: Volser,
@@ -138,15 +145,25 @@ impl Model for DiskExtent {
 
     ghost Value = { Extent };
 
-    ghost view = { λ e. record { volser = e.volser; start = e.start; count = e.count; mode = e.mode } };
+    ghost view = { λ e. record {
+      volser = e.volser;
+      start = e.start;
+      count = e.count;
+      mode = e.mode;
+    } };
 
     ghost invariant = { λ e. (0 < e.count) × (e.start + e.count ≤ 808) };
 
-    ghost inverse = { λ e. record { volser = e.volser; start = e.start; count = e.count; mode = e.mode } };
+    ghost inverse = { λ e. record {
+      volser = e.volser;
+      start = e.start;
+      count = e.count;
+      mode = e.mode;
+    } };
 }
 
 impl DiskExtent {
-    /// The extent that is spelled, where a minidisk may have it.
+    /// Returns the extent that is spelled, where a minidisk may have it.
     pub fn new(spelled: SpelledExtent) -> Option<DiskExtent>
         ensures { result ≡ extent_of spelled }
     {
@@ -167,14 +184,14 @@ impl DiskExtent {
         })
     }
 
-    /// The serial number of the volume.
+    /// Returns the serial number of the volume.
     pub fn volser(&self) -> Volser
         ensures { result ≡ self.now.volser }
     {
         self.volser
     }
 
-    /// The first cylinder.
+    /// Returns the first cylinder.
     pub fn start(&self) -> u16
         ensures value { result ≡ self.now.start }
         ensures within { result + self.now.count ≤ MOST_CYLINDERS }
@@ -182,7 +199,7 @@ impl DiskExtent {
         self.start
     }
 
-    /// How many cylinders.
+    /// Returns how many cylinders.
     pub fn count(&self) -> u16
         ensures value { result ≡ self.now.count }
         ensures some { 0 < result }
@@ -191,7 +208,7 @@ impl DiskExtent {
         self.count
     }
 
-    /// Whether they may be written to.
+    /// Returns whether they may be written to.
     pub fn mode(&self) -> DiskMode
         ensures { result ≡ self.now.mode }
     {
@@ -205,7 +222,7 @@ impl DiskExtent {
         *mode
     }
 
-    /// Whether the two are of one volume and share a cylinder, and not both are read-only.
+    /// Returns whether the two are of one volume and share a cylinder, and not both are read-only.
     pub fn conflicts_with(&self, other: &DiskExtent) -> bool
         ensures { result ≡ conflicts self.now other.now }
     {
@@ -214,7 +231,7 @@ impl DiskExtent {
             && !(self.mode.is_read_only() && other.mode.is_read_only())
     }
 
-    /// Whether a cylinder of one number is in both.
+    /// Returns whether a cylinder of one number is in both.
     fn shares_cylinder(&self, other: &DiskExtent) -> bool
         ensures { result ≡ shares_cylinder self.now other.now }
     {

@@ -28,7 +28,8 @@ pub enum DirError {
     /// There is no cylinder, or one that no volume has.
     #[error("line {0}: no volume has these cylinders")]
     BadExtent(usize),
-    /// The extent shares a cylinder with that of an earlier line, told first, and not both are read-only.
+    /// The extent shares a cylinder with that of an earlier line, reported first, and not both are
+    /// read-only.
     #[error("line {1}: the cylinders overlap those of line {0}")]
     Overlap(usize, usize),
     /// A limit on users or devices is passed.
@@ -52,7 +53,7 @@ pub enum LineFault {
 
 /// Why a line is not read.
 #[derive(Clone, Copy, Debug, PartialEq, Eq, Drop)]
-pub enum LineError {
+pub enum StatementError {
     /// The allocator refused a growth.
     Memory,
     /// The line's first fault.
@@ -60,11 +61,11 @@ pub enum LineError {
 }
 
 impl LineFault {
-    ghost use Rattle.cp_directory.specs.Directories.{told};
+    ghost use Rattle.cp_directory.specs.Directories.{reported};
 
-    /// The refusal of a directory for this fault of the line of this number.
+    /// Returns the refusal of a directory for this fault of the line of this number.
     pub fn at(self, line: usize) -> DirError
-        ensures { result ≡ told line self }
+        ensures { result ≡ reported line self }
     {
         match self {
             LineFault::UnknownStatement => DirError::UnknownStatement(line),

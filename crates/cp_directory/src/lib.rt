@@ -1,10 +1,12 @@
-//! The directory: the text that names the users of the program, and the storage and the devices that each has.
+//! The directory: the text that names the users of the program, and the storage and the devices
+//! that each has.
 //!
 //! A text of the grammar of docs/FORMATS.md is read as exactly the users that it states, and every
 //! other text is refused by its first faulty line and that line's first fault ([`read_directory`]).
-//! What the grammar says is proved of the reader by [`reads_grammar`]. The users that are read are at
-//! most 64, their names differ, and each has a storage that a user may have and at most 32 devices of
-//! different addresses. No two minidisks of a directory share a cylinder, unless both are read-only.
+//! What the grammar says is proved of the reader by [`reads_grammar`]. The users that are read are
+//! at most 64, their names differ, and each has a storage that a user may have and at most 32
+//! devices of different addresses. No two minidisks of a directory share a cylinder, unless both
+//! are read-only.
 //!
 //! ```
 //! use cp_directory::{DirError, read_directory};
@@ -23,9 +25,9 @@
 //! assert_eq!(rt; (extent.start(), extent.count()), (5, 10));
 //! ```
 //!
-//! A line is judged in two steps. [`spelling`] and [`device_spelling`] read what its words state, whatever
-//! stands before it. [`reader`] then finds the statement's place among the lines before it, by a list of faults
-//! in the order in which they are told. A new statement is a case in each.
+//! A line is judged in two steps. [`spelling`] and [`device_spelling`] read what its words state,
+//! whatever is before it. [`reader`] then finds the statement's place among the lines before it, by
+//! a list of faults in the order in which they are reported. A new statement is a case in each.
 #![tactic(auto)]
 
 mod device_spelling;

@@ -26,7 +26,7 @@ impl Model for UserName {
 impl UserName {
     ghost use Rattle.std.specs.Prelude.{true};
 
-    /// The name that a word spells.
+    /// Returns the name that a word spells.
     pub fn new(word: &[u8]) -> Option<UserName>
         ensures { result ≡ (if is_name word.now then Some word.now else None) }
     {
@@ -43,7 +43,7 @@ impl UserName {
         })
     }
 
-    /// The characters of the name.
+    /// Returns the characters of the name.
     pub fn as_bytes(&self) -> &[u8]
         ensures bytes { result.now ≡ self.now }
         ensures lawful { is_name result.now ≡ true }
@@ -61,7 +61,7 @@ fn is_name(word: &[u8]) -> bool
     is_letter(word[0])
 }
 
-/// Whether a word is one to eight letters and digits, as a password is.
+/// Returns whether a word is one to eight letters and digits, as a password is.
 pub fn is_short_word(word: &[u8]) -> bool
     ensures { result ≡ is_short_word word.now }
 {
@@ -71,7 +71,7 @@ pub fn is_short_word(word: &[u8]) -> bool
     word.iter().all(|c| is_letter_or_digit(*c))
 }
 
-/// Whether this is one of `A` to `Z` and `0` to `9`.
+/// Returns whether this is one of `A` to `Z` and `0` to `9`.
 pub fn is_letter_or_digit(c: u8) -> bool
     ensures { result ≡ is_letter_or_digit c }
 {

@@ -9,7 +9,7 @@ ghost use Rattle.cp_directory.specs.Statements.{line_placed, placed};
 use crate::devices::DeviceKind;
 use crate::directory::{Directory, User};
 use crate::extent::{DiskExtent, SpelledExtent};
-use crate::faults::{DirError, LineError, LineFault};
+use crate::faults::{DirError, LineFault, StatementError};
 use crate::minidisk::Minidisk;
 use crate::name::UserName;
 use crate::spelling::{SpelledSize, Statement, read_statement, size_of};
@@ -19,16 +19,27 @@ use text_words::lines::{is_comment, numbered_lines};
 use text_words::words::words_of;
 use user_names::MOST_USERS;
 
-/// The directory that a text states.
+/// Returns the directory that a text states.
 ///
 /// A text outside the grammar is refused by its first faulty line and that line's first fault, and
 /// [`DirError::Memory`] is the answer only where a growth was refused. A directory has at most 64
 /// users of different names, and of two of its extents that share a cylinder both are read-only.
 ///
-/// ```text
+/// # Errors
+///
+/// A `DirError`: the first faulty line and its first fault, or refused memory.
+///
+/// # Examples
+///
+/// ```
+/// use cp_directory::{DirError, read_directory};
+/// use user_names::{UserNo, user_of};
+///
 /// let directory = read_directory(alloc, b"USER ALPHA SECRET 4M\n")?;
-/// let alpha = user_of(directory.users(), b"ALPHA"); // Some(UserNo::new(0))
-/// let pages = directory.users()[0].storage().pages(); // 1024
+/// assert_eq!(rt; user_of(directory.users(), b"ALPHA"), Some(UserNo::new(0)));
+/// assert_eq!(rt; directory.users()[0].storage().pages(), 1024);
+/// let fault = read_directory(alloc, b"USER ALPHA SECRET 5M\n").err();
+/// assert_eq!(rt; fault, Some(DirError::BadStorage(1)));
 /// ```
 pub fn read_directory(alloc: Global, text: &[u8]) -> Result<Directory, DirError>
     ensures ok { IfOk result (λ users. directory_of text.now ≡ Ok users) }
@@ -39,8 +50,8 @@ pub fn read_directory(alloc: Global, text: &[u8]) -> Result<Directory, DirError>
     for line in numbered_lines(text) {
         match read_line(alloc, &mut directory, line.number, line.text) {
             Ok(()) => {}
-            Err(LineError::Memory) => return Err(DirError::Memory),
-            Err(LineError::Fault(fault)) => return Err(fault.at(line.number)),
+            Err(StatementError::Memory) => return Err(DirError::Memory),
+            Err(StatementError::Fault(fault)) => return Err(fault.at(line.number)),
         }
     }
     Ok(directory)
@@ -52,7 +63,7 @@ fn read_line(
     directory: &mut Directory,
     number: usize,
     line: &[u8],
-) -> Result<(), LineError>
+) -> Result<(), StatementError>
     ensures { Places (line_placed number directory.old line.now) directory.new result }
 {
     if is_comment(line) {
@@ -60,13 +71,13 @@ fn read_line(
     }
     let words = match words_of(alloc, line) {
         Ok(words) => words,
-        Err(_) => return Err(LineError::Memory),
+        Err(_) => return Err(StatementError::Memory),
     };
     match words.as_slice() {
         [] => Ok(()),
         [verb, operands @ ..] => match read_statement(verb, operands) {
             Ok(statement) => place(alloc, directory, number, statement),
-            Err(fault) => Err(LineError::Fault(fault)),
+            Err(fault) => Err(StatementError::Fault(fault)),
         },
     }
 }
@@ -77,7 +88,7 @@ fn place(
     directory: &mut Directory,
     line: usize,
     statement: Statement<'_>,
-) -> Result<(), LineError>
+) -> Result<(), StatementError>
     ensures { Places (placed line directory.old (stated statement.entry)) directory.new result }
 {
     match statement {
@@ -92,23 +103,23 @@ fn place_user(
     directory: &mut Directory,
     name: UserName,
     spelled: SpelledSize<'_>,
-) -> Result<(), LineError>
+) -> Result<(), StatementError>
     ensures { (line : ℕ) → let user = said.User name (kilobytes spelled.entry) in
         Places (placed line directory.old user) directory.new result }
 {
     if directory.contains(name.as_bytes()) {
-        return Err(LineError::Fault(LineFault::DuplicateUser));
+        return Err(StatementError::Fault(LineFault::DuplicateUser));
     }
     let size = match size_of(spelled) {
         Some(size) => size,
-        None => return Err(LineError::Fault(LineFault::BadStorage)),
+        None => return Err(StatementError::Fault(LineFault::BadStorage)),
     };
     if directory.len() >= MOST_USERS {
-        return Err(LineError::Fault(LineFault::TooMany));
+        return Err(StatementError::Fault(LineFault::TooMany));
     }
     match directory.push(User::new(alloc, name, size)) {
         Ok(()) => Ok(()),
-        Err(_) => Err(LineError::Memory),
+        Err(_) => Err(StatementError::Memory),
     }
 }
 
@@ -116,17 +127,18 @@ fn place_device(
     directory: &mut Directory,
     kind: DeviceKind,
     address: DevAddr,
-) -> Result<(), LineError>
-    ensures { (line : ℕ) → Places (placed line directory.old (said.Device kind address)) directory.new result }
+) -> Result<(), StatementError>
+    ensures { (line : ℕ) → Places (placed line directory.old (said.Device kind address))
+        directory.new result }
 {
     let Some(user) = directory.last() else {
-        return Err(LineError::Fault(LineFault::Syntax));
+        return Err(StatementError::Fault(LineFault::Syntax));
     };
     if user.has_device(address) {
-        return Err(LineError::Fault(LineFault::DuplicateDevice));
+        return Err(StatementError::Fault(LineFault::DuplicateDevice));
     }
     if user.is_full() || user.devices().place_of(kind).is_some() {
-        return Err(LineError::Fault(LineFault::TooMany));
+        return Err(StatementError::Fault(LineFault::TooMany));
     }
     directory.put_device(kind, address);
     Ok(())
@@ -137,25 +149,25 @@ fn place_minidisk(
     line: usize,
     address: DevAddr,
     spelled: SpelledExtent,
-) -> Result<(), LineError>
+) -> Result<(), StatementError>
     ensures { Places (placed line directory.old (said.Disk address spelled)) directory.new result }
 {
     let Some(user) = directory.last() else {
-        return Err(LineError::Fault(LineFault::Syntax));
+        return Err(StatementError::Fault(LineFault::Syntax));
     };
     if user.has_device(address) {
-        return Err(LineError::Fault(LineFault::DuplicateDevice));
+        return Err(StatementError::Fault(LineFault::DuplicateDevice));
     }
     let is_full = user.is_full();
     let extent = match DiskExtent::new(spelled) {
         Some(extent) => extent,
-        None => return Err(LineError::Fault(LineFault::BadExtent)),
+        None => return Err(StatementError::Fault(LineFault::BadExtent)),
     };
     if let Some(first) = directory.first_conflict(&extent) {
-        return Err(LineError::Fault(LineFault::Overlap(first)));
+        return Err(StatementError::Fault(LineFault::Overlap(first)));
     }
     if is_full {
-        return Err(LineError::Fault(LineFault::TooMany));
+        return Err(StatementError::Fault(LineFault::TooMany));
     }
     let disk = Minidisk {
         line,
@@ -164,12 +176,12 @@ fn place_minidisk(
     };
     match directory.add_minidisk(disk) {
         Ok(()) => Ok(()),
-        Err(_) => Err(LineError::Memory),
+        Err(_) => Err(StatementError::Memory),
     }
 }
 
-/// What [`read_directory`] reads is what the grammar says, and it reads all of that; the fault that it tells is the
-/// first fault of the first faulty line, and that is always told.
+/// What [`read_directory`] reads is what the grammar says, and it reads all of that; the fault that
+/// it says is the first fault of the first faulty line, and that is always reported.
 pub fn reads_grammar()
     ensures { ReadsGrammar }
 {}

@@ -1,9 +1,10 @@
-//! What a line's words state, whatever stands before the line.
+//! What a line's words state, whatever is before the line.
 ghost use Rattle.std.specs.Prelude.{◌≡◌, map, min};
 ghost use Rattle.std.specs.Option.{option_map};
 ghost use Rattle.std.specs.List.{list_all};
 ghost use Rattle.text_words.specs.Numbers.{is_digit};
-ghost use Rattle.cp_directory.specs.Sizes.{is_number, kilobytes_of, kilobytes_by, pages_of, number, storage_of, unit_of};
+ghost use Rattle.cp_directory.specs.Sizes.{is_number, kilobytes_of, kilobytes_by, pages_of, number};
+ghost use Rattle.cp_directory.specs.Sizes.{storage_of, unit_of};
 ghost use Rattle.cp_directory.specs.Statements.{stated_by, user_of, user_stated, well_formed};
 ghost use Rattle.cp_directory.specs.Spelled.{kilobytes, kilobytes_in, stated, stated_result};
 
@@ -41,7 +42,11 @@ pub enum Statement<'a> {
     Minidisk(DevAddr, SpelledExtent),
 }
 
-/// The statement that begins with this word and has these operands.
+/// Returns the statement that begins with this word and has these operands.
+///
+/// # Errors
+///
+/// A `LineFault`: the first fault of the statement.
 pub fn read_statement<'a>(verb: &[u8], operands: &[&'a [u8]]) -> Result<Statement<'a>, LineFault>
     ensures { stated_result result ≡ stated_by verb.now (map (λ w. w.now) operands.now) }
 {
@@ -89,7 +94,7 @@ fn user_of<'a>(name: &[u8], password: &[u8], size: &'a [u8]) -> Option<Statement
     Some(Statement::User(name, size))
 }
 
-/// A number and the letter of a unit.
+/// Returns a number and the letter of a unit.
 fn read_size(word: &[u8]) -> Option<SpelledSize<'_>>
     ensures { option_map kilobytes result ≡ kilobytes_of word.now }
 {
@@ -119,7 +124,7 @@ fn unit_of(letter: u8) -> Option<SizeUnit>
     }
 }
 
-/// Whether these are one or more digits, of which the first is not `0`.
+/// Returns whether these are one or more digits, of which the first is not `0`.
 fn is_number(digits: &[u8]) -> bool
     ensures { result ≡ is_number digits.now }
 {
@@ -135,8 +140,8 @@ fn all_digits(digits: &[u8]) -> bool
     digits.iter().all(|c| is_digit(*c))
 }
 
-/// The storage that a word spells as the operand of a user's statement does, where it is written so and a user may have
-/// it.
+/// Returns the storage that a word spells as the operand of a user's statement does, where it is
+/// written so and a user may have it.
 ///
 /// `storage_of(b"8K")` is a storage of two pages; `8k` and `6K` are none.
 pub fn storage_of(word: &[u8]) -> Option<StorageSize>
@@ -145,7 +150,7 @@ pub fn storage_of(word: &[u8]) -> Option<StorageSize>
     size_of(read_size(word)?)
 }
 
-/// The size that is spelled, where a storage may have it.
+/// Returns the size that is spelled, where a storage may have it.
 pub fn size_of(spelled: SpelledSize<'_>) -> Option<StorageSize>
     ensures { result ≡ pages_of (kilobytes spelled.entry) }
 {
@@ -156,7 +161,7 @@ pub fn size_of(spelled: SpelledSize<'_>) -> Option<StorageSize>
     }
 }
 
-/// The number that digits spell, or 9999 where it is more.
+/// Returns the number that digits spell, or 9999 where it is more.
 fn capped_number(digits: &[u8]) -> u32
     ensures { result ≡ min 9999 (number 0 digits.now) }
 {

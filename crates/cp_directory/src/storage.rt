@@ -23,7 +23,7 @@ impl Model for StorageSize {
 }
 
 impl StorageSize {
-    /// The size of so many kilobytes: 8 to 4096, in steps of 4.
+    /// Returns the size of so many kilobytes: 8 to 4096, in steps of 4.
     pub fn from_kilobytes(kilobytes: u32) -> Option<StorageSize>
         ensures { result ≡ pages_of kilobytes }
     {
@@ -36,7 +36,7 @@ impl StorageSize {
         }
     }
 
-    /// How many pages of 4096 bytes.
+    /// Returns how many pages of 4096 bytes.
     pub fn pages(self) -> u32
         ensures pages { result ≡ self }
         ensures least { 2 ≤ result }
@@ -45,14 +45,14 @@ impl StorageSize {
         self.pages
     }
 
-    /// How many blocks of 2048 bytes, each with a key of its own.
+    /// Returns how many blocks of 2048 bytes, each with a key of its own.
     pub fn blocks(self) -> u32
         ensures { result ≡ 2 * self }
     {
         2 * self.pages
     }
 
-    /// How many bytes.
+    /// Returns how many bytes.
     pub fn bytes(self) -> u32
         ensures { result ≡ 4096 * self }
     {

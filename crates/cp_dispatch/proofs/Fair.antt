@@ -19,12 +19,12 @@ others_pass : (b a : Bool) → (b || a) ≡ false → a ≡ false
 others_pass true a h = cc
 others_pass false a h = h
 
--- someone who is ready stands in no line in which nobody is
+-- someone who is ready is in no line in which nobody is
 stands_ready : {X : Type 0} (ready : X → Bool) (before : List X) (one : X) (after : List X) → list_any ready (before ++ one ∷ after) ≡ false → ready one ≡ true → ⊥
 stands_ready ready [] one after h k = not_ready (ready one) (list_any ready after) h k
 stands_ready ready (x ∷ before) one after h k = stands_ready ready before one after (others_pass (ready x) (list_any ready (before ++ one ∷ after)) h) k
 
--- what stands between the one who is taken and another who is ready
+-- what is between the one who is taken and another who is ready
 record Between {X : Type 0} (after : List X) (one : X) (before later : List X) : Type 0 where
   pub between : List X
   pub left : after ≡ between ++ one ∷ later
@@ -37,7 +37,7 @@ widened : {X : Type 0} (same : Type 0) (after : List X) (one x : X) (before late
 widened same after one x before later (inl e) = inl e
 widened same after one x before later (inr b) = inr (wider after one x before later b)
 
--- the first who is ready is that one, or stands before
+-- the first who is ready is that one, or is before
 behind : {X : Type 0} (ready : X → Bool) (passed : List X) (taken : X) (after before : List X) (one : X) (later : List X)
     → passed ++ taken ∷ after ≡ before ++ one ∷ later → list_any ready passed ≡ false → ready one ≡ true → (taken ≡ one) ⊎ Between after one before later
 behind ready [] taken after [] one later h misses is = inl (first_same taken one after later h)
@@ -46,7 +46,7 @@ behind ready (x ∷ passed) taken after [] one later h misses is = absurd (not_r
 behind ready (x ∷ passed) taken after (y ∷ before) one later h misses is =
     widened (taken ≡ one) after one y before later (behind ready passed taken after before one later (rest_same x y (passed ++ taken ∷ after) (before ++ one ∷ later) h) (others_pass (ready x) (list_any ready passed) misses) is)
 
--- who was between stands before from then on
+-- who was between is before from then on
 nearer : {X : Type 0} (new after passed : List X) (taken one : X) (before later : List X) → new ≡ after ++ (passed ++ taken ∷ []) → (taken ≡ one) ⊎ Between after one before later → (Some taken ≡ Some one) ⊎ StandsWithin one new (length before)
 nearer new after passed taken one before later turned (inl e) = inl (ap Some e)
 nearer new after passed taken one before later turned (inr b) = inr (record {
@@ -62,7 +62,7 @@ forward ready old None new dealt = λ one before after split is. absurd (stands_
 forward ready old (Some taken) new dealt = λ one before after split is.
     nearer new dealt.after dealt.before taken one before after dealt.turned (behind ready dealt.before taken dealt.after before one after (sym dealt.split ∙ split) dealt.passed is)
 
--- whoever stands within so many stands within more
+-- whoever is within so many is within more
 at_same : {X : Type 0} (one : X) (line : List X) (bound more : ℕ) → bound ≤ more → StandsWithin one line bound → StandsWithin one line more
 at_same one line bound more h s = record { before = s.before; after = s.after; split = s.split; near = omega (arith, h, s.near) }
 
@@ -77,7 +77,7 @@ go_on : {X : Type 0} (b : Bool) (one x : X) (before after left : List X) → Sta
 go_on true one x before after left s = record { before = before; after = after; split = refl; near = omega arith }
 go_on false one x before after left s = at_same one (x ∷ left) (suc (length before + 1)) (length before + 2) (omega arith) (one_on one x left (length before + 1) s)
 
--- another who goes leaves one where one stands, or nearer
+-- another who goes leaves one where one is, or nearer
 gone : {X : Type 0} (p : X → Bool) (before : List X) (one : X) (after : List X) → p one ≡ false → StandsWithin one (without p (before ++ one ∷ after)) (length before + 1)
 gone p [] one after h = go_first (p one) one after (without p after) h
 gone p (x ∷ before) one after h = at_same one (without p (x ∷ before ++ one ∷ after)) (length before + 2) (length (x ∷ before) + 1) (omega arith) (go_on (p x) one x before after (without p (before ++ one ∷ after)) (gone p before one after h))
@@ -96,7 +96,7 @@ deal_on : {X : Type 0} (one : X) (line : List X) (taken : Option X) (bound : ℕ
 deal_on one line taken bound later (inl e) f = inl e
 deal_on one line taken bound later (inr s) f = inr (f s)
 
--- whoever stands within so many turns, and is ready throughout, has one of them
+-- whoever is within so many turns, and is ready throughout, has one of them
 pub fair : {X : Type 0} (same : X → X → Bool) → IsFair same
 fair same one old new [] calls ready stands = nobody_within one old stands
 fair same one old new (Deal is_ready taken ∷ calls) runs ready stands =
@@ -105,7 +105,7 @@ fair same one old new (Deal is_ready taken ∷ calls) runs ready stands =
 fair same one old new (Come x ∷ calls) runs ready stands = fair same one (at_end (same x) x old) new calls runs ready.1 (pushed one x (without (same x) old) (deals calls) (stays (same x) one old (deals calls) ready.0 stands))
 fair same one old new (Go x ∷ calls) runs ready stands = fair same one (without (same x) old) new calls runs ready.1 (stays (same x) one old (deals calls) ready.0 stands)
 
--- of as many turns as there stand in the line, each who is ready throughout has one
+-- of as many turns as there are in the line, each who is ready throughout has one
 pub gives_each : {X : Type 0} (same : X → X → Bool) → GivesEach same
 gives_each same one before after new calls runs ready enough =
     fair same one (before ++ one ∷ after) new calls runs ready (record { before = before; after = after; split = refl; near = omega (arith, enough, length-append before (one ∷ after)) })

@@ -1,4 +1,4 @@
--- A queue in which each user stands once.
+-- A queue in which each user is once.
 use Rattle.std.proofs.Common.{◌≡◌, ◌+◌, ◌<◌, ◌≤◌, ◌||◌, ◌⊎◌, inl, inr, ℕ, suc, Bool, true, false, eqb, List, [], ◌∷◌, ◌++◌, length, refl, ap, sym, ◌∙◌, subst, length-append, arith}
 use Rattle.std.specs.Prelude.{if◌then◌else◌}
 use Rattle.std.specs.List.{AllByRecursion, IsDistinct, list_any}
@@ -14,7 +14,7 @@ use Rattle.cp_dispatch.specs.Turns.{at_end, without}
 flips : (x y : ℕ) → eqb x y ≡ eqb y x
 flips x y = grind (arith, nat_tests)
 
--- whoever moves stands in the queue once
+-- whoever moves is in the queue once
 pub moved : (xs ys : List ℕ) (most : ℕ) → IsPermutation xs ys → IsQueue xs most → IsQueue ys most
 moved xs ys most h q = record {
   once = IsDistinct-IsPermutation eqb flips xs ys h q.once;
@@ -82,7 +82,7 @@ come user xs most small q =
       below = λ other stands. below_step (eqb other user) (list_any (eqb other) rest) user other most refl small (others.below other) stands;
     })
 
--- no more stand there than there are
+-- no more are there than there are
 pub fits : (xs : List ℕ) (most : ℕ) → IsQueue xs most → length xs ≤ most
 fits xs most q = length-le_from_distinct_below xs most q.once q.below
 
@@ -90,7 +90,7 @@ fits xs most q = length-le_from_distinct_below xs most q.once q.below
 pub room : (user : ℕ) (xs : List ℕ) (most : ℕ) → user < most → IsQueue xs most → length (without (same_user user) xs) < most
 room user xs most small q = omega (arith, fits (at_end (same_user user) user xs) most (come user xs most small q), length-append (without (eqb user) xs) (user ∷ []))
 
--- nobody stands there
+-- nobody is there
 pub empty : (most : ℕ) → IsQueue [] most
 unfolding IsDistinct
 empty most = record { once = tt; below = λ user stands. cc }

@@ -1,5 +1,6 @@
 -- Nobody who is ready waits for ever: what follows of turns that are dealt one after another.
-use Rattle.std.specs.Prelude.{◌≡◌, ◌≤◌, ◌⊎◌, ◌+◌, ℕ, Bool, true, false, List, [], ◌∷◌, ◌++◌, length, Option, Some}
+use Rattle.std.specs.Prelude.{◌≡◌, ◌≤◌, ◌⊎◌, ◌+◌, ℕ, Bool, true, false, List, [], ◌∷◌, ◌++◌, length}
+use Rattle.std.specs.Prelude.{Option, Some}
 use Rattle.cp_dispatch.specs.Turns.{IsDealt, StandsWithin, at_end, without}
 
 -- what happens to a line
@@ -14,7 +15,8 @@ pub data Call (X : Type 0) : Type 0 where
 -- these calls, one after another, turn the one line into the other
 abbrev pub IsCalls : {X : Type 0} → (X → X → Bool) → List X → List (Call X) → List X → Type 0
 IsCalls same old [] new = old ≡ new
-IsCalls {X} same old (Deal ready taken ∷ calls) new = (next : List X) × IsDealt ready old taken next × IsCalls same next calls new
+IsCalls {X} same old (Deal ready taken ∷ calls) new = (next : List X) × IsDealt ready old taken next
+    × IsCalls same next calls new
 IsCalls same old (Come one ∷ calls) new = IsCalls same (at_end (same one) one old) calls new
 IsCalls same old (Go one ∷ calls) new = IsCalls same (without (same one) old) calls new
 
@@ -28,9 +30,12 @@ deals (Go one ∷ calls) = deals calls
 -- this one is ready whenever a turn is dealt, and neither goes nor comes again
 abbrev pub IsReadyThroughout : {X : Type 0} → (X → X → Bool) → X → List (Call X) → Type 0
 IsReadyThroughout same one [] = Unit {0}
-IsReadyThroughout same one (Deal ready taken ∷ calls) = (ready one ≡ true) × IsReadyThroughout same one calls
-IsReadyThroughout same one (Come other ∷ calls) = (same other one ≡ false) × IsReadyThroughout same one calls
-IsReadyThroughout same one (Go other ∷ calls) = (same other one ≡ false) × IsReadyThroughout same one calls
+IsReadyThroughout same one (Deal ready taken ∷ calls) = (ready one ≡ true)
+    × IsReadyThroughout same one calls
+IsReadyThroughout same one (Come other ∷ calls) = (same other one ≡ false)
+    × IsReadyThroughout same one calls
+IsReadyThroughout same one (Go other ∷ calls) = (same other one ≡ false)
+    × IsReadyThroughout same one calls
 
 -- this one has a turn
 abbrev pub HasTurn : {X : Type 0} → X → List (Call X) → Type 0
@@ -39,12 +44,15 @@ HasTurn one (Deal ready taken ∷ calls) = (taken ≡ Some one) ⊎ HasTurn one 
 HasTurn one (Come other ∷ calls) = HasTurn one calls
 HasTurn one (Go other ∷ calls) = HasTurn one calls
 
--- whoever stands in a line with j others before, and is ready throughout, has one of the next j + 1 turns
+-- whoever is in a line with j others before, and is ready throughout, has one of the next j + 1
+-- turns
 abbrev pub IsFair : {X : Type 0} → (X → X → Bool) → Type 0
 IsFair {X} same = (one : X) (old new : List X) (calls : List (Call X)) →
-    IsCalls same old calls new → IsReadyThroughout same one calls → StandsWithin one old (deals calls) → HasTurn one calls
+    IsCalls same old calls new → IsReadyThroughout same one calls
+    → StandsWithin one old (deals calls) → HasTurn one calls
 
--- so, of as many turns as there stand in the line, each who is ready throughout has one
+-- so, of as many turns as there are in the line, each who is ready throughout has one
 abbrev pub GivesEach : {X : Type 0} → (X → X → Bool) → Type 0
 GivesEach {X} same = (one : X) (before after new : List X) (calls : List (Call X)) →
-    IsCalls same (before ++ one ∷ after) calls new → IsReadyThroughout same one calls → length (before ++ one ∷ after) ≤ deals calls → HasTurn one calls
+    IsCalls same (before ++ one ∷ after) calls new → IsReadyThroughout same one calls
+    → length (before ++ one ∷ after) ≤ deals calls → HasTurn one calls

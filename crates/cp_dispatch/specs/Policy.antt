@@ -1,11 +1,12 @@
 -- Who is dealt the slices of the processor, and which programs of channels are served.
-use Rattle.std.specs.Prelude.{◌≡◌, ◌<◌, ◌==◌, ◌&&◌, ℕ, Bool, true, false, List, [], length, slice_index_or}
+use Rattle.std.specs.Prelude.{◌≡◌, ◌<◌, ◌==◌, ◌&&◌, ℕ, Bool, true, false, List, [], length}
+use Rattle.std.specs.Prelude.{slice_index_or}
 use Rattle.std.specs.List.{IsDistinct, list_any}
 use Rattle.cp_dispatch.specs.declared.program.Program.{Program}
 use Rattle.cp_dispatch.specs.Fairness.{GivesEach, IsFair}
 
--- the users who are logged on, and the programs that were started, each in the order in which they are dealt; and how many
--- users there may be
+-- the users who are logged on, and the programs that were started, each in the order in which they
+-- are dealt; and how many users there may be
 pub record Lines : Type 0 where
   pub users : List ℕ
   pub programs : List Program
@@ -31,7 +32,7 @@ same_program one other = is_of one.user one.device other
 abbrev pub always : Program → Bool
 always program = true
 
--- each user stands in the queue once, and is one of so many
+-- each user is in the queue once, and is one of so many
 pub record IsQueue (queue : List ℕ) (most : ℕ) : Type 0 where
   pub once : IsDistinct same_user queue
   pub below : (user : ℕ) → list_any (same_user user) queue ≡ true → user < most

@@ -12,8 +12,8 @@ use std::alloc::{AllocError, Global};
 use std::marker::Model;
 use user_names::UserNo;
 
-/// Who is dealt the slices, and which programs are served: the users who are logged on and the programs that were
-/// started, each in the order in which they are dealt.
+/// Who is dealt the slices, and which programs are served: the users who are logged on and the
+/// programs that were started, each in the order in which they are dealt.
 #[derive(Drop)]
 pub struct Policy {
     pub(crate) users: Vec<UserNo>,
@@ -34,14 +34,20 @@ impl Model for Policy {
       most_users = p.most_users;
     } };
 
-    ghost invariant = { λ p. IsQueue p.users.items p.most_users × (p.most_users ≤ vec_capacity p.users) };
+    ghost invariant = { λ p. IsQueue p.users.items p.most_users
+        × (p.most_users ≤ vec_capacity p.users) };
 }
 
 impl Policy {
-    /// A policy for so many users, of whom nobody is logged on; no program was started. Of the other calls only
-    /// [`Policy::started`] takes memory.
+    /// Returns a policy for so many users, of whom nobody is logged on; no program was started. Of
+    /// the other calls only [`Policy::started`] takes memory.
+    ///
+    /// # Errors
+    ///
+    /// `AllocError` if memory is refused.
     pub fn new(alloc: Global, users: usize) -> Result<Policy, AllocError>
-        ensures { IfOk result (λ policy. policy ≡ record { users = []; programs = []; most_users = users }) }
+        ensures { IfOk result (λ policy. policy
+            ≡ record { users = []; programs = []; most_users = users }) }
     {
         Ok(Policy {
             users: Vec::with_capacity(alloc, users)?,
@@ -50,43 +56,52 @@ impl Policy {
         })
     }
 
-    /// A user logs on, and stands at the end of the queue.
+    /// A user logs on, and is at the end of the queue.
     pub fn join(&mut self, user: UserNo)
         requires { user < self.old.most_users }
-        ensures { self.new ≡ record self.old { users = at_end (same_user user) user self.old.users } }
+        ensures { self.new ≡ record
+            self.old { users = at_end (same_user user) user self.old.users } }
     {
         put_user(&mut self.users, user);
     }
 
-    /// A user logs off, and stands in the queue no more.
+    /// A user logs off, and is in the queue no more.
     pub fn leave(&mut self, user: UserNo)
         ensures { self.new ≡ record self.old { users = without (same_user user) self.old.users } }
     {
         take_out_user(&mut self.users, user);
     }
 
-    /// The program of a user's device is started, and stands at the end of the line, also where it stood in it before.
-    /// Where memory is refused, it does not stand in the line.
+    /// The program of a user's device is started, and is at the end of the line, also where it was
+    /// in it before. If memory is refused, it is not in the line.
+    ///
+    /// # Errors
+    ///
+    /// `AllocError` if memory is refused; what this is then is not specified.
     pub fn started(&mut self, user: UserNo, device: DevAddr) -> Result<(), AllocError>
         ensures ok { OnOk result (self.new ≡ record self.old {
           programs = at_end (is_of user device)
               (record { user = user; device = device }) self.old.programs;
         }) }
         ensures err { OnErr result
-            (self.new ≡ record self.old { programs = without (is_of user device) self.old.programs }) }
+            (self.new ≡ record self.old {
+              programs = without (is_of user device)
+                  self.old.programs;
+            }) }
     {
         put_program(&mut self.programs, user, device)
     }
 
-    /// The program of a user's device has ended or was withdrawn, and stands in the line no more.
+    /// The program of a user's device has ended or was withdrawn, and is in the line no more.
     pub fn ended(&mut self, user: UserNo, device: DevAddr)
-        ensures { self.new ≡ record self.old { programs = without (is_of user device) self.old.programs } }
+        ensures { self.new ≡ record
+            self.old { programs = without (is_of user device) self.old.programs } }
     {
         take_out_program(&mut self.programs, user, device);
     }
 
-    /// Deals a slice: to the first user in the queue who is ready, if there is one. Those before go to the end in
-    /// order, and behind them the user who has the slice.
+    /// Deals a slice: to the first user in the queue who is ready, if there is one. Those before go
+    /// to the end in order, and after them the user who has the slice.
     pub fn slice(&mut self, ready: &Ready) -> Option<UserNo>
         ensures dealt { IsDealt (is_ready ready.now) self.old.users result self.new.users }
         ensures forward { BringsForward (is_ready ready.now) self.old.users result self.new.users }
@@ -114,14 +129,14 @@ impl Policy {
         Some(program)
     }
 
-    /// The users who are logged on, in the order in which they are dealt slices.
+    /// Returns the users who are logged on, in the order in which they are dealt slices.
     pub fn users(&self) -> &[UserNo]
         ensures { result.now ≡ self.now.users }
     {
         &self.users
     }
 
-    /// The programs that were started, in the order in which they are served.
+    /// Returns the programs that were started, in the order in which they are served.
     pub fn programs(&self) -> &[Program]
         ensures { result.now ≡ self.now.programs }
     {
@@ -129,7 +144,7 @@ impl Policy {
     }
 }
 
-/// The place of the first user who is ready.
+/// Returns the place of the first user who is ready.
 fn place_of_ready(users: &[UserNo], ready: &Ready) -> Option<usize>
     ensures { result ≡ position (is_ready ready.now) users.now }
 {
@@ -171,21 +186,22 @@ fn take_out_program(programs: &mut Vec<Program>, user: UserNo, device: DevAddr)
 fn put_program(programs: &mut Vec<Program>, user: UserNo, device: DevAddr) -> Result<(), AllocError>
     ensures ok { OnOk result (programs.new.items
         ≡ at_end (is_of user device) (record { user = user; device = device }) programs.old.items) }
-    ensures err { OnErr result (programs.new.items ≡ without (is_of user device) programs.old.items) }
+    ensures err { OnErr result
+        (programs.new.items ≡ without (is_of user device) programs.old.items) }
 {
     take_out_program(programs, user, device);
     programs.push(Program { user, device })?;
     Ok(())
 }
 
-/// The place of a user.
+/// Returns the place of a user.
 fn place_of_user(users: &[UserNo], user: UserNo) -> Option<usize>
     ensures { result ≡ position (same_user user) users.now }
 {
     users.iter().position(|other| user == *other)
 }
 
-/// The place of the program of a user's device.
+/// Returns the place of the program of a user's device.
 fn place_of_program(programs: &[Program], user: UserNo, device: DevAddr) -> Option<usize>
     ensures { result ≡ position (is_of user device) programs.now }
 {
@@ -194,7 +210,8 @@ fn place_of_program(programs: &[Program], user: UserNo, device: DevAddr) -> Opti
         .position(|program| program.is_of(user, device))
 }
 
-/// Whoever is ready throughout has a turn, of the slices and of the serves: with j others before, one of the next j +
+/// Whoever is ready throughout has a turn, of the slices and of the serves: with j others before,
+/// one of the next j +
 /// 1. So of as many slices as there are users logged on each who is ready has one.
 pub fn is_fair()
     ensures { IsFairPolicy }

@@ -15,7 +15,7 @@ pub struct Program {
 }
 
 impl Program {
-    /// Whether it is of this device of this user.
+    /// Returns whether it is of this device of this user.
     pub(crate) fn is_of(&self, user: UserNo, device: DevAddr) -> bool
         ensures { result ≡ is_of user device self.now }
     {

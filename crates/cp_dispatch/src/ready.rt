@@ -40,7 +40,7 @@ impl Ready {
         self.flags[user.index()] = is_ready;
     }
 
-    /// Whether a user is ready.
+    /// Returns whether a user is ready.
     pub fn has(&self, user: UserNo) -> bool
         ensures { result ≡ is_ready self.now user }
     {

@@ -57,6 +57,10 @@ fn next_user(input: &mut Input<'_>, users: usize) -> Option<UserNo>
 
 impl Policy {
     /// Appends the queue, the line and how many users there are.
+    ///
+    /// # Errors
+    ///
+    /// `AllocError` if memory is refused; `out` may have a part of it then.
     pub fn save(&self, out: &mut Vec<u8>) -> Result<(), AllocError>
         ensures { OnOk result (out.new.items ≡ out.old.items ++ lines_bytes self.now) }
     {
@@ -71,7 +75,7 @@ impl Policy {
         put_number(out, *most_users as u64)
     }
 
-    /// Takes the policy that comes next, of so many users.
+    /// Takes the policy that is next, of so many users.
     pub fn read(alloc: Global, users: usize, input: &mut Input<'_>) -> Option<Policy>
         ensures { IfSome result (λ policy. policy.most_users ≡ users) }
     {
@@ -95,6 +99,10 @@ impl Policy {
     }
 
     /// Returns the policy of so many users that is saved as these bytes, if there is one.
+    ///
+    /// # Errors
+    ///
+    /// `AllocError` if memory is refused.
     pub fn restored(alloc: Global, users: usize, bytes: &[u8]) -> Result<Option<Policy>, AllocError>
         ensures { IfOk result (λ found. IfSome found (λ policy. lines_bytes policy ≡ bytes.now)) }
     {

@@ -1,5 +1,6 @@
 -- The entry of a page in the tables, and its place, by the parts of Frames.
-use Rattle.std.proofs.Common.{◌≡◌, ℕ, ◌+◌, ◌*◌, ◌/◌, ◌<◌, ◌≤◌, List, [], ◌++◌, length, get_or, Option, Some, refl, ◌∙◌, arith}
+use Rattle.std.proofs.Common.{◌≡◌, ℕ, ◌+◌, ◌*◌, ◌/◌, ◌<◌, ◌≤◌, List, [], ◌++◌, length, get_or, Option, Some, refl, ◌∙◌}
+use Rattle.std.proofs.Common.{arith}
 use Rattle.cp_frames.specs.declared.numbers.UserPage.{UserPage}
 use Rattle.cp_frames.specs.declared.pool.Frames.TheInside.{Inside}
 use Rattle.cp_frames.specs.Layout.{frame_entry, frame_of, slot_entry, storage_of, storages_of, Holds, IsSound}
@@ -19,35 +20,47 @@ abbrev pub bytes_in : Inside → ℕ → List ℕ
 bytes_in f user = get_or (storages_of (places_in f) (owners_in f) f.sizes.items) user []
 
 abbrev pub IsKept : Inside → Type 0
-IsKept f = IsSound f.frames.items f.slots.items f.owners.items f.slot_owners.items f.sizes.items f.tables.items f.looks.items f.slot_table.items f.pins.items f.is_marked f.order.items f.end f.low
+IsKept f = IsSound f.frames.items f.slots.items f.owners.items f.slot_owners.items f.sizes.items f.tables.items
+    f.lookup.items f.slot_table.items f.pins.items f.is_marked f.order.items f.end f.low
 
--- an address of the user has an entry in the list beside the tables, which tells the frame of its page
-pub look_place : (f : Inside) (user start : ℕ) → IsKept f → start < length (bytes_in f user) → IsPlace f.sizes.items f.looks.items user (start / 4096)
-look_place f user start kept lt = place frame_entry (places_in f) (owners_in f) f.owners.items f.sizes.items f.looks.items user (start / 4096) start kept.whole kept.looked lt refl
+-- an address of the user has an entry in the list next to the tables, which says the frame of its page
+pub look_place : (f : Inside) (user start : ℕ) → IsKept f → start < length (bytes_in f user)
+    → IsPlace f.sizes.items f.lookup.items user (start / 4096)
+look_place f user start kept lt =
+    place frame_entry (places_in f) (owners_in f) f.owners.items f.sizes.items f.lookup.items user (start / 4096) start
+    kept.whole kept.looked lt refl
 
-pub looked_at : (f : Inside) (user start entry : ℕ) → IsKept f → start < length (bytes_in f user) → entry ≡ get_or f.looks.items (user * 1024 + start / 4096) 0 → entry ≡ frame_entry (frame_of f.owners.items user (start / 4096)) (start / 4096)
+pub looked_at : (f : Inside) (user start entry : ℕ) → IsKept f → start < length (bytes_in f user)
+    → entry ≡ get_or f.lookup.items (user * 1024 + start / 4096) 0
+    → entry ≡ frame_entry (frame_of f.owners.items user (start / 4096)) (start / 4096)
 looked_at f user start entry kept lt read =
     let at = look_place f user start kept lt in read ∙ kept.looked.agrees user (start / 4096) at.of_user at.of_page
 
 -- a page of the user has an entry in that list, and in that of the slots
-pub look_place_of_page : (f : Inside) (user page : ℕ) → IsKept f → page * 4096 < length (bytes_in f user) → IsPlace f.sizes.items f.looks.items user page
+pub look_place_of_page : (f : Inside) (user page : ℕ) → IsKept f → page * 4096 < length (bytes_in f user)
+    → IsPlace f.sizes.items f.lookup.items user page
 look_place_of_page f user page kept lt =
-    place frame_entry (places_in f) (owners_in f) f.owners.items f.sizes.items f.looks.items user page (page * 4096) kept.whole kept.looked lt (omega arith)
+    place frame_entry (places_in f) (owners_in f) f.owners.items f.sizes.items f.lookup.items user page (page * 4096)
+    kept.whole kept.looked lt (omega arith)
 
-pub slot_place_of_page : (f : Inside) (user page : ℕ) → IsKept f → page * 4096 < length (bytes_in f user) → IsPlace f.sizes.items f.slot_table.items user page
+pub slot_place_of_page : (f : Inside) (user page : ℕ) → IsKept f → page * 4096 < length (bytes_in f user)
+    → IsPlace f.sizes.items f.slot_table.items user page
 slot_place_of_page f user page kept lt =
-    place slot_entry (places_in f) (owners_in f) f.slot_owners.items f.sizes.items f.slot_table.items user page (page * 4096) kept.whole kept.slots_tabled lt (omega arith)
+    place slot_entry (places_in f) (owners_in f) f.slot_owners.items f.sizes.items f.slot_table.items user page
+    (page * 4096) kept.whole kept.slots_tabled lt (omega arith)
 
 -- a user who has a byte is a user
-pub of_user : (f : Inside) (user start : ℕ) {n : ℕ} → start + n ≤ length (bytes_in f user) → 0 < n → user < length f.sizes.items
+pub of_user : (f : Inside) (user start : ℕ) {n : ℕ} → start + n ≤ length (bytes_in f user) → 0 < n
+    → user < length f.sizes.items
 of_user f user start inside some = (user_with (places_in f) (owners_in f) f.sizes.items user start (omega arith)).0
 
--- a page that stands in a frame
+-- a page that is in a frame
 pub record IsSlot (f : Inside) (user page slot : ℕ) : Type 0 where
   pub there : frame_of (owners_in f) user page ≡ Some slot
   pub room : slot < length f.frames.items
 
-pub slot_in : (f : Inside) (user page slot : ℕ) → IsKept f → frame_of f.owners.items user page ≡ Some slot → IsSlot f user page slot
+pub slot_in : (f : Inside) (user page slot : ℕ) → IsKept f → frame_of f.owners.items user page ≡ Some slot
+    → IsSlot f user page slot
 slot_in f user page slot kept there = record {
   there = from_frame f.owners.items f.slot_owners.items user page slot kept.whole.once there;
   room = omega (arith, (frame_found f.owners.items user page slot there).within, kept.frame_room);
@@ -55,10 +68,13 @@ slot_in f user page slot kept there = record {
 
 -- how many users there are, and how many pages each has
 pub users_in : (f : Inside) → length (storages_of (places_in f) (owners_in f) f.sizes.items) ≡ length f.sizes.items
-users_in f = length-map-range_with_len (λ user. storage_of (places_in f) (owners_in f) user (get_or f.sizes.items user 0)) 0 (length f.sizes.items)
+users_in f = length-map-range_with_len
+    (λ user. storage_of (places_in f) (owners_in f) user (get_or f.sizes.items user 0)) 0 (length f.sizes.items)
 
 pub pages_in : (f : Inside) (user : ℕ) → length (bytes_in f user) / 4096 ≡ get_or f.sizes.items user 0
 pages_in f user = let long = length-bytes_of (places_in f) (owners_in f) f.sizes.items user in omega arith
 
-pub page_within : (f : Inside) (user : ℕ) → IsKept f → (k : ℕ) (p : UserPage) → Holds f.owners.items k p → p.user ≡ user → p.page.0 < get_or f.sizes.items user 0
-page_within f user kept k p h e = let inside = kept.whole.inside k p (hold_left f.owners.items f.slot_owners.items k p h) in rw e at inside
+pub page_within : (f : Inside) (user : ℕ) → IsKept f → (k : ℕ) (p : UserPage) → Holds f.owners.items k p → p.user ≡ user
+    → p.page.0 < get_or f.sizes.items user 0
+page_within f user kept k p h e = let inside =
+    kept.whole.inside k p (hold_left f.owners.items f.slot_owners.items k p h) in rw e at inside

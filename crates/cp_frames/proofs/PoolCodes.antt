@@ -8,7 +8,8 @@ use Rattle.cp_frames.specs.Saved.{page_bytes, supply_bytes, storage_bytes, pool_
 use Rattle.cp_frames.proofs.Packed.{storage_code}
 
 pub page_code : IsCode page_bytes
-page_code = of_parts (both number number) (both_code number number number_code number_code) (λ (p : UserPage). (p.user, p.page.0)) (λ p. owned p.0 p.1) (λ p. refl)
+page_code = of_parts (both number number) (both_code number number number_code number_code)
+    (λ (p : UserPage). (p.user, p.page.0)) (λ p. owned p.0 p.1) (λ p. refl)
 
 pub supply_code : IsCode supply_bytes
 supply_code =
@@ -16,15 +17,18 @@ supply_code =
     let last = both_code (each number) number (each_code number number_code) number_code in
     let pins = both_code (each flag) (both (each number) number) (each_code flag flag_code) last in
     let slots = both_code (each (optional page_bytes)) (both (each flag) (both (each number) number)) places pins in
-    let owners = both_code (each (optional page_bytes)) (both (each (optional page_bytes)) (both (each flag) (both (each number) number))) places slots in
-    of_parts (both (each (optional page_bytes)) (both (each (optional page_bytes)) (both (each flag) (both (each number) number)))) owners
+    let owners = both_code (each (optional page_bytes))
+    (both (each (optional page_bytes)) (both (each flag) (both (each number) number))) places slots in
+    of_parts (both (each (optional page_bytes))
+    (both (each (optional page_bytes)) (both (each flag) (both (each number) number)))) owners
     (λ (s : FrameSupply). (s.owners, (s.slots, (s.pins, (s.order, s.page_ins)))))
     (λ p. record { owners = p.0; slots = p.1.0; pins = p.1.1.0; order = p.1.1.1.0; page_ins = p.1.1.1.1 })
     (λ s. refl)
 
 pub pool_code : IsCode pool_bytes
 pool_code =
-    of_parts (both supply_bytes (each storage_bytes)) (both_code supply_bytes (each storage_bytes) supply_code (each_code storage_bytes storage_code))
+    of_parts (both supply_bytes (each storage_bytes))
+    (both_code supply_bytes (each storage_bytes) supply_code (each_code storage_bytes storage_code))
     (λ (p : Pool). (p.supply, p.storages)) (λ p. record { storages = p.1; supply = p.0 }) (λ p. refl)
 
 pub one_pool : IsOneBySaved

@@ -1,14 +1,16 @@
-//! Real storage: frames of 4096 bytes, slots for pages that are given up, and which page of which user stands in each.
+//! Real storage: frames of 4096 bytes, slots for pages that are given up, and which page of which
+//! user is in each.
 //!
-//! Its one theorem: each user has a storage of his own. A store changes the bytes that it names of the storage of the
-//! user who makes it, and no other byte of any user; bringing a page into a frame, and giving up another for it,
-//! changes no byte of anyone; and a page that stands nowhere is all zero, so whoever is given a frame finds nothing of
-//! the one who had it before.
+//! Its one theorem: each user has a storage of his own. A store changes the bytes that it names of
+//! the storage of the user who makes it, and no other byte of any user; bringing a page into a
+//! frame, and giving up another for it, changes no byte of anyone; and a page that is nowhere is
+//! all zero, so whoever is given a frame finds nothing of the one who had it before.
 //!
-//! [`Frames`] is all of real storage, allotted once by [`Frames::new`]: no call after it takes memory. A contract sees
-//! it as the storage of each user, a list of bytes, and as its supply: the page in each frame and in each slot, which
-//! frames are pinned, the order in which their pages came, and how many have come. Where no frame is free for a page
-//! that is wanted, the page longest in its frame among those not pinned is given up for it.
+//! [`Frames`] is all of real storage, allotted once by [`Frames::new`]: no call after it takes
+//! memory. A contract sees it as the storage of each user, a list of bytes, and as its supply: the
+//! page in each frame and in each slot, which frames are pinned, the order in which their pages
+//! came, and how many have come. If no frame is free for a page that is wanted, the page longest in
+//! its frame among those not pinned is given up for it.
 //!
 //! ```
 //! use cp_frames::Frames;
@@ -22,7 +24,7 @@
 //! frames.store(a, 0x3000, &[1, 2, 3]);
 //! assert!(rt; frames.frame_of(a, Page(3)) == Some(frame));
 //! assert_eq!(rt; frames.byte(a, 0x3001), Some(2));
-//! assert_eq!(rt; frames.byte(b, 0x3001), Some(0)); // it stands nowhere
+//! assert_eq!(rt; frames.byte(b, 0x3001), Some(0)); // it is nowhere
 //! ```
 #![tactic(auto)]
 

@@ -1,5 +1,7 @@
 //! The frames in the order in which their pages came.
-ghost use Rattle.std.specs.Prelude.{reverse, ◌≡◌, ◌<◌, ◌≤◌, ◌+◌, ◌++◌, ◌∷◌, [], length, slice_index, slice_index_or, take, drop, None, true, false, IfOk, IfSome, IfNone, All};
+ghost use Rattle.std.specs.Prelude.{reverse, ◌≡◌, ◌<◌, ◌≤◌, ◌+◌, ◌++◌, ◌∷◌, [], length};
+ghost use Rattle.std.specs.Prelude.{slice_index, slice_index_or, take, drop, None, true, false};
+ghost use Rattle.std.specs.Prelude.{IfOk, IfSome, IfNone, All};
 ghost use Rattle.std.specs.List.{range_with_len, remove};
 ghost use Rattle.cp_frames.specs.Paging.{counted, IsLongest, IsPinned};
 ghost use Rattle.cp_frames.specs.Layout.{AreTaken};
@@ -7,7 +9,12 @@ ghost use Rattle.cp_frames.specs.Layout.{AreTaken};
 use crate::UserPage;
 use std::alloc::{AllocError, Global};
 
-/// The frames by their numbers, the greatest first: then frame 0 is the first that is given a page.
+/// Returns the frames by their numbers, the greatest first: then frame 0 is the first that is given
+/// a page.
+///
+/// # Errors
+///
+/// `AllocError` if memory is refused.
 pub fn all_frames(alloc: Global, frames: u16) -> Result<Vec<u16>, AllocError>
     ensures { IfOk result (λ order. order.items ≡ reverse (range_with_len 0 frames)) }
 {
@@ -19,14 +26,15 @@ pub fn all_frames(alloc: Global, frames: u16) -> Result<Vec<u16>, AllocError>
     Ok(order)
 }
 
-/// The last turn whose frame is free, where each frame that has the turn `end` or a later one is taken: the turn that
-/// has the fewest frames after it, which move up when it is put last.
+/// Returns the last turn whose frame is free, where each frame that has the turn `end` or a later
+/// one is taken: the turn that has the fewest frames after it, which move up when it is put last.
 pub fn free_turn(order: &[u16], owners: &[Option<UserPage>], end: usize) -> Option<usize>
     requires frames { All (λ frame. frame < length owners.now) order.now }
     requires end { end ≤ length order.now }
     requires taken { AreTaken owners.now (drop end order.now) }
     ensures within { IfSome result (λ turn. turn < length order.now) }
-    ensures free { IfSome result (λ turn. slice_index_or owners.now (slice_index order.now turn) None ≡ None) }
+    ensures free { IfSome result
+        (λ turn. slice_index_or owners.now (slice_index order.now turn) None ≡ None) }
     ensures later { IfSome result (λ turn. AreTaken owners.now (drop (turn + 1) order.now)) }
     ensures none { IfNone result (AreTaken owners.now order.now) }
 {
@@ -39,7 +47,7 @@ pub fn free_turn(order: &[u16], owners: &[Option<UserPage>], end: usize) -> Opti
     None
 }
 
-/// The first turn whose frame is not pinned.
+/// Returns the first turn whose frame is not pinned.
 pub fn open_turn(order: &[u16], pins: &[bool]) -> Option<usize>
     requires { All (λ frame. frame < length pins.now) order.now }
     ensures within { IfSome result (λ turn. turn < length order.now) }
@@ -62,7 +70,7 @@ pub fn last(order: &mut [u16], turn: usize)
     order[turn..].rotate_left(1);
 }
 
-/// One more, which stays at its greatest value.
+/// Returns a count plus one, which stays at its greatest value.
 pub fn count(number: u64) -> u64
     ensures { result ≡ counted number }
 {

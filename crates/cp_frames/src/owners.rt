@@ -1,7 +1,10 @@
-//! Which page stands in each frame, or in each slot.
-ghost use Rattle.std.specs.Prelude.{◌≡◌, ◌<◌, ℕ, List, Option, Some, None, false, length, slice_index, slice_index_or, slice_set, take, IsSome, IfOk, IfSome, IfNone, All, replicate};
+//! Which page is in each frame, or in each slot.
+ghost use Rattle.std.specs.Prelude.{◌≡◌, ◌<◌, ℕ, List, Option, Some, None, false, length};
+ghost use Rattle.std.specs.Prelude.{slice_index, slice_index_or, slice_set, take, IsSome, IfOk};
+ghost use Rattle.std.specs.Prelude.{IfSome, IfNone, All, replicate};
 ghost use Rattle.cp_frames.specs.declared.numbers.UserPage.{UserPage};
-ghost use Rattle.cp_frames.specs.Layout.{without, cleared_of, frame_entry, slot_entry, ArePages, IsMapped, IsTabled};
+ghost use Rattle.cp_frames.specs.Layout.{without, cleared_of, frame_entry, slot_entry, ArePages};
+ghost use Rattle.cp_frames.specs.Layout.{IsMapped, IsTabled};
 
 use crate::UserPage;
 use crate::table::{ABSENT, entry_of, forget, forget_slots, frame_in};
@@ -9,14 +12,22 @@ use s370_store::Page;
 use std::alloc::{AllocError, Global};
 use user_names::UserNo;
 
-/// So many frames or slots with no page in them.
+/// Returns this many frames or slots with no page in them.
+///
+/// # Errors
+///
+/// `AllocError` if memory is refused.
 pub fn free_frames(alloc: Global, count: usize) -> Result<Vec<Option<UserPage>>, AllocError>
     ensures { IfOk result (λ owners. owners.items ≡ replicate count None) }
 {
     Ok(vec![in alloc; None; count]?)
 }
 
-/// So many frames that are not pinned.
+/// Returns the marks of this many frames that are not pinned.
+///
+/// # Errors
+///
+/// `AllocError` if memory is refused.
 pub fn no_pins(alloc: Global, count: usize) -> Result<Vec<bool>, AllocError>
     ensures { IfOk result (λ pins. pins.items ≡ replicate count false) }
 {
@@ -30,7 +41,7 @@ pub fn clear_pins(pins: &mut Vec<bool>)
     pins.fill(false);
 }
 
-/// The first slot with no page in it, where each slot before `low` is taken.
+/// Returns the first slot with no page in it, where each slot before `low` is taken.
 pub fn first_free(owners: &[Option<UserPage>], low: usize) -> Option<usize>
     requires { All IsSome (take low owners.now) }
     ensures within { IfSome result (λ slot. slot < length owners.now) }
@@ -46,7 +57,7 @@ pub fn first_free(owners: &[Option<UserPage>], low: usize) -> Option<usize>
     None
 }
 
-/// Before which slot each is still taken, where this one has another owner, or none.
+/// Returns before which slot each is still taken, if this one has another owner, or none.
 pub fn low_after(low: usize, slot: usize, owner: Option<UserPage>) -> usize
     ensures { (owners : List (Option UserPage)) → All IsSome (take low owners)
         → All IsSome (take result (slice_set owners slot owner)) }
@@ -58,28 +69,28 @@ pub fn low_after(low: usize, slot: usize, owner: Option<UserPage>) -> usize
     }
 }
 
-/// Takes each page of a user out of its frame, which the list beside the tables names.
+/// Takes each page of a user out of its frame, which the list next to the tables names.
 pub fn leave(
     owners: &mut Vec<Option<UserPage>>,
     tables: &mut Vec<u8>,
-    looks: &mut Vec<u32>,
+    lookup: &mut Vec<u32>,
     sizes: &[u32],
     user: UserNo,
 )
     requires pages { ArePages owners.old.items sizes.now }
     requires mapped { IsMapped owners.old.items sizes.now tables.old.items }
-    requires looked { IsTabled frame_entry owners.old.items sizes.now looks.old.items }
+    requires looked { IsTabled frame_entry owners.old.items sizes.now lookup.old.items }
     ensures owners { owners.new.items ≡ cleared_of user owners.old.items }
     ensures mapped { IsMapped owners.new.items sizes.now tables.new.items }
-    ensures looked { IsTabled frame_entry owners.new.items sizes.now looks.new.items }
+    ensures looked { IsTabled frame_entry owners.new.items sizes.now lookup.new.items }
 {
     for page in 0..pages_of(sizes, user) {
-        let entry = looks[entry_of(user, page)];
+        let entry = lookup[entry_of(user, page)];
         if entry != ABSENT {
             owners[frame_in(entry, page)] = None;
             forget(
                 tables,
-                looks,
+                lookup,
                 Some(UserPage {
                     user,
                     page: Page(page),
@@ -89,7 +100,7 @@ pub fn leave(
     }
 }
 
-/// How many pages a user has: none where there is no such user.
+/// Returns how many pages a user has: none where there is no such user.
 fn pages_of(sizes: &[u32], user: UserNo) -> u32
     ensures { result ≡ slice_index sizes.now user }
 {
@@ -97,7 +108,7 @@ fn pages_of(sizes: &[u32], user: UserNo) -> u32
     if user < sizes.len() { sizes[user] } else { 0 }
 }
 
-/// Takes each page of a user out of its slot. Where there are no slots nothing is looked at.
+/// Takes each page of a user out of its slot. If there are no slots nothing is looked at.
 pub fn leave_slots(owners: &mut Vec<Option<UserPage>>, table: &mut Vec<u32>, user: UserNo)
     ensures owners { owners.new.items ≡ cleared_of user owners.old.items }
     ensures tabled { (sizes : List ℕ) → IsTabled slot_entry owners.old.items sizes table.old.items
@@ -119,7 +130,7 @@ fn give_back(owners: &mut Vec<Option<UserPage>>, user: UserNo)
     }
 }
 
-/// What is left in a slot when a user leaves.
+/// Returns what is left in a slot when a user leaves.
 fn kept(owner: Option<UserPage>, user: UserNo) -> Option<UserPage>
     ensures { result ≡ without user owner }
 {

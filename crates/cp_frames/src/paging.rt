@@ -1,12 +1,15 @@
 //! How a page comes into a frame, and what is given up for it.
-ghost use Rattle.std.specs.Prelude.{◌≡◌, ◌+◌, ◌*◌, ◌<◌, ◌≤◌, Some, None, true, false, length, slice_index, slice_index_or, slice_set, IsSome, IfOk, OnOk, OnErr, IfSome, IfNone, All, drop};
+ghost use Rattle.std.specs.Prelude.{◌≡◌, ◌+◌, ◌*◌, ◌<◌, ◌≤◌, Some, None, true, false, length};
+ghost use Rattle.std.specs.Prelude.{slice_index, slice_index_or, slice_set, IsSome, IfOk, OnOk};
+ghost use Rattle.std.specs.Prelude.{OnErr, IfSome, IfNone, All, drop};
 ghost use Rattle.cp_frames.specs.Layout.{frame_of, AreTaken};
-ghost use Rattle.cp_frames.specs.Paging.{IsChosen, IsBrought, IsOpen, IsRefused, IsPut, exchanged, filled, came};
+ghost use Rattle.cp_frames.specs.Paging.{IsChosen, IsBrought, IsOpen, IsRefused, IsPut, exchanged};
+ghost use Rattle.cp_frames.specs.Paging.{filled, paged_in};
 
 use crate::frame::clear;
 use crate::order::{count, free_turn, last, open_turn};
 use crate::owners::{first_free, low_after};
-use crate::table::{forget, forget_slot, note, tell_slot};
+use crate::table::{forget, forget_slot, note, set_slot};
 use crate::{FrameNo, Frames, UserPage};
 use s370_store::{FramesOut, Page};
 use std::mem::swap;
@@ -15,16 +18,22 @@ use user_names::UserNo;
 impl Frames {
     ghost use Rattle.cp_frames.specs.Layout.{bytes_of};
 
-    /// Brings a page into a frame, where it stands in none. No byte of any user changes.
+    /// Brings a page into a frame, where it is in none. No byte of any user changes.
     ///
-    /// Where no frame is free, the page longest in its frame among those not pinned is given up. It takes a free slot,
-    /// or the slot that the wanted page leaves.
+    /// If no frame is free, the page longest in its frame among those not pinned is given up. It
+    /// takes a free slot, or the slot that the wanted page leaves.
+    ///
+    /// # Errors
+    ///
+    /// `FramesOut` if there is no room for a page that is needed; no byte has changed.
     pub fn bring(&mut self, user: UserNo, page: Page) -> Result<FrameNo, FramesOut>
         requires { page.0 * 4096 < length (bytes_of self.old user) }
         ensures storages { self.new.storages ≡ self.old.storages }
-        ensures there { IfOk result (λ frame. frame_of self.new.supply.owners user page.0 ≡ Some frame.0) }
+        ensures there { IfOk result
+            (λ frame. frame_of self.new.supply.owners user page.0 ≡ Some frame.0) }
         ensures within { IfOk result (λ frame. frame.0 < length self.new.supply.owners) }
-        ensures brought { IfOk result (λ frame. IsBrought self.old.supply self.new.supply user page.0 frame.0) }
+        ensures brought { IfOk result
+            (λ frame. IsBrought self.old.supply self.new.supply user page.0 frame.0) }
         ensures unpinned { frame_of self.old.supply.owners user page.0 ≡ None
             → IfOk result (λ frame. IsOpen self.old.supply.pins frame.0) }
         ensures refused { OnErr result (IsRefused self.old.supply user page.0) }
@@ -48,14 +57,16 @@ impl Frames {
         Ok(FrameNo(frame as u16))
     }
 
-    /// The turn of the frame that a page is to come into; none where no frame is free and all are pinned.
+    /// Returns the turn of the frame that a page is to come into; none where no frame is free and
+    /// all are pinned.
     fn next_turn(&self) -> Option<usize>
         ensures within { IfSome result (λ turn. turn < length self.now.supply.order) }
         ensures chosen { IfSome result (λ turn. IsChosen self.now.supply turn) }
         ensures later { IfSome result
             (λ turn. AreTaken self.now.supply.owners (drop (turn + 1) self.now.supply.order)) }
         ensures unpinned { IfSome result
-            (λ turn. slice_index_or self.now.supply.pins (slice_index self.now.supply.order turn) false ≡ false) }
+            (λ turn. slice_index_or self.now.supply.pins (slice_index self.now.supply.order turn)
+            false ≡ false) }
         ensures full { IfNone result (All IsSome self.now.supply.owners) }
         ensures pinned { IfNone result (All (λ pinned. pinned ≡ true) self.now.supply.pins) }
     {
@@ -66,7 +77,7 @@ impl Frames {
         open_turn(&self.order, &self.pins)
     }
 
-    /// The frame that has this turn.
+    /// Returns the frame that has this turn.
     fn frame_in_turn(&self, turn: usize) -> usize
         requires { turn < length self.now.supply.order }
         ensures frame { result ≡ slice_index self.now.supply.order turn }
@@ -77,14 +88,16 @@ impl Frames {
         self.order[turn] as usize
     }
 
-    /// From which turn on all frames are taken, once a page has come into the frame that has this turn.
+    /// Returns from which turn on all frames are taken, once a page is in the frame that has this
+    /// turn.
     fn end_after(&self, turn: usize) -> usize
         requires turn { turn < length self.now.supply.order }
         requires chosen { IsChosen self.now.supply turn }
         requires later { AreTaken self.now.supply.owners (drop (turn + 1) self.now.supply.order) }
         ensures within { result ≤ turn }
         ensures taken { (page : UserPage)
-            → AreTaken (slice_set self.now.supply.owners (slice_index self.now.supply.order turn) (Some page))
+            → AreTaken (slice_set self.now.supply.owners (slice_index self.now.supply.order turn)
+            (Some page))
             (drop result self.now.supply.order) }
     {
         if self.owners[self.order[turn] as usize].is_none() {
@@ -94,7 +107,7 @@ impl Frames {
         }
     }
 
-    /// Puts a page that stands in no frame into this one, and what stood in it into a slot.
+    /// Puts a page that is in no frame into this one, and what was in it into a slot.
     fn put(&mut self, frame: usize, user: UserNo, page: Page) -> Result<(), FramesOut>
         requires inside { page.0 * 4096 < length (bytes_of self.old user) }
         requires frame { frame < length self.old.supply.owners }
@@ -128,11 +141,12 @@ impl Frames {
         }
     }
 
-    /// A free slot, from which the next search begins.
+    /// Returns a free slot, from which the next search begins.
     fn free_slot(&mut self) -> Option<usize>
         ensures same { self.new ≡ self.old }
         ensures within { IfSome result (λ slot. slot < length self.old.supply.slots) }
-        ensures free { IfSome result (λ slot. slice_index_or self.old.supply.slots slot None ≡ None) }
+        ensures free { IfSome result
+            (λ slot. slice_index_or self.old.supply.slots slot None ≡ None) }
         ensures none { IfNone result (All IsSome self.old.supply.slots) }
     {
         let found = first_free(&self.slot_owners, self.low);
@@ -143,7 +157,7 @@ impl Frames {
         found
     }
 
-    /// Exchanges what stands in a frame and what stands in a slot.
+    /// Exchanges what is in a frame and what is in a slot.
     pub(crate) fn exchange(&mut self, frame: usize, slot: usize)
         requires frame { frame < length self.old.supply.owners }
         requires slot { slot < length self.old.supply.slots }
@@ -151,22 +165,22 @@ impl Frames {
         ensures storages { self.new.storages ≡ self.old.storages }
         ensures supply { self.new.supply ≡ exchanged self.old.supply frame slot }
     {
-        forget(&mut self.tables, &mut self.looks, self.owners[frame]);
+        forget(&mut self.tables, &mut self.lookup, self.owners[frame]);
         note(
             &mut self.tables,
-            &mut self.looks,
+            &mut self.lookup,
             self.slot_owners[slot],
             frame,
         );
         forget_slot(&mut self.slot_table, self.slot_owners[slot]);
-        tell_slot(&mut self.slot_table, self.owners[frame], slot as u32);
+        set_slot(&mut self.slot_table, self.owners[frame], slot as u32);
         self.low = low_after(self.low, slot, self.owners[frame]);
         self.end = self.order.len();
         swap(&mut self.owners[frame], &mut self.slot_owners[slot]);
         swap(&mut self.frames[frame], &mut self.slots[slot]);
     }
 
-    /// Puts a page that stands nowhere, and so is all zero, into a free frame.
+    /// Puts a page that is nowhere, and so is all zero, into a free frame.
     pub(crate) fn fill(&mut self, frame: usize, user: UserNo, page: Page)
         requires inside { page.0 * 4096 < length (bytes_of self.old user) }
         requires frame { frame < length self.old.supply.owners }
@@ -180,20 +194,20 @@ impl Frames {
         self.owners[frame] = Some(UserPage { user, page });
         note(
             &mut self.tables,
-            &mut self.looks,
+            &mut self.lookup,
             Some(UserPage { user, page }),
             frame,
         );
     }
 
-    /// Notes that a page has come into the frame that has this turn, and that the frames of the turn `end` and later
-    /// ones are taken.
+    /// Records that a page has been brought into the frame that has this turn, and that the frames
+    /// of the turn `end` and later ones are taken.
     fn come(&mut self, turn: usize, end: usize)
         requires turn { turn < length self.old.supply.order }
         requires end { end ≤ turn }
         requires taken { AreTaken self.old.supply.owners (drop end self.old.supply.order) }
         ensures storages { self.new.storages ≡ self.old.storages }
-        ensures supply { self.new.supply ≡ came self.old.supply turn }
+        ensures supply { self.new.supply ≡ paged_in self.old.supply turn }
     {
         last(&mut self.order, turn);
         self.end = end;

@@ -1,8 +1,12 @@
-//! The frames and slots with what stands in them.
-ghost use Rattle.std.specs.Prelude.{reverse, ◌≡◌, ℕ, ◌+◌, ◌-◌, ◌*◌, ◌/◌, ◌%◌, ◌<◌, ◌≤◌, ◌↔◌, ◌++◌, Option, Some, None, true, false, map, length, slice_index_or, slice_set, slice_get, slice_range, IsSome, is_some, IfOk, IfSome, IfNone, All, replicate};
+//! The frames and slots with what is in them.
+ghost use Rattle.std.specs.Prelude.{reverse, ◌≡◌, ℕ, ◌+◌, ◌-◌, ◌*◌, ◌/◌, ◌%◌, ◌<◌, ◌≤◌, ◌↔◌, ◌++◌};
+ghost use Rattle.std.specs.Prelude.{Option, Some, None, true, false, map, length, slice_index_or};
+ghost use Rattle.std.specs.Prelude.{slice_set, slice_get, slice_range, IsSome, is_some, IfOk};
+ghost use Rattle.std.specs.Prelude.{IfSome, IfNone, All, replicate};
 ghost use Rattle.std.specs.List.{range_with_len};
 ghost use Rattle.s370_store.specs.Access.{put, IsGranted};
-ghost use Rattle.cp_frames.specs.Layout.{frame_of, number_of, is_there, IsZeroPage, cleared_of, written_frame};
+ghost use Rattle.cp_frames.specs.Layout.{frame_of, number_of, is_there, IsZeroPage, cleared_of};
+ghost use Rattle.cp_frames.specs.Layout.{written_frame};
 ghost use Rattle.cp_frames.specs.Tables.{segment_entry, page_entry, walk};
 
 use crate::frame::{blank_frames, copy_in, copy_out_at, copy_over};
@@ -21,10 +25,12 @@ use user_names::UserNo;
 /// The most bytes that are loaded or stored at once.
 const LONGEST: usize = 256;
 
-/// All frames of real storage, all slots for pages that are given up, and which page of which user stands in each.
+/// All frames of real storage, all slots for pages that are given up, and which page of which user
+/// is in each.
 ///
-/// A page that stands in neither is all zero. A pin is a mark on a frame that only [`Frames::pin`], [`Frames::unpin`],
-/// [`Frames::unpin_all`] and [`Frames::release`] change: the page in a pinned frame is not given up for another.
+/// A page that is in neither is all zero. A pin is a mark on a frame that only [`Frames::pin`],
+/// [`Frames::unpin`], [`Frames::unpin_all`] and [`Frames::release`] change: the page in a pinned
+/// frame is not given up for another.
 // Its fields are the crate's for `paging.rt`; whatever writes one has the invariant to prove.
 #[derive(Drop)]
 pub struct Frames {
@@ -40,7 +46,7 @@ pub struct Frames {
     pub(crate) page_ins: u64,
     pub(crate) sizes: Vec<u32>,
     pub(crate) tables: Vec<u8>,
-    pub(crate) looks: Vec<u32>,
+    pub(crate) lookup: Vec<u32>,
     pub(crate) slot_table: Vec<u32>,
 }
 
@@ -51,7 +57,8 @@ impl Model for Frames {
     ghost Value = { Pool };
 
     ghost view = { λ f. record {
-      storages = storages_of (f.frames.items ++ f.slots.items) (f.owners.items ++ f.slot_owners.items) f.sizes.items;
+      storages = storages_of (f.frames.items ++ f.slots.items)
+          (f.owners.items ++ f.slot_owners.items) f.sizes.items;
       supply = record {
         owners = f.owners.items;
         slots = f.slot_owners.items;
@@ -61,7 +68,10 @@ impl Model for Frames {
       };
     } };
 
-    ghost invariant = { λ f. IsSound f.frames.items f.slots.items f.owners.items f.slot_owners.items f.sizes.items f.tables.items f.looks.items f.slot_table.items f.pins.items f.is_marked f.order.items f.end f.low };
+    ghost invariant = { λ f.
+        IsSound f.frames.items f.slots.items f.owners.items f.slot_owners.items f.sizes.items
+        f.tables.items f.lookup.items f.slot_table.items f.pins.items f.is_marked f.order.items
+        f.end f.low };
 }
 
 impl Frames {
@@ -69,7 +79,12 @@ impl Frames {
     ghost use Rattle.std.specs.Borrow.{sem};
     ghost use Rattle.cp_frames.specs.Lending.{LendsFrame};
 
-    /// So many free frames and slots, and a storage of zeros for each user, whose pages are counted in `sizes`.
+    /// Returns this many free frames and slots, and a storage of zeros for each user, whose pages
+    /// are counted in `sizes`.
+    ///
+    /// # Errors
+    ///
+    /// `AllocError` if memory is refused.
     pub fn new(
         alloc: Global,
         frames: u16,
@@ -83,9 +98,11 @@ impl Frames {
         ensures owners { IfOk result (λ made. made.supply.owners ≡ replicate frames None) }
         ensures slots { IfOk result (λ made. made.supply.slots ≡ replicate slots None) }
         ensures pins { IfOk result (λ made. made.supply.pins ≡ replicate frames false) }
-        ensures order { IfOk result (λ made. made.supply.order ≡ reverse (range_with_len 0 frames)) }
+        ensures order { IfOk result
+            (λ made. made.supply.order ≡ reverse (range_with_len 0 frames)) }
         ensures page_ins { IfOk result (λ made. made.supply.page_ins ≡ 0) }
-        ensures storages { IfOk result (λ made. made.storages ≡ map (λ pages. replicate (pages * 4096) 0) sizes.items) }
+        ensures storages { IfOk result
+            (λ made. made.storages ≡ map (λ pages. replicate (pages * 4096) 0) sizes.items) }
     {
         let frame_count = usize::from(frames);
         let slot_count = slots as usize;
@@ -97,7 +114,7 @@ impl Frames {
         let slots = blank_frames(alloc, slot_count)?;
         let tables = new_tables(alloc, &sizes)?;
         let entries = PAGES * sizes.len();
-        let looks = empty_looks(alloc, entries)?;
+        let lookup = empty_looks(alloc, entries)?;
         let slot_table = empty_slot_table(alloc, entries)?;
         Ok(Frames {
             frames,
@@ -112,12 +129,12 @@ impl Frames {
             page_ins: 0,
             sizes,
             tables,
-            looks,
+            lookup,
             slot_table,
         })
     }
 
-    /// How many bytes a user has: none where there is no such user.
+    /// Returns how many bytes a user has: none where there is no such user.
     pub fn size(&self, user: UserNo) -> u32
         ensures bytes { result ≡ length (bytes_of self.now user) }
         ensures whole { result % 4096 ≡ 0 }
@@ -130,7 +147,7 @@ impl Frames {
         }
     }
 
-    /// How many frames there are.
+    /// Returns how many frames there are.
     pub fn count(&self) -> u32
         ensures count { result ≡ length self.now.supply.owners }
         ensures few { result ≤ 4096 }
@@ -138,7 +155,7 @@ impl Frames {
         self.owners.len() as u32
     }
 
-    /// Pages that have come into a frame so far.
+    /// Returns how many pages have been brought into frames so far.
     pub fn page_ins(&self) -> u64
         ensures { result ≡ self.now.supply.page_ins }
     {
@@ -156,13 +173,14 @@ impl Frames {
             page_ins,
             sizes: _,
             tables: _,
-            looks: _,
+            lookup: _,
             slot_table: _,
         } = self;
         *page_ins
     }
 
-    /// The frame in which a page of a user stands. A page that stands in none, and in no slot, is all zero.
+    /// Returns the frame in which a page of a user is. A page that is in none, and in no slot, is
+    /// all zero.
     #[inline(always)]
     pub fn frame_of(&self, user: UserNo, page: Page) -> Option<FrameNo>
         requires { page.0 * 4096 < length (bytes_of self.now user) }
@@ -170,9 +188,10 @@ impl Frames {
         ensures within { IfSome result (λ frame. frame.0 < length self.now.supply.owners) }
         ensures apart { IsSome result → frame_of self.now.supply.slots user page.0 ≡ None }
         ensures zero { IfNone result
-            (frame_of self.now.supply.slots user page.0 ≡ None → IsZeroPage (bytes_of self.now user) page.0) }
+            (frame_of self.now.supply.slots user page.0 ≡ None
+            → IsZeroPage (bytes_of self.now user) page.0) }
     {
-        let entry = self.looks[entry_of(user, page.0)];
+        let entry = self.lookup[entry_of(user, page.0)];
         if entry == ABSENT {
             None
         } else {
@@ -180,7 +199,7 @@ impl Frames {
         }
     }
 
-    /// The place of a user's byte whose page stands in a frame, among the bytes of all frames.
+    /// Returns the place of a user's byte whose page is in a frame, among the bytes of all frames.
     #[inline(always)]
     fn place_with(&self, user: UserNo, start: u32) -> usize
         requires inside { start < length (bytes_of self.now user) }
@@ -188,17 +207,19 @@ impl Frames {
         ensures there { frame_of self.now.supply.owners user (start / 4096) ≡ Some (result / 4096) }
         ensures offset { result % 4096 ≡ start % 4096 }
     {
-        place_in(self.looks[entry_of(user, start / PAGE_SIZE)], start)
+        place_in(self.lookup[entry_of(user, start / PAGE_SIZE)], start)
     }
 
-    /// The slot in which a page of a user stands. A page that stands in none, and in no frame, is all zero.
+    /// Returns the slot in which a page of a user is. A page that is in none, and in no frame, is
+    /// all zero.
     pub fn slot_of(&self, user: UserNo, page: Page) -> Option<usize>
         requires { page.0 * 4096 < length (bytes_of self.now user) }
         ensures slot { result ≡ frame_of self.now.supply.slots user page.0 }
         ensures within { IfSome result (λ slot. slot < length self.now.supply.slots) }
         ensures apart { IsSome result → frame_of self.now.supply.owners user page.0 ≡ None }
         ensures zero { IfNone result
-            (frame_of self.now.supply.owners user page.0 ≡ None → IsZeroPage (bytes_of self.now user) page.0) }
+            (frame_of self.now.supply.owners user page.0 ≡ None
+            → IsZeroPage (bytes_of self.now user) page.0) }
     {
         let entry = self.slot_table[entry_of(user, page.0)];
         if entry == NO_SLOT {
@@ -208,8 +229,8 @@ impl Frames {
         }
     }
 
-    /// The place of a user's byte among the bytes of all frames, one after another: the one look that each access
-    /// makes. None where its page stands in no frame.
+    /// Returns the place of a user's byte among the bytes of all frames, one after another: the one
+    /// look that each access makes. None where its page is in no frame.
     #[inline(always)]
     pub fn place_at(&self, user: UserNo, start: u32) -> Option<usize>
         requires { start < length (bytes_of self.now user) }
@@ -220,7 +241,7 @@ impl Frames {
         ensures few { length self.now.supply.owners ≤ 4096 }
         ensures none { IfNone result (frame_of self.now.supply.owners user (start / 4096) ≡ None) }
     {
-        let entry = self.looks[entry_of(user, start / PAGE_SIZE)];
+        let entry = self.lookup[entry_of(user, start / PAGE_SIZE)];
         if entry == ABSENT {
             None
         } else {
@@ -228,7 +249,8 @@ impl Frames {
         }
     }
 
-    /// Whether the page of a user's byte stands in a frame. It is out of line, for the second page of an access.
+    /// Returns whether the page of a user's byte is in a frame. It is out of line, for the second
+    /// page of an access.
     #[inline(never)]
     pub fn is_there(&self, user: UserNo, start: u32) -> bool
         requires { start < length (bytes_of self.now user) }
@@ -237,7 +259,8 @@ impl Frames {
         self.place_at(user, start).is_some()
     }
 
-    /// The bytes of the segment and page tables of all users, one after another: 2304 for each.
+    /// Returns the bytes of the segment and page tables of all users, one after another: 2304 for
+    /// each.
     pub fn tables(&self) -> &[u8]
         ensures size { length result.now ≡ 2304 * length self.now.storages }
         ensures map { (user page : ℕ) → user < length self.now.storages → page < 1024
@@ -246,7 +269,8 @@ impl Frames {
         &self.tables
     }
 
-    /// The entry of a user's segment of 64K, by the bytes of the tables. A user who is not there has none.
+    /// Returns the entry of a user's segment of 64K, by the bytes of the tables. A user who is not
+    /// there has none.
     pub fn segment_entry(&self, user: UserNo, segment: u32) -> u32
         requires { segment < 64 }
         ensures { result ≡ segment_entry user (length (bytes_of self.now user) / 4096) segment }
@@ -258,7 +282,8 @@ impl Frames {
         }
     }
 
-    /// The entry of a user's page, by the bytes of the tables. A user who is not there has no page.
+    /// Returns the entry of a user's page, by the bytes of the tables. A user who is not there has
+    /// no page.
     pub fn page_entry(&self, user: UserNo, page: Page) -> u16
         requires { page.0 < 1024 }
         ensures { result ≡ page_entry (frame_of self.now.supply.owners user page.0) }
@@ -270,7 +295,7 @@ impl Frames {
         }
     }
 
-    /// The page that stands in a frame.
+    /// Returns the page that is in a frame.
     pub fn page_in(&self, frame: FrameNo) -> Option<UserPage>
         ensures page { result ≡ slice_index_or self.now.supply.owners frame.0 None }
         ensures once { (p : UserPage) → (result ≡ Some p)
@@ -285,8 +310,8 @@ impl Frames {
         }
     }
 
-    /// Marks a frame: the page in it is not to be given up for another. Nothing is done to a free frame, or past the
-    /// frames.
+    /// Marks a frame: the page in it is not to be given up for another. Nothing is done to a free
+    /// frame, or past the frames.
     pub fn pin(&mut self, frame: FrameNo)
         ensures supply { self.new.supply
             ≡ record self.old.supply {
@@ -327,7 +352,7 @@ impl Frames {
         }
     }
 
-    /// Whether a frame is pinned.
+    /// Returns whether a frame is pinned.
     pub fn is_pinned(&self, frame: FrameNo) -> bool
         ensures { result ≡ slice_index_or self.now.supply.pins frame.0 false }
     {
@@ -339,8 +364,8 @@ impl Frames {
         }
     }
 
-    /// Takes all pages of a user out of their frames and slots, after which its storage is all zero, and all marks
-    /// away.
+    /// Takes all pages of a user out of their frames and slots, after which its storage is all
+    /// zero, and all marks away.
     pub fn release(&mut self, user: UserNo)
         ensures storages { self.new.storages
             ≡ slice_set self.old.storages user (replicate (length (bytes_of self.old user)) 0) }
@@ -359,24 +384,25 @@ impl Frames {
         leave(
             &mut self.owners,
             &mut self.tables,
-            &mut self.looks,
+            &mut self.lookup,
             &self.sizes,
             user,
         );
         leave_slots(&mut self.slot_owners, &mut self.slot_table, user);
     }
 
-    /// A frame's bytes; None past the frames. What is written there is from then on the content of the page in the
-    /// frame; what is lent is that content.
+    /// Borrows a frame's bytes; None past the frames. What is written there is from then on the
+    /// content of the page in the frame; what is borrowed is that content.
     pub fn frame_mut(&mut self, frame: FrameNo) -> Option<&mut [u8; FRAME_SIZE]>
         ensures* writes_back { sem 𝓛 (LendsFrame self.entry frame.0 result) }
-        ensures content { IfSome result (λ lent. written_frame self.old frame.0 lent.now ≡ self.old) }
+        ensures content { IfSome result
+            (λ lent. written_frame self.old frame.0 lent.now ≡ self.old) }
         ensures some { IsSome result ↔ (frame.0 < length self.old.supply.owners) }
     {
         self.frames.get_mut(frame.0 as usize)
     }
 
-    /// A byte of a user's storage, wherever its page stands; None past his storage.
+    /// Returns a byte of a user's storage, wherever its page is; None past his storage.
     pub fn byte(&self, user: UserNo, address: u32) -> Option<u8>
         ensures { result ≡ slice_get (bytes_of self.now user) address }
     {
@@ -396,10 +422,11 @@ impl Frames {
         }
     }
 
-    /// Copies bytes of a user out, whose pages stand in frames.
+    /// Copies bytes of a user out, whose pages are in frames.
     #[inline(always)]
     pub fn load(&self, user: UserNo, start: u32, into: &mut [u8])
-        requires granted { IsGranted (length (bytes_of self.now user)) (is_there self.now.supply.owners user) start
+        requires granted { IsGranted (length (bytes_of self.now user))
+            (is_there self.now.supply.owners user) start
             (length into.old) }
         requires short { length into.old ≤ 256 }
         ensures { into.new ≡ slice_range (bytes_of self.now user) start (start + length into.old) }
@@ -425,21 +452,25 @@ impl Frames {
         requires some { 0 < length into.old }
         requires one_page { start % 4096 + length into.old ≤ 4096 }
         requires present { IsSome (frame_of self.now.supply.owners user (start / 4096)) }
-        ensures read { into.new ≡ slice_range (bytes_of self.now user) start (start + length into.old) }
+        ensures read { into.new ≡ slice_range (bytes_of self.now user) start
+            (start + length into.old) }
         ensures fits { length (bytes_of self.now user) ≤ 4194304 }
     {
         let place = self.place_with(user, start);
         self.load_in(user, place, start, into);
     }
 
-    /// Copies bytes of one page of a user out, of which the first has this place among the bytes of all frames.
+    /// Copies bytes of one page of a user out, of which the first has this place among the bytes of
+    /// all frames.
     #[inline(always)]
     pub fn load_in(&self, _user: UserNo, place: usize, start: u32, into: &mut [u8])
         requires within { start + length into.old ≤ length (bytes_of self.now _user) }
         requires one_page { start % 4096 + length into.old ≤ 4096 }
-        requires there { frame_of self.now.supply.owners _user (start / 4096) ≡ Some (place / 4096) }
+        requires there { frame_of self.now.supply.owners _user (start / 4096)
+            ≡ Some (place / 4096) }
         requires offset { place % 4096 ≡ start % 4096 }
-        ensures read { into.new ≡ slice_range (bytes_of self.now _user) start (start + length into.old) }
+        ensures read { into.new ≡ slice_range (bytes_of self.now _user) start
+            (start + length into.old) }
         ensures fits { length (bytes_of self.now _user) ≤ 4194304 }
     {
         copy_out_at(&self.frames, place, into);
@@ -448,7 +479,8 @@ impl Frames {
     /// Copies bytes out that may lie in two pages.
     #[inline(never)]
     fn load_apart(&self, user: UserNo, start: u32, into: &mut [u8])
-        requires granted { IsGranted (length (bytes_of self.now user)) (is_there self.now.supply.owners user) start
+        requires granted { IsGranted (length (bytes_of self.now user))
+            (is_there self.now.supply.owners user) start
             (length into.old) }
         requires short { length into.old ≤ 256 }
         requires some { 0 < length into.old }
@@ -463,7 +495,8 @@ impl Frames {
 
     /// Copies bytes of two pages out.
     fn load_across(&self, user: UserNo, start: u32, into: &mut [u8])
-        requires granted { IsGranted (length (bytes_of self.now user)) (is_there self.now.supply.owners user) start
+        requires granted { IsGranted (length (bytes_of self.now user))
+            (is_there self.now.supply.owners user) start
             (length into.old) }
         requires short { length into.old ≤ 256 }
         requires across { 4096 - start % 4096 < length into.old }
@@ -475,15 +508,17 @@ impl Frames {
         self.load_part(user, start + left as u32, second);
     }
 
-    /// Copies bytes of a user in, whose pages stand in frames. No other byte of any user changes.
+    /// Copies bytes of a user in, whose pages are in frames. No other byte of any user changes.
     #[inline(always)]
     pub fn store(&mut self, user: UserNo, start: u32, from: &[u8])
-        requires granted { IsGranted (length (bytes_of self.old user)) (is_there self.old.supply.owners user) start
+        requires granted { IsGranted (length (bytes_of self.old user))
+            (is_there self.old.supply.owners user) start
             (length from.now) }
         requires short { length from.now ≤ 256 }
         ensures bytes { bytes_of self.new user ≡ put (bytes_of self.old user) start from.now }
         ensures size { length (bytes_of self.new user) ≡ length (bytes_of self.old user) }
-        ensures others { self.new.storages ≡ slice_set self.old.storages user (bytes_of self.new user) }
+        ensures others { self.new.storages
+            ≡ slice_set self.old.storages user (bytes_of self.new user) }
         ensures supply { self.new.supply ≡ self.old.supply }
     {
         if from.is_empty() {
@@ -508,7 +543,8 @@ impl Frames {
         requires present { IsSome (frame_of self.old.supply.owners user (start / 4096)) }
         ensures bytes { bytes_of self.new user ≡ put (bytes_of self.old user) start from.now }
         ensures size { length (bytes_of self.new user) ≡ length (bytes_of self.old user) }
-        ensures others { self.new.storages ≡ slice_set self.old.storages user (bytes_of self.new user) }
+        ensures others { self.new.storages
+            ≡ slice_set self.old.storages user (bytes_of self.new user) }
         ensures supply { self.new.supply ≡ self.old.supply }
         ensures fits { length (bytes_of self.old user) ≤ 4194304 }
     {
@@ -516,17 +552,20 @@ impl Frames {
         self.store_placed(user, place, start, from);
     }
 
-    /// Copies bytes into one page of a user, of which the first has this place among the bytes of all frames.
+    /// Copies bytes into one page of a user, of which the first has this place among the bytes of
+    /// all frames.
     #[inline(always)]
     pub fn store_placed(&mut self, _user: UserNo, place: usize, start: u32, from: &[u8])
         requires within { start + length from.now ≤ length (bytes_of self.old _user) }
         requires some { 0 < length from.now }
         requires one_page { start % 4096 + length from.now ≤ 4096 }
-        requires there { frame_of self.old.supply.owners _user (start / 4096) ≡ Some (place / 4096) }
+        requires there { frame_of self.old.supply.owners _user (start / 4096)
+            ≡ Some (place / 4096) }
         requires offset { place % 4096 ≡ start % 4096 }
         ensures bytes { bytes_of self.new _user ≡ put (bytes_of self.old _user) start from.now }
         ensures size { length (bytes_of self.new _user) ≡ length (bytes_of self.old _user) }
-        ensures others { self.new.storages ≡ slice_set self.old.storages _user (bytes_of self.new _user) }
+        ensures others { self.new.storages
+            ≡ slice_set self.old.storages _user (bytes_of self.new _user) }
         ensures supply { self.new.supply ≡ self.old.supply }
         ensures fits { length (bytes_of self.old _user) ≤ 4194304 }
     {
@@ -549,9 +588,11 @@ impl Frames {
         requires source_present { IsSome (frame_of self.old.supply.owners user (from / 4096)) }
         requires target_present { IsSome (frame_of self.old.supply.owners user (to / 4096)) }
         ensures bytes { bytes_of self.new user
-            ≡ put (bytes_of self.old user) to (slice_range (bytes_of self.old user) from (from + count)) }
+            ≡ put (bytes_of self.old user) to
+            (slice_range (bytes_of self.old user) from (from + count)) }
         ensures size { length (bytes_of self.new user) ≡ length (bytes_of self.old user) }
-        ensures others { self.new.storages ≡ slice_set self.old.storages user (bytes_of self.new user) }
+        ensures others { self.new.storages
+            ≡ slice_set self.old.storages user (bytes_of self.new user) }
         ensures supply { self.new.supply ≡ self.old.supply }
     {
         let source = self.place_with(user, from);
@@ -559,8 +600,8 @@ impl Frames {
         self.copy_placed(user, source, from, target, to, count);
     }
 
-    /// Copies at most 2048 bytes of one page of a user into one page, of which the first have these places among the
-    /// bytes of all frames.
+    /// Copies at most 2048 bytes of one page of a user into one page, of which the first have these
+    /// places among the bytes of all frames.
     #[inline(always)]
     pub fn copy_placed(
         &mut self,
@@ -577,14 +618,18 @@ impl Frames {
         requires short { count ≤ 2048 }
         requires page_of_source { from % 4096 + count ≤ 4096 }
         requires page_of_target { to % 4096 + count ≤ 4096 }
-        requires source_there { frame_of self.old.supply.owners _user (from / 4096) ≡ Some (source / 4096) }
-        requires target_there { frame_of self.old.supply.owners _user (to / 4096) ≡ Some (target / 4096) }
+        requires source_there { frame_of self.old.supply.owners _user (from / 4096)
+            ≡ Some (source / 4096) }
+        requires target_there { frame_of self.old.supply.owners _user (to / 4096)
+            ≡ Some (target / 4096) }
         requires source_offset { source % 4096 ≡ from % 4096 }
         requires target_offset { target % 4096 ≡ to % 4096 }
         ensures bytes { bytes_of self.new _user
-            ≡ put (bytes_of self.old _user) to (slice_range (bytes_of self.old _user) from (from + count)) }
+            ≡ put (bytes_of self.old _user) to
+            (slice_range (bytes_of self.old _user) from (from + count)) }
         ensures size { length (bytes_of self.new _user) ≡ length (bytes_of self.old _user) }
-        ensures others { self.new.storages ≡ slice_set self.old.storages _user (bytes_of self.new _user) }
+        ensures others { self.new.storages
+            ≡ slice_set self.old.storages _user (bytes_of self.new _user) }
         ensures supply { self.new.supply ≡ self.old.supply }
     {
         copy_over(
@@ -602,12 +647,15 @@ impl Frames {
     fn copy_across(&mut self, user: UserNo, from: u32, to: u32, count: u32)
         requires source { IsGranted (length (bytes_of self.old user))
             (is_there self.old.supply.owners user) from count }
-        requires target { IsGranted (length (bytes_of self.old user)) (is_there self.old.supply.owners user) to count }
+        requires target { IsGranted (length (bytes_of self.old user))
+            (is_there self.old.supply.owners user) to count }
         requires short { count ≤ 256 }
         ensures bytes { bytes_of self.new user
-            ≡ put (bytes_of self.old user) to (slice_range (bytes_of self.old user) from (from + count)) }
+            ≡ put (bytes_of self.old user) to
+            (slice_range (bytes_of self.old user) from (from + count)) }
         ensures size { length (bytes_of self.new user) ≡ length (bytes_of self.old user) }
-        ensures others { self.new.storages ≡ slice_set self.old.storages user (bytes_of self.new user) }
+        ensures others { self.new.storages
+            ≡ slice_set self.old.storages user (bytes_of self.new user) }
         ensures supply { self.new.supply ≡ self.old.supply }
     {
         let mut buffer = [0u8; LONGEST];
@@ -616,18 +664,21 @@ impl Frames {
         self.store(user, to, part);
     }
 
-    /// Copies bytes of a user, whose pages stand in frames, from one place to another, as if all were read before any
-    /// is written. No other byte of any user changes.
+    /// Copies bytes of a user, whose pages are in frames, from one place to another, as if all were
+    /// read before any is written. No other byte of any user changes.
     #[inline(always)]
     pub fn copy(&mut self, user: UserNo, from: u32, to: u32, count: u32)
         requires source { IsGranted (length (bytes_of self.old user))
             (is_there self.old.supply.owners user) from count }
-        requires target { IsGranted (length (bytes_of self.old user)) (is_there self.old.supply.owners user) to count }
+        requires target { IsGranted (length (bytes_of self.old user))
+            (is_there self.old.supply.owners user) to count }
         requires short { count ≤ 256 }
         ensures bytes { bytes_of self.new user
-            ≡ put (bytes_of self.old user) to (slice_range (bytes_of self.old user) from (from + count)) }
+            ≡ put (bytes_of self.old user) to
+            (slice_range (bytes_of self.old user) from (from + count)) }
         ensures size { length (bytes_of self.new user) ≡ length (bytes_of self.old user) }
-        ensures others { self.new.storages ≡ slice_set self.old.storages user (bytes_of self.new user) }
+        ensures others { self.new.storages
+            ≡ slice_set self.old.storages user (bytes_of self.new user) }
         ensures supply { self.new.supply ≡ self.old.supply }
     {
         if count == 0
@@ -643,13 +694,15 @@ impl Frames {
     /// Copies bytes in that may lie in two pages.
     #[inline(never)]
     fn store_apart(&mut self, user: UserNo, start: u32, from: &[u8])
-        requires granted { IsGranted (length (bytes_of self.old user)) (is_there self.old.supply.owners user) start
+        requires granted { IsGranted (length (bytes_of self.old user))
+            (is_there self.old.supply.owners user) start
             (length from.now) }
         requires short { length from.now ≤ 256 }
         requires some { 0 < length from.now }
         ensures bytes { bytes_of self.new user ≡ put (bytes_of self.old user) start from.now }
         ensures size { length (bytes_of self.new user) ≡ length (bytes_of self.old user) }
-        ensures others { self.new.storages ≡ slice_set self.old.storages user (bytes_of self.new user) }
+        ensures others { self.new.storages
+            ≡ slice_set self.old.storages user (bytes_of self.new user) }
         ensures supply { self.new.supply ≡ self.old.supply }
     {
         if start % PAGE_SIZE + from.len() as u32 <= PAGE_SIZE {
@@ -661,13 +714,15 @@ impl Frames {
 
     /// Copies bytes into two pages.
     fn store_across(&mut self, user: UserNo, start: u32, from: &[u8])
-        requires granted { IsGranted (length (bytes_of self.old user)) (is_there self.old.supply.owners user) start
+        requires granted { IsGranted (length (bytes_of self.old user))
+            (is_there self.old.supply.owners user) start
             (length from.now) }
         requires short { length from.now ≤ 256 }
         requires across { 4096 - start % 4096 < length from.now }
         ensures bytes { bytes_of self.new user ≡ put (bytes_of self.old user) start from.now }
         ensures size { length (bytes_of self.new user) ≡ length (bytes_of self.old user) }
-        ensures others { self.new.storages ≡ slice_set self.old.storages user (bytes_of self.new user) }
+        ensures others { self.new.storages
+            ≡ slice_set self.old.storages user (bytes_of self.new user) }
         ensures supply { self.new.supply ≡ self.old.supply }
     {
         let left = FRAME_SIZE - start as usize % FRAME_SIZE;

@@ -1,12 +1,14 @@
 //! Frames as bytes, and frames of bytes.
 //!
-//! [`Frames::save`] appends what a contract sees of them, exactly: no two pools have the same bytes. What
-//! [`Frames::restore`] makes of bytes is lawful whatever they are, and whoever saves it again sees whether it is what
-//! was saved.
-ghost use Rattle.std.specs.Prelude.{◌≡◌, ◌++◌, ◌<◌, ◌≤◌, ◌*◌, ◌/◌, length, map, take, drop, IfSome, IfNone, OnOk};
+//! [`Frames::save`] appends what a contract sees of them, exactly: no two pools have the same
+//! bytes. What [`Frames::restore`] makes of bytes is lawful whatever they are, and whoever saves it
+//! again sees whether it is what was saved.
+ghost use Rattle.std.specs.Prelude.{◌≡◌, ◌++◌, ◌<◌, ◌≤◌, ◌*◌, ◌/◌, length, map, take, drop, IfSome};
+ghost use Rattle.std.specs.Prelude.{IfNone, OnOk};
 ghost use Rattle.saved_bytes.specs.Codes.{each, flag, number, optional};
 ghost use Rattle.cp_frames.specs.Layout.{IsZeroPage};
-ghost use Rattle.cp_frames.specs.Saved.{IsOneBySaved, is_zero, packed, page_bytes, pages_bytes, pool_bytes, storage_bytes, supply_bytes};
+ghost use Rattle.cp_frames.specs.Saved.{IsOneBySaved, is_zero, packed, page_bytes, pages_bytes};
+ghost use Rattle.cp_frames.specs.Saved.{pool_bytes, storage_bytes, supply_bytes};
 
 use crate::frame::whole;
 use crate::order::last;
@@ -17,7 +19,7 @@ use saved_bytes::{Input, put_flag, put_number, put_one, put_zero};
 use std::alloc::{AllocError, Global};
 use user_names::{MOST_USERS, UserNo};
 
-/// Appends whose page stands somewhere, and which.
+/// Appends the user and the number of a page.
 fn put_page(out: &mut Vec<u8>, page: UserPage) -> Result<(), AllocError>
     ensures { OnOk result (out.new.items ≡ out.old.items ++ page_bytes page) }
 {
@@ -25,7 +27,7 @@ fn put_page(out: &mut Vec<u8>, page: UserPage) -> Result<(), AllocError>
     put_number(out, u64::from(page.page.0))
 }
 
-/// Appends which page stands somewhere, if one does.
+/// Appends which page is in a place, if one is.
 fn put_place(out: &mut Vec<u8>, owner: Option<UserPage>) -> Result<(), AllocError>
     ensures { OnOk result (out.new.items ≡ out.old.items ++ optional page_bytes owner) }
 {
@@ -38,7 +40,7 @@ fn put_place(out: &mut Vec<u8>, owner: Option<UserPage>) -> Result<(), AllocErro
     }
 }
 
-/// Appends which pages stand in these places.
+/// Appends which pages are in these places.
 #[tactic(auto, using(saved_bytes::proofs::Codes::each_on))]
 fn put_places(out: &mut Vec<u8>, owners: &[Option<UserPage>]) -> Result<(), AllocError>
     ensures { OnOk result (out.new.items ≡ out.old.items ++ each (optional page_bytes) owners.now) }
@@ -50,7 +52,7 @@ fn put_places(out: &mut Vec<u8>, owners: &[Option<UserPage>]) -> Result<(), Allo
     put_zero(out)
 }
 
-/// Appends marks.
+/// Appends which frames are pinned.
 #[tactic(auto, using(saved_bytes::proofs::Codes::each_on))]
 fn put_pins(out: &mut Vec<u8>, pins: &[bool]) -> Result<(), AllocError>
     ensures { OnOk result (out.new.items ≡ out.old.items ++ each flag pins.now) }
@@ -74,7 +76,7 @@ fn put_order(out: &mut Vec<u8>, order: &[u16]) -> Result<(), AllocError>
     put_zero(out)
 }
 
-/// Whether each byte is zero.
+/// Returns whether each byte is zero.
 fn is_zero(content: &[u8]) -> bool
     ensures { result ≡ is_zero content.now }
 {
@@ -97,7 +99,7 @@ fn put_content(out: &mut Vec<u8>, content: &[u8]) -> Result<(), AllocError>
 impl Frames {
     ghost use Rattle.cp_frames.specs.Layout.{bytes_of};
 
-    /// How many users there are.
+    /// Returns how many users there are.
     fn users(&self) -> usize
         ensures value { result ≡ length self.now.storages }
         ensures few { result ≤ 64 }
@@ -105,7 +107,7 @@ impl Frames {
         self.sizes.len()
     }
 
-    /// The content of a page, if it stands in a frame or in a slot.
+    /// Returns the content of a page, if it is in a frame or in a slot.
     fn content_of(&self, user: UserNo, page: Page) -> Option<&[u8]>
         requires { page.0 * 4096 < length (bytes_of self.now user) }
         ensures content { IfSome result
@@ -122,7 +124,11 @@ impl Frames {
         }
     }
 
-    /// Appends all that is seen of them.
+    /// Appends all storages, and where each page is.
+    ///
+    /// # Errors
+    ///
+    /// `AllocError` if memory is refused; `out` may have a part of it then.
     pub fn save(&self, out: &mut Vec<u8>) -> Result<(), AllocError>
         ensures { OnOk result (out.new.items ≡ out.old.items ++ pool_bytes self.now) }
     {
@@ -130,11 +136,12 @@ impl Frames {
         self.save_storages(out)
     }
 
-    /// Appends where pages stand.
+    /// Appends which page is in each frame and in each slot.
     fn save_supply(&self, out: &mut Vec<u8>) -> Result<(), AllocError>
         ensures { OnOk result (out.new.items ≡ out.old.items ++ supply_bytes self.now.supply) }
     {
-        // Exhaustive: a new field fails to compile here. What is left out follows from what is saved.
+        // Exhaustive: a new field fails to compile here. What is left out follows from what is
+        // saved.
         let Frames {
             frames: _,
             slots: _,
@@ -148,7 +155,7 @@ impl Frames {
             page_ins,
             sizes: _,
             tables: _,
-            looks: _,
+            lookup: _,
             slot_table: _,
         } = self;
         put_places(out, owners)?;
@@ -160,7 +167,8 @@ impl Frames {
 
     /// Appends the storages of all users.
     fn save_storages(&self, out: &mut Vec<u8>) -> Result<(), AllocError>
-        ensures { OnOk result (out.new.items ≡ out.old.items ++ each storage_bytes self.now.storages) }
+        ensures { OnOk result (out.new.items ≡ out.old.items
+            ++ each storage_bytes self.now.storages) }
     {
         for user in 0..self.users() {
             put_one(out)?;
@@ -171,7 +179,8 @@ impl Frames {
 
     /// Appends the storage of a user.
     fn save_storage(&self, user: UserNo, out: &mut Vec<u8>) -> Result<(), AllocError>
-        ensures { OnOk result (out.new.items ≡ out.old.items ++ storage_bytes (bytes_of self.now user)) }
+        ensures { OnOk result (out.new.items ≡ out.old.items
+            ++ storage_bytes (bytes_of self.now user)) }
     {
         put_number(out, u64::from(self.size(user)))?;
         self.save_pages(user, out)
@@ -201,7 +210,7 @@ impl Frames {
         }
     }
 
-    /// Has a page that stands nowhere stand in a free frame. None is told where that cannot be.
+    /// Puts a page that is nowhere into a free frame. None is reported where that cannot be.
     fn seat(&mut self, frame: usize, there: UserPage) -> Option<()>
         ensures sizes { map length self.new.storages ≡ map length self.old.storages }
         ensures pins { self.new.supply.pins ≡ self.old.supply.pins }
@@ -221,8 +230,8 @@ impl Frames {
         Some(())
     }
 
-    /// Has a page that stands nowhere stand in a free slot, by way of the first frame, which is free. None is told where
-    /// that cannot be.
+    /// Puts a page that is nowhere into a free slot, by way of the first frame, which is free. None
+    /// is reported where that cannot be.
     fn seat_in_slot(&mut self, slot: usize, there: UserPage) -> Option<()>
         ensures sizes { map length self.new.storages ≡ map length self.old.storages }
         ensures pins { self.new.supply.pins ≡ self.old.supply.pins }
@@ -239,7 +248,7 @@ impl Frames {
         Some(())
     }
 
-    /// Has these pages stand in the slots.
+    /// Puts these pages into the slots.
     fn seat_slots(&mut self, slots: &[Option<UserPage>]) -> Option<()>
         ensures sizes { map length self.new.storages ≡ map length self.old.storages }
         ensures pins { self.new.supply.pins ≡ self.old.supply.pins }
@@ -254,7 +263,7 @@ impl Frames {
         Some(())
     }
 
-    /// Has these pages stand in the frames.
+    /// Puts these pages into the frames.
     fn seat_frames(&mut self, owners: &[Option<UserPage>]) -> Option<()>
         ensures sizes { map length self.new.storages ≡ map length self.old.storages }
         ensures pins { self.new.supply.pins ≡ self.old.supply.pins }
@@ -269,7 +278,7 @@ impl Frames {
         Some(())
     }
 
-    /// Where a frame stands in the order.
+    /// Returns the turn of a frame in the order.
     fn turn_of(&self, frame: u16) -> Option<usize>
         ensures { IfSome result (λ turn. turn < length self.now.supply.order) }
     {
@@ -281,7 +290,7 @@ impl Frames {
         }
     }
 
-    /// Has the frame that has this turn stand last.
+    /// Puts the frame that has this turn last.
     fn put_last(&mut self, turn: usize)
         requires { turn < length self.old.supply.order }
         ensures storages { self.new.storages ≡ self.old.storages }
@@ -292,7 +301,7 @@ impl Frames {
         last(&mut self.order, turn);
     }
 
-    /// Puts the frames into the order that comes next.
+    /// Puts the frames into the order that is next.
     fn restore_order(&mut self, input: &mut Input<'_>) -> Option<()>
         ensures storages { self.new.storages ≡ self.old.storages }
         ensures pins { self.new.supply.pins ≡ self.old.supply.pins }
@@ -308,7 +317,7 @@ impl Frames {
         None
     }
 
-    /// Says that so many pages have come.
+    /// Sets how many pages have been brought into frames.
     fn set_page_ins(&mut self, page_ins: u64)
         ensures storages { self.new.storages ≡ self.old.storages }
         ensures pins { self.new.supply.pins ≡ self.old.supply.pins }
@@ -317,7 +326,7 @@ impl Frames {
         self.page_ins = page_ins;
     }
 
-    /// Writes the content of a page where it stands. None is told where it stands nowhere.
+    /// Writes the content of a page where it is. None is reported where it is nowhere.
     fn write(&mut self, user: UserNo, page: Page, content: &[u8]) -> Option<()>
         requires inside { page.0 * 4096 < length (bytes_of self.old user) }
         requires full { length content.now ≡ 4096 }
@@ -340,7 +349,7 @@ impl Frames {
         }
     }
 
-    /// Takes the content of a page that comes next.
+    /// Takes the content of a page that is next.
     fn restore_page(&mut self, user: UserNo, page: Page, input: &mut Input<'_>) -> Option<()>
         ensures sizes { map length self.new.storages ≡ map length self.old.storages }
         ensures supply { self.new.supply ≡ self.old.supply }
@@ -355,7 +364,7 @@ impl Frames {
         self.write(user, page, content)
     }
 
-    /// Takes the storage of a user that comes next.
+    /// Takes the storage of a user that is next.
     fn restore_storage(&mut self, user: UserNo, input: &mut Input<'_>) -> Option<()>
         ensures sizes { map length self.new.storages ≡ map length self.old.storages }
         ensures supply { self.new.supply ≡ self.old.supply }
@@ -370,7 +379,7 @@ impl Frames {
         Some(())
     }
 
-    /// Takes the storages of all users that come next.
+    /// Takes the storages of all users that are next.
     fn restore_storages(&mut self, input: &mut Input<'_>) -> Option<()>
         ensures sizes { map length self.new.storages ≡ map length self.old.storages }
         ensures supply { self.new.supply ≡ self.old.supply }
@@ -384,8 +393,9 @@ impl Frames {
         if input.flag()? { None } else { Some(()) }
     }
 
-    /// Takes what comes next, in the place of frames and slots in which no page stands. None is told of bytes that no
-    /// such frames save; what is left then is lawful, and nothing else is said of it.
+    /// Restores what is next in the input, in frames and slots in which no page is. None is
+    /// reported of bytes that no such frames save; what is left then is lawful, and nothing else is
+    /// said of it.
     pub fn restore(&mut self, alloc: Global, input: &mut Input<'_>) -> Option<()>
         ensures sizes { map length self.new.storages ≡ map length self.old.storages }
         ensures pins { self.new.supply.pins ≡ self.old.supply.pins }
@@ -403,7 +413,7 @@ impl Frames {
     }
 }
 
-/// The place that comes next: a page that may stand in it, or none.
+/// Takes a place that is next: a page that may be in it, or none.
 fn next_place(input: &mut Input<'_>) -> Option<Option<UserPage>> {
     if !input.flag()? {
         return Some(None);
@@ -419,7 +429,7 @@ fn next_place(input: &mut Input<'_>) -> Option<Option<UserPage>> {
     }))
 }
 
-/// The places that come next.
+/// Takes the places that are next.
 fn next_places(alloc: Global, input: &mut Input<'_>) -> Option<Vec<Option<UserPage>>> {
     let mut places = Vec::new(alloc);
     for _ in 0..u64::MAX {
@@ -432,7 +442,7 @@ fn next_places(alloc: Global, input: &mut Input<'_>) -> Option<Vec<Option<UserPa
     None
 }
 
-/// Passes over the marks of frames, none of which is set where a state is saved.
+/// Passes over the pins of frames, none of which is set in a saved state.
 fn skip_pins(input: &mut Input<'_>) -> Option<()> {
     for _ in 0..u64::MAX {
         if !input.flag()? {
@@ -445,7 +455,8 @@ fn skip_pins(input: &mut Input<'_>) -> Option<()> {
     None
 }
 
-/// No two pools have the same bytes, so what saves the same bytes again is what was saved.
+/// States that no two pools have the same bytes, so what saves the same bytes again is what was
+/// saved.
 pub fn one_pool_by_saved()
     ensures { IsOneBySaved }
 {}

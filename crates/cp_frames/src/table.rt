@@ -1,15 +1,18 @@
 //! The tables of the frame and of the slot of each page.
 //!
-//! That of the frames is bytes: 2304 for each user, the segment table and 64 page tables of the architecture, with
-//! segments of 64K and pages of 4K (GA22-7000, "Dynamic Address Translation"). That of the slots is a list, 1024
-//! entries for each user.
+//! That of the frames is bytes: 2304 for each user, the segment table and 64 page tables of the
+//! architecture, with segments of 64K and pages of 4K (GA22-7000, "Dynamic Address Translation").
+//! That of the slots is a list, 1024 entries for each user.
 //!
-//! Beside the bytes stands such a list of the frames too: of a page it tells how far the places of its bytes, among
-//! those of all frames, are beyond their addresses, so that an access finds the place of a byte by one load and one
-//! addition. No entry of the one is written without that of the other, by [`note`] and [`forget`].
-ghost use Rattle.std.specs.Prelude.{◌≡◌, ◌≢◌, ℕ, ◌+◌, ◌*◌, ◌/◌, ◌%◌, ◌<◌, ◌≤◌, length, slice_index, IfOk, IfSome, Some, None, replicate};
-ghost use Rattle.cp_frames.specs.Layout.{frame_entry, slot_entry, told};
-ghost use Rattle.cp_frames.specs.Tables.{half_at, word_at, page_place, segment_entry, segment_place, first_half, put_half, noted};
+//! Next to the bytes is such a list of the frames too: of a page it says how far the places of its
+//! bytes, among those of all frames, are beyond their addresses, so that an access finds the place
+//! of a byte by one load and one addition. No entry of the one is written without that of the
+//! other, by [`note`] and [`forget`].
+ghost use Rattle.std.specs.Prelude.{◌≡◌, ◌≢◌, ℕ, ◌+◌, ◌*◌, ◌/◌, ◌%◌, ◌<◌, ◌≤◌, length, slice_index};
+ghost use Rattle.std.specs.Prelude.{IfOk, IfSome, Some, None, replicate};
+ghost use Rattle.cp_frames.specs.Layout.{frame_entry, slot_entry, reported};
+ghost use Rattle.cp_frames.specs.Tables.{half_at, word_at, page_place, segment_entry};
+ghost use Rattle.cp_frames.specs.Tables.{segment_place, first_half, put_half, noted};
 
 use crate::{FRAME_SIZE, UserPage};
 use s370_store::PAGE_SIZE;
@@ -19,25 +22,26 @@ use user_names::UserNo;
 /// Entries of a user in a list: the pages of the largest storage.
 pub const PAGES: usize = 1024;
 
-/// Bytes of a user in the table of frames: 64 segment entries of 4 bytes, and 64 page tables of 16 entries of 2 bytes.
+/// Bytes of a user in the table of frames: 64 segment entries of 4 bytes, and 64 page tables of 16
+/// entries of 2 bytes.
 pub const TABLES: usize = 2304;
 
 /// Halfwords of a user in the table of frames.
 const HALVES: usize = 1152;
 
-/// The entry of a page that stands in no frame: bit 12 is one.
+/// The entry of a page that is in no frame: bit 12 is one.
 pub const INVALID: u16 = 8;
 
 /// The entry of a segment past the storage: bit 31 is one.
 pub const NO_SEGMENT: u32 = 1;
 
-/// The entry in the list of a page that stands in no frame. That of any other is a multiple of 4096.
+/// The entry in the list of a page that is in no frame. That of any other is a multiple of 4096.
 pub const ABSENT: u32 = 1;
 
-/// The entry of a page that stands in no slot.
+/// The entry of a page that is in no slot.
 pub const NO_SLOT: u32 = 4294967295;
 
-/// The place of the entry of a user's segment.
+/// Returns the place of the entry of a user's segment.
 #[inline]
 pub fn segment_place(user: usize, segment: u32) -> usize
     requires { user < 256 }
@@ -46,7 +50,7 @@ pub fn segment_place(user: usize, segment: u32) -> usize
     user * TABLES + segment as usize * 4
 }
 
-/// The place of the entry of a user's page.
+/// Returns the place of the entry of a user's page.
 #[inline(always)]
 pub fn page_place(user: usize, page: u32) -> usize
     requires { user < 256 }
@@ -55,7 +59,7 @@ pub fn page_place(user: usize, page: u32) -> usize
     user * TABLES + 256 + page as usize * 2
 }
 
-/// The halfword at a place of the tables.
+/// Returns the halfword at a place of the tables.
 #[inline(always)]
 pub fn half_at(tables: &[u8], place: usize) -> u16
     requires { place + 1 < length tables.now }
@@ -64,7 +68,7 @@ pub fn half_at(tables: &[u8], place: usize) -> u16
     u16::from_be_bytes([tables[place], tables[place + 1]])
 }
 
-/// The word at a place of the tables.
+/// Returns the word at a place of the tables.
 pub fn word_at(tables: &[u8], place: usize) -> u32
     requires { place + 3 < length tables.now }
     ensures { result ≡ word_at tables.now place }
@@ -81,16 +85,18 @@ fn put_half(tables: &mut Vec<u8>, place: usize, half: u16)
     tables[place + 1] = (half % 256) as u8;
 }
 
-/// The place of an address among the bytes of all frames, by the entry of its page, which stands in one.
+/// Returns the place of an address among the bytes of all frames, by the entry of its page, which
+/// is in one.
 #[inline(always)]
 pub fn place_in(entry: u32, address: u32) -> usize
-    ensures { (frame : ℕ) → frame < 65536 → address < 4194304 → entry ≡ frame_entry (Some frame) (address / 4096)
+    ensures { (frame : ℕ) → frame < 65536 → address < 4194304
+        → entry ≡ frame_entry (Some frame) (address / 4096)
         → result ≡ frame * 4096 + address % 4096 }
 {
     entry.wrapping_add(address) as usize
 }
 
-/// The frame that the entry of a page tells, which stands in one.
+/// Returns the frame that the entry of a page says, which is in one.
 pub fn frame_in(entry: u32, page: u32) -> usize
     requires { page < 1024 }
     ensures { (frame : ℕ) → frame < 65536 → entry ≡ frame_entry (Some frame) page → result ≡ frame }
@@ -98,15 +104,15 @@ pub fn frame_in(entry: u32, page: u32) -> usize
     place_in(entry, page * PAGE_SIZE) / FRAME_SIZE
 }
 
-/// The entry in the list of a page that stands in this frame.
-fn look_with(page: u32, frame: usize) -> u32
+/// Returns the entry in the list of a page that is in this frame.
+fn lookup_entry(page: u32, frame: usize) -> u32
     requires { frame < 4096 }
     ensures { result ≡ frame_entry (Some frame) page }
 {
     (frame as u32 * PAGE_SIZE).wrapping_sub(page.wrapping_mul(PAGE_SIZE))
 }
 
-/// The entry of a page that stands in this frame.
+/// Returns the entry of a page that is in this frame.
 fn entry_with(frame: usize) -> u16
     requires { frame < 4096 }
     ensures { result ≡ frame * 16 }
@@ -114,7 +120,7 @@ fn entry_with(frame: usize) -> u16
     frame as u16 * 16
 }
 
-/// The entry of a segment of a user who has so many pages.
+/// Returns the entry of a segment of a user who has so many pages.
 fn segment_entry(user: usize, pages: u32, segment: usize) -> u32
     requires user { user < 64 }
     requires segment { segment < 64 }
@@ -129,7 +135,8 @@ fn segment_entry(user: usize, pages: u32, segment: usize) -> u32
     (own - 1) * 0x1000_0000 + page_place(user, first) as u32
 }
 
-/// The halfword of this number of the tables of a user who has so many pages, of which none stands in a frame.
+/// Returns the halfword of this number of the tables of a user who has so many pages, of which none
+/// is in a frame.
 fn first_half(user: usize, pages: u32, half: usize) -> u16
     requires { user < 64 }
     ensures { result ≡ first_half user pages half }
@@ -145,7 +152,11 @@ fn first_half(user: usize, pages: u32, half: usize) -> u16
     }
 }
 
-/// The tables of users who have so many pages each, of which none stands in a frame.
+/// Returns the tables of users who have so many pages each, of which none is in a frame.
+///
+/// # Errors
+///
+/// `AllocError` if memory is refused.
 pub fn new_tables(alloc: Global, sizes: &[u32]) -> Result<Vec<u8>, AllocError>
     requires { length sizes.now ≤ 64 }
     ensures size { IfOk result (λ tables. length tables.items ≡ 2304 * length sizes.now) }
@@ -166,21 +177,29 @@ pub fn new_tables(alloc: Global, sizes: &[u32]) -> Result<Vec<u8>, AllocError>
     Ok(tables)
 }
 
-/// A list in which no page stands in a frame.
+/// Returns a list in which no page is in a frame.
+///
+/// # Errors
+///
+/// `AllocError` if memory is refused.
 pub fn empty_looks(alloc: Global, count: usize) -> Result<Vec<u32>, AllocError>
-    ensures { IfOk result (λ looks. looks.items ≡ replicate count 1) }
+    ensures { IfOk result (λ lookup. lookup.items ≡ replicate count 1) }
 {
     Ok(vec![in alloc; ABSENT; count]?)
 }
 
-/// A table in which no page stands in a slot.
+/// Returns a table in which no page is in a slot.
+///
+/// # Errors
+///
+/// `AllocError` if memory is refused.
 pub fn empty_slot_table(alloc: Global, count: usize) -> Result<Vec<u32>, AllocError>
     ensures { IfOk result (λ table. table.items ≡ replicate count 4294967295) }
 {
     Ok(vec![in alloc; NO_SLOT; count]?)
 }
 
-/// The number of the entry of a user's page in a list.
+/// Returns the number of the entry of a user's page in a list.
 #[inline(always)]
 pub fn entry_of(user: UserNo, page: u32) -> usize
     ensures { result ≡ user * 1024 + page }
@@ -188,13 +207,13 @@ pub fn entry_of(user: UserNo, page: u32) -> usize
     user.index() * PAGES + page as usize
 }
 
-/// Makes the entry of a page tell this frame, in the tables and in the list beside them.
-pub fn note(tables: &mut Vec<u8>, looks: &mut Vec<u32>, owner: Option<UserPage>, frame: usize)
+/// Maps a page to this frame, in the page tables and in the list next to them.
+pub fn note(tables: &mut Vec<u8>, lookup: &mut Vec<u32>, owner: Option<UserPage>, frame: usize)
     requires tables { IfSome owner (λ p. page_place p.user p.page.0 + 1 < length tables.old.items) }
-    requires looks { IfSome owner (λ p. p.user * 1024 + p.page.0 < length looks.old.items) }
+    requires lookup { IfSome owner (λ p. p.user * 1024 + p.page.0 < length lookup.old.items) }
     requires frame { frame < 4096 }
     ensures tables { tables.new.items ≡ noted owner (frame * 16) tables.old.items }
-    ensures looks { looks.new.items ≡ told frame_entry owner (Some frame) looks.old.items }
+    ensures lookup { lookup.new.items ≡ reported frame_entry owner (Some frame) lookup.old.items }
 {
     if let Some(there) = owner {
         put_half(
@@ -202,16 +221,16 @@ pub fn note(tables: &mut Vec<u8>, looks: &mut Vec<u32>, owner: Option<UserPage>,
             page_place(there.user.index(), there.page.0),
             entry_with(frame),
         );
-        looks[entry_of(there.user, there.page.0)] = look_with(there.page.0, frame);
+        lookup[entry_of(there.user, there.page.0)] = lookup_entry(there.page.0, frame);
     }
 }
 
-/// Makes the entry of a page tell no frame, in the tables and in the list beside them.
-pub fn forget(tables: &mut Vec<u8>, looks: &mut Vec<u32>, owner: Option<UserPage>)
+/// Maps a page to no frame, in the page tables and in the list next to them.
+pub fn forget(tables: &mut Vec<u8>, lookup: &mut Vec<u32>, owner: Option<UserPage>)
     requires tables { IfSome owner (λ p. page_place p.user p.page.0 + 1 < length tables.old.items) }
-    requires looks { IfSome owner (λ p. p.user * 1024 + p.page.0 < length looks.old.items) }
+    requires lookup { IfSome owner (λ p. p.user * 1024 + p.page.0 < length lookup.old.items) }
     ensures tables { tables.new.items ≡ noted owner 8 tables.old.items }
-    ensures looks { looks.new.items ≡ told frame_entry owner None looks.old.items }
+    ensures lookup { lookup.new.items ≡ reported frame_entry owner None lookup.old.items }
 {
     if let Some(there) = owner {
         put_half(
@@ -219,31 +238,31 @@ pub fn forget(tables: &mut Vec<u8>, looks: &mut Vec<u32>, owner: Option<UserPage
             page_place(there.user.index(), there.page.0),
             INVALID,
         );
-        looks[entry_of(there.user, there.page.0)] = ABSENT;
+        lookup[entry_of(there.user, there.page.0)] = ABSENT;
     }
 }
 
-/// Makes the entry of a page tell this slot.
-pub fn tell_slot(table: &mut Vec<u32>, owner: Option<UserPage>, slot: u32)
+/// Sets the slot of a page in the list of slots.
+pub fn set_slot(table: &mut Vec<u32>, owner: Option<UserPage>, slot: u32)
     requires { IfSome owner (λ p. p.user * 1024 + p.page.0 < length table.old.items) }
-    ensures { table.new.items ≡ told slot_entry owner (Some slot) table.old.items }
+    ensures { table.new.items ≡ reported slot_entry owner (Some slot) table.old.items }
 {
     if let Some(there) = owner {
         table[entry_of(there.user, there.page.0)] = slot;
     }
 }
 
-/// Makes the entry of a page tell no slot.
+/// Sets that a page is in no slot.
 pub fn forget_slot(table: &mut Vec<u32>, owner: Option<UserPage>)
     requires { IfSome owner (λ p. p.user * 1024 + p.page.0 < length table.old.items) }
-    ensures { table.new.items ≡ told slot_entry owner None table.old.items }
+    ensures { table.new.items ≡ reported slot_entry owner None table.old.items }
 {
     if let Some(there) = owner {
         table[entry_of(there.user, there.page.0)] = NO_SLOT;
     }
 }
 
-/// Makes a user's entries say that his pages stand in no slot.
+/// Sets that a user's pages are in no slot.
 pub fn forget_slots(table: &mut Vec<u32>, user: usize)
     requires { user < 256 }
     ensures own { (page : ℕ) → page < 1024 → user * 1024 + 1024 ≤ length table.old.items

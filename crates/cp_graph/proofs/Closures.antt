@@ -3,7 +3,7 @@ use Rattle.std.specs.Prelude.{List, [], ◌∷◌, ℕ, ◌+◌, ◌/◌, ◌%�
 use Rattle.std.specs.List.{All}
 use Rattle.s370_store.specs.declared.Access.TheVariants.{Fetch}
 use Rattle.s370_store.specs.Access.{Touches, IsAway}
-use Rattle.s370_walk.specs.declared.parts.Word.{Word}
+use Rattle.s370_walk.specs.declared.parts.Ccw.{Ccw}
 use Rattle.s370_store.specs.Memory.{Memory}
 use Rattle.s370_walk.specs.Hardware.{area}
 use Rattle.s370_walk.specs.Walk.{is_jump, chains_command, chains_data}
@@ -21,15 +21,15 @@ use Rattle.cp_graph.specs.Table.{IsFollowed, IsPart, leads_next, leads_skipped, 
 use Rattle.cp_graph.proofs.Tables.{at_or_before}
 use Rattle.cp_graph.specs.Closure.{InProgram, starts, jumps, continues_at, commands_at, skips_to, IsReachedPlace, IsDataPage, IsServed, IfAbsent, IsWordPage, IsEntryPage}
 
-pub entry_page : (m : Memory) (w : Word) (a page : ℕ) (j : ℕ) → area_block m w j ≡ Some a → Touches (area Fetch a 1 ∷ []) page → IsEntryPage m w j page
+pub entry_page : (m : Memory) (w : Ccw) (a page : ℕ) (j : ℕ) → area_block m w j ≡ Some a → Touches (area Fetch a 1 ∷ []) page → IsEntryPage m w j page
 entry_page m w a page j is (inl (k, lt, at)) = (let same : page ≡ a / 4096 = omega (arith, lt, at) in inr (a, is, same))
 entry_page m w a page j is (inr none) = absurd none
 
-pub first_page : (m : Memory) (w : Word) (page : ℕ) → has_area w ≡ true → w.count ≢ 0 → IsEntryPage m w 0 page → IsDataPage m w page
+pub first_page : (m : Memory) (w : Ccw) (page : ℕ) → has_area w ≡ true → w.count ≢ 0 → IsEntryPage m w 0 page → IsDataPage m w page
 first_page m w page has some touched =
     record { index = 0; has = has; used = record { some = omega (arith, some); before = λ i lt. (let no : ⊥ = omega (arith, lt) in absurd no); counted = λ first lt e. (let no : ⊥ = omega (arith, lt) in absurd no) }; touched = touched }
 
-pub later_page : (m : Memory) (w : Word) (list : List (Option ℕ)) (start page j : ℕ) → has_area w ≡ true → w.count ≢ 0 → IsPart list (area_block m w) → ((i : ℕ) → i < length list → is_some (slice_index_or list i None) ≡ true)
+pub later_page : (m : Memory) (w : Ccw) (list : List (Option ℕ)) (start page j : ℕ) → has_area w ≡ true → w.count ≢ 0 → IsPart list (area_block m w) → ((i : ℕ) → i < length list → is_some (slice_index_or list i None) ≡ true)
     → slice_index_or list 0 None ≡ Some start → 0 < length list → j ≡ length list → j ≤ (start % 2048 + (w.count - 1)) / 2048 → IsEntryPage m w j page → IsDataPage m w page
 later_page m w list start page j has some part begun first long at last touched =
     record {
@@ -55,7 +55,7 @@ begun_on list new o is begun some = rw is (λ i lt. elim (at_or_before i (length
 
 -- ---- What the program can reach
 
-module _ (m : Memory) (start : ℕ) (place : Place) (w : Word) (text : guest_text m place.address ≡ Some w) (reached : IsReachedPlace m start place) where
+module _ (m : Memory) (start : ℕ) (place : Place) (w : Ccw) (text : guest_text m place.address ≡ Some w) (reached : IsReachedPlace m start place) where
   pub next_reached : (next : Place) → next.address ≡ w.next → next.continues ≡ role_after w place.continues → leads_next w ≡ true → IsReachedPlace m start next
   next_reached next at role leads = rw (at, role) (by_jump (is_jump w) (chains_data w) (chains_command w) refl refl refl leads)
     where

@@ -41,14 +41,14 @@ slot_even p q x y e = by_roles p.continues q.continues refl refl e
     by_roles true false f g e = (let no : ⊥ = omega (arith, e) in absurd no)
     by_roles false true f g e = (let no : ⊥ = omega (arith, e) in absurd no)
 
--- a place that the index tells of is the one
+-- a place that the index reports is the one
 pub indexed_place : (places : List Place) (index : List ℕ) (place : Place) (number : ℕ) → IsIndexed places index → place.address % 8 ≡ 0 → slice_index index (slot_of place) ≢ 0 → number ≡ slice_index index (slot_of place) - 1
     → (number < length places) × (slice_index_or places number (past number) ≡ place)
 indexed_place places index place number known even some is =
     let x = known.all (slot_of place) some in
     rw is (x.within, slot_even _ place x.even even x.is)
 
--- one more place is told of
+-- one more place is reported of
 pub indexed_push : (places : List Place) (index : List ℕ) (place : Place) (v : ℕ) → IsIndexed places index → slot_of place < length index → place.address % 8 ≡ 0 → v ≡ length places + 1 → IsIndexed (places ++ place ∷ []) (slice_set index (slot_of place) v)
 indexed_push places index place v known room even is = record { all = λ slot some. by_slot slot some (same_or_not slot (slot_of place)); even = λ i lt. by_place i lt (at_or_before i (length places) (omega (arith, lt, longer))) }
   where
@@ -77,7 +77,7 @@ indexed_push places index place v known room even is = record { all = λ slot so
         let found : slice_index_or (places ++ place ∷ []) (length places) (past (length places)) ≡ place = get_or-append_seam places place [] (past (length places)) in
         rw (same, number) (record { within = omega (arith, longer); even = rw found even; is = rw found (sym at) })
 
--- an index of zeros tells of no place
+-- an index of zeros reports no place
 pub indexed_none : (n : ℕ) → IsIndexed [] (replicate n 0)
 indexed_none n = record { all = λ slot some. absurd (some (get_or-replicate_same n slot)); even = λ i lt. (let no : ⊥ = omega (arith, lt) in absurd no) }
   where

@@ -5,7 +5,7 @@ use Rattle.std.proofs.Common.{sym, ◌∙◌, ap, subst, arith, inl, inr, length
 use Rattle.std.proofs.Math.Seq.{get_or-append_seam}
 use Rattle.std.proofs.lemmas.List.{append-nil, get_or_append_left, get_or_past, append_assoc}
 use Rattle.std.proofs.lemmas.Option.{slice_get_past, slice_get_within}
-use Rattle.s370_walk.specs.declared.parts.Word.{Word}
+use Rattle.s370_walk.specs.declared.parts.Ccw.{Ccw}
 use Rattle.s370_walk.specs.declared.parts.Position.{Position}
 use Rattle.s370_store.specs.Memory.{Memory}
 use Rattle.s370_walk.specs.Hardware.{is_in, area}
@@ -19,7 +19,7 @@ use Rattle.std.proofs.lemmas.Bool.Decides.{nat_tests}
 use Rattle.std.proofs.Math.Decide.{dec_lt}
 use Rattle.s370_walk.specs.Walk.{live, is_jump, chains_data, chains_command, is_indirect}
 use Rattle.s370_channel.specs.Guest.{guest_text, guest_written, area_block, word_at, bare_word, list_of, said_by, list_word, later}
-use Rattle.s370_channel.specs.declared.words.Ccw.{Ccw}
+use Rattle.s370_channel.specs.declared.words.StoredCcw.{StoredCcw}
 use Rattle.s370_channel.specs.Words.{ccw_of}
 use Rattle.std.specs.List.{slice_range}
 use Rattle.channel_laws.specs.declared.places.Place.{Place}
@@ -46,15 +46,15 @@ module _ (old rest : List Place) (room : length (old ++ rest) ≤ 2147483648) wh
   link_more a (inl lt) = inl (omega (arith, longer, lt))
   link_more a (inr high) = inr high
 
-  good_more : (text : ℕ → Option Word) (a : ℕ) → IsGood old text a → IsGood (old ++ rest) text a
+  good_more : (text : ℕ → Option Ccw) (a : ℕ) → IsGood old text a → IsGood (old ++ rest) text a
   good_more text a (inl lt) = inl (omega (arith, longer, lt))
   good_more text a (inr high) = inr high
 
-  renamed_more : (found : Option Word) → HasLinks old found → renamed_found (guest_of (old ++ rest)) found ≡ renamed_found (guest_of old) found
+  renamed_more : (found : Option Ccw) → HasLinks old found → renamed_found (guest_of (old ++ rest)) found ≡ renamed_found (guest_of old) found
   renamed_more None links = refl
   renamed_more (Some w) links = rw (link_same w.next links.0, link_same w.skipped links.1) refl
 
-  leads_more : (text : ℕ → Option Word) (found : Option Word) → LeadsFrom (IsGood old text) found → LeadsFrom (IsGood (old ++ rest) text) found
+  leads_more : (text : ℕ → Option Ccw) (found : Option Ccw) → LeadsFrom (IsGood old text) found → LeadsFrom (IsGood (old ++ rest) text) found
   leads_more text None leads = tt
   leads_more text (Some w) leads =
       record {
@@ -64,12 +64,12 @@ module _ (old rest : List Place) (room : length (old ++ rest) ≤ 2147483648) wh
         skipped = λ e f. good_more text w.skipped (leads.skipped e f);
       }
 
-  links_more : (found : Option Word) → HasLinks old found → HasLinks (old ++ rest) found
+  links_more : (found : Option Ccw) → HasLinks old found → HasLinks (old ++ rest) found
   links_more None links = tt
   links_more (Some w) links = (link_more w.next links.0, link_more w.skipped links.1)
 
   -- What is copied stays copied when places are added.
-  copied_more : (text : ℕ → Option Word) (address : ℕ) (found : Option Word) → IsCopied old text address found → IsCopied (old ++ rest) text address found
+  copied_more : (text : ℕ → Option Ccw) (address : ℕ) (found : Option Ccw) → IsCopied old text address found → IsCopied (old ++ rest) text address found
   copied_more text address found c =
       record {
         same = c.same ∙ sym (renamed_more found c.links);
@@ -77,7 +77,7 @@ module _ (old rest : List Place) (room : length (old ++ rest) ≤ 2147483648) wh
         links = links_more found c.links;
       }
 
-pub copied_grown : (old new : List Place) (text : ℕ → Option Word) (address : ℕ) (found : Option Word) → Grows old new → length new ≤ 2147483648 → IsCopied old text address found → IsCopied new text address found
+pub copied_grown : (old new : List Place) (text : ℕ → Option Ccw) (address : ℕ) (found : Option Ccw) → Grows old new → length new ≤ 2147483648 → IsCopied old text address found → IsCopied new text address found
 copied_grown old new text address found grown room c =
     let P : List Place → Type 0 = λ xs. length xs ≤ 2147483648 → IsCopied xs text address found in
     subst P (sym grown.is) (λ fits. copied_more old grown.rest fits text address found c) room
@@ -95,14 +95,14 @@ followed_grows leads place old new (inr (on, is)) = record { rest = place ∷ []
 pub grown_on : (a b c : List Place) → Grows a b → Grows b c → Grows a c
 grown_on a b c one two = record { rest = one.rest ++ two.rest; is = two.is ∙ ap (λ xs. xs ++ two.rest) one.is ∙ append_assoc a one.rest two.rest }
 
-word_plain : (a : ℕ) (c : Ccw) → IsJumpPlain (word_at a c)
+word_plain : (a : ℕ) (c : StoredCcw) → IsJumpPlain (word_at a c)
 word_plain a c = by_jump (is_jump (bare_word c)) refl
   where
     by_jump : (b : Bool) → is_jump (bare_word c) ≡ b → IsJumpPlain (word_at a c)
     by_jump true e = record { chained = λ h. rw e refl; commands = λ h. rw e refl }
     by_jump false e = record { chained = λ h. (let f : true ≡ false = sym h ∙ e in cc); commands = λ h. (let f : true ≡ false = sym h ∙ e in cc) }
 
-pub text_plain : (m : Memory) (a : ℕ) (w : Word) → guest_text m a ≡ Some w → IsJumpPlain w
+pub text_plain : (m : Memory) (a : ℕ) (w : Ccw) → guest_text m a ≡ Some w → IsJumpPlain w
 text_plain m a w = by_in (is_in m a 8)
   where
     by_in : (b : Bool) → (if b then Some (word_at a (ccw_of (slice_range m.bytes a (a + 8)))) else None) ≡ Some w → IsJumpPlain w
@@ -110,7 +110,7 @@ text_plain m a w = by_in (is_in m a 8)
     by_in false e = cc
 
 -- A word whose links were made, one after the other, is copied.
-copied_word : (first rest : List Place) (m : Memory) (address : ℕ) (w : Word) (n s : ℕ) → length (first ++ rest) ≤ 2147483648 → guest_text m address ≡ Some w
+copied_word : (first rest : List Place) (m : Memory) (address : ℕ) (w : Ccw) (n s : ℕ) → length (first ++ rest) ≤ 2147483648 → guest_text m address ≡ Some w
     → IsLinked first (guest_text m) (leads_next w) w.next n → IsLinked (first ++ rest) (guest_text m) (leads_skipped w) w.skipped s
     → IsCopied (first ++ rest) (guest_text m) address (Some (record { command = w.command; address = w.address; flags = w.flags; count = w.count; next = n; skipped = s }))
 copied_word first rest m address w n s room is next skipped =
@@ -146,7 +146,7 @@ copied_word first rest m address w n s room is next skipped =
     by_skip false false false e f plain = e
 
 -- The same, for places that grew.
-pub copied_by : (first second : List Place) (m : Memory) (address : ℕ) (w : Word) (n s : ℕ) → Grows first second → length second ≤ 2147483648 → guest_text m address ≡ Some w
+pub copied_by : (first second : List Place) (m : Memory) (address : ℕ) (w : Ccw) (n s : ℕ) → Grows first second → length second ≤ 2147483648 → guest_text m address ≡ Some w
     → IsLinked first (guest_text m) (leads_next w) w.next n → IsLinked second (guest_text m) (leads_skipped w) w.skipped s
     → IsCopied second (guest_text m) address (Some (record { command = w.command; address = w.address; flags = w.flags; count = w.count; next = n; skipped = s }))
 copied_by first second m address w n s grown room is next skipped =
@@ -182,7 +182,7 @@ rows_push old new nodes m node grown room behind all one i n found =
     some_same : (r s : Node) → Some r ≡ Some s → r ≡ s
     some_same r s e = cc
 
-good_place : (places : List Place) (text : ℕ → Option Word) (a : ℕ) → length places ≤ 2147483648 → IsGood places text a → IsPlace places text a
+good_place : (places : List Place) (text : ℕ → Option Ccw) (a : ℕ) → length places ≤ 2147483648 → IsGood places text a → IsPlace places text a
 good_place places text a room (inl lt) = inl lt
 good_place places text a room (inr (high, none)) =
     let out : length places ≤ a = omega (arith, room, high) in
@@ -219,7 +219,7 @@ copy_of places nodes m room whole all =
     closed_at a None e = tt
     closed_at a (Some node) e = good_leads node.word (all a node e).copied.leads
       where
-        good_leads : (found : Option Word) → LeadsFrom (IsGood places (guest_text m)) found → LeadsFrom (IsPlace places (guest_text m)) found
+        good_leads : (found : Option Ccw) → LeadsFrom (IsGood places (guest_text m)) found → LeadsFrom (IsPlace places (guest_text m)) found
         good_leads None leads = tt
         good_leads (Some w) leads =
             record {
@@ -232,7 +232,7 @@ copy_of places nodes m room whole all =
     list_at : (p : Position) → ((n : Memory) → word_in (slice_get nodes p.at) ≡ Some p.word) → has_area p.word ≡ true → IsListOf ((program_of nodes).lists p.at) (area_block m p.word) p.word.count
     list_at p word has = by_node (slice_get nodes p.at) refl (word m)
       where
-        by_word : (node : Node) (found : Option Word) → found ≡ Some p.word → HasListOf m found node.list.items → IsListOf (λ j. slice_index_or node.list.items j None) (area_block m p.word) p.word.count
+        by_word : (node : Node) (found : Option Ccw) → found ≡ Some p.word → HasListOf m found node.list.items → IsListOf (λ j. slice_index_or node.list.items j None) (area_block m p.word) p.word.count
         by_word node None e list = cc
         by_word node (Some w) e list = (let same : w ≡ p.word = cc in (rw same at list) has)
 
@@ -267,7 +267,7 @@ here_push size present list o here one j a e lt =
     place_of i n = grind arith
 
 -- words of a list but the first say addresses of blocks
-pub area_aligned : (m : Memory) (w : Word) (j a : ℕ) → 0 < j → area_block m w j ≡ Some a → a % 2048 ≡ 0
+pub area_aligned : (m : Memory) (w : Ccw) (j a : ℕ) → 0 < j → area_block m w j ≡ Some a → a % 2048 ≡ 0
 area_aligned m w zero a some e = (let no : ⊥ = omega (arith, some) in absurd no)
 area_aligned m w (suc j) a some e = by_list (is_indirect w) e
   where
@@ -291,7 +291,7 @@ area_aligned m w (suc j) a some e = by_list (is_indirect w) e
     by_list false e = block_even (w.address / 2048 + suc j) (suc j == 0) (nat_lt ((w.address / 2048 + suc j) * 2048) (2 ^ 32)) refl e
 
 -- a part of a list is all of it that is used, where what comes after it is not
-list_of_part : (m : Memory) (w : Word) (list : List (Option ℕ)) (count : ℕ) → IsPart list (area_block m w)
+list_of_part : (m : Memory) (w : Ccw) (list : List (Option ℕ)) (count : ℕ) → IsPart list (area_block m w)
     → ((j : ℕ) → length list ≤ j → 0 < count → ((i : ℕ) → i < j → is_some (slice_index_or list i None) ≡ true) → ((first : ℕ) → 0 < j → slice_index_or list 0 None ≡ Some first → j * 2048 < first % 2048 + count) → ⊥)
     → IsListOf (λ j. slice_index_or list j None) (area_block m w) count
 list_of_part m w list count part stop =
@@ -306,11 +306,11 @@ list_of_part m w list count part stop =
       ];
     }
 
-pub list_whole : (m : Memory) (w : Word) (list : List (Option ℕ)) (start : ℕ) → IsPart list (area_block m w) → slice_index_or list 0 None ≡ Some start → (start % 2048 + (w.count - 1)) / 2048 < length list
+pub list_whole : (m : Memory) (w : Ccw) (list : List (Option ℕ)) (start : ℕ) → IsPart list (area_block m w) → slice_index_or list 0 None ≡ Some start → (start % 2048 + (w.count - 1)) / 2048 < length list
     → IsListOf (λ j. slice_index_or list j None) (area_block m w) w.count
 list_whole m w list start part first long = list_of_part m w list w.count part (λ j out some before counted. (let lt = counted start (omega (arith, out, long)) first in omega (arith, lt, out, long, some)))
 
-pub list_failed : (m : Memory) (w : Word) (list : List (Option ℕ)) (count : ℕ) → IsPart (list ++ None ∷ []) (area_block m w) → IsListOf (λ j. slice_index_or (list ++ None ∷ []) j None) (area_block m w) count
+pub list_failed : (m : Memory) (w : Ccw) (list : List (Option ℕ)) (count : ℕ) → IsPart (list ++ None ∷ []) (area_block m w) → IsListOf (λ j. slice_index_or (list ++ None ∷ []) j None) (area_block m w) count
 list_failed m w list count part =
     list_of_part m w (list ++ None ∷ []) count part
     (λ j out some before counted. (let k = length-append list (None ∷ []) in let here = before (length list) (omega (arith, out, k)) in
@@ -319,7 +319,7 @@ list_failed m w list count part =
     false_true : false ≡ true → ⊥
     false_true e = cc
 
-pub list_empty : (m : Memory) (w : Word) → w.count ≡ 0 → IsListOf (λ j. slice_index_or [] j None) (area_block m w) w.count
+pub list_empty : (m : Memory) (w : Ccw) → w.count ≡ 0 → IsListOf (λ j. slice_index_or [] j None) (area_block m w) w.count
 list_empty m w none = record { agrees = λ j some before counted. (let no : ⊥ = omega (arith, some, none) in absurd no); aligned = λ j a some e. cc }
 
 -- the key zero passes
@@ -337,10 +337,10 @@ unfolding is_addressable
 text_past m a past = let out : nat_le (a + 8) (length m.bytes) ≡ false = grind (arith, nat_tests) in rw out refl
 
 -- where a word leads, there a doubleword begins
-pub text_even : (m : Memory) (a : ℕ) (w : Word) → guest_text m a ≡ Some w → a % 8 ≡ 0 → leads_next w ≡ true → w.next % 8 ≡ 0
+pub text_even : (m : Memory) (a : ℕ) (w : Ccw) → guest_text m a ≡ Some w → a % 8 ≡ 0 → leads_next w ≡ true → w.next % 8 ≡ 0
 text_even m a w e even = by_in (is_in m a 8) e
   where
-    of_word : (c : Ccw) → leads_next (word_at a c) ≡ true → (word_at a c).next % 8 ≡ 0
+    of_word : (c : StoredCcw) → leads_next (word_at a c) ≡ true → (word_at a c).next % 8 ≡ 0
     of_word c = by_jump (is_jump (bare_word c)) refl
       where
         by_jump : (b : Bool) → is_jump (bare_word c) ≡ b → leads_next (word_at a c) ≡ true → (word_at a c).next % 8 ≡ 0
@@ -355,7 +355,7 @@ text_even m a w e even = by_in (is_in m a 8) e
     by_in true e = let same : word_at a (ccw_of (slice_range m.bytes a (a + 8))) ≡ w = cc in subst (λ v. leads_next v ≡ true → v.next % 8 ≡ 0) same (of_word (ccw_of (slice_range m.bytes a (a + 8))))
     by_in false e = cc
 
-pub skipped_even : (m : Memory) (a : ℕ) (w : Word) → guest_text m a ≡ Some w → a % 8 ≡ 0 → w.skipped % 8 ≡ 0
+pub skipped_even : (m : Memory) (a : ℕ) (w : Ccw) → guest_text m a ≡ Some w → a % 8 ≡ 0 → w.skipped % 8 ≡ 0
 skipped_even m a w e even = by_in (is_in m a 8) e
   where
     by_flags : (j b : Bool) → ◌≡◌ {A = ℕ} ((if j then 0 else if b then later a 16 else 0) % 8) 0
@@ -402,7 +402,7 @@ here_on size present list new o is here one = rw is (here_push size present list
 pub first_on : (list new : List (Option ℕ)) (o : Option ℕ) (start : ℕ) → new ≡ list ++ o ∷ [] → 0 < length list → slice_index_or list 0 None ≡ Some start → slice_index_or new 0 None ≡ Some start
 first_on list new o start is some first = rw is (get_or_append_left list (o ∷ []) None 0 some ∙ first)
 
-pub failed_on : (m : Memory) (w : Word) (list new : List (Option ℕ)) (o : Option ℕ) → new ≡ list ++ o ∷ [] → IsPart list (area_block m w) → o ≡ area_block m w (length list) → o ≡ None → IsListOf (λ j. slice_index_or new j None) (area_block m w) w.count
+pub failed_on : (m : Memory) (w : Ccw) (list new : List (Option ℕ)) (o : Option ℕ) → new ≡ list ++ o ∷ [] → IsPart list (area_block m w) → o ≡ area_block m w (length list) → o ≡ None → IsListOf (λ j. slice_index_or new j None) (area_block m w) w.count
 failed_on m w list new o is part said none =
     let whole : IsPart (list ++ None ∷ []) (area_block m w) = (let all = part_push list (area_block m w) o part said in rw none at all) in
     rw (is, none) (list_failed m w list w.count whole)

@@ -1,6 +1,7 @@
 -- Numbers of slots, of which few have one.
 use Rattle.std.specs.Prelude.{ℕ, zero, suc, ◌+◌, List, [], ◌∷◌, Option, None, Some}
 
+-- the number that a slot holds, or zero
 abbrev pub or_zero : Option ℕ → ℕ
 or_zero None = 0
 or_zero (Some number) = number

@@ -1,11 +1,13 @@
 //! Copies the words that a program can reach.
 ghost use Rattle.std.specs.List.{All};
-ghost use Rattle.std.specs.Prelude.{◌≡◌, ℕ, ◌+◌, ◌*◌, ◌/◌, ◌%◌, ◌<◌, ◌≤◌, ◌^◌, IfErr, IfOk, length, true, vec_len};
+ghost use Rattle.std.specs.Prelude.{◌≡◌, ℕ, ◌+◌, ◌*◌, ◌/◌, ◌%◌, ◌<◌, ◌≤◌, ◌^◌, IfErr, IfOk, length};
+ghost use Rattle.std.specs.Prelude.{true, vec_len};
 ghost use Rattle.channel_laws.specs.Copy.{IsCopyOf, IsPlace, guest_of};
 ghost use Rattle.channel_laws.specs.Mapped.{Named};
 ghost use Rattle.cp_graph.specs.Closure.{IfAbsent, IsReachedPlace, IsServed, IsWordPage};
 ghost use Rattle.cp_graph.specs.Marks.{IsIndexed, unmarked};
-ghost use Rattle.cp_graph.specs.Table.{AreHere, Grows, IsRow, leads_next, leads_skipped, program_of, role_after};
+ghost use Rattle.cp_graph.specs.Table.{AreHere, Grows, IsRow, leads_next, leads_skipped};
+ghost use Rattle.cp_graph.specs.Table.{program_of, role_after};
 ghost use Rattle.s370_channel.specs.Guest.{guest_text, guest_written};
 ghost use Rattle.s370_store.specs.Access.{IsAway};
 ghost use Rattle.s370_walk.specs.Walk.{live};
@@ -17,7 +19,7 @@ use crate::slots::Slots;
 use channel_laws::Place;
 use s370_channel::fetch_word;
 use s370_store::Storage;
-use s370_walk::{Flags, Word};
+use s370_walk::{Ccw, Flags};
 use std::alloc::Global;
 
 /// The node of a place: the word there with its links, whose places are added.
@@ -34,7 +36,8 @@ fn copy_word<S: Storage>(
     requires few { vec_len places.old + unmarked index.old ≤ 2147483648 }
     ensures row { IfOk result (IsRow places.new.items (S.memory storage.now) place.address) }
     ensures here { IfOk result
-        (λ node. AreHere (length (S.memory storage.now).bytes) (S.present storage.now) node.list.items) }
+        (λ node. AreHere (length (S.memory storage.now).bytes) (S.present storage.now)
+        node.list.items) }
     ensures grown { IfOk result (λ _. Grows places.old.items places.new.items) }
     ensures reached { IfOk result (λ _. (start : ℕ)
         → IsReachedPlace (S.memory storage.now) start place
@@ -86,7 +89,7 @@ fn copy_word<S: Storage>(
         Err(error) => return Err(error),
     };
     Ok(Node {
-        word: Some(Word {
+        word: Some(Ccw {
             next,
             skipped,
             command: word.command,
@@ -98,8 +101,8 @@ fn copy_word<S: Storage>(
     })
 }
 
-/// Whether a word leads to the next one, or a transfer in channel to its address.
-pub fn leads_on(word: &Word) -> bool
+/// Returns whether a word leads to the next one, or a transfer in channel to its address.
+pub fn leads_on(word: &Ccw) -> bool
     ensures { result ≡ leads_next word.now }
 {
     if word.command.is_transfer_in_channel() {
@@ -109,8 +112,8 @@ pub fn leads_on(word: &Word) -> bool
     }
 }
 
-/// Whether a word may lead to the one after the next.
-pub fn may_skip(word: &Word) -> bool
+/// Returns whether a word may lead to the one after the next.
+pub fn may_skip(word: &Ccw) -> bool
     ensures { result ≡ leads_skipped word.now }
 {
     !word.command.is_transfer_in_channel()
@@ -119,7 +122,7 @@ pub fn may_skip(word: &Word) -> bool
 }
 
 /// Where a word leads: a transfer in channel keeps the role, CD leads to a continuation.
-fn next_of(word: &Word, place: Place) -> Place
+fn next_of(word: &Ccw, place: Place) -> Place
     ensures address { result.address ≡ word.now.next }
     ensures role { result.continues ≡ role_after word.now place.continues }
 {
@@ -134,19 +137,26 @@ fn next_of(word: &Word, place: Place) -> Place
     }
 }
 
-/// Copies the words that the program from an address on can reach, as they stand in a storage, with the addresses that
-/// serve their bytes.
+/// Copies the words that the program from an address on can reach, as they are in a storage, with
+/// the addresses that serve their bytes.
 ///
-/// `start` is the address of a doubleword of storage, in bytes. Each address of storage that the copy names lies on a
-/// page that is present; where one does not, its page, which the program needs, is told as [`CopyError::Absent`]. A bad
-/// word is copied as it is: it fails when it is reached, and never before.
+/// `start` is the address of a doubleword of storage, in bytes. Each address of storage that the
+/// copy names lies on a page that is present; where one does not, its page, which the program
+/// needs, is reported as [`CopyError::Absent`]. A bad word is copied as it is: it fails when it is
+/// reached, and never before.
+///
+/// # Errors
+///
+/// A `CopyError`: an absent page that the program needs, or refused memory.
 pub fn copy<S: Storage>(alloc: Global, storage: &S, start: u32) -> Result<Copied, CopyError>
     requires even { start % 8 ≡ 0 }
     requires low { start < 2 ^ 24 }
     ensures copy { IfOk result
-        (λ c. IsCopyOf c.places.items (program_of c.nodes.items) (live guest_written) (S.memory storage.now)) }
+        (λ c. IsCopyOf c.places.items (program_of c.nodes.items) (live guest_written)
+        (S.memory storage.now)) }
     ensures start { IfOk result (λ c. guest_of c.places.items c.start ≡ start) }
-    ensures place { IfOk result (λ c. IsPlace c.places.items (guest_text (S.memory storage.now)) c.start) }
+    ensures place { IfOk result
+        (λ c. IsPlace c.places.items (guest_text (S.memory storage.now)) c.start) }
     ensures held { IfOk result
         (λ c. (a : ℕ) → Named (program_of c.nodes.items) a → a < length (S.memory storage.now).bytes
         → S.present storage.now (a / 4096) ≡ true) }

@@ -1,5 +1,6 @@
 //! The places of a copied program, and the index in which they are found.
-ghost use Rattle.std.specs.Prelude.{◌≡◌, ◌+◌, ◌*◌, ◌/◌, ◌%◌, ◌<◌, ◌≤◌, ◌^◌, IfOk, length, slice_index_or, true, vec_len};
+ghost use Rattle.std.specs.Prelude.{◌≡◌, ◌+◌, ◌*◌, ◌/◌, ◌%◌, ◌<◌, ◌≤◌, ◌^◌, IfOk, length};
+ghost use Rattle.std.specs.Prelude.{slice_index_or, true, vec_len};
 ghost use Rattle.channel_laws.specs.Copy.{past};
 ghost use Rattle.cp_graph.specs.Marks.{IsIndexed, slot_of, unmarked};
 ghost use Rattle.cp_graph.specs.Table.{IsFollowed, IsLinked};
@@ -13,7 +14,7 @@ use std::alloc::AllocError;
 /// Links past the places: each stands for an address of the guest at which he has no word.
 const PAST: u32 = 0x8000_0000;
 
-/// Where a place is told of in the index: two entries for each doubleword.
+/// Returns the slot of a place in the index: two entries for each doubleword.
 fn slot(place: Place) -> usize
     ensures { result ≡ slot_of place }
 {
@@ -28,7 +29,8 @@ fn number_of(places: &mut Vec<Place>, index: &mut Slots, place: Place) -> Result
     requires known { IsIndexed places.old.items index.old }
     requires few { vec_len places.old + unmarked index.old ≤ 2147483648 }
     ensures within { IfOk result (λ number. number < vec_len places.new) }
-    ensures found { IfOk result (λ number. slice_index_or places.new.items number (past number) ≡ place) }
+    ensures found { IfOk result
+        (λ number. slice_index_or places.new.items number (past number) ≡ place) }
     ensures followed { IfOk result (λ _. IsFollowed true place places.old.items places.new.items) }
     ensures known { IfOk result (λ _. IsIndexed places.new.items index.new) }
     ensures count { IfOk result
@@ -46,8 +48,8 @@ fn number_of(places: &mut Vec<Place>, index: &mut Slots, place: Place) -> Result
     Ok(number as u32)
 }
 
-/// The link to a place, which is added where it is new; where no word lies there, or a word does not lead there, a link
-/// past the places.
+/// The link to a place, which is added where it is new; where no word lies there, or a word does
+/// not lead there, a link past the places.
 pub(crate) fn link<S: Storage>(
     storage: &S,
     places: &mut Vec<Place>,
@@ -60,7 +62,8 @@ pub(crate) fn link<S: Storage>(
     requires room { length index.old ≡ length (S.memory storage.now).bytes / 8 * 2 }
     requires known { IsIndexed places.old.items index.old }
     requires few { vec_len places.old + unmarked index.old ≤ 2147483648 }
-    ensures linked { IfOk result (IsLinked places.new.items (guest_text (S.memory storage.now)) leads place.address) }
+    ensures linked { IfOk result
+        (IsLinked places.new.items (guest_text (S.memory storage.now)) leads place.address) }
     ensures followed { IfOk result (λ _. IsFollowed leads place places.old.items places.new.items) }
     ensures known { IfOk result (λ _. IsIndexed places.new.items index.new) }
     ensures count { IfOk result

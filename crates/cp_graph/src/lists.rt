@@ -10,25 +10,29 @@ use crate::program::CopyError;
 use s370_channel::fetch_block;
 use s370_num::AccessKey;
 use s370_store::{Access, Fault, Page, Range, Storage};
-use s370_walk::{Flags, Word};
+use s370_walk::{Ccw, Flags};
 use std::alloc::Global;
 
-/// Whether a word has an area: a transfer in channel has none, and a list off a word boundary has no words.
-pub fn has_area(word: &Word) -> bool
+/// Returns whether a word has an area: a transfer in channel has none, and a list off a word
+/// boundary has no words.
+pub fn has_area(word: &Ccw) -> bool
     ensures { result ≡ tracks.has_area word.now }
 {
     !word.command.is_transfer_in_channel()
         && !(word.flags.has(Flags::INDIRECT) && word.address % 4 != 0)
 }
 
-/// What word `number` says of the list that serves a word's bytes; where that is an address in storage, its page is
-/// present.
-fn entry<S: Storage>(storage: &S, word: &Word, number: u32) -> Result<Option<u32>, Page>
+/// Returns what word `number` says of the list that serves a word's bytes; where that is an address
+/// in storage, its page is present.
+fn entry<S: Storage>(storage: &S, word: &Ccw, number: u32) -> Result<Option<u32>, Page>
     requires { number ≤ 64 }
     ensures said { IfOk result (λ said. said ≡ area_block (S.memory storage.now) word.now number) }
-    ensures here { IfOk result (IsHere (length (S.memory storage.now).bytes) (S.present storage.now)) }
-    ensures away { IfErr result (λ page. IsAway (length (S.memory storage.now).bytes) (S.present storage.now) page.0) }
-    ensures asked { IfErr result (λ page. IsEntryPage (S.memory storage.now) word.now number page.0) }
+    ensures here { IfOk result
+        (IsHere (length (S.memory storage.now).bytes) (S.present storage.now)) }
+    ensures away { IfErr result
+        (λ page. IsAway (length (S.memory storage.now).bytes) (S.present storage.now) page.0) }
+    ensures asked { IfErr result
+        (λ page. IsEntryPage (S.memory storage.now) word.now number page.0) }
 {
     let Some(address) = fetch_block(storage, word, number)? else {
         return Ok(None);
@@ -48,14 +52,16 @@ fn entry<S: Storage>(storage: &S, word: &Word, number: u32) -> Result<Option<u32
     }
 }
 
-/// The addresses that serve the bytes of a word, up to the first word of its list that says none. A word of which no
-/// byte can move has none, so that no page is asked for which the program does not need.
+/// Returns the addresses that serve the bytes of a word, up to the first word of its list that says
+/// none. A word of which no byte can move has none, so that no page is asked for which the program
+/// does not need.
 pub(crate) fn list_for<S: Storage>(
     alloc: Global,
     storage: &S,
-    word: &Word,
+    word: &Ccw,
 ) -> Result<Vec<Option<u32>>, CopyError>
-    ensures list { IfOk result (λ list. HasListOf (S.memory storage.now) (Some word.now) list.items) }
+    ensures list { IfOk result
+        (λ list. HasListOf (S.memory storage.now) (Some word.now) list.items) }
     ensures here { IfOk result
         (λ list. AreHere (length (S.memory storage.now).bytes) (S.present storage.now) list.items) }
     ensures absent { IfErr result

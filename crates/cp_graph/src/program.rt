@@ -1,27 +1,27 @@
 //! A copied channel program.
 use channel_laws::Place;
 use s370_store::Page;
-use s370_walk::Word;
+use s370_walk::Ccw;
 use std::alloc::{AllocError, AllocFailed};
 
 /// A copied word, and the addresses that serve its bytes.
 #[derive(Drop)]
 pub struct Node {
     /// The word, whose links are places; None where the guest has no word.
-    pub word: Option<Word>,
-    /// The address of the first byte, and then of each block of 2048 bytes, up to the last that its count uses or to
-    /// the first that the guest does not say: None.
+    pub word: Option<Ccw>,
+    /// The address of the first byte, and then of each block of 2048 bytes, up to the last that its
+    /// count uses or to the first that the guest does not say: None.
     pub list: Vec<Option<u32>>,
 }
 
-/// A copied program: the address and role of each of its places, and what stands there.
+/// A copied program: the address and role of each of its places, and what is there.
 #[derive(Drop)]
 pub struct Copied {
     /// The place of the first word.
     pub start: u32,
     /// The guest's address of each place, and whether it continues the word before.
     pub places: Vec<Place>,
-    /// What stands at each place.
+    /// What is at each place.
     pub nodes: Vec<Node>,
 }
 

@@ -1,12 +1,13 @@
 //! Numbers of slots, of which few have one.
-ghost use Rattle.std.specs.Prelude.{◌≡◌, ◌<◌, OnErr, OnOk, length, replicate, slice_index, slice_set};
+ghost use Rattle.std.specs.Prelude.{◌≡◌, ◌<◌, OnErr, OnOk, length, replicate, slice_index};
+ghost use Rattle.std.specs.Prelude.{slice_set};
 
 use std::alloc::{AllocError, Global};
 use std::collections::HashMap;
 use std::marker::Model;
 
-/// The number of each of so many slots: zero until it is set. It takes room for those alone that were set, so that a
-/// small program in a large storage costs little.
+/// The number of each of so many slots: zero until it is set. It takes room for those alone that
+/// were set, so that a small program in a large storage costs little.
 #[derive(Drop)]
 pub struct Slots {
     count: usize,
@@ -34,14 +35,14 @@ impl Slots {
         }
     }
 
-    /// How many there are.
+    /// Returns how many there are.
     pub fn count(&self) -> usize
         ensures { result ≡ length self.now }
     {
         self.count
     }
 
-    /// The number of a slot.
+    /// Returns the number of a slot.
     pub fn get(&self, slot: usize) -> u32
         requires { slot < length self.now }
         ensures { result ≡ slice_index self.now slot }
@@ -53,6 +54,10 @@ impl Slots {
     }
 
     /// Gives a slot this number. Where memory is refused all stays.
+    ///
+    /// # Errors
+    ///
+    /// `AllocError` if memory is refused; nothing has changed.
     pub fn set(&mut self, slot: usize, number: u32) -> Result<(), AllocError>
         requires { slot < length self.old }
         ensures ok { OnOk result (self.new ≡ slice_set self.old slot number) }

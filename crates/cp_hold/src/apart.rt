@@ -1,5 +1,6 @@
 //! A program that is looked at on a copy of its user's bytes.
-ghost use Rattle.std.specs.Prelude.{◌≡◌, ℕ, ◌%◌, ◌*◌, ◌<◌, IfNone, IfOk, IfSome, length, false, true};
+ghost use Rattle.std.specs.Prelude.{◌≡◌, ℕ, ◌%◌, ◌*◌, ◌<◌, IfNone, IfOk, IfSome, length, false};
+ghost use Rattle.std.specs.Prelude.{true};
 ghost use Rattle.cp_dat.specs.Copies.{is_wanted};
 ghost use Rattle.cp_dat.specs.Lent.{lent_bytes, lent_memory};
 ghost use Rattle.cp_needs.specs.Needs.{IsClash, IsFixed, IsProgramPage};
@@ -8,11 +9,11 @@ ghost use Rattle.channel_trial.specs.Trial.{is_touched, trial_bytes, trial_memor
 use crate::flags::flags_of;
 use channel_trial::TrialStorage;
 use cp_dat::Dat;
-use cp_needs::{Found, look};
+use cp_needs::{Analysis, analyze};
 use s370_store::{FramesOut, PAGE_SIZE, Page, Storage, Supply};
 use std::alloc::{AllocError, Global};
 
-/// A copy of a user's storage. For that no page has to stand in a frame.
+/// Returns a copy of a user's storage. For that no page has to be in a frame.
 fn copy_of(alloc: Global, storage: &Dat<'_>) -> Result<TrialStorage, AllocError>
     ensures memory { IfOk result (λ copy. trial_memory copy ≡ lent_memory storage.now) }
     ensures away { IfOk result (λ copy. (page : ℕ) → is_touched copy page ≡ false) }
@@ -26,7 +27,8 @@ fn copy_of(alloc: Global, storage: &Dat<'_>) -> Result<TrialStorage, AllocError>
 fn fill(copy: &mut TrialStorage)
     requires { (page : ℕ) → is_touched copy.old page ≡ false }
     ensures memory { trial_memory copy.new ≡ trial_memory copy.old }
-    ensures there { (page : ℕ) → page * 4096 < length (trial_bytes copy.old) → is_touched copy.new page ≡ true }
+    ensures there { (page : ℕ) → page * 4096 < length (trial_bytes copy.old)
+        → is_touched copy.new page ≡ true }
 {
     let pages = copy.size() / PAGE_SIZE;
     let mut page = 0u32;
@@ -40,8 +42,8 @@ fn fill(copy: &mut TrialStorage)
     }
 }
 
-/// The pages of the program from an address on, wherever they stand; None where an input could change one of its words
-/// or lists.
+/// Returns the pages of the program from an address on, wherever they are; None where an input
+/// could change one of its words or lists.
 pub(crate) fn pages_apart(
     alloc: Global,
     storage: &Dat<'_>,
@@ -49,23 +51,27 @@ pub(crate) fn pages_apart(
 ) -> Result<Option<Vec<bool>>, AllocError>
     requires { address % 8 ≡ 0 }
     ensures open { IfOk result (λ found. IfNone found (IsClash (lent_memory storage.now) address)) }
-    ensures fixed { IfOk result (λ found. IfSome found (λ flags. IsFixed (lent_memory storage.now) address)) }
+    ensures fixed { IfOk result
+        (λ found. IfSome found (λ flags. IsFixed (lent_memory storage.now) address)) }
     ensures size { IfOk result
-        (λ found. IfSome found (λ flags. length flags.items * 4096 ≡ length (lent_bytes storage.now))) }
+        (λ found. IfSome found (λ flags. length flags.items * 4096
+        ≡ length (lent_bytes storage.now))) }
     ensures all { IfOk result (λ found. IfSome found
-        (λ flags. (page : ℕ) → IsProgramPage (lent_memory storage.now) address page → is_wanted flags.items page)) }
+        (λ flags. (page : ℕ) → IsProgramPage (lent_memory storage.now) address page
+        → is_wanted flags.items page)) }
     ensures only { IfOk result (λ found. IfSome found
-        (λ flags. (page : ℕ) → is_wanted flags.items page → IsProgramPage (lent_memory storage.now) address page)) }
+        (λ flags. (page : ℕ) → is_wanted flags.items page
+        → IsProgramPage (lent_memory storage.now) address page)) }
 {
     let mut copy = copy_of(alloc, storage)?;
     fill(&mut copy);
-    match look(alloc, &copy, address)? {
-        Found::Fixed(text, pages) => {
+    match analyze(alloc, &copy, address)? {
+        Analysis::Fixed(text, pages) => {
             let flags = flags_of(alloc, copy.size() / PAGE_SIZE, &text, &pages)?;
             Ok(Some(flags))
         }
-        Found::Open => Ok(None),
+        Analysis::SelfModifying => Ok(None),
         // Each page is present.
-        Found::Page(_) => unreachable!(),
+        Analysis::Page(_) => unreachable!(),
     }
 }

@@ -6,16 +6,18 @@ ghost use Rattle.cp_needs.specs.Kept.{IsPaged, IsPagedOnly, IsText, IsTextOnly};
 ghost use Rattle.cp_needs.specs.Needs.{IsProgramPage};
 ghost use Rattle.s370_store.specs.Memory.{Memory};
 
-use cp_needs::Fullword;
+use cp_needs::WordAt;
 use s370_store::{PAGE_SIZE, Page};
 use std::alloc::{AllocError, Global};
 
 /// Marks a page, where there is a flag for it.
 fn mark(wanted: &mut Vec<bool>, page: u32)
     ensures size { length wanted.new.items ≡ length wanted.old.items }
-    ensures stays { (other : ℕ) → is_wanted wanted.old.items other → is_wanted wanted.new.items other }
+    ensures stays { (other : ℕ) → is_wanted wanted.old.items other
+        → is_wanted wanted.new.items other }
     ensures marked { page < length wanted.old.items → is_wanted wanted.new.items page }
-    ensures only { (other : ℕ) → is_wanted wanted.new.items other → is_wanted wanted.old.items other ⊎ (other ≡ page) }
+    ensures only { (other : ℕ) → is_wanted wanted.new.items other
+        → is_wanted wanted.old.items other ⊎ (other ≡ page) }
 {
     let place = page as usize;
     if place < wanted.len() {
@@ -24,7 +26,7 @@ fn mark(wanted: &mut Vec<bool>, page: u32)
 }
 
 /// Marks the pages of fullwords.
-fn mark_words(wanted: &mut Vec<bool>, words: &[Fullword])
+fn mark_words(wanted: &mut Vec<bool>, words: &[WordAt])
     ensures { AreFlagged (λ w. w.start / 4096) words.now wanted.old.items wanted.new.items }
 {
     for word in words {
@@ -41,19 +43,21 @@ fn mark_pages(wanted: &mut Vec<bool>, pages: &[Page])
     }
 }
 
-/// A flag for each page of a storage of so many: whether a word, a list or an area of a program lies on it, whose fullwords
-/// and whose areas' pages these are.
+/// Returns a flag for each page of a storage of so many: whether a word, a list or an area of a
+/// program lies on it, whose fullwords and whose areas' pages these are.
 pub(crate) fn flags_of(
     alloc: Global,
     count: u32,
-    text: &[Fullword],
+    text: &[WordAt],
     pages: &[Page],
 ) -> Result<Vec<bool>, AllocError>
     ensures size { IfOk result (λ flags. length flags.items ≡ count) }
-    ensures all { IfOk result (λ flags. (m : Memory) → (start page : ℕ) → length m.bytes ≡ count * 4096
+    ensures all { IfOk result
+        (λ flags. (m : Memory) → (start page : ℕ) → length m.bytes ≡ count * 4096
         → IsText m start text.now → IsPaged m start pages.now → IsProgramPage m start page
         → is_wanted flags.items page) }
-    ensures only { IfOk result (λ flags. (m : Memory) → (start page : ℕ) → length m.bytes ≡ count * 4096
+    ensures only { IfOk result
+        (λ flags. (m : Memory) → (start page : ℕ) → length m.bytes ≡ count * 4096
         → IsTextOnly m start text.now → IsPagedOnly m start pages.now → is_wanted flags.items page
         → IsProgramPage m start page) }
 {

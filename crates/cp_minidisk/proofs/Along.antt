@@ -8,11 +8,11 @@ use Rattle.s370_walk.specs.declared.parts.Answer.TheVariants as answers
 use Rattle.s370_walk.specs.declared.parts.Kind.{Kind}
 use Rattle.s370_walk.specs.declared.parts.Kind.TheVariants.{Gives, Takes, TakesUpTo}
 use Rattle.s370_walk.specs.declared.parts.Transfer.{Transfer}
-use Rattle.s370_walk.specs.declared.parts.Spot.{Spot}
+use Rattle.s370_walk.specs.declared.parts.NextCcw.{NextCcw}
 use Rattle.s370_walk.specs.declared.parts.Position.{Position}
 use Rattle.s370_walk.specs.declared.parts.Progress.{Progress}
 use Rattle.s370_walk.specs.declared.parts.Progress.TheVariants.{At, Ended}
-use Rattle.s370_walk.specs.declared.parts.Word.{Word}
+use Rattle.s370_walk.specs.declared.parts.Ccw.{Ccw}
 use Rattle.s370_store.specs.Memory.{Memory}
 use Rattle.s370_walk.specs.Hardware.{fault_of, area}
 use Rattle.s370_walk.specs.Walk.{Form, Setting, State, Fetching, Moving, Over, Verdict, Bad, Jump, Good, next, walk, Reaches, fetched, obeyed, entered, answered, judged, fails, closed, closes, state_of, moved, rest, tells_length, chains_data, order_of, no_status, given_at, given_to, taken_at, taken_from, byte_moved, stepped, skips}
@@ -30,23 +30,23 @@ module _ {D : Type 0} (h : Setting D) (holds : D → Type 0) (keeps : Keeps h.ma
   of_closing : (wrong : Bool) (p : Position) (m : Memory) (d : D) → holds d → holds (device_in (closes h wrong p m d))
   of_closing wrong p m d i = of_state (closed h.prefix wrong (h.machine.status d) p.at p.started p.word p.count) m (h.machine.finished d) (keeps.finished d i)
 
-  of_answer : (spot : Spot) (w : Word) (a : Answer) (m : Memory) (d : D) → holds d → holds (device_in (answered h.prefix spot w a m d))
+  of_answer : (spot : NextCcw) (w : Ccw) (a : Answer) (m : Memory) (d : D) → holds d → holds (device_in (answered h.prefix spot w a m d))
   of_answer spot w (answers.Refused status) m d i = i
   of_answer spot w answers.Immediate m d i = of_state (closed h.prefix false no_status spot.at (spot.started + 1) w w.count) m d i
   of_answer spot w (answers.Input n) m d i = i
   of_answer spot w (answers.Output n) m d i = i
   of_answer spot w (answers.OutputUpTo n) m d i = i
 
-  pub of_entry : (spot : Spot) (w : Word) (role : Option Transfer) (m : Memory) (d : D) → holds d → holds (device_in (entered h spot w role m d))
+  pub of_entry : (spot : NextCcw) (w : Ccw) (role : Option Transfer) (m : Memory) (d : D) → holds d → holds (device_in (entered h spot w role m d))
   of_entry spot w None m d i = of_answer spot w (h.machine.answer d (order_of h.prefix spot w)) m (h.machine.started d (order_of h.prefix spot w)) (keeps.started d (order_of h.prefix spot w) i)
   of_entry spot w (Some t) m d i = i
 
-  of_obeying : (spot : Spot) (w : Word) (v : Verdict) (m : Memory) (d : D) → holds d → holds (device_in (obeyed h spot w v m d))
+  of_obeying : (spot : NextCcw) (w : Ccw) (v : Verdict) (m : Memory) (d : D) → holds d → holds (device_in (obeyed h spot w v m d))
   of_obeying spot w Bad m d i = of_failure spot.role spot.at m d i
   of_obeying spot w Jump m d i = i
   of_obeying spot w Good m d i = of_entry spot w spot.role m d i
 
-  of_fetch : (spot : Spot) (w : Option Word) (m : Memory) (d : D) → holds d → holds (device_in (fetched h spot w m d))
+  of_fetch : (spot : NextCcw) (w : Option Ccw) (m : Memory) (d : D) → holds d → holds (device_in (fetched h spot w m d))
   of_fetch spot None m d i = of_failure spot.role spot.at m d i
   of_fetch spot (Some w) m d i = of_obeying spot w (judged h.limit spot w) m d i
 

@@ -6,15 +6,15 @@ use Rattle.s370_walk.specs.declared.parts.Order.{Order}
 use Rattle.s370_walk.specs.declared.parts.Answer.TheVariants.{Refused}
 use Rattle.ckd_track.specs.Track.{TrackFormat, Record, has_room, with_record, with_last}
 use Rattle.ckd_volume.specs.declared.parts.Place.TheVariants.{Gap}
-use Rattle.ckd_volume.specs.declared.parts.Right.{Right}
-use Rattle.ckd_volume.specs.declared.parts.Right.TheVariants as rights
+use Rattle.ckd_volume.specs.declared.parts.WriteAccess.{WriteAccess}
+use Rattle.ckd_volume.specs.declared.parts.WriteAccess.TheVariants as rights
 use Rattle.ckd_volume.specs.declared.parts.Comparison.{Comparison}
 use Rattle.ckd_volume.specs.declared.parts.Comparison.TheVariants as comparisons
 use Rattle.ckd_volume.specs.declared.parts.Wanted.TheVariants as wanted
 use Rattle.ckd_volume.specs.declared.parts.Found.{Found}
 use Rattle.ckd_volume.specs.declared.parts.Found.TheVariants.{There, Lost}
-use Rattle.ckd_volume.specs.declared.parts.Job.{Job}
-use Rattle.ckd_volume.specs.declared.parts.Job.TheVariants as jobs
+use Rattle.ckd_volume.specs.declared.parts.PendingCommand.{PendingCommand}
+use Rattle.ckd_volume.specs.declared.parts.PendingCommand.TheVariants as jobs
 use Rattle.ckd_volume.specs.declared.control.Seek.{Seek}
 use Rattle.ckd_volume.specs.Front.{Front, Cylinder, track_at, records_at, record_at, next_at, here_at, counted_at, wants}
 use Rattle.ckd_volume.specs.Orientation.{found, first_from, once_round, to_index}
@@ -22,7 +22,7 @@ use Rattle.ckd_volume.specs.Begin.{Begun, starting, right_found, refused, reject
 use Rattle.ckd_volume.specs.End.{Ended, ends, fails, writes, padded}
 use Rattle.ckd_volume.specs.Control.{mask_set, sense_bytes}
 use Rattle.ckd_volume.specs.Search.{home_searched, id_searched, key_searched, satisfied, fits, id_right}
-use Rattle.ckd_volume.specs.Read.{home_read, count_read, data_read, both_read, whole_read, both_of}
+use Rattle.ckd_volume.specs.Read.{home_read, count_read, data_read, read_key_data, read_count_key_data, both_of}
 use Rattle.ckd_volume.specs.Write.{if_writes, if_there, takes_data, both_length, data_written, both_written, whole_written, longest, mask_bars, grants, if_on, with_data, with_both, key_length, whole_length, record_of, record_written, whole_ended}
 use Rattle.ckd_volume.specs.Table.{begun, ended}
 use Rattle.ckd_volume.specs.Unit.{Disk, under, aimed, is_ipl, begins, keeps, ending, after, moved, seek_of, is_seeking, disk_machine}
@@ -54,11 +54,11 @@ module _ (w : Bool) where
   read_mode f c (Lost head second) e = e
   read_mode f c (There head i points) e = data_mode (at f head 0 (Gap (i + 1))) (exception (record_at c head i)) (record_at c head i).content e
 
-  both_mode : (f : Front) (c : Cylinder) (x : Found) → f.writable ≡ w → HasMode w (both_read f c x)
+  both_mode : (f : Front) (c : Cylinder) (x : Found) → f.writable ≡ w → HasMode w (read_key_data f c x)
   both_mode f c (Lost head second) e = e
   both_mode f c (There head i points) e = data_mode (at f head 0 (Gap (i + 1))) (exception (record_at c head i)) (both_of (record_at c head i)) e
 
-  whole_mode : (f : Front) (c : Cylinder) (x : Found) → f.writable ≡ w → HasMode w (whole_read f c x)
+  whole_mode : (f : Front) (c : Cylinder) (x : Found) → f.writable ≡ w → HasMode w (read_count_key_data f c x)
   whole_mode f c (Lost head second) e = e
   whole_mode f c (There head i points) e = e
 
@@ -74,12 +74,12 @@ module _ (w : Bool) where
   search_key_mode f c (Lost head second) e = e
   search_key_mode f c (There head i points) e = e
 
-  write_mode : (f : Front) (right : Right) (code : ℕ) (b : Begun) → f.writable ≡ w → HasMode w b → HasMode w (if_writes f right code b)
+  write_mode : (f : Front) (right : WriteAccess) (code : ℕ) (b : Begun) → f.writable ≡ w → HasMode w b → HasMode w (if_writes f right code b)
   write_mode f right code b e t =
       choose (not f.writable) (refused f 0 2) (if mask_bars f.mask code || not (grants right code) then rejected f else b) e
       (choose (mask_bars f.mask code || not (grants right code)) (rejected f) b e t)
 
-  takes_mode : (f : Front) (count : ℕ) (job : Job) → f.writable ≡ w → HasMode w (takes_data f count job)
+  takes_mode : (f : Front) (count : ℕ) (job : PendingCommand) → f.writable ≡ w → HasMode w (takes_data f count job)
   takes_mode f count job e = choose (count == 0) (record { answer = Refused unit_exception; front = f }) (takes f count job) e e
 
   there_mode : (f : Front) (c : Cylinder) (i : ℕ) (b : Begun) → f.writable ≡ w → HasMode w b → HasMode w (if_there f c i b)
@@ -93,7 +93,7 @@ module _ (w : Bool) where
   both_written_mode f c i e = there_mode f c i (takes_data (at f f.head 0 (Gap (i + 1))) (both_length (record_at c f.head i)) (jobs.WriteBoth i)) e
       (takes_mode (at f f.head 0 (Gap (i + 1))) (both_length (record_at c f.head i)) (jobs.WriteBoth i) e)
 
-  begun_mode : (f : Front) (right : Right) (c : Cylinder) (order : Order) → f.writable ≡ w → HasMode w (begun f right c order)
+  begun_mode : (f : Front) (right : WriteAccess) (c : Cylinder) (order : Order) → f.writable ≡ w → HasMode w (begun f right c order)
   begun_mode f right c order e =
       let code : ℕ = order.command.code in
       choose (code == 0x03) _ _ e (
@@ -130,7 +130,7 @@ module _ (w : Bool) where
   mask_mode f [] e = e
   mask_mode f (b ∷ bs) e = choose_end (bit_and b 39 == 0) (ends (record f { mask = b }) no_status) (fails f 0x80 0) e e
 
-  satisfied_mode : (f : Front) (right : Right) (b : Bool) → f.writable ≡ w → (satisfied f right b).front.writable ≡ w
+  satisfied_mode : (f : Front) (right : WriteAccess) (b : Bool) → f.writable ≡ w → (satisfied f right b).front.writable ≡ w
   satisfied_mode f right true e = e
   satisfied_mode f right false e = e
 
@@ -145,7 +145,7 @@ module _ (w : Bool) where
       let r : Record = record_of (key_length f.bytes) (padded (whole_length f.bytes) f.bytes) in
       choose_end (nat_lt (length f.bytes) 8) (fails f 0x80 0) (record_written f t i r) e (record_mode f t i r e)
 
-  ended_mode : (f : Front) (c : Cylinder) (job : Job) → f.writable ≡ w → (ended f c job).front.writable ≡ w
+  ended_mode : (f : Front) (c : Cylinder) (job : PendingCommand) → f.writable ≡ w → (ended f c job).front.writable ≡ w
   ended_mode f c jobs.Nothing e = e
   ended_mode f c (jobs.Give status) e = e
   ended_mode f c jobs.SetMask e = mask_mode f f.bytes e

@@ -4,8 +4,8 @@ use Rattle.std.proofs.Common.{sym, ◌∙◌, ap, subst, arith}
 use Rattle.s370_walk.specs.declared.parts.Answer.{Answer}
 use Rattle.s370_walk.specs.declared.parts.Order.{Order}
 use Rattle.s370_walk.specs.Hardware.{given, after_giving, after_taking}
-use Rattle.ckd_volume.specs.declared.parts.Job.{Job}
-use Rattle.ckd_volume.specs.declared.parts.Job.TheVariants as jobs
+use Rattle.ckd_volume.specs.declared.parts.PendingCommand.{PendingCommand}
+use Rattle.ckd_volume.specs.declared.parts.PendingCommand.TheVariants as jobs
 use Rattle.ckd_volume.specs.declared.control.Seek.{Seek}
 use Rattle.ckd_volume.specs.Front.{Cylinder}
 use Rattle.ckd_volume.specs.Control.{sought}
@@ -25,7 +25,7 @@ use Rattle.cp_minidisk.proofs.Modes.{disk_own}
 
 -- ---- A command that ends, with the argument of a seek relocated
 
-seeking_job : (job : Job) → is_seeking job ≡ true → job ≡ jobs.Seek
+seeking_job : (job : PendingCommand) → is_seeking job ≡ true → job ≡ jobs.Seek
 seeking_job jobs.Seek e = refl
 seeking_job jobs.Nothing e = absurd (cc)
 seeking_job (jobs.Give status) e = absurd (cc)

@@ -10,7 +10,7 @@ use Rattle.cp_minidisk.specs.Extent.{ExtentValue}
 use Rattle.cp_minidisk.specs.Kept.{device_in, Keeps}
 use Rattle.cp_minidisk.specs.Placed.{IsReadOnly}
 use Rattle.cp_minidisk.specs.Part.{Part, with_disk, part_machine, unit_of, extent_of}
-use Rattle.cp_minidisk.specs.PartLaws.{HasSameNeighbours}
+use Rattle.cp_minidisk.specs.PartLaws.{HasSameOtherDisks}
 use Rattle.cp_minidisk.specs.Projected.{IsPartOf, seen, on_device}
 use Rattle.cp_minidisk.proofs.Along.{reach_keeps}
 use Rattle.cp_minidisk.proofs.Modes.{disk_mode}
@@ -60,7 +60,7 @@ finished_volser d = by_job (is_seeking d.front.job)
     by_job true = moved_volser d (seek_of d)
     by_job false = refl
 
-pub neighbours_kept : (q : Part) → Keeps part_machine (HasSameNeighbours q)
+pub neighbours_kept : (q : Part) → Keeps part_machine (HasSameOtherDisks q)
 neighbours_kept q =
     record {
       started = λ p order i. record { volser = started_volser p.disk (is_ipl order) ∙ i.volser; below = i.below; above = i.above };
@@ -70,9 +70,9 @@ neighbours_kept q =
     }
 
 pub leaves_its_neighbours : (form : Form) (h : Setting Part) (s t : State Part) → h.machine ≡ part_machine
-    → Reaches form h s t → HasSameNeighbours (device_in s) (device_in t)
+    → Reaches form h s t → HasSameOtherDisks (device_in s) (device_in t)
 leaves_its_neighbours form h s t e to =
-    along (HasSameNeighbours (device_in s)) (neighbours_kept (device_in s)) form h s t e to (record { volser = refl; below = refl; above = refl })
+    along (HasSameOtherDisks (device_in s)) (neighbours_kept (device_in s)) form h s t e to (record { volser = refl; below = refl; above = refl })
 
 -- of what an extent is made of
 pub record HasExtentOf (x : ExtentValue) (p : Part) : Type 0 where
@@ -111,7 +111,7 @@ pub never_writes : (form : Form) (h : Setting Part) (s t : State Part) → h.mac
     → IsReadOnly (device_in s).disk.cylinders (device_in s).disk → Reaches form h s t
     → (unit_of (device_in t)).cylinders ≡ (unit_of (device_in s)).cylinders
 never_writes form h s t e i to =
-    let others : HasSameNeighbours (device_in s) (device_in t) = leaves_its_neighbours form h s t e to in
+    let others : HasSameOtherDisks (device_in s) (device_in t) = leaves_its_neighbours form h s t e to in
     let still : IsReadOnly (device_in s).disk.cylinders (device_in t).disk
     = along (λ p. IsReadOnly (device_in s).disk.cylinders p.disk) (read_only_kept (device_in s).disk.cylinders) form h s t e to i in
     rw (others.below, others.above, still.same) refl

@@ -14,7 +14,7 @@ pub under_placed : (before behind : List Cylinder) (d : Disk) → d.cylinder < l
 under_placed before behind d inside =
     get_or-append-add before (d.cylinders ++ behind) d.cylinder [] ∙ get_or_append_left d.cylinders behind [] d.cylinder inside
 
--- what is written onto it stands in the minidisk's part of the volume
+-- what is written onto it is in the minidisk's part of the volume
 set_placed : (before behind cylinders : List Cylinder) (i : ℕ) (c : Cylinder) → i < length cylinders
     → slice_set (before ++ (cylinders ++ behind)) (length before + i) c ≡ before ++ (slice_set cylinders i c ++ behind)
 set_placed before behind cylinders i c inside =

@@ -8,15 +8,15 @@ use Rattle.s370_walk.specs.declared.parts.Answer.TheVariants.{Refused}
 use Rattle.ckd_track.specs.Track.{TrackFormat, count_bytes}
 use Rattle.ckd_volume.specs.declared.parts.Place.{Place}
 use Rattle.ckd_volume.specs.declared.parts.Place.TheVariants.{Gap, Count, Key}
-use Rattle.ckd_volume.specs.declared.parts.Right.{Right}
-use Rattle.ckd_volume.specs.declared.parts.Right.TheVariants as rights
+use Rattle.ckd_volume.specs.declared.parts.WriteAccess.{WriteAccess}
+use Rattle.ckd_volume.specs.declared.parts.WriteAccess.TheVariants as rights
 use Rattle.ckd_volume.specs.declared.parts.Comparison.{Comparison}
 use Rattle.ckd_volume.specs.declared.parts.Comparison.TheVariants as comparisons
 use Rattle.ckd_volume.specs.declared.parts.Wanted.TheVariants as wanted
 use Rattle.ckd_volume.specs.declared.parts.Found.{Found}
 use Rattle.ckd_volume.specs.declared.parts.Found.TheVariants.{There, Lost}
-use Rattle.ckd_volume.specs.declared.parts.Job.{Job}
-use Rattle.ckd_volume.specs.declared.parts.Job.TheVariants as jobs
+use Rattle.ckd_volume.specs.declared.parts.PendingCommand.{PendingCommand}
+use Rattle.ckd_volume.specs.declared.parts.PendingCommand.TheVariants as jobs
 use Rattle.ckd_volume.specs.declared.control.Seek.{Seek}
 use Rattle.ckd_volume.specs.Front.{Front, Cylinder, track_at, records_at, record_at, next_at, here_at, counted_at, wants}
 use Rattle.ckd_volume.specs.Orientation.{found, first_from, once_round, to_index}
@@ -24,7 +24,7 @@ use Rattle.ckd_volume.specs.Begin.{Begun, starting, right_found, refused, reject
 use Rattle.ckd_volume.specs.End.{Ended, ends, fails}
 use Rattle.ckd_volume.specs.Control.{mask_set, sense_bytes}
 use Rattle.ckd_volume.specs.Search.{home_searched, id_searched, key_searched, satisfied, fits, id_right}
-use Rattle.ckd_volume.specs.Read.{home_read, count_read, data_read, both_read, whole_read, ipl_read, both_of, whole_of}
+use Rattle.ckd_volume.specs.Read.{home_read, count_read, data_read, read_key_data, read_count_key_data, ipl_read, both_of, whole_of}
 use Rattle.ckd_volume.specs.Write.{if_writes, data_written, both_written, whole_written, longest, mask_bars, grants}
 use Rattle.ckd_volume.specs.Table.{begun, ended}
 use Rattle.ckd_volume.specs.Unit.{Disk, under, aimed, is_ipl, begins, keeps, ending, after, put, moved, seek_of, is_seeking, disk_machine}
@@ -61,7 +61,7 @@ module _ (f : Front) (safe : IsSafe f) where
   gives_safe : (status : UnitStatus) (bytes : List ℕ) → IsSafe (gives f status bytes).front
   gives_safe status bytes = record { protected = safe.protected; writes_nothing = refl }
 
-  takes_safe : (count : ℕ) (job : Job) → is_writing job ≡ false → IsSafe (takes f count job).front
+  takes_safe : (count : ℕ) (job : PendingCommand) → is_writing job ≡ false → IsSafe (takes f count job).front
   takes_safe count job e = record { protected = safe.protected; writes_nothing = e }
 
   data_safe : (status : UnitStatus) (bytes : List ℕ) → IsSafe (gives_data f status bytes).front
@@ -80,12 +80,12 @@ read_safe f c (Lost head second) s = lost_safe f s head second
 read_safe f c (There head i points) s =
     data_safe (at f head 0 (Gap (i + 1))) (at_safe f s head 0 (Gap (i + 1))) (exception (record_at c head i)) (record_at c head i).content
 
-both_safe : (f : Front) (c : Cylinder) (x : Found) → IsSafe f → IsSafe (both_read f c x).front
+both_safe : (f : Front) (c : Cylinder) (x : Found) → IsSafe f → IsSafe (read_key_data f c x).front
 both_safe f c (Lost head second) s = lost_safe f s head second
 both_safe f c (There head i points) s =
     data_safe (at f head 0 (Gap (i + 1))) (at_safe f s head 0 (Gap (i + 1))) (exception (record_at c head i)) (both_of (record_at c head i))
 
-whole_safe : (f : Front) (c : Cylinder) (x : Found) → IsSafe f → IsSafe (whole_read f c x).front
+whole_safe : (f : Front) (c : Cylinder) (x : Found) → IsSafe f → IsSafe (read_count_key_data f c x).front
 whole_safe f c (Lost head second) s = lost_safe f s head second
 whole_safe f c (There head i points) s =
     gives_safe (at f head 0 (Gap (i + 1))) (at_safe f s head 0 (Gap (i + 1))) (exception (record_at c head i)) (whole_of (record_at c head i))
@@ -106,12 +106,12 @@ search_key_safe f c (Lost head second) s = lost_safe f s head second
 search_key_safe f c (There head i points) s =
     takes_safe (at f head points (Key i)) (at_safe f s head points (Key i)) (length (record_at c head i).key) (jobs.SearchKey i) refl
 
-write_safe : (f : Front) (right : Right) (code : ℕ) (b : Begun) → IsSafe f → IsSafe (if_writes f right code b).front
+write_safe : (f : Front) (right : WriteAccess) (code : ℕ) (b : Begun) → IsSafe f → IsSafe (if_writes f right code b).front
 write_safe f right code b s =
     barred f.writable (refused f 0 2) (if mask_bars f.mask code || not (grants right code) then rejected f else b) s.protected (refused_safe f s 0 2)
 
 -- No command begins a write on it.
-begun_safe : (f : Front) (right : Right) (c : Cylinder) (order : Order) → IsSafe f → IsSafe (begun f right c order).front
+begun_safe : (f : Front) (right : WriteAccess) (c : Cylinder) (order : Order) → IsSafe f → IsSafe (begun f right c order).front
 begun_safe f right c order s =
     let code : ℕ = order.command.code in
     choose (code == 3) _ _ s (
@@ -150,14 +150,14 @@ mask_harmless : (f : Front) (bytes : List ℕ) → f.writable ≡ false → IsHa
 mask_harmless f [] e = ends_harmless (record f { sense = sense_of 128 0 }) unit_check e
 mask_harmless f (b ∷ bs) e = choose_end (bit_and b 39 == 0) (ends (record f { mask = b }) no_status) (fails f 128 0) (ends_harmless (record f { mask = b }) no_status e) (ends_harmless (record f { sense = sense_of 128 0 }) unit_check e)
 
-satisfied_harmless : (f : Front) (right : Right) (b : Bool) → f.writable ≡ false → IsHarmless (satisfied f right b)
+satisfied_harmless : (f : Front) (right : WriteAccess) (b : Bool) → f.writable ≡ false → IsHarmless (satisfied f right b)
 satisfied_harmless f right true e = ends_harmless (record f { right = right }) status_modifier e
 satisfied_harmless f right false e = ends_harmless f no_status e
 
 wrong : true ≡ false → ⊥
 wrong e = cc
 
-ended_harmless : (f : Front) (c : Cylinder) (job : Job) → f.writable ≡ false → is_writing job ≡ false → IsHarmless (ended f c job)
+ended_harmless : (f : Front) (c : Cylinder) (job : PendingCommand) → f.writable ≡ false → is_writing job ≡ false → IsHarmless (ended f c job)
 ended_harmless f c jobs.Nothing e n = ends_harmless f no_status e
 ended_harmless f c (jobs.Give status) e n = ends_harmless f status e
 ended_harmless f c jobs.SetMask e n = mask_harmless f f.bytes e

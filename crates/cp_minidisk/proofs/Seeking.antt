@@ -5,7 +5,7 @@ use Rattle.std.proofs.Common.{sym, ◌∙◌, ap, arith}
 use Rattle.std.proofs.lemmas.Bool.{lt-ltb}
 use Rattle.std.proofs.lemmas.List.{length-append, length-set}
 use Rattle.s370_walk.specs.declared.parts.Order.{Order}
-use Rattle.ckd_volume.specs.declared.parts.Job.TheVariants as jobs
+use Rattle.ckd_volume.specs.declared.parts.PendingCommand.TheVariants as jobs
 use Rattle.ckd_volume.specs.declared.control.Seek.{Seek}
 use Rattle.ckd_volume.specs.Front.{Cylinder}
 use Rattle.ckd_volume.specs.Control.{halfword, is_seek, sought}

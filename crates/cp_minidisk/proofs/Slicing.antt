@@ -28,7 +28,7 @@ slice_size v e inside =
     let rest : length (drop e.start v.cylinders) ≡ length v.cylinders - e.start = length-drop e.start v.cylinders in
     length-take-le e.count (drop e.start v.cylinders) (omega (arith, inside, rest))
 
--- the minidisk that stands there
+-- the minidisk that is there
 abbrev pub Fits : ExtentValue → Disk → Type 0
 Fits extent d = IsOnDisk d × (length d.cylinders ≡ extent.count)
 

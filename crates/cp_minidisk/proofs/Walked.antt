@@ -10,11 +10,11 @@ use Rattle.s370_walk.specs.declared.parts.Kind.{Kind}
 use Rattle.s370_walk.specs.declared.parts.Kind.TheVariants.{Gives, Takes, TakesUpTo}
 use Rattle.s370_walk.specs.declared.parts.Order.{Order}
 use Rattle.s370_walk.specs.declared.parts.Transfer.{Transfer}
-use Rattle.s370_walk.specs.declared.parts.Spot.{Spot}
+use Rattle.s370_walk.specs.declared.parts.NextCcw.{NextCcw}
 use Rattle.s370_walk.specs.declared.parts.Position.{Position}
 use Rattle.s370_walk.specs.declared.parts.Progress.{Progress}
 use Rattle.s370_walk.specs.declared.parts.Progress.TheVariants.{At, Ended}
-use Rattle.s370_walk.specs.declared.parts.Word.{Word}
+use Rattle.s370_walk.specs.declared.parts.Ccw.{Ccw}
 use Rattle.s370_walk.specs.declared.bits.UnitStatus.{UnitStatus}
 use Rattle.s370_walk.specs.declared.bits.ChannelStatus.{ChannelStatus}
 use Rattle.s370_store.specs.Memory.{Memory}
@@ -38,25 +38,25 @@ module _ {D E : Type 0} (part : D → E) (h : Setting D) (inner : Machine E) (is
   of_closing wrong p m d =
       rw (← is.status d, ← is.finished d) (of_state (closed h.prefix wrong (h.machine.status d) p.at p.started p.word p.count) m (h.machine.finished d))
 
-  of_answer : (spot : Spot) (w : Word) (a : Answer) (m : Memory) (d : D) → seen part (answered h.prefix spot w a m d) ≡ answered h.prefix spot w a m (part d)
+  of_answer : (spot : NextCcw) (w : Ccw) (a : Answer) (m : Memory) (d : D) → seen part (answered h.prefix spot w a m d) ≡ answered h.prefix spot w a m (part d)
   of_answer spot w (answers.Refused status) m d = refl
   of_answer spot w answers.Immediate m d = of_state (closed h.prefix false no_status spot.at (spot.started + 1) w w.count) m d
   of_answer spot w (answers.Input n) m d = refl
   of_answer spot w (answers.Output n) m d = refl
   of_answer spot w (answers.OutputUpTo n) m d = refl
 
-  pub of_entry : (spot : Spot) (w : Word) (role : Option Transfer) (m : Memory) (d : D) → seen part (entered h spot w role m d) ≡ entered (on_device h inner) spot w role m (part d)
+  pub of_entry : (spot : NextCcw) (w : Ccw) (role : Option Transfer) (m : Memory) (d : D) → seen part (entered h spot w role m d) ≡ entered (on_device h inner) spot w role m (part d)
   of_entry spot w None m d =
       let o : Order = order_of h.prefix spot w in
       rw (← is.answer d o, ← is.started d o) (of_answer spot w (h.machine.answer d o) m (h.machine.started d o))
   of_entry spot w (Some t) m d = refl
 
-  of_obeying : (spot : Spot) (w : Word) (v : Verdict) (m : Memory) (d : D) → seen part (obeyed h spot w v m d) ≡ obeyed (on_device h inner) spot w v m (part d)
+  of_obeying : (spot : NextCcw) (w : Ccw) (v : Verdict) (m : Memory) (d : D) → seen part (obeyed h spot w v m d) ≡ obeyed (on_device h inner) spot w v m (part d)
   of_obeying spot w Bad m d = of_failure spot.role spot.at m d
   of_obeying spot w Jump m d = refl
   of_obeying spot w Good m d = of_entry spot w spot.role m d
 
-  of_fetch : (spot : Spot) (w : Option Word) (m : Memory) (d : D) → seen part (fetched h spot w m d) ≡ fetched (on_device h inner) spot w m (part d)
+  of_fetch : (spot : NextCcw) (w : Option Ccw) (m : Memory) (d : D) → seen part (fetched h spot w m d) ≡ fetched (on_device h inner) spot w m (part d)
   of_fetch spot None m d = of_failure spot.role spot.at m d
   of_fetch spot (Some w) m d = of_obeying spot w (judged h.limit spot w) m d
 

@@ -14,6 +14,7 @@ pub record Part : Type 0 where
   pub disk : Disk
   pub above : List Cylinder
 
+-- the part with another disk
 abbrev pub with_disk : Part → Disk → Part
 with_disk p d = record { below = p.below; disk = d; above = p.above }
 
@@ -41,7 +42,11 @@ unit_of p = placed p.below p.above p.disk
 
 -- which cylinders of its volume it has
 abbrev pub extent_of : Part → ExtentValue
-extent_of p = record { start = length p.below; count = length p.disk.cylinders; writable = p.disk.front.writable }
+extent_of p = record {
+  start = length p.below;
+  count = length p.disk.cylinders;
+  writable = p.disk.front.writable;
+}
 
 -- a user's minidisk on this volume
 abbrev pub part_on : VolumeFormat → MinidiskValue → Part
@@ -50,18 +55,24 @@ part_on v m = record { below = before v m.extent; disk = users_disk v m; above =
 -- what the minidisk has of its own
 abbrev pub minidisk_of : Part → MinidiskValue
 minidisk_of p =
-    record { extent = extent_of p; cylinder = p.disk.cylinder; head = p.disk.front.head; sense = p.disk.front.sense }
+    record {
+      extent = extent_of p;
+      cylinder = p.disk.cylinder;
+      head = p.disk.front.head;
+      sense = p.disk.front.sense;
+    }
 
 -- ---- How a volume's unit is such a part
 
--- The unit serves a minidisk: its arm stands on the extent, Read IPL goes to the first cylinder of it, and it may be
--- written as the extent says.
+-- The unit serves a minidisk: its arm is on the extent, Read IPL goes to the first cylinder of
+-- it, and it may be written as the extent says.
 pub record Serves (u : Disk) (e : ExtentValue) : Type 0 where
   pub inside : HasExtent u.cylinders e
   pub within : IsWithin e u.cylinder
   pub home : u.home ≡ e.start
   pub mode : u.front.writable ≡ e.writable
 
+-- the disk that a user sees of the unit of its volume
 abbrev pub disk_of : ExtentValue → Disk → Disk
 disk_of e u =
     record {
@@ -72,13 +83,19 @@ disk_of e u =
       front = u.front;
     }
 
+-- the disk that a user sees, and the other cylinders of its volume
 abbrev pub part_of : ExtentValue → Disk → Part
-part_of e u = record { below = before (volume_of u) e; disk = disk_of e u; above = behind (volume_of u) e }
+part_of e u = record {
+  below = before (volume_of u) e;
+  disk = disk_of e u;
+  above = behind (volume_of u) e;
+}
 
 -- A seek that has its argument has it relocated before it ends; every other command ends as it is.
 abbrev pub with_relocated : ExtentValue → Disk → Option (List ℕ) → Disk
 with_relocated e u None = u
 with_relocated e u (Some argument) = holding u (relocated_argument e argument)
 
+-- the unit whose pending seek is relocated, if its argument has come
 abbrev pub relocating : ExtentValue → Disk → Disk
 relocating e u = with_relocated e u (argument_held u.front)

@@ -1,12 +1,12 @@
 -- A minidisk as a part of a volume: the volume's unit is a function of the minidisk's.
 use Rattle.std.specs.Prelude.{ℕ, ◌+◌, ◌<◌, ◌≡◌, Bool, true, false, List, ◌++◌, length}
-use Rattle.ckd_volume.specs.declared.parts.Job.{Job}
-use Rattle.ckd_volume.specs.declared.parts.Job.TheVariants as jobs
+use Rattle.ckd_volume.specs.declared.parts.PendingCommand.{PendingCommand}
+use Rattle.ckd_volume.specs.declared.parts.PendingCommand.TheVariants as jobs
 use Rattle.ckd_volume.specs.Front.{Cylinder}
 use Rattle.ckd_volume.specs.Unit.{Disk, keeps}
 
--- The unit of a volume that has these cylinders before those of the minidisk, and those behind them: arm and home are
--- shifted, and all else is the same.
+-- The unit of a volume that has these cylinders before those of the minidisk, and those after them:
+-- arm and home are shifted, and all else is the same.
 abbrev pub placed : List Cylinder → List Cylinder → Disk → Disk
 placed before behind d =
     record {
@@ -17,7 +17,7 @@ placed before behind d =
       front = d.front;
     }
 
--- the arm stands on the disk, and so does its home
+-- the arm is on the disk, and so is its home
 pub record IsOnDisk (d : Disk) : Type 0 where
   pub cylinder : d.cylinder < length d.cylinders
   pub home : d.home < length d.cylinders
@@ -32,7 +32,7 @@ abbrev pub holding : Disk → List ℕ → Disk
 holding d bytes = keeps d (record (d.front) { bytes = bytes })
 
 -- whether a command writes at its end
-abbrev pub is_writing : Job → Bool
+abbrev pub is_writing : PendingCommand → Bool
 is_writing (jobs.WriteData i) = true
 is_writing (jobs.WriteBoth i) = true
 is_writing (jobs.WriteRecord i) = true

@@ -5,9 +5,11 @@ use Rattle.s370_walk.specs.Hardware.{Machine}
 use Rattle.s370_walk.specs.Walk.{Form, Setting, State, Fetching, Moving, Over, Reaches}
 
 -- Each step of the whole is that step of its part.
-pub record IsPartOf {D E : Type 0} (part : D → E) (whole : Machine D) (inner : Machine E) : Type 0 where
+pub record IsPartOf {D E : Type 0} (part : D → E) (whole : Machine D)
+    (inner : Machine E) : Type 0 where
   pub answer : (d : D) (order : Order) → whole.answer d order ≡ inner.answer (part d) order
-  pub started : (d : D) (order : Order) → part (whole.started d order) ≡ inner.started (part d) order
+  pub started : (d : D) (order : Order)
+      → part (whole.started d order) ≡ inner.started (part d) order
   pub done : (d : D) → whole.done d ≡ inner.done (part d)
   pub gives : (d : D) → whole.gives d ≡ inner.gives (part d)
   pub gave : (d : D) → part (whole.gave d) ≡ inner.gave (part d)

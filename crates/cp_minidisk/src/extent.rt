@@ -1,11 +1,13 @@
 //! Extents of a volume, and the seeks of a minidisk.
-ghost use Rattle.std.specs.Prelude.{◌≡◌, ◌≤◌, ◌<◌, ◌+◌, Bool, true, length, nat_le, IfSome, IsSome, ◌↔◌};
+ghost use Rattle.std.specs.Prelude.{◌≡◌, ◌≤◌, ◌<◌, ◌+◌, Bool, true, length, nat_le, IfSome, IsSome};
+ghost use Rattle.std.specs.Prelude.{◌↔◌};
 ghost use Rattle.cp_minidisk.specs.Extent.{IsExtent, IsWithin, relocated, relocated_argument};
 
 use ckd_volume::{MOST_CYLINDERS, Seek, Volume};
 use std::marker::Model;
 
-/// The extent of a minidisk: so many cylinders of a volume, from one of them on, and whether they may be written.
+/// The extent of a minidisk: so many cylinders of a volume, from one of them on, and whether they
+/// may be written.
 ///
 /// ```
 /// let extent = Extent::new(100, 5, true)?; // cylinders 100 to 104
@@ -25,17 +27,20 @@ impl Model for Extent {
 
     ghost view = { λ e. record { start = e.start; count = e.count; writable = e.writable } };
 
-    ghost invariant = { λ e. IsExtent (record { start = e.start; count = e.count; writable = e.writable }) };
+    ghost invariant = { λ e.
+        IsExtent (record { start = e.start; count = e.count; writable = e.writable }) };
 
     ghost inverse = { λ v. record { start = v.start; count = v.count; writable = v.writable } };
 }
 
 impl Extent {
-    /// The extent of `count` cylinders from `start` on; None where it has none, or one past 807, the last that a volume
-    /// can have.
+    /// Returns the extent of `count` cylinders from `start` on; None where it has none, or one past
+    /// 807, the last that a volume can have.
     pub fn new(start: u16, count: u16, writable: bool) -> Option<Extent>
-        ensures some { IsSome result ↔ IsExtent (record { start = start; count = count; writable = writable }) }
-        ensures extent { IfSome result (λ e. e ≡ record { start = start; count = count; writable = writable }) }
+        ensures some { IsSome result ↔ IsExtent
+            (record { start = start; count = count; writable = writable }) }
+        ensures extent { IfSome result
+            (λ e. e ≡ record { start = start; count = count; writable = writable }) }
     {
         if count == 0 || count > MOST_CYLINDERS || start > MOST_CYLINDERS - count {
             return None;
@@ -47,7 +52,7 @@ impl Extent {
         })
     }
 
-    /// The cylinder of the volume that is cylinder 0 of the minidisk.
+    /// Returns the cylinder of the volume that is cylinder 0 of the minidisk.
     pub fn start(self) -> u16
         ensures start { result ≡ self.start }
         ensures inside { result + self.count ≤ 808 }
@@ -55,7 +60,7 @@ impl Extent {
         self.start
     }
 
-    /// How many cylinders the minidisk has.
+    /// Returns how many cylinders the minidisk has.
     pub fn count(self) -> u16
         ensures count { result ≡ self.count }
         ensures some { 0 < result }
@@ -64,22 +69,22 @@ impl Extent {
         self.count
     }
 
-    /// Whether the minidisk may be written.
+    /// Returns whether the minidisk may be written.
     pub fn is_writable(self) -> bool
         ensures { result ≡ self.writable }
     {
         self.writable
     }
 
-    /// Whether a volume has all its cylinders.
+    /// Returns whether a volume has all its cylinders.
     pub fn fits(self, volume: &Volume) -> bool
         ensures { result ≡ nat_le (self.start + self.count) (length volume.now.cylinders) }
     {
         usize::from(self.start) + usize::from(self.count) <= volume.count()
     }
 
-    /// Where a track of the minidisk stands on the volume; None where the minidisk has no such cylinder. Of the head
-    /// nothing is asked.
+    /// Returns the place on the volume of a track of the minidisk; None if the minidisk has no such
+    /// cylinder. Of the head nothing is asked.
     pub fn relocate(self, seek: Seek) -> Option<Seek>
         ensures place { result ≡ relocated self seek }
         ensures stays { IfSome result (λ place. IsWithin self place.cylinder) }
@@ -94,8 +99,8 @@ impl Extent {
         None
     }
 
-    /// The argument that a seek of the minidisk has on the volume; it is one that no disk accepts where the minidisk
-    /// has no such cylinder (docs/MACHINE.md, "Disks", code 07).
+    /// Returns the argument that a seek of the minidisk has on the volume; it is one that no disk
+    /// accepts where the minidisk has no such cylinder (docs/MACHINE.md, "Disks", code 07).
     pub fn relocate_argument(self, bytes: [u8; 6]) -> [u8; 6]
         ensures { result ≡ relocated_argument self bytes }
     {

@@ -10,7 +10,8 @@ use saved_bytes::{Input, put_flag, put_number};
 use std::alloc::AllocError;
 use std::marker::Model;
 
-/// A minidisk but for its cylinders, which stand on a volume: its extent, where its arm stands, and its sense.
+/// A minidisk but for its cylinders, which are on a volume: its extent, where its arm is, and its
+/// sense.
 #[derive(Clone, Copy)]
 pub struct Minidisk {
     extent: Extent,
@@ -25,15 +26,26 @@ impl Model for Minidisk {
 
     ghost Value = { MinidiskValue };
 
-    ghost view = { λ m. record { extent = m.extent; cylinder = m.cylinder; head = m.head; sense = m.sense } };
+    ghost view = { λ m. record {
+      extent = m.extent;
+      cylinder = m.cylinder;
+      head = m.head;
+      sense = m.sense;
+    } };
 
     ghost invariant = { λ m. (m.cylinder < m.extent.count) × (m.head < 19) };
 
-    ghost inverse = { λ v. record { extent = v.extent; cylinder = v.cylinder; head = v.head; sense = v.sense } };
+    ghost inverse = { λ v. record {
+      extent = v.extent;
+      cylinder = v.cylinder;
+      head = v.head;
+      sense = v.sense;
+    } };
 }
 
 impl Minidisk {
-    /// A minidisk that no program has used: its arm stands at its first track, and it has no sense.
+    /// Returns a minidisk that no program has used: its arm is at its first track, and it has no
+    /// sense.
     pub fn new(extent: Extent) -> Minidisk
         ensures { result ≡ minidisk_new extent }
     {
@@ -49,14 +61,14 @@ impl Minidisk {
         }
     }
 
-    /// Which cylinders of its volume it has.
+    /// Returns which cylinders of its volume it has.
     pub fn extent(&self) -> Extent
         ensures { result ≡ self.now.extent }
     {
         self.extent
     }
 
-    /// The cylinder under its arm, the first of the extent being 0.
+    /// Returns the cylinder under its arm, the first of the extent being 0.
     pub fn cylinder(&self) -> usize
         ensures cylinder { result ≡ self.now.cylinder }
         ensures inside { result < self.now.extent.count }
@@ -64,7 +76,7 @@ impl Minidisk {
         self.cylinder
     }
 
-    /// The head that is chosen.
+    /// Returns the head that is chosen.
     pub fn head(&self) -> usize
         ensures head { result ≡ self.now.head }
         ensures inside { result < 19 }
@@ -72,11 +84,11 @@ impl Minidisk {
         self.head
     }
 
-    /// What a Sense command tells.
+    /// Returns what a Sense command says.
     pub fn sense(&self) -> Sense
         ensures { result ≡ self.now.sense }
     {
-        // All its fields: what is added to them is seen here.
+        // Exhaustive: a new field fails to compile here.
         let Minidisk {
             extent: _,
             cylinder: _,
@@ -96,7 +108,7 @@ impl Minidisk {
         };
     }
 
-    /// As [`Minidisk::reset`], and the arm stands at the first track.
+    /// As [`Minidisk::reset`], and the arm is at the first track.
     pub fn clear(&mut self)
         ensures { self.new ≡ minidisk_new self.old.extent }
     {
@@ -132,7 +144,7 @@ fn pass_extent(input: &mut Input<'_>) -> Option<()> {
     Some(())
 }
 
-/// Appends what a Sense command tells.
+/// Appends what a Sense command says.
 fn put_sense(out: &mut Vec<u8>, sense: Sense) -> Result<(), AllocError>
     ensures { OnOk result (out.new.items ≡ out.old.items ++ sense_bytes sense) }
 {
@@ -144,6 +156,10 @@ fn put_sense(out: &mut Vec<u8>, sense: Sense) -> Result<(), AllocError>
 
 impl Minidisk {
     /// Appends all that is seen of a minidisk.
+    ///
+    /// # Errors
+    ///
+    /// `AllocError` if memory is refused; `out` may have a part of it then.
     pub fn save(&self, out: &mut Vec<u8>) -> Result<(), AllocError>
         ensures { OnOk result (out.new.items ≡ out.old.items ++ minidisk_bytes self.now) }
     {
@@ -160,7 +176,7 @@ impl Minidisk {
         put_sense(out, *sense)
     }
 
-    /// Takes the arm and the sense that come next. The extent stays, whatever comes.
+    /// Takes the arm and the sense that are next. The extent stays, whatever comes.
     pub fn restore(&mut self, input: &mut Input<'_>) -> Option<()>
         ensures { self.new.extent ≡ self.old.extent }
     {

@@ -11,12 +11,12 @@ use s370_walk::{Answer, Device, Order, UnitStatus};
 use std::alloc::AllocError;
 use std::marker::Model;
 
-/// A minidisk on the unit of its volume, as the disk that its user sees: it begins and ends each command as that disk
-/// does, and reaches no other cylinder of the volume.
+/// A minidisk on the unit of its volume, as the disk that its user sees: it begins and ends each
+/// command as that disk does, and reaches no other cylinder of the volume.
 ///
 /// ```
 /// let mut mounted = minidisk.mount_on(unit);
-/// // the user's program as it stands, run for `mounted`
+/// // the user's program as it is, run for `mounted`
 /// let (unit, minidisk) = mounted.dismount();
 /// ```
 #[derive(Drop)]
@@ -36,7 +36,7 @@ impl Model for Mounted {
 }
 
 impl Minidisk {
-    /// The minidisk as a device of its own, on the unit of its volume. It takes no memory.
+    /// Returns the minidisk as a device of its own, on the unit of its volume. It takes no memory.
     pub fn mount_on(&self, unit: Unit) -> Mounted
         requires { HasExtent unit.cylinders self.now.extent }
         ensures { result ≡ part_on (volume_of unit) self.now }
@@ -57,8 +57,8 @@ impl Minidisk {
 }
 
 impl Mounted {
-    /// The unit of the volume, and what the minidisk has of its own; mounted again it is the disk as it was left, at
-    /// rest. It takes no memory.
+    /// Returns the unit of the volume, and what the minidisk has of its own; mounted again it is
+    /// the disk as it was left, at rest. It takes no memory.
     pub fn dismount(self) -> (Unit, Minidisk)
         ensures unit { result.0 ≡ unit_of self }
         ensures minidisk { result.1 ≡ minidisk_of self }

@@ -1,8 +1,9 @@
--- Where the bytes of a word's area lie, and which words of its list say so (GA22-7000, "Channel Indirect Data Addressing").
+-- Where the bytes of a word's area lie, and which words of its list say so (GA22-7000, "Channel
+-- Indirect Data Addressing").
 use Rattle.std.specs.Prelude.{ℕ, zero, suc, ◌+◌, ◌*◌, ◌<◌, ◌≡◌, true, Option, None, Some}
 use Rattle.channel_laws.specs.Tracks.{has_area}
 use Rattle.s370_channel.specs.Guest.{area_block, later}
-use Rattle.s370_walk.specs.declared.parts.Word.{Word}
+use Rattle.s370_walk.specs.declared.parts.Ccw.{Ccw}
 use Rattle.s370_walk.specs.Blocks.{begins_block, block_number, served}
 use Rattle.s370_store.specs.Memory.{Memory}
 use Rattle.s370_walk.specs.Walk.{is_indirect}
@@ -12,7 +13,8 @@ abbrev pub byte_after : (ℕ → Option ℕ) → ℕ → Option ℕ → Option �
 byte_after list k None = None
 byte_after list k (Some before) = served list k (Some before)
 
--- where byte k of an area lies whose blocks begin where a list says: None from the first block on of which it says nothing
+-- where byte k of an area lies whose blocks begin where a list says: None from the first block on
+-- of which it says nothing
 abbrev pub byte_place : (ℕ → Option ℕ) → ℕ → Option ℕ
 byte_place list zero = list 0
 byte_place list (suc k) = byte_after list (suc k) (byte_place list k)
@@ -29,14 +31,14 @@ pub record IsBegun (list : ℕ → Option ℕ) (k : ℕ) : Type 0 where
   pub begins : begins_block before ≡ true
 
 -- A byte of the area of a word.
-pub record IsAreaByte (m : Memory) (w : Word) (a : ℕ) : Type 0 where
+pub record IsAreaByte (m : Memory) (w : Ccw) (a : ℕ) : Type 0 where
   pub byte : ℕ
   pub has : has_area w ≡ true
   pub counted : byte < w.count
   pub at : byte_place (area_block m w) byte ≡ Some a
 
 -- A byte of the words of its list, up to the first that says no address.
-pub record IsListByte (m : Memory) (w : Word) (a : ℕ) : Type 0 where
+pub record IsListByte (m : Memory) (w : Ccw) (a : ℕ) : Type 0 where
   pub byte : ℕ
   pub has : has_area w ≡ true
   pub counted : byte < w.count

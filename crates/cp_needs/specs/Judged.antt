@@ -16,20 +16,20 @@ pub record AreNotes (m : Memory) (start : ℕ) (notes : Notes) : Type 0 where
   pub marked : AreMarked (IsTextOf m words (length words)) [] found
   pub paged : ArePaged (IsDataOf m words (length words)) [] notes.pages.items
 
--- what holds of the page that is told
+-- what holds of the page that is reported
 abbrev pub IfAbsent : Judged → (ℕ → Type 0) → Type 0
 IfAbsent (judged.Page page) P = P page.0
 IfAbsent (judged.Fixed notes) P = Unit {0}
-IfAbsent judged.Open P = Unit {0}
+IfAbsent judged.SelfModifying P = Unit {0}
 
--- what holds of the notes that are told
+-- what holds of the notes that are reported
 abbrev pub IfNotes : Judged → (Notes → Type 0) → Type 0
 IfNotes (judged.Page page) P = Unit {0}
 IfNotes (judged.Fixed notes) P = P notes
-IfNotes judged.Open P = Unit {0}
+IfNotes judged.SelfModifying P = Unit {0}
 
--- what holds where an input is told to be able to change the program
+-- what holds where an input is reported to be able to change the program
 abbrev pub IfOpen : Judged → Type 0 → Type 0
 IfOpen (judged.Page page) P = Unit {0}
 IfOpen (judged.Fixed notes) P = Unit {0}
-IfOpen judged.Open P = P
+IfOpen judged.SelfModifying P = P

@@ -3,7 +3,7 @@ use Rattle.std.specs.Prelude.{ℕ, ◌+◌, ◌*◌, ◌/◌, ◌<◌, ◌≡◌
 use Rattle.cp_graph.specs.Closure.{InProgram}
 use Rattle.cp_needs.specs.Areas.{IsAreaByte, IsListByte}
 use Rattle.s370_channel.specs.Guest.{guest_text}
-use Rattle.s370_walk.specs.declared.parts.Word.{Word}
+use Rattle.s370_walk.specs.declared.parts.Ccw.{Ccw}
 use Rattle.s370_store.specs.Memory.{Memory}
 use Rattle.s370_walk.specs.Walk.{skips}
 
@@ -13,13 +13,15 @@ IsReached m start address = (continues : Bool) × InProgram (guest_text m) start
 
 -- a byte of the word at an address, or of the list of its area
 abbrev pub IsTextByte : Memory → ℕ → ℕ → Type 0
-IsTextByte m address a = ((k : ℕ) × (k < 8) × (a ≡ address + k)) ⊎ ((w : Word) × (guest_text m address ≡ Some w) × IsListByte m w a)
+IsTextByte m address a = ((k : ℕ) × (k < 8) × (a ≡ address + k))
+    ⊎ ((w : Ccw) × (guest_text m address ≡ Some w) × IsListByte m w a)
 
 -- a byte of the area of the word at an address
 abbrev pub IsDataByte : Memory → ℕ → ℕ → Type 0
-IsDataByte m address a = (w : Word) × (guest_text m address ≡ Some w) × IsAreaByte m w a
+IsDataByte m address a = (w : Ccw) × (guest_text m address ≡ Some w) × IsAreaByte m w a
 
--- A page of storage with a byte of a word that the program can reach, or of that word's list or area.
+-- A page of storage with a byte of a word that the program can reach, or of that word's list or
+-- area.
 pub record IsProgramPage (m : Memory) (start page : ℕ) : Type 0 where
   pub address : ℕ
   pub reached : IsReached m start address
@@ -32,12 +34,12 @@ pub record IsProgramPage (m : Memory) (start page : ℕ) : Type 0 where
 abbrev pub IsHeld : Memory → ℕ → (ℕ → Bool) → Type 0
 IsHeld m start present = (page : ℕ) → IsProgramPage m start page → present page ≡ true
 
--- A byte of storage, of a word or of a list, that an input could store into: it lies in the area of a word, which does not
--- skip, too.
+-- A byte of storage, of a word or of a list, that an input could store into: it lies in the area of
+-- a word, which does not skip, too.
 pub record IsClash (m : Memory) (start : ℕ) : Type 0 where
   pub address : ℕ
   pub reached : IsReached m start address
-  pub word : Word
+  pub word : Ccw
   pub text : guest_text m address ≡ Some word
   pub stores : skips word ≡ false
   pub byte : ℕ

@@ -1,5 +1,6 @@
 //! The pages of a word's list and area (GA22-7000, "Channel Indirect Data Addressing").
-ghost use Rattle.std.specs.Prelude.{◌≡◌, ◌≤◌, ◌<◌, ◌+◌, ◌*◌, ◌/◌, ◌%◌, ◌^◌, IfErr, IfNone, IfOk, IfSome, length, true, ℕ};
+ghost use Rattle.std.specs.Prelude.{◌≡◌, ◌≤◌, ◌<◌, ◌+◌, ◌*◌, ◌/◌, ◌%◌, ◌^◌, IfErr, IfNone, IfOk};
+ghost use Rattle.std.specs.Prelude.{IfSome, length, true, ℕ};
 ghost use Rattle.cp_graph.specs.Closure.{IsEntryPage};
 ghost use Rattle.cp_needs.specs.Words.{IsAreaPage, IsHere};
 ghost use Rattle.s370_channel.specs.Guest.{area_block, later};
@@ -10,16 +11,16 @@ use crate::pages::absent_at;
 use cp_graph::has_area;
 use s370_channel::fetch_block;
 use s370_store::{Page, Storage};
-use s370_walk::{Flags, Word};
+use s370_walk::{Ccw, Flags};
 
-/// Where a word of a word's list stands.
-pub(crate) fn list_address(word: &Word, number: u32) -> u32
+/// Returns the address of a word of a word's list.
+pub(crate) fn list_address(word: &Ccw, number: u32) -> u32
     ensures { result ≡ later word.now.address (4 * number) }
 {
     ((u64::from(word.address) + 4 * u64::from(number)) % 0x100_0000) as u32
 }
 
-/// How many of so many bytes lie in the block of the first of them.
+/// Returns how many of so many bytes lie in the block of the first of them.
 pub(crate) fn bytes_in_block(start: u32, left: u32) -> u32
     requires { 0 < left }
     ensures some { 0 < result }
@@ -31,10 +32,11 @@ pub(crate) fn bytes_in_block(start: u32, left: u32) -> u32
     if room < left { room } else { left }
 }
 
-/// Where a block of a word's area begins, or None where its list does not say; an error is a page that is not present.
+/// Returns where a block of a word's area begins, or None if its list does not say; an error is a
+/// page that is not present.
 pub(crate) fn block_here<S: Storage>(
     storage: &S,
-    word: &Word,
+    word: &Ccw,
     number: u32,
 ) -> Result<Option<u32>, Page>
     requires { number ≤ 64 }
@@ -44,10 +46,13 @@ pub(crate) fn block_here<S: Storage>(
         (later word.now.address (4 * number) / 4096)) }
     ensures here { IfOk result
         (λ said. IfSome said
-        (λ start. IsHere (length (S.memory storage.now).bytes) (S.present storage.now) (start / 4096))) }
+        (λ start. IsHere (length (S.memory storage.now).bytes) (S.present storage.now)
+        (start / 4096))) }
     ensures low { IfOk result (λ said. IfSome said (λ start. start < 2 ^ 32)) }
-    ensures away { IfErr result (λ page. IsAway (length (S.memory storage.now).bytes) (S.present storage.now) page.0) }
-    ensures asked { IfErr result (λ page. IsEntryPage (S.memory storage.now) word.now number page.0) }
+    ensures away { IfErr result
+        (λ page. IsAway (length (S.memory storage.now).bytes) (S.present storage.now) page.0) }
+    ensures asked { IfErr result
+        (λ page. IsEntryPage (S.memory storage.now) word.now number page.0) }
 {
     if word.flags.has(Flags::INDIRECT) {
         if let Some(page) = absent_at(storage, list_address(word, number)) {
@@ -63,9 +68,10 @@ pub(crate) fn block_here<S: Storage>(
     }
 }
 
-/// The first page that is not present of those of a word's list and area, block by block.
-pub(crate) fn absent_in_area<S: Storage>(storage: &S, word: &Word) -> Option<Page>
-    ensures away { IfSome result (λ page. IsAway (length (S.memory storage.now).bytes) (S.present storage.now) page.0) }
+/// Returns the first page that is not present of those of a word's list and area, block by block.
+pub(crate) fn absent_in_area<S: Storage>(storage: &S, word: &Ccw) -> Option<Page>
+    ensures away { IfSome result
+        (λ page. IsAway (length (S.memory storage.now).bytes) (S.present storage.now) page.0) }
     ensures asked { IfSome result (λ page. IsAreaPage (S.memory storage.now) word.now page.0) }
     ensures here { IfNone result
         ((page : ℕ) → IsAreaPage (S.memory storage.now) word.now page

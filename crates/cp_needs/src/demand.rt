@@ -18,10 +18,10 @@ pub(crate) enum Judged {
     /// Its pages are present, and no input can change it.
     Fixed(Notes),
     /// Its pages are present, and an input could change one of its words or lists.
-    Open,
+    SelfModifying,
 }
 
-/// What is found of the program from an address on, with its notes, the fullwords of which ascend.
+/// Returns the analysis of the program at an address, with its notes, whose words ascend.
 pub(crate) fn judge<S: Storage>(
     alloc: Global,
     storage: &S,
@@ -29,13 +29,19 @@ pub(crate) fn judge<S: Storage>(
 ) -> Result<Judged, AllocError>
     requires even { start % 8 ≡ 0 }
     ensures away { IfOk result
-        (λ told. IfAbsent told (IsAway (length (S.memory storage.now).bytes) (S.present storage.now))) }
-    ensures needed { IfOk result (λ told. IfAbsent told (IsProgramPage (S.memory storage.now) start)) }
-    ensures fixed { IfOk result (λ told. IfNotes told (λ notes. IsFixed (S.memory storage.now) start)) }
+        (λ reported. IfAbsent reported
+        (IsAway (length (S.memory storage.now).bytes) (S.present storage.now))) }
+    ensures needed { IfOk result
+        (λ reported. IfAbsent reported (IsProgramPage (S.memory storage.now) start)) }
+    ensures fixed { IfOk result
+        (λ reported. IfNotes reported (λ notes. IsFixed (S.memory storage.now) start)) }
     ensures held { IfOk result
-        (λ told. IfNotes told (λ notes. IsHeld (S.memory storage.now) start (S.present storage.now))) }
-    ensures noted { IfOk result (λ told. IfNotes told (λ notes. AreNotes (S.memory storage.now) start notes)) }
-    ensures open { IfOk result (λ told. IfOpen told (IsClash (S.memory storage.now) start)) }
+        (λ reported. IfNotes reported
+        (λ notes. IsHeld (S.memory storage.now) start (S.present storage.now))) }
+    ensures noted { IfOk result
+        (λ reported. IfNotes reported (λ notes. AreNotes (S.memory storage.now) start notes)) }
+    ensures open { IfOk result
+        (λ reported. IfOpen reported (IsClash (S.memory storage.now) start)) }
 {
     let words = match words_of(alloc, storage, start)? {
         Ok(words) => words,
@@ -44,7 +50,7 @@ pub(crate) fn judge<S: Storage>(
     let mut notes = notes_of(alloc, storage, &words)?;
     notes.text.sort_unstable();
     if meet(&notes.text, &notes.filled, storage.size()) {
-        return Ok(Judged::Open);
+        return Ok(Judged::SelfModifying);
     }
     Ok(Judged::Fixed(notes))
 }

@@ -1,11 +1,12 @@
 //! Whether an input could change a program.
-ghost use Rattle.std.specs.Prelude.{◌≡◌, ◌≤◌, ◌<◌, ◌+◌, ◌/◌, Contains, IfNone, IfSome, false, true, ℕ};
+ghost use Rattle.std.specs.Prelude.{◌≡◌, ◌≤◌, ◌<◌, ◌+◌, ◌/◌, Contains, IfNone, IfSome, false, true};
+ghost use Rattle.std.specs.Prelude.{ℕ};
 ghost use Rattle.std.specs.List.Sorted.{IsNonDecreasing};
 ghost use Rattle.cp_needs.specs.Noted.{IsFirstFrom, IsInPiece, IsInSome};
 
 use s370_store::Range;
 
-/// The first of these numbers, which ascend, from one on.
+/// Returns the first of these numbers, which ascend, from one on.
 fn first_from(numbers: &[u32], from: u32) -> Option<u32>
     requires { IsNonDecreasing numbers.now }
     ensures some { IfSome result (IsFirstFrom numbers.now from) }
@@ -22,7 +23,7 @@ fn first_from(numbers: &[u32], from: u32) -> Option<u32>
     }
 }
 
-/// Where a piece ends, or an end that comes before.
+/// Returns where a piece ends, or an end that is before that.
 fn end_of(piece: Range, end: u32) -> u64
     ensures end { result ≤ end }
     ensures piece { result ≤ piece.start + piece.count }
@@ -36,11 +37,13 @@ fn end_of(piece: Range, end: u32) -> u64
     }
 }
 
-/// Whether a byte of a piece, below an end, lies in one of these fullwords, which ascend.
+/// Returns whether a byte of a piece, below an end, lies in one of these fullwords, which ascend.
 fn touches(text: &[u32], piece: Range, end: u32) -> bool
     requires { IsNonDecreasing text.now }
-    ensures some { result ≡ true → (a : ℕ) × (a < end) × IsInPiece piece a × Contains text.now (a / 4) }
-    ensures none { result ≡ false → (a : ℕ) → a < end → IsInPiece piece a → Contains text.now (a / 4) → ⊥ }
+    ensures some { result ≡ true
+        → (a : ℕ) × (a < end) × IsInPiece piece a × Contains text.now (a / 4) }
+    ensures none { result ≡ false → (a : ℕ) → a < end → IsInPiece piece a
+        → Contains text.now (a / 4) → ⊥ }
 {
     let past = end_of(piece, end);
     if past <= u64::from(piece.start) {
@@ -52,11 +55,14 @@ fn touches(text: &[u32], piece: Range, end: u32) -> bool
     }
 }
 
-/// Whether a byte of these pieces, below an end, lies in one of these fullwords, which ascend.
+/// Returns whether a byte of these pieces, below an end, lies in one of these fullwords, which
+/// ascend.
 pub(crate) fn meet(text: &[u32], pieces: &[Range], end: u32) -> bool
     requires { IsNonDecreasing text.now }
-    ensures some { result ≡ true → (a : ℕ) × (a < end) × IsInSome pieces.now a × Contains text.now (a / 4) }
-    ensures none { result ≡ false → (a : ℕ) → a < end → IsInSome pieces.now a → Contains text.now (a / 4) → ⊥ }
+    ensures some { result ≡ true
+        → (a : ℕ) × (a < end) × IsInSome pieces.now a × Contains text.now (a / 4) }
+    ensures none { result ≡ false → (a : ℕ) → a < end → IsInSome pieces.now a
+        → Contains text.now (a / 4) → ⊥ }
 {
     for piece in pieces {
         if touches(text, *piece, end) {

@@ -1,8 +1,10 @@
-//! A program's words as they stood, and whether they stand so still.
-ghost use Rattle.std.specs.Prelude.{◌≡◌, ◌+◌, ◌*◌, ◌%◌, ◌<◌, ◌≤◌, All, Contains, IfOk, OnOk, false, length, true, ℕ};
+//! A program's words as they were, and whether they are so still.
+ghost use Rattle.std.specs.Prelude.{◌≡◌, ◌+◌, ◌*◌, ◌%◌, ◌<◌, ◌≤◌, All, Contains, IfOk, OnOk, false};
+ghost use Rattle.std.specs.Prelude.{length, true, ℕ};
 ghost use Rattle.s370_store.specs.Access.{IsAway, IsGranted};
-ghost use Rattle.cp_needs.specs.Kept.{IsAdded, IfFound, IfOpen, IfPages, IfText, IsAsItStood, IsPaged, IsPagedOnly, IsText, IsTextOnly, fullword_at};
-ghost use Rattle.cp_needs.specs.declared.kept.Fullword.{Fullword};
+ghost use Rattle.cp_needs.specs.Kept.{IsAdded, IfFound, IfOpen, IfPages, IfText, IsAsItStood};
+ghost use Rattle.cp_needs.specs.Kept.{IsPaged, IsPagedOnly, IsText, IsTextOnly, fullword_at};
+ghost use Rattle.cp_needs.specs.declared.kept.WordAt.{WordAt};
 ghost use Rattle.cp_needs.specs.Needs.{IsClash, IsFixed, IsHeld, IsProgramPage};
 
 use crate::demand::{Judged, judge};
@@ -10,22 +12,24 @@ use s370_num::AccessKey;
 use s370_store::{Access, Page, Range, Storage};
 use std::alloc::{AllocError, Global};
 
-/// A fullword in which a part of a program's words or lists lies, as it stood.
+/// A fullword in which a part of a program's words or lists lies, as it was.
 #[derive(Clone, Copy, PartialEq, Eq)]
-pub struct Fullword {
+pub struct WordAt {
     /// The address of its first byte.
     pub start: u32,
     /// Its bytes.
     pub bytes: [u8; 4],
 }
 
-/// Whether a fullword stands, on a page that is present, as it stood.
-fn is_as_it_stood<S: Storage>(storage: &S, word: &Fullword) -> bool
-    ensures same { result ≡ true → IsAsItStood (S.memory storage.now).bytes (S.present storage.now) word.now }
-    ensures other { IsAsItStood (S.memory storage.now).bytes (S.present storage.now) word.now → result ≡ true }
+/// Returns whether a fullword is, on a page that is present, as it was.
+fn is_as_it_stood<S: Storage>(storage: &S, word: &WordAt) -> bool
+    ensures same { result ≡ true
+        → IsAsItStood (S.memory storage.now).bytes (S.present storage.now) word.now }
+    ensures other { IsAsItStood (S.memory storage.now).bytes (S.present storage.now) word.now
+        → result ≡ true }
 {
     // Exhaustive: a new field fails to compile here.
-    let Fullword {
+    let WordAt {
         start,
         bytes: as_stood,
     } = word;
@@ -45,10 +49,12 @@ fn is_as_it_stood<S: Storage>(storage: &S, word: &Fullword) -> bool
     bytes == *as_stood
 }
 
-/// Whether each of these fullwords stands, on a page that is present, as it stood.
-pub fn stands<S: Storage>(storage: &S, text: &[Fullword]) -> bool
-    ensures same { result ≡ true → All (IsAsItStood (S.memory storage.now).bytes (S.present storage.now)) text.now }
-    ensures other { All (IsAsItStood (S.memory storage.now).bytes (S.present storage.now)) text.now → result ≡ true }
+/// Returns whether each of these fullwords is, on a page that is present, as it was.
+pub fn stands<S: Storage>(storage: &S, text: &[WordAt]) -> bool
+    ensures same { result ≡ true
+        → All (IsAsItStood (S.memory storage.now).bytes (S.present storage.now)) text.now }
+    ensures other { All (IsAsItStood (S.memory storage.now).bytes (S.present storage.now)) text.now
+        → result ≡ true }
 {
     for word in text {
         if !is_as_it_stood(storage, word) {
@@ -58,22 +64,23 @@ pub fn stands<S: Storage>(storage: &S, text: &[Fullword]) -> bool
     true
 }
 
-/// The fullword with this number, as it stands.
-fn fullword_from<S: Storage>(storage: &S, start: u32) -> Fullword
+/// Returns the fullword with this number, as it is.
+fn fullword_from<S: Storage>(storage: &S, start: u32) -> WordAt
     requires { IsGranted (length (S.memory storage.now).bytes) (S.present storage.now) start 4 }
     ensures { result ≡ fullword_at (S.memory storage.now).bytes start }
 {
     let mut bytes = [0u8; 4];
     storage.load(start, &mut bytes);
-    Fullword { start, bytes }
+    WordAt { start, bytes }
 }
 
-/// Adds the fullword of a number, a fourth of its address, as it stands, where it lies in storage.
-fn add<S: Storage>(storage: &S, number: u32, text: &mut Vec<Fullword>) -> Result<(), AllocError>
+/// Adds the fullword of a number, a fourth of its address, as it is, where it lies in storage.
+fn add<S: Storage>(storage: &S, number: u32, text: &mut Vec<WordAt>) -> Result<(), AllocError>
     requires { number * 4 + 4 ≤ length (S.memory storage.now).bytes
         → IsGranted (length (S.memory storage.now).bytes) (S.present storage.now) (number * 4) 4 }
     ensures { OnOk result
-        (IsAdded (S.memory storage.now).bytes (S.present storage.now) number text.old.items text.new.items) }
+        (IsAdded (S.memory storage.now).bytes (S.present storage.now) number text.old.items
+        text.new.items) }
 {
     let start = u64::from(number) * 4;
     if start + 4 > u64::from(storage.size()) {
@@ -83,21 +90,25 @@ fn add<S: Storage>(storage: &S, number: u32, text: &mut Vec<Fullword>) -> Result
     Ok(())
 }
 
-/// The fullwords of these numbers, each a fourth of an address, that lie in storage, as they stand.
+/// Returns the fullwords of these numbers, each a fourth of an address, that lie in storage, as
+/// they are.
 fn fullwords<S: Storage>(
     alloc: Global,
     storage: &S,
     numbers: &[u32],
-) -> Result<Vec<Fullword>, AllocError>
-    requires here { (n : ℕ) → Contains numbers.now n → n * 4 + 4 ≤ length (S.memory storage.now).bytes
+) -> Result<Vec<WordAt>, AllocError>
+    requires here { (n : ℕ) → Contains numbers.now n
+        → n * 4 + 4 ≤ length (S.memory storage.now).bytes
         → IsGranted (length (S.memory storage.now).bytes) (S.present storage.now) (n * 4) 4 }
     ensures all { IfOk result (λ text. (n : ℕ) → Contains numbers.now n
         → n * 4 + 4 ≤ length (S.memory storage.now).bytes
         → Contains text.items (fullword_at (S.memory storage.now).bytes (n * 4))) }
     ensures stands { IfOk result
-        (λ text. All (IsAsItStood (S.memory storage.now).bytes (S.present storage.now)) text.items) }
-    ensures only { IfOk result (λ text. (w : Fullword) → Contains text.items w
-        → (n : ℕ) × Contains numbers.now n × (w ≡ fullword_at (S.memory storage.now).bytes (n * 4))) }
+        (λ text. All (IsAsItStood (S.memory storage.now).bytes (S.present storage.now))
+        text.items) }
+    ensures only { IfOk result (λ text. (w : WordAt) → Contains text.items w
+        → (n : ℕ) × Contains numbers.now n
+        × (w ≡ fullword_at (S.memory storage.now).bytes (n * 4))) }
 {
     let mut text = Vec::new(alloc);
     for number in numbers {
@@ -108,42 +119,54 @@ fn fullwords<S: Storage>(
 
 /// What is found of a program before it runs, and its words where no input can change them.
 #[derive(Drop)]
-pub enum Found {
+pub enum Analysis {
     /// A page is not present that it needs.
     Page(Page),
-    /// Its pages are present, and no input can change these fullwords, in which its words and lists lie; their areas lie
-    /// on these pages.
-    Fixed(Vec<Fullword>, Vec<Page>),
+    /// Its pages are present, and no input can change these fullwords, in which its words and lists
+    /// lie; their areas lie on these pages.
+    Fixed(Vec<WordAt>, Vec<Page>),
     /// Its pages are present, and an input could change one of its words or lists.
-    Open,
+    SelfModifying,
 }
 
-/// What is found of the program from an address on: the first of its pages that is not present, breadth first from
-/// there, of each word its own page first and then those of its area upwards; or, where all of them are, its words. An
-/// error is memory.
-pub fn look<S: Storage>(alloc: Global, storage: &S, start: u32) -> Result<Found, AllocError>
+/// Returns what is found of the program from an address on: the first of its pages that is not
+/// present, breadth first from there, of each word its own page first and then those of its area
+/// upwards; or, where all of them are, its words. An error is memory.
+///
+/// # Errors
+///
+/// `AllocError` if memory is refused.
+pub fn analyze<S: Storage>(alloc: Global, storage: &S, start: u32) -> Result<Analysis, AllocError>
     requires even { start % 8 ≡ 0 }
     requires whole { length (S.memory storage.now).bytes % 4 ≡ 0 }
     ensures away { IfOk result
-        (λ found. IfFound found (IsAway (length (S.memory storage.now).bytes) (S.present storage.now))) }
-    ensures needed { IfOk result (λ found. IfFound found (IsProgramPage (S.memory storage.now) start)) }
-    ensures fixed { IfOk result (λ found. IfText found (λ text. IsFixed (S.memory storage.now) start)) }
+        (λ found. IfFound found (IsAway (length (S.memory storage.now).bytes)
+        (S.present storage.now))) }
+    ensures needed { IfOk result
+        (λ found. IfFound found (IsProgramPage (S.memory storage.now) start)) }
+    ensures fixed { IfOk result
+        (λ found. IfText found (λ text. IsFixed (S.memory storage.now) start)) }
     ensures held { IfOk result
-        (λ found. IfText found (λ text. IsHeld (S.memory storage.now) start (S.present storage.now))) }
-    ensures text { IfOk result (λ found. IfText found (λ text. IsText (S.memory storage.now) start text)) }
-    ensures only { IfOk result (λ found. IfText found (λ text. IsTextOnly (S.memory storage.now) start text)) }
+        (λ found. IfText found (λ text.
+        IsHeld (S.memory storage.now) start (S.present storage.now))) }
+    ensures text { IfOk result
+        (λ found. IfText found (λ text. IsText (S.memory storage.now) start text)) }
+    ensures only { IfOk result
+        (λ found. IfText found (λ text. IsTextOnly (S.memory storage.now) start text)) }
     ensures stands { IfOk result
-        (λ found. IfText found (λ text. All (IsAsItStood (S.memory storage.now).bytes (S.present storage.now)) text)) }
-    ensures pages { IfOk result (λ found. IfPages found (λ pages. IsPaged (S.memory storage.now) start pages)) }
+        (λ found. IfText found (λ text.
+        All (IsAsItStood (S.memory storage.now).bytes (S.present storage.now)) text)) }
+    ensures pages { IfOk result
+        (λ found. IfPages found (λ pages. IsPaged (S.memory storage.now) start pages)) }
     ensures pages_only { IfOk result
         (λ found. IfPages found (λ pages. IsPagedOnly (S.memory storage.now) start pages)) }
     ensures open { IfOk result (λ found. IfOpen found (IsClash (S.memory storage.now) start)) }
 {
     let notes = match judge(alloc, storage, start)? {
-        Judged::Page(page) => return Ok(Found::Page(page)),
-        Judged::Open => return Ok(Found::Open),
+        Judged::Page(page) => return Ok(Analysis::Page(page)),
+        Judged::SelfModifying => return Ok(Analysis::SelfModifying),
         Judged::Fixed(notes) => notes,
     };
     let text = fullwords(alloc, storage, &notes.text)?;
-    Ok(Found::Fixed(text, notes.pages))
+    Ok(Analysis::Fixed(text, notes.pages))
 }

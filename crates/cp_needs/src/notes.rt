@@ -1,16 +1,18 @@
 //! What is noted of a program's words, to see whether an input of it could change one of them.
-ghost use Rattle.std.specs.Prelude.{[], ◌≡◌, ◌<◌, ◌≤◌, ◌%◌, IfOk, OnOk, length, slice_index, true, ℕ};
+ghost use Rattle.std.specs.Prelude.{[], ◌≡◌, ◌<◌, ◌≤◌, ◌%◌, IfOk, OnOk, length, slice_index, true};
+ghost use Rattle.std.specs.Prelude.{ℕ};
 ghost use Rattle.channel_laws.specs.Tracks as tracks;
 ghost use Rattle.cp_needs.specs.Areas.{IsAreaByte, IsListByte};
 ghost use Rattle.cp_needs.specs.Needs.{IsDataByte, IsTextByte};
-ghost use Rattle.cp_needs.specs.Noted.{AreMarked, AreStored, ArePaged, IsDataOf, IsEntryByte, IsFilled, IsFilledAt, IsFilledBy, IsPieceByte, IsTextOf};
+ghost use Rattle.cp_needs.specs.Noted.{AreMarked, AreStored, ArePaged, IsDataOf, IsEntryByte};
+ghost use Rattle.cp_needs.specs.Noted.{IsFilled, IsFilledAt, IsFilledBy, IsPieceByte, IsTextOf};
 ghost use Rattle.cp_needs.specs.Words.{IsAreaPage, IsHere, IsPageAt};
 
 use crate::areas::{block_here, bytes_in_block, list_address};
 use cp_graph::has_area;
 use s370_channel::fetch_word;
 use s370_store::{PAGE_SIZE, Page, Range, Storage};
-use s370_walk::{Flags, Word};
+use s370_walk::{Ccw, Flags};
 use std::alloc::{AllocError, Global};
 
 /// What words of a program say of storage.
@@ -25,9 +27,10 @@ pub(crate) struct Notes {
 }
 
 /// Notes the word of a word's list that says where a block of its area begins.
-fn note_entry(text: &mut Vec<u32>, word: &Word, number: u32) -> Result<(), AllocError>
+fn note_entry(text: &mut Vec<u32>, word: &Ccw, number: u32) -> Result<(), AllocError>
     requires has { tracks.has_area word.now ≡ true }
-    ensures marked { OnOk result (AreMarked (IsEntryByte word.now number) text.old.items text.new.items) }
+    ensures marked { OnOk result
+        (AreMarked (IsEntryByte word.now number) text.old.items text.new.items) }
 {
     if word.flags.has(Flags::INDIRECT) {
         text.push(list_address(word, number) / 4)?;
@@ -36,8 +39,9 @@ fn note_entry(text: &mut Vec<u32>, word: &Word, number: u32) -> Result<(), Alloc
 }
 
 /// Notes a piece of a word's area.
-fn note_piece(filled: &mut Vec<Range>, word: &Word, piece: Range) -> Result<(), AllocError>
-    ensures stored { OnOk result (AreStored (IsPieceByte word.now piece) filled.old.items filled.new.items) }
+fn note_piece(filled: &mut Vec<Range>, word: &Ccw, piece: Range) -> Result<(), AllocError>
+    ensures stored { OnOk result
+        (AreStored (IsPieceByte word.now piece) filled.old.items filled.new.items) }
 {
     if !word.flags.has(Flags::SKIP) {
         filled.push(piece)?;
@@ -46,15 +50,18 @@ fn note_piece(filled: &mut Vec<Range>, word: &Word, piece: Range) -> Result<(), 
 }
 
 /// Notes the list and the area of a word, whose pages are present, block by block.
-fn note_area<S: Storage>(storage: &S, word: &Word, notes: &mut Notes) -> Result<(), AllocError>
+fn note_area<S: Storage>(storage: &S, word: &Ccw, notes: &mut Notes) -> Result<(), AllocError>
     requires here { (page : ℕ) → IsAreaPage (S.memory storage.now) word.now page
         → IsHere (length (S.memory storage.now).bytes) (S.present storage.now) page }
     ensures marked { OnOk result
-        (AreMarked (IsListByte (S.memory storage.now) word.now) notes.old.text.items notes.new.text.items) }
+        (AreMarked (IsListByte (S.memory storage.now) word.now) notes.old.text.items
+        notes.new.text.items) }
     ensures stored { OnOk result
-        (AreStored (IsFilled (S.memory storage.now) word.now) notes.old.filled.items notes.new.filled.items) }
+        (AreStored (IsFilled (S.memory storage.now) word.now) notes.old.filled.items
+        notes.new.filled.items) }
     ensures paged { OnOk result
-        (ArePaged (IsAreaByte (S.memory storage.now) word.now) notes.old.pages.items notes.new.pages.items) }
+        (ArePaged (IsAreaByte (S.memory storage.now) word.now) notes.old.pages.items
+        notes.new.pages.items) }
 {
     if !has_area(word) {
         return Ok(());
@@ -89,11 +96,14 @@ fn note_word<S: Storage>(storage: &S, address: u32, notes: &mut Notes) -> Result
     requires here { (page : ℕ) → IsPageAt (S.memory storage.now) address page
         → IsHere (length (S.memory storage.now).bytes) (S.present storage.now) page }
     ensures marked { OnOk result
-        (AreMarked (IsTextByte (S.memory storage.now) address) notes.old.text.items notes.new.text.items) }
+        (AreMarked (IsTextByte (S.memory storage.now) address) notes.old.text.items
+        notes.new.text.items) }
     ensures stored { OnOk result
-        (AreStored (IsFilledAt (S.memory storage.now) address) notes.old.filled.items notes.new.filled.items) }
+        (AreStored (IsFilledAt (S.memory storage.now) address) notes.old.filled.items
+        notes.new.filled.items) }
     ensures paged { OnOk result
-        (ArePaged (IsDataByte (S.memory storage.now) address) notes.old.pages.items notes.new.pages.items) }
+        (ArePaged (IsDataByte (S.memory storage.now) address) notes.old.pages.items
+        notes.new.pages.items) }
 {
     notes.text.push(address / 4)?;
     notes.text.push(address / 4 + 1)?;
@@ -119,11 +129,14 @@ pub(crate) fn notes_of<S: Storage>(
         → IsPageAt (S.memory storage.now) (slice_index words.now i) page
         → IsHere (length (S.memory storage.now).bytes) (S.present storage.now) page }
     ensures marked { IfOk result
-        (λ notes. AreMarked (IsTextOf (S.memory storage.now) words.now (length words.now)) [] notes.text.items) }
+        (λ notes. AreMarked (IsTextOf (S.memory storage.now) words.now (length words.now)) []
+        notes.text.items) }
     ensures stored { IfOk result
-        (λ notes. AreStored (IsFilledBy (S.memory storage.now) words.now (length words.now)) [] notes.filled.items) }
+        (λ notes. AreStored (IsFilledBy (S.memory storage.now) words.now (length words.now)) []
+        notes.filled.items) }
     ensures paged { IfOk result
-        (λ notes. ArePaged (IsDataOf (S.memory storage.now) words.now (length words.now)) [] notes.pages.items) }
+        (λ notes. ArePaged (IsDataOf (S.memory storage.now) words.now (length words.now)) []
+        notes.pages.items) }
 {
     let mut notes = Notes {
         text: Vec::new(alloc),

@@ -6,10 +6,11 @@ ghost use Rattle.s370_store.specs.Access.{IsAway};
 use s370_num::AccessKey;
 use s370_store::{Access, Fault, PAGE_SIZE, Page, Range, Storage};
 
-/// The page of an address, where the storage has it and it is not present.
+/// Returns the page of an address, where the storage has it and it is not present.
 pub(crate) fn absent_at<S: Storage>(storage: &S, address: u32) -> Option<Page>
     ensures page { IfSome result (λ page. page.0 ≡ address / 4096) }
-    ensures away { IfSome result (λ page. IsAway (length (S.memory storage.now).bytes) (S.present storage.now) page.0) }
+    ensures away { IfSome result
+        (λ page. IsAway (length (S.memory storage.now).bytes) (S.present storage.now) page.0) }
     ensures here { IfNone result
         (IsHere (length (S.memory storage.now).bytes) (S.present storage.now) (address / 4096)) }
 {

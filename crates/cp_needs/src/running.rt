@@ -10,8 +10,12 @@ use s370_channel::{ChannelError, Guest, Limits, run};
 use s370_store::Storage;
 use s370_walk::{Device, Ending};
 
-/// Runs the program from an address on, each word read when it is reached, over a storage that has the pages which it
-/// needs, where no input can change it: it stops for want of memory alone.
+/// Runs the program from an address on, each word read when it is reached, over a storage that has
+/// the pages which it needs, where no input can change it: it stops only if memory is refused.
+///
+/// # Errors
+///
+/// A `ChannelError`: refused memory that a command or the analysis needs.
 pub fn run_held<S: Storage, D: Device>(
     storage: &mut S,
     start: u32,
@@ -25,7 +29,8 @@ pub fn run_held<S: Storage, D: Device>(
         (Over ending (S.memory storage.new) device.new)) }
     ensures memory { IfErr result (λ error. error ≡ errors.Memory) }
     ensures short { IfErr result
-        (MatchStuck guest_written (setting D.machine limits.now) D.needs_memory (S.present storage.old)
+        (MatchStuck guest_written (setting D.machine limits.now) D.needs_memory
+        (S.present storage.old)
         (Fetching (start_spot start) (S.memory storage.old) device.old)) }
     ensures rest { S.Keeps storage.old storage.new }
 {

@@ -1,8 +1,10 @@
 //! The words of a program, and the first of its pages that is not present.
-ghost use Rattle.std.specs.Prelude.{◌≡◌, ◌+◌, ◌*◌, ◌/◌, ◌%◌, ◌<◌, ◌≤◌, IfErr, IfNone, IfOk, IfSome, OnOk, length, true, vec_len, ℕ};
+ghost use Rattle.std.specs.Prelude.{◌≡◌, ◌+◌, ◌*◌, ◌/◌, ◌%◌, ◌<◌, ◌≤◌, IfErr, IfNone, IfOk, IfSome};
+ghost use Rattle.std.specs.Prelude.{OnOk, length, true, vec_len, ℕ};
 ghost use Rattle.cp_graph.specs.Marks.{unmarked};
 ghost use Rattle.cp_needs.specs.Needs.{IsHeld, IsProgramPage};
-ghost use Rattle.cp_needs.specs.Words.{AreSeen, AreSteps, AreWords, IsAmong, IsFollowed, IsPageAt, IsVisited};
+ghost use Rattle.cp_needs.specs.Words.{AreSeen, AreSteps, AreWords, IsAmong, IsFollowed, IsPageAt};
+ghost use Rattle.cp_needs.specs.Words.{IsVisited};
 ghost use Rattle.s370_store.specs.Access.{IsAway};
 
 use crate::areas::absent_in_area;
@@ -12,7 +14,8 @@ use s370_channel::fetch_word;
 use s370_store::{Page, Storage};
 use std::alloc::{AllocError, Global};
 
-/// Adds an address to those that are found, where a word leads there, a page of storage has it and it is new.
+/// Adds an address to those that are found, where a word leads there, a page of storage has it and
+/// it is new.
 fn follow(
     words: &mut Vec<u32>,
     seen: &mut Slots,
@@ -22,7 +25,8 @@ fn follow(
     requires even { leads ≡ true → address % 8 ≡ 0 }
     requires known { AreSeen words.old.items seen.old }
     ensures words { OnOk result (IsFollowed leads address words.old.items words.new.items) }
-    ensures found { OnOk result (leads ≡ true → address / 8 < length seen.new → IsAmong words.new.items address) }
+    ensures found { OnOk result
+        (leads ≡ true → address / 8 < length seen.new → IsAmong words.new.items address) }
     ensures known { OnOk result (AreSeen words.new.items seen.new) }
     ensures count { OnOk result
         (vec_len words.new + unmarked seen.new ≡ vec_len words.old + unmarked seen.old) }
@@ -37,7 +41,8 @@ fn follow(
     Ok(())
 }
 
-/// Looks at the word at an address: adds where it leads, and finds the first of its pages that is not present.
+/// Looks at the word at an address: adds where it leads, and finds the first of its pages that is
+/// not present.
 fn visit<S: Storage>(
     storage: &S,
     words: &mut Vec<u32>,
@@ -47,12 +52,15 @@ fn visit<S: Storage>(
     requires even { address % 8 ≡ 0 }
     requires known { AreSeen words.old.items seen.old }
     ensures away { IfOk result
-        (λ found. IfSome found (λ page. IsAway (length (S.memory storage.now).bytes) (S.present storage.now) page.0)) }
-    ensures asked { IfOk result (λ found. IfSome found (λ page. IsPageAt (S.memory storage.now) address page.0)) }
+        (λ found. IfSome found (λ page.
+        IsAway (length (S.memory storage.now).bytes) (S.present storage.now) page.0)) }
+    ensures asked { IfOk result
+        (λ found. IfSome found (λ page. IsPageAt (S.memory storage.now) address page.0)) }
     ensures steps { IfOk result (λ found. IfNone found
         (AreSteps (S.memory storage.now) address words.old.items words.new.items)) }
     ensures visited { IfOk result (λ found. IfNone found
-        (IsVisited (S.memory storage.now) (S.present storage.now) (length seen.new) words.new.items address)) }
+        (IsVisited (S.memory storage.now) (S.present storage.now) (length seen.new) words.new.items
+        address)) }
     ensures known { IfOk result (λ found. IfNone found (AreSeen words.new.items seen.new)) }
     ensures count { IfOk result (λ found. IfNone found
         (vec_len words.new + unmarked seen.new ≡ vec_len words.old + unmarked seen.old)) }
@@ -73,20 +81,22 @@ fn visit<S: Storage>(
     Ok(absent_in_area(storage, &word))
 }
 
-/// The addresses of the words that the program from an address on can reach, on pages of storage; or the first page
-/// that it needs and that is not present.
+/// Returns the addresses of the words that the program from an address on can reach, on pages of
+/// storage; or the first page that it needs and that is not present.
 pub(crate) fn words_of<S: Storage>(
     alloc: Global,
     storage: &S,
     start: u32,
 ) -> Result<Result<Vec<u32>, Page>, AllocError>
     requires even { start % 8 ≡ 0 }
-    ensures words { IfOk result (λ found. IfOk found (λ words. AreWords (S.memory storage.now) start words.items)) }
+    ensures words { IfOk result
+        (λ found. IfOk found (λ words. AreWords (S.memory storage.now) start words.items)) }
     ensures held { IfOk result (λ found. IfOk found
         (λ words. IsHeld (S.memory storage.now) start (S.present storage.now))) }
     ensures away { IfOk result (λ found. IfErr found
         (λ page. IsAway (length (S.memory storage.now).bytes) (S.present storage.now) page.0)) }
-    ensures needed { IfOk result (λ found. IfErr found (λ page. IsProgramPage (S.memory storage.now) start page.0)) }
+    ensures needed { IfOk result
+        (λ found. IfErr found (λ page. IsProgramPage (S.memory storage.now) start page.0)) }
 {
     let mut seen = Slots::new(alloc, (storage.size() as usize + 4095) / 4096 * 512);
     let mut words = Vec::new(alloc);

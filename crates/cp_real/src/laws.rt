@@ -7,20 +7,24 @@ ghost use Rattle.channel_laws.specs.Unstuck.{ArePresent};
 ghost use Rattle.cp_real.specs.Layout.{real_bytes, real_keys, is_real_page, real_of};
 ghost use Rattle.cp_real.specs.Mapped.{IsLent, AreHeld};
 
-/// What stands at a user's addresses stands at the addresses of his frames, under the same keys.
+/// States that what is at a user's addresses is at the addresses of his frames, under the same
+/// keys.
 pub fn real_storage_is_mapped()
     ensures { (storage keys area : List ℕ) (owners : List (Option UserPage)) (user : ℕ)
-        → length storage ≤ 4294967295 → length owners ≤ 4096 → IsLent storage keys area owners user }
+        → length storage ≤ 4294967295 → length owners ≤ 4096
+        → IsLent storage keys area owners user }
 {}
 
-/// And for a program that names only addresses on pages that stand in frames, or past storage, that is all that a run
-/// over real addresses takes for granted.
+/// States that a run over real addresses takes no more for granted, if the program names only
+/// addresses on pages that are in frames, or past storage.
 pub fn held_programs_are_mapped()
-    ensures mapped { (storage keys own : List ℕ) (owners : List (Option UserPage)) (user : ℕ) (c : Program)
+    ensures mapped { (storage keys own : List ℕ) (owners : List (Option UserPage)) (user : ℕ)
+        (c : Program)
         → length storage ≤ 4294967295 → length owners ≤ 4096 → length storage % 4096 ≡ 0
         → AreHeld c owners user (length storage)
         → IsMapped (real_of owners user (length storage)) (Named c) (memory_of storage keys)
-        (memory_of (real_bytes storage owners user own) (real_keys storage keys owners user (length own))) }
+        (memory_of (real_bytes storage owners user own)
+        (real_keys storage keys owners user (length own))) }
     ensures present { (storage : List ℕ) (owners : List (Option UserPage)) (user : ℕ)
         → ArePresent (real_of owners user (length storage)) (is_real_page storage owners user) }
 {}

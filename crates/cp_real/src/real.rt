@@ -1,5 +1,6 @@
 //! The storage of a channel program that was given real addresses.
-ghost use Rattle.std.specs.Prelude.{◌≡◌, ℕ, ◌+◌, ◌*◌, ◌/◌, ◌%◌, ◌<◌, ◌≤◌, Option, Some, None, true, length, slice_index, slice_range, IsSome, IfSome};
+ghost use Rattle.std.specs.Prelude.{◌≡◌, ℕ, ◌+◌, ◌*◌, ◌/◌, ◌%◌, ◌<◌, ◌≤◌, Option, Some, None, true};
+ghost use Rattle.std.specs.Prelude.{length, slice_index, slice_range, IsSome, IfSome};
 ghost use Rattle.cp_dat.specs.Lent.{lent_bytes, lent_pool, lent_keys, user_of};
 ghost use Rattle.s370_store.specs.Access.{IsGranted};
 ghost use Rattle.s370_store.specs.Memory.{with_stored};
@@ -8,10 +9,10 @@ ghost use Rattle.cp_real.specs.Layout.{page_of};
 use cp_dat::Dat;
 use cp_frames::FrameNo;
 use s370_num::{AccessKey, StorageKey};
-use s370_store::{Access, Block, Fault, Keyed, Keyring, Page, Range, Storage, put_at, test_range};
+use s370_store::{Access, Block, Fault, KeyTable, Keyed, Page, Range, Storage, put_at, test_range};
 
-/// A user's pages at the addresses of the frames in which they stand, and an area of the control program behind the
-/// frames. Addresses are counted in bytes; frame `f` begins at `4096 * f`.
+/// A user's pages at the addresses of the frames in which they are, and an area of the control
+/// program after the frames. Addresses are counted in bytes; frame `f` begins at `4096 * f`.
 #[derive(Drop)]
 pub struct Real<'a, 'b, 'c> {
     /// Whose pages are seen.
@@ -27,13 +28,15 @@ pub struct Real<'a, 'b, 'c> {
 }
 
 impl<'a, 'b, 'c> Real<'a, 'b, 'c> {
-    ghost use Rattle.cp_real.specs.Shown.{real_bytes_of, real_memory_of, is_real_page_of, KeepsReal};
+    ghost use Rattle.cp_real.specs.Shown.{real_bytes_of, real_memory_of, is_real_page_of};
+    ghost use Rattle.cp_real.specs.Shown.{KeepsReal};
 
-    /// The user's page in a frame.
+    /// Returns the user's page in a frame.
     fn page_at(&self, frame: u32) -> Option<u32>
         requires { frame < self.now.frames }
         ensures page { result ≡ page_of self.now.dat.now frame }
-        ensures whole { IfSome result (λ page. page * 4096 + 4096 ≤ length (lent_bytes self.now.dat.now)) }
+        ensures whole { IfSome result
+            (λ page. page * 4096 + 4096 ≤ length (lent_bytes self.now.dat.now)) }
         ensures low { IfSome result (λ page. page * 4096 + 4096 ≤ 4294967295) }
         ensures keyed { IfSome result (λ page. 2 * page + 1 < length (lent_keys self.now.dat.now)) }
     {
@@ -49,7 +52,7 @@ impl<'a, 'b, 'c> Real<'a, 'b, 'c> {
         }
     }
 
-    /// The key of a block of the user's storage.
+    /// Returns the key of a block of the user's storage.
     fn key_of(&self, block: u32) -> StorageKey
         requires { block < length (lent_keys self.now.dat.now) }
         ensures { result ≡ slice_index (lent_keys self.now.dat.now) block }
@@ -57,7 +60,7 @@ impl<'a, 'b, 'c> Real<'a, 'b, 'c> {
         self.dat.key_of(block)
     }
 
-    /// Whether a page of real storage can be reached.
+    /// Returns whether a page of real storage can be reached.
     fn is_here(&self, page: u32) -> bool
         ensures { result ≡ is_real_page_of self.now page }
     {
@@ -103,7 +106,8 @@ impl<'a, 'b, 'c> Real<'a, 'b, 'c> {
     fn store_area(&mut self, start: u32, from: &[u8])
         requires begins { self.old.frames * 4096 ≤ start }
         requires inside { start + length from.now ≤ length (real_bytes_of self.old) }
-        ensures stored { real_memory_of self.new ≡ with_stored (real_memory_of self.old) start from.now }
+        ensures stored { real_memory_of self.new
+            ≡ with_stored (real_memory_of self.old) start from.now }
         ensures rest { KeepsReal self.old self.new }
     {
         put_at(self.area, (start - self.frames * 4096) as usize, from);
@@ -116,7 +120,8 @@ impl<'a, 'b, 'c> Real<'a, 'b, 'c> {
         requires one_page { start % 4096 + length from.now ≤ 4096 }
         requires inside { start + length from.now ≤ length (real_bytes_of self.old) }
         requires here { is_real_page_of self.old (start / 4096) ≡ true }
-        ensures stored { real_memory_of self.new ≡ with_stored (real_memory_of self.old) start from.now }
+        ensures stored { real_memory_of self.new
+            ≡ with_stored (real_memory_of self.old) start from.now }
         ensures size { length (real_bytes_of self.new) ≡ length (real_bytes_of self.old) }
         ensures present { is_real_page_of self.new ≡ is_real_page_of self.old }
         ensures rest { KeepsReal self.old self.new }
@@ -139,7 +144,7 @@ struct RealKeys<'a, 'b, 'c, 'd> {
     real: &'d Real<'a, 'b, 'c>,
 }
 
-impl<'a, 'b, 'c, 'd> Keyring for RealKeys<'a, 'b, 'c, 'd> {
+impl<'a, 'b, 'c, 'd> KeyTable for RealKeys<'a, 'b, 'c, 'd> {
     ghost use Rattle.cp_real.specs.Shown.{real_keys_of};
 
     ghost of_blocks = { λ k. real_keys_of k.real.now };
@@ -157,7 +162,10 @@ impl<'a, 'b, 'c, 'd> Keyring for RealKeys<'a, 'b, 'c, 'd> {
 }
 
 impl<'a, 'b, 'c> Storage for Real<'a, 'b, 'c> {
-    ghost use Rattle.cp_real.specs.Shown.{real_memory_of, is_real_page_of, KeepsReal, keeps_real_same, keeps_real_size, keeps_real_keys, keeps_real_present, keeps_real_on, IsInArea, in_area_kept};
+    ghost use Rattle.cp_real.specs.Shown.{real_memory_of, is_real_page_of, KeepsReal};
+    ghost use Rattle.cp_real.specs.Shown.{keeps_real_same, keeps_real_size, keeps_real_keys};
+    ghost use Rattle.cp_real.specs.Shown.{keeps_real_present, keeps_real_on, IsInArea};
+    ghost use Rattle.cp_real.specs.Shown.{in_area_kept};
 
     ghost memory = { real_memory_of };
 
@@ -188,7 +196,8 @@ impl<'a, 'b, 'c> Storage for Real<'a, 'b, 'c> {
         Ok(())
     }
 
-    /// A channel moves each byte once, so no block is found. Only one of the area could be: it moves at no time.
+    /// Finds no block, since a channel moves each byte once. Only one of the area could be: it
+    /// moves at no time.
     fn find_block(&self, _start: u32, _access: Access, _key: AccessKey) -> Option<Block> {
         None
     }

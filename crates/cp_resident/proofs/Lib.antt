@@ -1,4 +1,5 @@
 mod Emptied
-pub mod Kept
+pub mod CachedProgram
 pub mod Refused
 pub mod Ran
+mod Roomy

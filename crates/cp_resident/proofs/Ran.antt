@@ -1,5 +1,6 @@
 -- What programs of a user's devices leave: those whose pages are held, and those that were tried.
-use Rattle.std.proofs.Common.{◌≡◌, ◌∙◌, ap, sym, subst, ℕ, ◌*◌, ◌<◌, List, [], ◌∷◌, ◌++◌, length, refl, Option, None, Some, Result, Ok, Err, arith, inl, inr}
+use Rattle.std.proofs.Common.{◌≡◌, ◌∙◌, ap, sym, subst, ℕ, ◌*◌, ◌<◌, List, [], ◌∷◌, ◌++◌, length, refl, Option, None}
+use Rattle.std.proofs.Common.{Some, Result, Ok, Err, arith, inl, inr}
 use Rattle.std.specs.Prelude.{IfErr, IfOk, OnOk, slice_get}
 use Rattle.std.proofs.lemmas.Option.{slice_get_cases}
 use Rattle.s370_channel.specs.declared.words.Caw.{Caw}
@@ -7,7 +8,7 @@ use Rattle.s370_store.specs.declared.Page.{Page}
 use Rattle.s370_store.specs.Memory.{Memory}
 use Rattle.machine_channels.specs.Disks.{DiskAt}
 use Rattle.cp_hold.specs.Holding.{HoldNeeds, IsFixedProgram}
-use Rattle.cp_needs.specs.declared.kept.Fullword.{Fullword}
+use Rattle.cp_needs.specs.declared.kept.WordAt.{WordAt}
 use Rattle.cp_volumes.specs.Running.{DiskLoadTouches, DiskTouches}
 use Rattle.s370_channel.specs.declared.running.ChannelError.{ChannelError}
 use Rattle.s370_channel.specs.declared.running.ChannelError.TheVariants as errors
@@ -21,21 +22,23 @@ use Rattle.cp_dat.specs.Lent.{KeepsStored, is_lent_page, lent_bytes, lent_memory
 use Rattle.cp_dat.specs.Letting.{let_go_between, let_go_came}
 use Rattle.cp_dat.specs.Supplied.{IsBetweenUnits, Supplied, TakesPins}
 use Rattle.cp_frames.specs.Paging.{IsRefused}
-use Rattle.cp_trial.specs.declared.TriedError.{TriedError}
-use Rattle.cp_trial.specs.declared.TriedError.TheVariants as tries
-use Rattle.cp_trial.specs.Tried.{LacksSuch}
-use Rattle.cp_resident.specs.Resident.{CameIn, came_further, came_nowhere, told_by, told_of}
+use Rattle.cp_trial.specs.declared.DryRunError.{DryRunError}
+use Rattle.cp_trial.specs.declared.DryRunError.TheVariants as tries
+use Rattle.cp_trial.specs.DryRun.{LacksSuch}
+use Rattle.cp_resident.specs.GuestChannels.{PagedIn, came_further, came_nowhere, told_by, error_of}
 use Rattle.cp_resident.proofs.Refused.{each_for, no_room, room_of}
 
--- ---- want of memory alone
+-- ---- lack of memory alone
 
-pub memory_whole : {E : Type 0} (r : Result E ChannelError) (size : ℕ) (Needs Out : ℕ → Type 0) (P : Type 0) → IfErr r (λ error. error ≡ errors.Memory) → IfErr r (WhereOut size Needs Out P)
+pub memory_whole : {E : Type 0} (r : Result E ChannelError) (size : ℕ) (Needs Out : ℕ → Type 0) (P : Type 0)
+    → IfErr r (λ error. error ≡ errors.Memory) → IfErr r (WhereOut size Needs Out P)
 memory_whole (Ok ending) size Needs Out P is = tt
 memory_whole (Err error) size Needs Out P is = subst (λ (e : ChannelError). WhereOut size Needs Out P e) (sym is) tt
 
 -- ---- nothing was brought
 
-pub still_came : (d0 d1 : Dat) (Needs : ℕ → Type 0) → IsBetweenUnits (lent_pool d0).supply → KeepsStored d0 d1 → Brings CameIn d0 Needs d1
+pub still_came : (d0 d1 : Dat) (Needs : ℕ → Type 0) → IsBetweenUnits (lent_pool d0).supply → KeepsStored d0 d1
+    → Brings PagedIn d0 Needs d1
 still_came d0 d1 Needs between kept = ([], came_further d0 d0 d1 [] (came_nowhere d0 between) kept, tt)
 
 -- ---- pages that were held
@@ -48,41 +51,54 @@ such_for : (P Q : ℕ → Type 0) → ((page : ℕ) → P page → Q page) → (
 such_for P Q more [] all = tt
 such_for P Q more (page ∷ pages) all = (more page all.0, such_for P Q more pages all.1)
 
-pub held_came : (d0 d1 d2 d3 : Dat) (Holds Needs : ℕ → Type 0) → ((page : ℕ) → Holds page → Needs page) → ((pages : List ℕ) × Supplied d0 pages d1 × AllSuch Holds pages) → lent_memory d1 ≡ lent_memory d0 → KeepsStored d1 d2 → TakesPins d2 d3 → lent_memory d3 ≡ lent_memory d2
-    → Brings CameIn d0 Needs d3
+pub held_came : (d0 d1 d2 d3 : Dat) (Holds Needs : ℕ → Type 0) → ((page : ℕ) → Holds page → Needs page)
+    → ((pages : List ℕ) × Supplied d0 pages d1 × AllSuch Holds pages) → lent_memory d1 ≡ lent_memory d0
+    → KeepsStored d1 d2 → TakesPins d2 d3 → lent_memory d3 ≡ lent_memory d2
+    → Brings PagedIn d0 Needs d3
 held_came d0 d1 d2 d3 Holds Needs more held first kept taken last =
     let pages = held.0 ++ [] in (
       pages ∷ [],
       record {
-        came = let_go_came d0 d2 d3 pages (supplied_on d0 d1 d2 held.0 [] held.1 (supplied_none d1 d2 kept.rest)) taken;
+        paged_in = let_go_came d0 d2 d3 pages (supplied_on d0 d1 d2 held.0 [] held.1 (supplied_none d1 d2 kept.rest))
+            taken;
         keys = ap (λ (m : Memory). m.keys) last ∙ kept.keys ∙ ap (λ (m : Memory). m.keys) first;
       },
       (such_on Needs held.0 [] (such_for Holds Needs more held.0 held.2) tt, tt),
     )
 
-pub held_between : (d0 d1 d2 d3 : Dat) (Holds : ℕ → Type 0) → ((pages : List ℕ) × Supplied d0 pages d1 × AllSuch Holds pages) → IsBetweenUnits (lent_pool d0).supply → KeepsStored d1 d2 → TakesPins d2 d3 → IsBetweenUnits (lent_pool d3).supply
-held_between d0 d1 d2 d3 Holds held between kept taken = let_go_between d0 d2 d3 (held.0 ++ []) between (supplied_on d0 d1 d2 held.0 [] held.1 (supplied_none d1 d2 kept.rest)) taken
+pub held_between : (d0 d1 d2 d3 : Dat) (Holds : ℕ → Type 0)
+    → ((pages : List ℕ) × Supplied d0 pages d1 × AllSuch Holds pages) → IsBetweenUnits (lent_pool d0).supply
+    → KeepsStored d1 d2 → TakesPins d2 d3 → IsBetweenUnits (lent_pool d3).supply
+held_between d0 d1 d2 d3 Holds held between kept taken =
+    let_go_between d0 d2 d3 (held.0 ++ []) between
+    (supplied_on d0 d1 d2 held.0 [] held.1 (supplied_none d1 d2 kept.rest)) taken
 
 -- ---- pages that were to be held, for one of which there was no room
 
-pub refused_came : (d0 d1 d2 : Dat) (Holds Needs : ℕ → Type 0) → ((page : ℕ) → Holds page → Needs page) → ((pages : List ℕ) × Supplied d0 pages d1 × AllSuch Holds pages) → lent_memory d1 ≡ lent_memory d0 → TakesPins d1 d2 → lent_memory d2 ≡ lent_memory d1
-    → Brings CameIn d0 Needs d2
+pub refused_came : (d0 d1 d2 : Dat) (Holds Needs : ℕ → Type 0) → ((page : ℕ) → Holds page → Needs page)
+    → ((pages : List ℕ) × Supplied d0 pages d1 × AllSuch Holds pages) → lent_memory d1 ≡ lent_memory d0
+    → TakesPins d1 d2 → lent_memory d2 ≡ lent_memory d1
+    → Brings PagedIn d0 Needs d2
 refused_came d0 d1 d2 Holds Needs more held first taken last = (
   held.0 ∷ [],
   record {
-    came = let_go_came d0 d1 d2 held.0 held.1 taken;
+    paged_in = let_go_came d0 d1 d2 held.0 held.1 taken;
     keys = ap (λ (m : Memory). m.keys) (last ∙ first);
   },
   (such_for Holds Needs more held.0 held.2, tt),
 )
 
-pub refused_between : (d0 d1 d2 : Dat) (Holds : ℕ → Type 0) → ((pages : List ℕ) × Supplied d0 pages d1 × AllSuch Holds pages) → IsBetweenUnits (lent_pool d0).supply → TakesPins d1 d2 → IsBetweenUnits (lent_pool d2).supply
+pub refused_between : (d0 d1 d2 : Dat) (Holds : ℕ → Type 0)
+    → ((pages : List ℕ) × Supplied d0 pages d1 × AllSuch Holds pages) → IsBetweenUnits (lent_pool d0).supply
+    → TakesPins d1 d2 → IsBetweenUnits (lent_pool d2).supply
 refused_between d0 d1 d2 Holds held between taken = let_go_between d0 d1 d2 held.0 between held.1 taken
 
-pub refused_whole : (error : TriedError) (d0 d1 d2 : Dat) (Holds Needs : ℕ → Type 0) (P : Type 0) → ((page : ℕ) → Holds page → Needs page) → ((page : ℕ) → Holds page → page * 4096 < length (lent_bytes d0))
-    → IsBetweenUnits (lent_pool d0).supply → ((pages : List ℕ) × Supplied d0 pages d1 × AllSuch Holds pages) → TakesPins d1 d2
+pub refused_whole : (error : DryRunError) (d0 d1 d2 : Dat) (Holds Needs : ℕ → Type 0) (P : Type 0)
+    → ((page : ℕ) → Holds page → Needs page) → ((page : ℕ) → Holds page → page * 4096 < length (lent_bytes d0))
+    → IsBetweenUnits (lent_pool d0).supply → ((pages : List ℕ) × Supplied d0 pages d1 × AllSuch Holds pages)
+    → TakesPins d1 d2
     → (error ≡ tries.FramesOut → (page : ℕ) × Holds page × IsRefused (lent_pool d1).supply (user_of d1) page) → P
-    → WhereOut (length (lent_bytes d0)) Needs (no_room d2 Needs) P (told_of error)
+    → WhereOut (length (lent_bytes d0)) Needs (no_room d2 Needs) P (error_of error)
 refused_whole tries.Memory d0 d1 d2 Holds Needs P more inside between held taken out p = tt
 refused_whole tries.FramesOut d0 d1 d2 Holds Needs P more inside between held taken out p =
     let o = out refl in (
@@ -97,10 +113,16 @@ refused_whole tries.FramesOut d0 d1 d2 Holds Needs P more inside between held ta
 
 -- ---- pages that were touched
 
-pub tried_came : (d0 d1 : Dat) (Touched Needs : ℕ → Type 0) → ((page : ℕ) → Touched page → Needs page) → CameOnly d0 Touched d1 → Brings CameIn d0 Needs d1
-tried_came d0 d1 Touched Needs more came = (came.units, record { came = came.came; keys = came.keys }, each_for Touched Needs more came.units came.only)
+pub tried_came : (d0 d1 : Dat) (Touched Needs : ℕ → Type 0) → ((page : ℕ) → Touched page → Needs page)
+    → CameOnly d0 Touched d1 → Brings PagedIn d0 Needs d1
+tried_came d0 d1 Touched Needs more paged_in = (
+  paged_in.units,
+  record { paged_in = paged_in.paged_in; keys = paged_in.keys },
+  each_for Touched Needs more paged_in.units paged_in.only,
+)
 
-pub tried_whole : (ran : Result Ending TriedError) (d0 d1 : Dat) (Touched Needs : ℕ → Type 0) (P : Type 0) → ((page : ℕ) → Touched page → Needs page) → length (lent_bytes d1) ≡ length (lent_bytes d0)
+pub tried_whole : (ran : Result Ending DryRunError) (d0 d1 : Dat) (Touched Needs : ℕ → Type 0) (P : Type 0)
+    → ((page : ℕ) → Touched page → Needs page) → length (lent_bytes d1) ≡ length (lent_bytes d0)
     → (ran ≡ Err tries.FramesOut → LacksSuch Touched d1) → (ran ≡ Err tries.FramesOut → P)
     → IfErr (told_by ran) (WhereOut (length (lent_bytes d0)) Needs (no_room d1 Needs) P)
 tried_whole (Ok ending) d0 d1 Touched Needs P more size lacking same = tt
@@ -116,14 +138,15 @@ tried_whole (Err tries.FramesOut) d0 d1 Touched Needs P more size lacking same =
       same refl,
     )
 
-pub tried_walk : (ran : Result Ending TriedError) (P : Ending → Type 0) → IfOk ran P → IfOk (told_by ran) P
+pub tried_walk : (ran : Result Ending DryRunError) (P : Ending → Type 0) → IfOk ran P → IfOk (told_by ran) P
 tried_walk (Ok ending) P p = p
 tried_walk (Err error) P p = tt
 
--- one that does not run, for want of memory or of room
-pub stopped_whole : (error : TriedError) (d0 d1 : Dat) (Touched Needs : ℕ → Type 0) (P : Type 0) → ((page : ℕ) → Touched page → Needs page) → length (lent_bytes d1) ≡ length (lent_bytes d0)
+-- one that does not run, for lack of memory or of room
+pub stopped_whole : (error : DryRunError) (d0 d1 : Dat) (Touched Needs : ℕ → Type 0) (P : Type 0)
+    → ((page : ℕ) → Touched page → Needs page) → length (lent_bytes d1) ≡ length (lent_bytes d0)
     → (error ≡ tries.FramesOut → LacksSuch Touched d1) → (error ≡ tries.FramesOut → P)
-    → WhereOut (length (lent_bytes d0)) Needs (no_room d1 Needs) P (told_of error)
+    → WhereOut (length (lent_bytes d0)) Needs (no_room d1 Needs) P (error_of error)
 stopped_whole tries.Memory d0 d1 Touched Needs P more size lacking same = tt
 stopped_whole tries.FramesOut d0 d1 Touched Needs P more size lacking same =
     let l = lacking refl in (
@@ -139,11 +162,15 @@ stopped_whole tries.FramesOut d0 d1 Touched Needs P more size lacking same =
 -- ---- the same bytes and keys
 
 -- a walk between two storages is one between storages that are as they are
-pub walk_moved : (r : Result Ending ChannelError) (W : Memory → Memory → Ending → Type 0) (m0 m1 m2 m3 : Memory) → m1 ≡ m0 → m3 ≡ m2 → IfOk r (W m1 m2) → IfOk r (W m0 m3)
-walk_moved r W m0 m1 m2 m3 first last walk = subst (λ (m : Memory). IfOk r (W m0 m)) (sym last) (subst (λ (m : Memory). IfOk r (W m m2)) first walk)
+pub walk_moved : (r : Result Ending ChannelError) (W : Memory → Memory → Ending → Type 0) (m0 m1 m2 m3 : Memory)
+    → m1 ≡ m0 → m3 ≡ m2 → IfOk r (W m1 m2) → IfOk r (W m0 m3)
+walk_moved r W m0 m1 m2 m3 first last walk =
+    subst (λ (m : Memory). IfOk r (W m0 m)) (sym last) (subst (λ (m : Memory). IfOk r (W m m2)) first walk)
 
-pub fixed_there : (old new : Dat) (a b : ℕ) (words : List Fullword) (pages : List Page) → lent_memory new ≡ lent_memory old → a ≡ b
-    → IsFixedProgram (lent_memory old) a (is_lent_page new) words pages → IsFixedProgram (lent_memory new) b (is_lent_page new) words pages
+pub fixed_there : (old new : Dat) (a b : ℕ) (words : List WordAt) (pages : List Page)
+    → lent_memory new ≡ lent_memory old → a ≡ b
+    → IsFixedProgram (lent_memory old) a (is_lent_page new) words pages
+    → IsFixedProgram (lent_memory new) b (is_lent_page new) words pages
 fixed_there old new a b words pages same at fixed =
     subst (λ (m : Memory). IsFixedProgram m b (is_lent_page new) words pages) (sym same)
     (subst (λ (n : ℕ). IsFixedProgram (lent_memory old) n (is_lent_page new) words pages) at fixed)
@@ -156,11 +183,13 @@ disk_there disks index inside none = elim (slice_get_cases disks index).1 [
   | inr past ↦ (let over = past.0 in omega (arith, inside, over))
 ]
 
-pub disk_holds : (o : Option DiskAt) (start : Caw) (m : Memory) (page : ℕ) → (o ≡ None → ⊥) → HoldNeeds m start.address page → DiskNeeds HoldNeeds start m o page
+pub disk_holds : (o : Option DiskAt) (start : Caw) (m : Memory) (page : ℕ) → (o ≡ None → ⊥)
+    → HoldNeeds m start.address page → DiskNeeds HoldNeeds start m o page
 disk_holds None start m page none it = absurd (none refl)
 disk_holds (Some disk) start m page none it = inl it
 
-pub disk_touches : (o : Option DiskAt) (start : Caw) (m : Memory) (page : ℕ) → DiskTouches start m o page → DiskNeeds HoldNeeds start m o page
+pub disk_touches : (o : Option DiskAt) (start : Caw) (m : Memory) (page : ℕ) → DiskTouches start m o page
+    → DiskNeeds HoldNeeds start m o page
 disk_touches None start m page it = it
 disk_touches (Some disk) start m page it = inr it
 
@@ -172,6 +201,6 @@ pub disk_first : (o : Option DiskAt) (m : Memory) (page : ℕ) → (o ≡ None �
 disk_first None m page none it = absurd (none refl)
 disk_first (Some disk) m page none it = inl it
 
-pub tried_there : (ran : Result Ending TriedError) (P : Type 0) → OnOk ran P → OnOk (told_by ran) P
+pub tried_there : (ran : Result Ending DryRunError) (P : Type 0) → OnOk ran P → OnOk (told_by ran) P
 tried_there (Ok ending) P p = p
 tried_there (Err error) P p = tt

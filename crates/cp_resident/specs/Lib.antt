@@ -1,2 +1,2 @@
-pub mod Resident
+pub mod GuestChannels
 pub mod Reuse

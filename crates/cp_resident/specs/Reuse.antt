@@ -1,8 +1,9 @@
 -- The programs of a user's devices that are kept, and how often one was run again.
-use Rattle.std.specs.Prelude.{◌≡◌, ◌⊎◌, ℕ, ◌+◌, ◌%◌, ◌==◌, if◌then◌else◌, Bool, false, List, length, replicate, None, Option, Some, slice_index_or, slice_set}
+use Rattle.std.specs.Prelude.{◌≡◌, ◌⊎◌, ℕ, ◌+◌, ◌%◌, ◌==◌, if◌then◌else◌, Bool, false, List, length}
+use Rattle.std.specs.Prelude.{replicate, None, Option, Some, slice_index_or, slice_set}
 use Rattle.s370_channel.specs.declared.words.Caw.{Caw}
-use Rattle.cp_ccw.specs.Kept.{IsAtBase, KeptProgram}
-use Rattle.cp_ccw.specs.Known.{IsAsKnown, KnownProgram}
+use Rattle.cp_ccw.specs.CachedProgram.{IsAtBase, KeptProgram}
+use Rattle.cp_ccw.specs.CachedPages.{IsAsKnown, KnownProgram}
 use Rattle.cp_dat.specs.declared.dat.Dat.{Dat}
 use Rattle.cp_dat.specs.Lent.{lent_memory}
 use Rattle.cp_needs.specs.Needs.{IsClash}
@@ -10,8 +11,8 @@ use Rattle.s370_store.specs.Memory.{Memory}
 use Rattle.machine_channels.specs.declared.channels.UnitRecord.{UnitRecord}
 use Rattle.machine_channels.specs.declared.channels.UnitRecord.TheVariants as units
 
--- for each device of a user the last program of it that no input could change, where it has one, that of a minidisk at its index;
--- and how often one was run again
+-- for each device of a user the last program of it that no input could change, where it has one,
+-- that of a minidisk at its index; and how often one was run again
 pub record ReuseValue : Type 0 where
   pub console : Option KeptProgram
   pub reader : Option KeptProgram
@@ -37,7 +38,14 @@ counted n = if n == 18446744073709551615 then n else n + 1
 
 -- no device of a user with so many minidisks has a program, and none was run again
 abbrev pub kept_none : ℕ → ReuseValue
-kept_none minidisks = record { console = None; reader = None; punch = None; printer = None; disks = replicate minidisks None; reuses = 0 }
+kept_none minidisks = record {
+  console = None;
+  reader = None;
+  punch = None;
+  printer = None;
+  disks = replicate minidisks None;
+  reuses = 0;
+}
 
 -- a device has this program, or none
 abbrev pub with_unit : ReuseValue → UnitRecord → Option KeptProgram → ReuseValue
@@ -48,9 +56,17 @@ with_unit r units.Printer kept = record r { printer = kept }
 
 -- no device has one, and as many were run again
 abbrev pub dropped : ReuseValue → ReuseValue
-dropped r = record { console = None; reader = None; punch = None; printer = None; disks = replicate (length r.disks) None; reuses = r.reuses }
+dropped r = record {
+  console = None;
+  reader = None;
+  punch = None;
+  printer = None;
+  disks = replicate (length r.disks) None;
+  reuses = r.reuses;
+}
 
--- the device's program that is kept may run again for this address word: all that it was copied from is as it was
+-- the device's program that is kept may run again for this address word: all that it was copied
+-- from is as it was
 abbrev pub RunsAgain : ReuseValue → UnitRecord → Dat → Caw → Type 0
 RunsAgain r unit d caw = (k : KeptProgram) × (kept_for r unit ≡ Some k) × IsAtBase k d caw
 
@@ -68,28 +84,38 @@ run_again r = record r { reuses = counted r.reuses }
 abbrev pub with_disk : ReuseValue → ℕ → Option KnownProgram → ReuseValue
 with_disk r index known = record r { disks = slice_set r.disks index known }
 
--- a copy of it is kept for its device, which may run again as this storage is; or memory was refused, and all is as it was
+-- a copy of it is kept for its device, which may run again as this storage is; or memory was
+-- refused, and all is as it was
 abbrev pub KeepsCopy : ReuseValue → Dat → Caw → UnitRecord → Bool → ReuseValue → Type 0
-KeepsCopy old d start unit done new = ((k : KeptProgram) × (new ≡ with_unit old unit (Some k)) × IsAtBase k d start) ⊎ ((done ≡ false) × (new ≡ old))
+KeepsCopy old d start unit done new =
+    ((k : KeptProgram) × (new ≡ with_unit old unit (Some k)) × IsAtBase k d start)
+    ⊎ ((done ≡ false) × (new ≡ old))
 
 -- the same of a minidisk's
 abbrev pub KeepsKnown : ReuseValue → Dat → Caw → ℕ → Bool → ReuseValue → Type 0
-KeepsKnown old d start index done new = ((k : KnownProgram) × (new ≡ with_disk old index (Some k)) × IsAsKnown k d start) ⊎ ((done ≡ false) × (new ≡ old))
+KeepsKnown old d start index done new =
+    ((k : KnownProgram) × (new ≡ with_disk old index (Some k)) × IsAsKnown k d start)
+    ⊎ ((done ≡ false) × (new ≡ old))
 
 -- none is kept for its device of a program that an input can change
 abbrev pub KeepsNone : Memory → Caw → ReuseValue → ReuseValue → Type 0
 KeepsNone m start none new = (new ≡ none) × (start.address % 8 ≡ 0 → IsClash m start.address)
 
--- A program of a device that is no disk runs again where the one that is kept may, and this is counted. Else nothing is counted,
--- and a copy of it is kept, as its bytes and its pages were when it began; but none where an input can change it. Where it is refused,
--- all may be as it was.
-pub record HasReused (old : ReuseValue) (d : Dat) (start : Caw) (unit : UnitRecord) (done : Bool) (new : ReuseValue) : Type 0 where
+-- A program of a device that is no disk runs again where the one that is kept may, and this is
+-- counted. Else nothing is counted, and a copy of it is kept, as its bytes and its pages were when
+-- it began; but none where an input can change it. If it is refused, all may be as it was.
+pub record HasReused (old : ReuseValue) (d : Dat) (start : Caw) (unit : UnitRecord) (done : Bool)
+    (new : ReuseValue) : Type 0 where
   pub again : RunsAgain old unit d start → new ≡ run_again old
   pub anew : (RunsAgain old unit d start → ⊥)
-      → ((held : Dat) × (lent_memory held ≡ lent_memory d) × KeepsCopy old held start unit done new) ⊎ KeepsNone (lent_memory d) start (with_unit old unit None) new
+      → ((held : Dat) × (lent_memory held ≡ lent_memory d) × KeepsCopy old held start unit done new)
+      ⊎ KeepsNone (lent_memory d) start (with_unit old unit None) new
 
 -- the same of a minidisk's
-pub record HasReusedDisk (old : ReuseValue) (d : Dat) (start : Caw) (index : ℕ) (done : Bool) (new : ReuseValue) : Type 0 where
+pub record HasReusedDisk (old : ReuseValue) (d : Dat) (start : Caw) (index : ℕ) (done : Bool)
+    (new : ReuseValue) : Type 0 where
   pub again : KnowsAgain old index d start → new ≡ run_again old
   pub anew : (KnowsAgain old index d start → ⊥)
-      → ((held : Dat) × (lent_memory held ≡ lent_memory d) × KeepsKnown old held start index done new) ⊎ KeepsNone (lent_memory d) start (with_disk old index None) new
+      → ((held : Dat) × (lent_memory held ≡ lent_memory d)
+      × KeepsKnown old held start index done new)
+      ⊎ KeepsNone (lent_memory d) start (with_disk old index None) new

@@ -1,16 +1,19 @@
-//! Channels of users: a program runs as a whole or not at all, with the pages that it needs, and on volumes that users share.
+//! Channels of users: a program runs as a whole or not at all, with the pages that it needs, and on
+//! volumes that users share.
 //!
-//! A program that no input can change runs over its own pages, which are held until it has run, and is kept; any other, and
-//! that of a loading, is tried first, and then runs over the pages that it touches.
+//! A program that no input can change runs over its own pages, which are held until it has run, and
+//! is kept; any other, and that of a loading, is tried first, and then runs over the pages that it
+//! touches.
 //!
-//! Its one theorem ([`Resident`], as [`Channels`](machine_channels::Channels)): what runs is the walk of its user's bytes as they
-//! stood; only pages that it needs are brought; and where there is no room for one, nothing has happened.
+//! Its one theorem ([`GuestChannels`], as [`Channels`](machine_channels::Channels)): what runs is
+//! the walk of its user's bytes as they were; only pages that it needs are brought; and where there
+//! is no room for one, nothing has happened.
 //!
 //! ```
 //! use machine_channels::{Channels, UnitRecord};
 //! use cp_dat::Dat;
 //! use cp_frames::Frames;
-//! use cp_resident::{Resident, Reuse};
+//! use cp_resident::{GuestChannels, Reuse};
 //! use user_names::UserNo;
 //! use cp_volumes::Volumes;
 //! use s370_channel::Caw;
@@ -25,7 +28,7 @@
 //! store_doubleword(&mut storage, 0x800, 0x0900_2000_0000_0005); // write five bytes of page 2
 //! let (mut volumes, mut minidisks) = (Volumes::none(alloc), Vec::new(alloc)); // no disks
 //! let mut reuse = Reuse::empty(alloc, 0)?;
-//! let mut channels = Resident::take(alloc, &mut volumes, &mut minidisks, &mut reuse);
+//! let mut channels = GuestChannels::take(alloc, &mut volumes, &mut minidisks, &mut reuse);
 //! let (start, mut printer) = (Caw::from_word(0x800).ok_or("no address")?, Printer::new(alloc));
 //! channels.run(&mut storage, start, UnitRecord::Printer, &mut printer)?;
 //! channels.run(&mut storage, start, UnitRecord::Printer, &mut printer)?;
@@ -38,5 +41,5 @@
 mod resident;
 mod reuse;
 
-pub use resident::Resident;
+pub use resident::GuestChannels;
 pub use reuse::Reuse;

@@ -7,17 +7,17 @@ ghost use Rattle.machine_channels.specs.Channels.{WalksDisk};
 ghost use Rattle.cp_dat.specs.Lent.{KeepsStored, is_lent_page, lent_memory};
 ghost use Rattle.cp_hold.specs.Holding.{IsFixedProgram};
 ghost use Rattle.s370_store.specs.declared.Page.{Page};
-ghost use Rattle.cp_ccw.specs.Kept.{IsAtBase};
-ghost use Rattle.cp_resident.specs.Resident.{KeepsHung, disks_on, reuse_of, told_by, told_of};
+ghost use Rattle.cp_ccw.specs.CachedProgram.{IsAtBase};
+ghost use Rattle.cp_resident.specs.GuestChannels.{KeepsHung, disks_on, reuse_of, told_by, error_of};
 ghost use Rattle.cp_resident.specs.Reuse.{KeepsCopy, KeepsKnown};
 
 use crate::reuse::Reuse;
-use channel_trial::{Tried, TriedLoading};
-use cp_ccw::{Kept, keep, know, run_kept};
+use channel_trial::{DryRun, TriedLoading};
+use cp_ccw::{CachedProgram, cache_program, know, run_kept};
 use cp_dat::Dat;
-use cp_hold::{Program, hold};
-use cp_needs::Fullword;
-use cp_trial::{TriedError, fetch_again, fetch_first, load_open, run_open};
+use cp_hold::{LockedProgram, lock_pages};
+use cp_needs::WordAt;
+use cp_trial::{DryRunError, fetch_again, fetch_first, load_open, run_open};
 use cp_volumes::{SharedDisk, UserDisks, Volumes};
 use machine_channels::{Channels, Disks, UnitRecord};
 use s370_channel::{Caw, ChannelError, Limits, MOST_COMMANDS};
@@ -26,42 +26,46 @@ use s370_walk::{Device, Ending};
 use std::alloc::Global;
 use std::mem::replace;
 
-/// A program that no input can change runs where the pages that it needs stand in frames: those of its words, of their
-/// lists and of their areas. They are brought, and held until it has run; where there is no room for one, nothing has
-/// happened. It is copied, with the real addresses of those pages, and the copy runs.
+/// A program that no input can change runs where the pages that it needs are in frames: those of
+/// its words, of their lists and of their areas. They are brought, and held until it has run; where
+/// there is no room for one, nothing has happened. It is copied, with the real addresses of those
+/// pages, and the copy runs.
 ///
-/// Of any other program each word is read when it is reached. It is tried first, so that the pages that it touches can be
-/// placed before it runs; where there is no room for one, nothing has happened. So is the program of a loading.
+/// Of any other program each word is read when it is reached. It is tried first, so that the pages
+/// that it touches can be placed before it runs; where there is no room for one, nothing has
+/// happened. So is the program of a loading.
 ///
-/// The copy is kept for its device, and runs again as long as all that it was copied from is as it was: its address word,
-/// its words and lists, and the frames of the pages of its data. Of a minidisk's program, which is not copied, the same is
-/// kept, so that it need not be looked at again. A system reset, a loading, LOGON and LOGOFF drop what is kept.
+/// The copy is kept for its device, and runs again as long as all that it was copied from is as it
+/// was: its address word, its words and lists, and the frames of the pages of its data. Of a
+/// minidisk's program, which is not copied, the same is kept, so that it need not be looked at
+/// again. A system reset, a loading, LOGON and LOGOFF drop what is kept.
 #[derive(Drop)]
-pub struct Resident {
+pub struct GuestChannels {
     disks: UserDisks,
     reuse: Reuse,
     alloc: Global,
 }
 
-impl Resident {
-    ghost use Rattle.cp_resident.specs.Resident.{hung_on, reuse_of};
-    ghost use Rattle.cp_volumes.specs.Shared.{IsUsers, stands_of};
+impl GuestChannels {
+    ghost use Rattle.cp_resident.specs.GuestChannels.{hung_on, reuse_of};
+    ghost use Rattle.cp_volumes.specs.Shared.{IsUsers, placements_of};
 
-    /// The channels on which a user's minidisks hang, with the volumes on which these stand, and the programs of his
-    /// devices that are kept. It takes no memory.
+    /// Takes a user's minidisks, the volumes on which they are, and his cached programs, as his
+    /// channels. It takes no memory.
     pub fn take(
         alloc: Global,
         volumes: &mut Volumes,
         minidisks: &mut Vec<SharedDisk>,
         reuse: &mut Reuse,
-    ) -> Resident
-        requires { IsUsers volumes.old (stands_of minidisks.old.items) }
-        ensures hung { hung_on result ≡ record { volumes = volumes.old; minidisks = minidisks.old.items } }
+    ) -> GuestChannels
+        requires { IsUsers volumes.old (placements_of minidisks.old.items) }
+        ensures hung { hung_on result
+            ≡ record { volumes = volumes.old; minidisks = minidisks.old.items } }
         ensures kept { reuse_of result ≡ reuse.old }
     {
         let taken = replace(volumes, Volumes::none(alloc));
         let disks = replace(minidisks, Vec::new(alloc));
-        Resident {
+        GuestChannels {
             disks: UserDisks::new(taken, disks),
             reuse: reuse.take(alloc),
             alloc,
@@ -81,8 +85,9 @@ impl Resident {
     }
 }
 
-impl Disks for Resident {
-    ghost use Rattle.cp_resident.specs.Resident.{Forgets, KeepsHung, disks_on, hung_further, hung_same};
+impl Disks for GuestChannels {
+    ghost use Rattle.cp_resident.specs.GuestChannels.{Forgets, KeepsHung, disks_on, hung_further};
+    ghost use Rattle.cp_resident.specs.GuestChannels.{hung_same};
 
     ghost disks = { disks_on };
 
@@ -94,13 +99,13 @@ impl Disks for Resident {
         self.disks.disk_at(device)
     }
 
-    /// A program that was kept is kept no longer.
+    /// Drops the cached programs, and resets the disks.
     fn reset_disks(&mut self) {
         self.reuse.clear();
         self.disks.reset();
     }
 
-    /// The same.
+    /// Drops the cached programs, and clears the disks.
     fn clear_disks(&mut self) {
         self.reuse.clear();
         self.disks.clear();
@@ -111,15 +116,17 @@ impl Disks for Resident {
     ghost others_on = { hung_further };
 }
 
-impl<'a> Channels<Dat<'a>> for Resident {
+impl<'a> Channels<Dat<'a>> for GuestChannels {
     ghost use Rattle.std.specs.Prelude.{true};
     ghost use Rattle.s370_channel.specs.Reading.{as_reached};
     ghost use Rattle.cp_dat.specs.Lent.{lent_pool, user_of};
     ghost use Rattle.cp_dat.specs.Letting as laws;
     ghost use Rattle.cp_dat.specs.Supplied.{HasNoRoom, IsBetweenUnits};
-    ghost use Rattle.cp_resident.specs.Resident.{CameIn, IsFilled, came_further, came_nowhere, reuse_of};
+    ghost use Rattle.cp_resident.specs.GuestChannels.{PagedIn, HadRoom, IsFilled, came_further};
+    ghost use Rattle.cp_resident.specs.GuestChannels.{came_nowhere, reuse_of};
     ghost use Rattle.cp_resident.specs.Reuse.{HasReused, HasReusedDisk};
     ghost use Rattle.cp_hold.specs.Holding.{HoldNeeds};
+    ghost use Rattle.cp_trial.specs.DryRun.{HadRoomAfterFirst};
 
     ghost reads = { as_reached };
 
@@ -133,13 +140,19 @@ impl<'a> Channels<Dat<'a>> for Resident {
 
     ghost IsFilled = { λ d page. IsFilled (lent_pool d).supply (user_of d) page };
 
-    ghost Came = { CameIn };
+    ghost Came = { PagedIn };
 
-    ghost Reuses = { λ r d start unit done s. HasReused (reuse_of r) d start unit done (reuse_of s) };
+    ghost HadRoom = { HadRoom };
 
-    ghost ReusesDisk = { λ r d start index done s. HasReusedDisk (reuse_of r) d start index done (reuse_of s) };
+    ghost HadRoomToLoad = { HadRoomAfterFirst };
 
-    fn run<D: Tried>(
+    ghost Reuses = { λ r d start unit done s.
+        HasReused (reuse_of r) d start unit done (reuse_of s) };
+
+    ghost ReusesDisk = { λ r d start index done s.
+        HasReusedDisk (reuse_of r) d start index done (reuse_of s) };
+
+    fn run<D: DryRun>(
         &mut self,
         storage: &mut Dat<'a>,
         start: Caw,
@@ -151,8 +164,8 @@ impl<'a> Channels<Dat<'a>> for Resident {
             self.reuse.count();
             return ended;
         }
-        match hold(self.alloc, storage, start.address.get()) {
-            Ok(Program::Fixed(text, _)) => {
+        match lock_pages(self.alloc, storage, start.address.get()) {
+            Ok(LockedProgram::Fixed(text, _)) => {
                 let ended = run_copied(
                     &mut self.reuse,
                     self.alloc,
@@ -165,13 +178,13 @@ impl<'a> Channels<Dat<'a>> for Resident {
                 storage.let_go();
                 ended
             }
-            Ok(Program::Open) => {
+            Ok(LockedProgram::SelfModifying) => {
                 self.reuse.put_unit(unit, None);
-                told(run_open(self.alloc, storage, start, device))
+                reported(run_open(self.alloc, storage, start, device))
             }
             Err(error) => {
                 storage.let_go();
-                Err(told_of(error))
+                Err(error_of(error))
             }
         }
     }
@@ -186,19 +199,19 @@ impl<'a> Channels<Dat<'a>> for Resident {
             self.reuse.count();
             return Ok(self.disks.run_held(storage, start, index));
         }
-        match hold(self.alloc, storage, start.address.get()) {
-            Ok(Program::Fixed(text, pages)) => {
+        match lock_pages(self.alloc, storage, start.address.get()) {
+            Ok(LockedProgram::Fixed(text, pages)) => {
                 let ended = run_known(self, storage, start, index, text, &pages);
                 storage.let_go();
                 ended
             }
-            Ok(Program::Open) => {
+            Ok(LockedProgram::SelfModifying) => {
                 self.reuse.put_disk(index, None);
-                told(self.disks.run_disk(self.alloc, storage, start, index))
+                reported(self.disks.run_disk(self.alloc, storage, start, index))
             }
             Err(error) => {
                 storage.let_go();
-                Err(told_of(error))
+                Err(error_of(error))
             }
         }
     }
@@ -208,13 +221,13 @@ impl<'a> Channels<Dat<'a>> for Resident {
         storage: &mut Dat<'a>,
         device: &mut D,
     ) -> Result<Ending, ChannelError> {
-        told(load_open(self.alloc, storage, device))
+        reported(load_open(self.alloc, storage, device))
     }
 
     fn load_disk(&mut self, storage: &mut Dat<'a>, index: usize) -> Result<Ending, ChannelError> {
         match fetch_first(storage) {
             Ok(()) => {}
-            Err(error) => return Err(told_of(error)),
+            Err(error) => return Err(error_of(error)),
         }
         match self.disks.load_disk(self.alloc, storage, index) {
             Ok(ending) => {
@@ -222,7 +235,7 @@ impl<'a> Channels<Dat<'a>> for Resident {
                 fetch_again(storage);
                 Ok(ending)
             }
-            Err(error) => Err(told_of(error)),
+            Err(error) => Err(error_of(error)),
         }
     }
 
@@ -232,44 +245,45 @@ impl<'a> Channels<Dat<'a>> for Resident {
 
     ghost ready_kept = { λ s t k. laws.between_kept s t k.rest };
 
-    ghost came_size = { λ s t units came. came.came.kept.same_size };
+    ghost came_size = { λ s t units paged_in. paged_in.paged_in.kept.same_size };
 
-    ghost came_keys = { λ s t units came. came.keys };
+    ghost came_keys = { λ s t units paged_in. paged_in.keys };
 }
 
-/// Why a program does not run that was tried.
-fn told_of(error: TriedError) -> ChannelError
-    ensures { result ≡ told_of error }
+/// Returns the channel's error for that of a dry run.
+fn error_of(error: DryRunError) -> ChannelError
+    ensures { result ≡ error_of error }
 {
     match error {
-        TriedError::Memory => ChannelError::Memory,
-        TriedError::FramesOut => ChannelError::Absent(Page(0)),
+        DryRunError::Memory => ChannelError::Memory,
+        DryRunError::FramesOut => ChannelError::Absent(Page(0)),
     }
 }
 
-/// How a program ended that was tried, or why it does not run.
-fn told(ran: Result<Ending, TriedError>) -> Result<Ending, ChannelError>
+/// Returns how a program ended, or the channel's error for that of its dry run.
+fn reported(ran: Result<Ending, DryRunError>) -> Result<Ending, ChannelError>
     ensures { result ≡ told_by ran }
 {
     match ran {
         Ok(ending) => Ok(ending),
-        Err(error) => Err(told_of(error)),
+        Err(error) => Err(error_of(error)),
     }
 }
 
-/// A program that no input can change is copied and runs, over its pages, which stand in frames; the copy is kept. It stops
-/// for want of memory alone.
+/// Copies and runs a program that no input can change, whose pages are in frames, and caches the
+/// copy. It stops only if memory is refused.
 fn run_copied<D: Device>(
     reuse: &mut Reuse,
     alloc: Global,
     storage: &mut Dat<'_>,
     start: &Caw,
     unit: UnitRecord,
-    text: Vec<Fullword>,
+    text: Vec<WordAt>,
     device: &mut D,
 ) -> Result<Ending, ChannelError>
     requires fixed { (pages : List Page)
-        × IsFixedProgram (lent_memory storage.old) start.now.address (is_lent_page storage.old) text.items pages }
+        × IsFixedProgram (lent_memory storage.old) start.now.address (is_lent_page storage.old)
+        text.items pages }
     ensures walk { IfOk result
         (λ ending. Walks as_reached D.machine start.now (lent_memory storage.old) device.old ending
         (lent_memory storage.new) device.new) }
@@ -277,7 +291,7 @@ fn run_copied<D: Device>(
     ensures rest { KeepsStored storage.old storage.new }
     ensures kept { KeepsCopy reuse.old storage.old start.now unit (is_ok result) reuse.new }
 {
-    match keep(alloc, storage, copy_of(start), text) {
+    match cache_program(alloc, storage, copy_of(start), text) {
         Ok(kept) => {
             let ended = run_again(&kept, storage, start, device);
             reuse.put_unit(unit, Some(kept));
@@ -287,26 +301,29 @@ fn run_copied<D: Device>(
     }
 }
 
-/// A minidisk's program that no input can change runs where it stands, over its pages, which stand in frames; it is known
-/// from then on. It stops for want of memory alone.
+/// Runs a minidisk's program that no input can change where it is, with its pages in frames, and
+/// caches what has to be known to run it again. It stops only if memory is refused.
 fn run_known(
-    channels: &mut Resident,
+    channels: &mut GuestChannels,
     storage: &mut Dat<'_>,
     start: Caw,
     index: usize,
-    text: Vec<Fullword>,
+    text: Vec<WordAt>,
     pages: &[Page],
 ) -> Result<Ending, ChannelError>
     requires inside { index < length (disks_on channels.old) }
-    requires fixed { IsFixedProgram (lent_memory storage.old) start.address (is_lent_page storage.old) text.items
+    requires fixed { IsFixedProgram (lent_memory storage.old) start.address
+        (is_lent_page storage.old) text.items
         pages.now }
     ensures walk { IfOk result
-        (λ ending. WalksDisk as_reached start (lent_memory storage.old) (disks_on channels.old) index ending
+        (λ ending. WalksDisk as_reached start (lent_memory storage.old) (disks_on channels.old)
+        index ending
         (lent_memory storage.new) (disks_on channels.new)) }
     ensures memory { IfErr result (λ error. error ≡ errors.Memory) }
     ensures others { KeepsHung channels.old channels.new }
     ensures rest { KeepsStored storage.old storage.new }
-    ensures kept { KeepsKnown (reuse_of channels.old) storage.old start index (is_ok result) (reuse_of channels.new) }
+    ensures kept { KeepsKnown (reuse_of channels.old) storage.old start index (is_ok result)
+        (reuse_of channels.new) }
 {
     match know(channels.alloc, storage, copy_of(&start), text, pages) {
         Ok(known) => {
@@ -317,16 +334,16 @@ fn run_known(
     }
 }
 
-/// The same address word.
+/// Returns a copy of the address word.
 fn copy_of(start: &Caw) -> Caw
     ensures { result ≡ start.now }
 {
     *start
 }
 
-/// The same for a program that was kept, where all that it was copied from is as it was.
+/// Runs a minidisk's cached program again, if all from which it was made is unchanged.
 fn run_again<D: Device>(
-    kept: &Kept,
+    kept: &CachedProgram,
     storage: &mut Dat<'_>,
     start: &Caw,
     device: &mut D,

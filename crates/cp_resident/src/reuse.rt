@@ -1,11 +1,12 @@
 //! The programs of a user's devices that are kept from one serve to the next.
 ghost use Rattle.std.specs.Prelude.{◌≡◌, IfOk, IfSome, IsSome, None, Some, length, replicate, true};
-ghost use Rattle.cp_ccw.specs.Kept.{IsAtBase};
-ghost use Rattle.cp_resident.specs.Reuse.{KnowsAgain, RunsAgain, counted, dropped, kept_for, kept_none, run_again, with_disk, with_unit};
+ghost use Rattle.cp_ccw.specs.CachedProgram.{IsAtBase};
+ghost use Rattle.cp_resident.specs.Reuse.{KnowsAgain, RunsAgain, counted, dropped, kept_for};
+ghost use Rattle.cp_resident.specs.Reuse.{kept_none, run_again, with_disk, with_unit};
 ghost use Rattle.cp_dat.specs.Lent.{is_lent_page, lent_memory};
 ghost use Rattle.cp_needs.specs.Words.{IsFixedStill};
 
-use cp_ccw::{Kept, Known, reusable, runs_still};
+use cp_ccw::{CachedPages, CachedProgram, is_valid, reusable};
 use cp_dat::Dat;
 use machine_channels::UnitRecord;
 use s370_channel::Caw;
@@ -13,15 +14,16 @@ use std::alloc::{AllocError, Global};
 use std::marker::Model;
 use std::mem::replace;
 
-/// For each device of a user the last program of it that no input could change, and how often one was run again.
+/// For each device of a user the last program of it that no input could change, and how often one
+/// was run again.
 #[derive(Drop)]
 pub struct Reuse {
-    pub(crate) console: Option<Kept>,
-    pub(crate) reader: Option<Kept>,
-    pub(crate) punch: Option<Kept>,
-    pub(crate) printer: Option<Kept>,
+    pub(crate) console: Option<CachedProgram>,
+    pub(crate) reader: Option<CachedProgram>,
+    pub(crate) punch: Option<CachedProgram>,
+    pub(crate) printer: Option<CachedProgram>,
     /// Of the minidisks, in their order.
-    pub(crate) disks: Vec<Option<Known>>,
+    pub(crate) disks: Vec<Option<CachedPages>>,
     pub(crate) reuses: u64,
 }
 
@@ -40,7 +42,7 @@ impl Model for Reuse {
     } };
 }
 
-/// One more, up to the greatest number.
+/// Returns a count plus one, up to the greatest number.
 fn one_more(number: u64) -> u64
     ensures { result ≡ counted number }
 {
@@ -52,7 +54,11 @@ fn one_more(number: u64) -> u64
 }
 
 impl Reuse {
-    /// A place for each device of a user with so many minidisks; none has a program.
+    /// Returns a place for each device of a user with so many minidisks; none has a program.
+    ///
+    /// # Errors
+    ///
+    /// `AllocError` if memory is refused.
     pub fn empty(alloc: Global, minidisks: usize) -> Result<Reuse, AllocError>
         ensures { IfOk result (λ made. made ≡ kept_none minidisks) }
     {
@@ -66,7 +72,8 @@ impl Reuse {
         })
     }
 
-    /// Those of a user, in whose stead none are there until they are given back. It takes no memory.
+    /// Takes the cached programs of a user; until they are given back there are none. It takes no
+    /// memory.
     pub fn take(&mut self, alloc: Global) -> Reuse
         ensures taken { result ≡ self.old }
         ensures left { self.new ≡ kept_none 0 }
@@ -84,7 +91,7 @@ impl Reuse {
         )
     }
 
-    /// How often a program was run again.
+    /// Returns how often a program was run again.
     pub fn reuses(&self) -> u64
         ensures { result ≡ self.now.reuses }
     {
@@ -100,16 +107,21 @@ impl Reuse {
         *reuses
     }
 
-    /// A program is run again. The number stays at its greatest value.
+    /// Counts that a program was run again. The number stays at its greatest value.
     pub fn count(&mut self)
         ensures { self.new ≡ run_again self.old }
     {
         self.reuses = one_more(self.reuses);
     }
 
-    /// The program of a device that is no disk, where it may run again: exactly where it has one, and all that this was
-    /// copied from is as it was.
-    pub fn of_unit(&self, unit: UnitRecord, storage: &Dat<'_>, start: &Caw) -> Option<&Kept>
+    /// Returns the program of a device that is no disk, where it may run again: exactly where it
+    /// has one, and all that this was copied from is as it was.
+    pub fn of_unit(
+        &self,
+        unit: UnitRecord,
+        storage: &Dat<'_>,
+        start: &Caw,
+    ) -> Option<&CachedProgram>
         ensures kept { IfSome result (λ kept. kept_for self.now unit ≡ Some kept.now) }
         ensures base { IfSome result (λ kept. IsAtBase kept.now storage.now start.now) }
         ensures other { RunsAgain self.now unit storage.now start.now → IsSome result }
@@ -132,21 +144,22 @@ impl Reuse {
         }
     }
 
-    /// Whether the program of a minidisk may run again: yes exactly where one is known, and all that is known of it is as it
-    /// was.
+    /// Returns whether the program of a minidisk may run again: yes exactly where one is known, and
+    /// all that is known of it is as it was.
     pub fn has_disk(&self, index: usize, storage: &Dat<'_>, start: &Caw) -> bool
         ensures same { result ≡ true → KnowsAgain self.now index storage.now start.now }
         ensures other { KnowsAgain self.now index storage.now start.now → result ≡ true }
-        ensures still { result ≡ true → IsFixedStill (lent_memory storage.now) (is_lent_page storage.now) start.now.address }
+        ensures still { result ≡ true
+            → IsFixedStill (lent_memory storage.now) (is_lent_page storage.now) start.now.address }
     {
         match self.disks.get(index) {
-            Some(Some(known)) => runs_still(known, storage, *start),
+            Some(Some(known)) => is_valid(known, storage, *start),
             _ => false,
         }
     }
 
-    /// The program of a device that is no disk is kept, or none is. It takes no memory.
-    pub fn put_unit(&mut self, unit: UnitRecord, kept: Option<Kept>)
+    /// Caches a program of a device that is no disk, or none. It takes no memory.
+    pub fn put_unit(&mut self, unit: UnitRecord, kept: Option<CachedProgram>)
         ensures { self.new ≡ with_unit self.old unit kept }
     {
         match unit {
@@ -157,8 +170,8 @@ impl Reuse {
         }
     }
 
-    /// The same for a minidisk, where there is a place for it.
-    pub fn put_disk(&mut self, index: usize, known: Option<Known>)
+    /// Caches a program of a minidisk, or none.
+    pub fn put_disk(&mut self, index: usize, known: Option<CachedPages>)
         ensures { self.new ≡ with_disk self.old index known }
     {
         if index < self.disks.len() {
@@ -166,7 +179,7 @@ impl Reuse {
         }
     }
 
-    /// No program is kept. It takes no memory.
+    /// Drops all cached programs. It takes no memory.
     pub fn clear(&mut self)
         ensures { self.new ≡ dropped self.old }
     {
@@ -178,8 +191,8 @@ impl Reuse {
     }
 }
 
-/// So many places without a program.
-fn places_for(alloc: Global, minidisks: usize) -> Result<Vec<Option<Known>>, AllocError>
+/// Returns this many places without a program.
+fn places_for(alloc: Global, minidisks: usize) -> Result<Vec<Option<CachedPages>>, AllocError>
     ensures { IfOk result (λ made. made.items ≡ replicate minidisks None) }
 {
     let mut disks = Vec::new(alloc);
@@ -189,8 +202,8 @@ fn places_for(alloc: Global, minidisks: usize) -> Result<Vec<Option<Known>>, All
     Ok(disks)
 }
 
-/// No minidisk has one.
-fn empty_disks(disks: &mut [Option<Known>])
+/// Drops the cached programs of all minidisks.
+fn empty_disks(disks: &mut [Option<CachedPages>])
     ensures { disks.new ≡ replicate (length disks.old) None }
 {
     let mut place = 0usize;

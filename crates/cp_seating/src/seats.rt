@@ -2,7 +2,8 @@
 ghost use Rattle.std.specs.Prelude.{◌≡◌, ◌<◌, false, true, IfOk};
 ghost use Rattle.std.specs.List.{list_any, position};
 ghost use Rattle.cp_directory.specs.Extents.{is_volser};
-ghost use Rattle.cp_seating.specs.Seating.{AreLawful, IsLawful, extent_in, has_volser, lacks_volume, seat_of, seats_of};
+ghost use Rattle.cp_seating.specs.Seating.{AreLawful, IsLawful, extent_in, has_volser};
+ghost use Rattle.cp_seating.specs.Seating.{lacks_volume, seat_of, seats_of};
 
 use ckd_volume::Volume;
 use cp_directory::{DiskExtent, Minidisk, Volser};
@@ -10,7 +11,12 @@ use cp_minidisk::Extent;
 use cp_volumes::SharedDisk;
 use std::alloc::{AllocError, Global};
 
-/// A user's minidisks on these volumes, in their order, as no program has used them. No cylinder is copied.
+/// Returns a user's minidisks on these volumes, in their order, as no program has used them. No
+/// cylinder is copied.
+///
+/// # Errors
+///
+/// `AllocError` if memory is refused.
 pub fn seats_of(
     alloc: Global,
     volumes: &[Volume],
@@ -27,7 +33,7 @@ pub fn seats_of(
     Ok(seats)
 }
 
-/// A minidisk on its volume, as no program has used it.
+/// Returns a minidisk on its volume, as no program has used it.
 #[tactic(auto, using(crate::proofs::Found::unplaced, crate::proofs::Found::placed))]
 fn seat_of(volumes: &[Volume], minidisk: &Minidisk) -> SharedDisk
     requires { lacks_volume volumes.now minidisk.now ≡ false }
@@ -41,7 +47,7 @@ fn seat_of(volumes: &[Volume], minidisk: &Minidisk) -> SharedDisk
     }
 }
 
-/// The index of the first of these volumes that has this serial number.
+/// Returns the index of the first of these volumes that has this serial number.
 fn place_of(volumes: &[Volume], volser: Volser) -> Option<usize>
     ensures { result ≡ position (has_volser volser) volumes.now }
 {
@@ -50,7 +56,7 @@ fn place_of(volumes: &[Volume], volser: Volser) -> Option<usize>
         .position(|volume| volume.volser() == volser.padded())
 }
 
-/// The serial number of an extent's volume.
+/// Returns the serial number of an extent's volume.
 fn volser_of(extent: &DiskExtent) -> Volser
     ensures value { result ≡ extent.now.volser }
     ensures lawful { is_volser result ≡ true }
@@ -61,7 +67,7 @@ fn volser_of(extent: &DiskExtent) -> Volser
     volser
 }
 
-/// The extent as a minidisk has it.
+/// Returns the extent as a minidisk has it.
 fn extent_in(extent: &DiskExtent) -> Extent
     ensures value { result ≡ extent_in extent.now }
     ensures some { 0 < extent.now.count }

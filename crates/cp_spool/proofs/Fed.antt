@@ -3,13 +3,15 @@ use Rattle.std.proofs.Common.{◌≡◌, ℕ, zero, suc, List, [], ◌∷◌, dr
 use Rattle.std.specs.Prelude.{slice_get, unwrap_or}
 use Rattle.unit_record.specs.Reader.{DeckValue, Nothing, found, card_found, place_of}
 
-pub found_none : (decks : List DeckValue) (index place : ℕ) → slice_get decks index ≡ None → found (drop index decks) place ≡ Nothing
+pub found_none : (decks : List DeckValue) (index place : ℕ) → slice_get decks index ≡ None
+    → found (drop index decks) place ≡ Nothing
 found_none [] zero place e = refl
 found_none [] (suc index) place e = refl
 found_none (deck ∷ decks) zero place e = absurd (cc)
 found_none (deck ∷ decks) (suc index) place e = found_none decks index place e
 
-pub found_some : (decks : List DeckValue) (index place : ℕ) (deck : DeckValue) → slice_get decks index ≡ Some deck → found (drop index decks) place ≡ card_found place (slice_get deck.cards place)
+pub found_some : (decks : List DeckValue) (index place : ℕ) (deck : DeckValue) → slice_get decks index ≡ Some deck
+    → found (drop index decks) place ≡ card_found place (slice_get deck.cards place)
 found_some [] zero place deck e = absurd (cc)
 found_some [] (suc index) place deck e = absurd (cc)
 found_some (first ∷ decks) zero place deck e =

@@ -18,8 +18,10 @@ reader_code =
 pub deck_code : IsCode deck_bytes
 deck_code =
     let cards = both_code sender_bytes (each bytes) sender_code (each_code bytes bytes_code) in
-    of_parts (both number (both sender_bytes (each bytes))) (both_code number (both sender_bytes (each bytes)) number_code cards)
-    (λ (d : DeckValue). (d.label, (d.sender, d.cards))) (λ p. record { label = p.0; sender = p.1.0; cards = p.1.1 }) (λ d. refl)
+    of_parts (both number (both sender_bytes (each bytes)))
+    (both_code number (both sender_bytes (each bytes)) number_code cards)
+    (λ (d : DeckValue). (d.label, (d.sender, d.cards))) (λ p. record { label = p.0; sender = p.1.0; cards = p.1.1 })
+    (λ d. refl)
 
 pub file_code : IsCode file_bytes
 file_code =
@@ -31,7 +33,8 @@ files_code =
     let decks = each_code deck_bytes deck_code in
     let files = each_code file_bytes file_code in
     let closed = both_code (each file_bytes) (each file_bytes) files files in
-    let place = both_code (optional number) (both (each file_bytes) (each file_bytes)) (optional_code number number_code) closed in
+    let place = both_code (optional number) (both (each file_bytes) (each file_bytes))
+    (optional_code number number_code) closed in
     of_parts (both (each deck_bytes) (both (optional number) (both (each file_bytes) (each file_bytes))))
     (both_code (each deck_bytes) (both (optional number) (both (each file_bytes) (each file_bytes))) decks place)
     (λ (f : UserFiles). (f.decks, (f.place, (f.punched, f.printed))))

@@ -1,5 +1,6 @@
 -- A step of a search along a list.
-use Rattle.std.proofs.Common.{◌≡◌, ◌≢◌, ℕ, zero, suc, ◌+◌, ◌==◌, Bool, true, false, List, [], ◌∷◌, drop, Some, ◌∙◌, ap, arith}
+use Rattle.std.proofs.Common.{◌≡◌, ◌≢◌, ℕ, zero, suc, ◌+◌, ◌==◌, Bool, true, false, List, [], ◌∷◌, drop, Some, ◌∙◌, ap}
+use Rattle.std.proofs.Common.{arith}
 use Rattle.std.specs.Prelude.{slice_get, if◌then◌else◌}
 use Rattle.std.specs.List.{position_from}
 use Rattle.std.proofs.lemmas.Bool.Decides.{nat_tests}
@@ -12,7 +13,8 @@ drop_at (y ∷ ys) (suc i) x e = drop_at ys i x e
 
 module _ {X : Type 0} (p : X → Bool) (xs : List X) (i : ℕ) (x : X) (found : slice_get xs i ≡ Some x) where
   pub position_here : p x ≡ true → position_from p i (drop i xs) ≡ Some i
-  position_here h = ap (λ ys. position_from p i ys) (drop_at xs i x found) ∙ ap (λ (b : Bool). if b then Some i else position_from p (i + 1) (drop (suc i) xs)) h
+  position_here h = ap (λ ys. position_from p i ys) (drop_at xs i x found) ∙ ap
+      (λ (b : Bool). if b then Some i else position_from p (i + 1) (drop (suc i) xs)) h
 
   pub position_past : p x ≡ false → position_from p i (drop i xs) ≡ position_from p (i + 1) (drop (i + 1) xs)
   position_past h =

@@ -1,5 +1,6 @@
 -- Each key has its file, whatever comes and goes.
-use Rattle.std.proofs.Common.{◌≡◌, ◌≢◌, ℕ, zero, suc, ◌+◌, ◌<◌, ◌≤◌, inl, inr, Bool, true, List, [], ◌∷◌, ◌++◌, length, get_or, map, set, Option, Some, None, refl, sym, ◌∙◌, ap, subst, arith}
+use Rattle.std.proofs.Common.{◌≡◌, ◌≢◌, ℕ, zero, suc, ◌+◌, ◌<◌, ◌≤◌, inl, inr, Bool, true, List, [], ◌∷◌, ◌++◌, length}
+use Rattle.std.proofs.Common.{get_or, map, set, Option, Some, None, refl, sym, ◌∙◌, ap, subst, arith}
 use Rattle.std.specs.Prelude.{IsSomeAnd, remove, unwrap_or}
 use Rattle.std.proofs.lemmas.Bool.{cases_eq, cases_lt}
 use Rattle.std.proofs.lemmas.List.{map-append, get_or-set_same, get_or-set_other, get_or_append_left, length-append}
@@ -9,9 +10,12 @@ use Rattle.slab.specs.Slab.{Slab, get}
 use Rattle.unit_record.specs.declared.output.Target.TheVariants as targets
 use Rattle.cp_spool.specs.declared.queue.Waiting.{Waiting}
 use Rattle.cp_spool.specs.File.{SpoolFileValue}
-use Rattle.cp_spool.specs.Keys.{AllAt, IsMade, IsSound, IsSoundOf, Lacks, Once, QueueKeys, StandsWith, deck_at, closed_at, file_at, is_given, keys_in, no_file, no_keys, queue_of, user_files, with_printed_key, with_punched_key, with_waiting, without_waiting}
+use Rattle.cp_spool.specs.Keys.{AllAt, IsMade, IsSound, IsSoundOf, Lacks, Once, QueueKeys, StandsWith, deck_at}
+use Rattle.cp_spool.specs.Keys.{closed_at, file_at, is_given, keys_in, no_file, no_keys, queue_of, user_files}
+use Rattle.cp_spool.specs.Keys.{with_printed_key, with_punched_key, with_waiting, without_waiting}
 
-pub map-remove : {X Y : Type 0} (f : X → Y) (xs : List X) (index : ℕ) → map f (remove xs index) ≡ remove (map f xs) index
+pub map-remove : {X Y : Type 0} (f : X → Y) (xs : List X) (index : ℕ)
+    → map f (remove xs index) ≡ remove (map f xs) index
 map-remove f [] zero = refl
 map-remove f [] (suc index) = refl
 map-remove f (x ∷ xs) zero = refl
@@ -37,23 +41,29 @@ none_there : (o : Option SpoolFileValue) (P : SpoolFileValue → Type 0) → o �
 none_there None P e h = h
 none_there (Some file) P e h = absurd (cc)
 
-all_lacks : (files : Slab SpoolFileValue) (P : SpoolFileValue → Type 0) (keys : List ℕ) (key : ℕ) → AllAt files P keys → get files key ≡ None → Lacks keys key
-all_lacks files P keys key all vacant i l e = none_there (get files (get_or keys i 0)) P (ap (get files) e ∙ vacant) (all i l)
+all_lacks : (files : Slab SpoolFileValue) (P : SpoolFileValue → Type 0) (keys : List ℕ) (key : ℕ) → AllAt files P keys
+    → get files key ≡ None → Lacks keys key
+all_lacks files P keys key all vacant i l e =
+    none_there (get files (get_or keys i 0)) P (ap (get files) e ∙ vacant) (all i l)
 
 -- one without a file is free
-pub vacant_is_free : (files : Slab SpoolFileValue) (queues : List QueueKeys) (key : ℕ) → IsSound files queues → get files key ≡ None → IsFree key queues
+pub vacant_is_free : (files : Slab SpoolFileValue) (queues : List QueueKeys) (key : ℕ) → IsSound files queues
+    → get files key ≡ None → IsFree key queues
 vacant_is_free files queues key sound vacant user = record {
   waiting = all_lacks files (StandsWith user) (keys_in (queue_of queues user)) key (sound user).waiting vacant;
   punched = all_lacks files IsMade (queue_of queues user).punched key (sound user).punched vacant;
   printed = all_lacks files IsMade (queue_of queues user).printed key (sound user).printed vacant;
 }
 
-module _ (files files' : Slab SpoolFileValue) (key : ℕ) (others : (other : ℕ) → other ≢ key → get files' other ≡ get files other) where
+module _ (files files' : Slab SpoolFileValue) (key : ℕ)
+    (others : (other : ℕ) → other ≢ key → get files' other ≡ get files other) where
   all_apart : (P : SpoolFileValue → Type 0) (keys : List ℕ) → Lacks keys key → AllAt files P keys → AllAt files' P keys
-  all_apart P keys free all i l = subst (λ (o : Option SpoolFileValue). IsSomeAnd o P) (sym (others (get_or keys i 0) (free i l))) (all i l)
+  all_apart P keys free all i l =
+      subst (λ (o : Option SpoolFileValue). IsSomeAnd o P) (sym (others (get_or keys i 0) (free i l))) (all i l)
 
   once_apart : (keys : List ℕ) → Lacks keys key → Once files keys → Once files' keys
-  once_apart keys free once i j li lj e given = once i j li lj e (ap is_given (sym (others (get_or keys i 0) (free i li))) ∙ given)
+  once_apart keys free once i j li lj e given =
+      once i j li lj e (ap is_given (sym (others (get_or keys i 0) (free i li))) ∙ given)
 
   sound_apart_of : (user : ℕ) (q : QueueKeys) → IsFreeIn key q → IsSoundOf files user q → IsSoundOf files' user q
   sound_apart_of user q free sound = record {
@@ -73,77 +83,108 @@ module _ (files files' : Slab SpoolFileValue) (key : ℕ) (others : (other : ℕ
   closed_apart [] h = refl
   closed_apart (k ∷ ks) h = rw (same_file k (h 0 (omega arith)), closed_apart ks (λ i l. h (suc i) (omega arith))) refl
 
-  decks_apart : (decks : List Waiting) → Lacks (map (λ (w : Waiting). w.key) decks) key → map (deck_at files') decks ≡ map (deck_at files) decks
+  decks_apart : (decks : List Waiting) → Lacks (map (λ (w : Waiting). w.key) decks) key
+      → map (deck_at files') decks ≡ map (deck_at files) decks
   decks_apart [] h = refl
-  decks_apart (w ∷ ws) h = rw (same_file w.key (h 0 (omega arith)), decks_apart ws (λ i l. h (suc i) (omega arith))) refl
+  decks_apart (w ∷ ws) h =
+      rw (same_file w.key (h 0 (omega arith)), decks_apart ws (λ i l. h (suc i) (omega arith))) refl
 
   user_apart : (q : QueueKeys) → IsFreeIn key q → user_files files' q ≡ user_files files q
-  user_apart q free = rw (decks_apart q.decks free.waiting, closed_apart q.punched free.punched, closed_apart q.printed free.printed) refl
+  user_apart q free = rw (
+    decks_apart q.decks free.waiting,
+    closed_apart q.punched free.punched,
+    closed_apart q.printed free.printed,
+  ) refl
 
-  pub users_apart : (queues : List QueueKeys) → IsFree key queues → map (user_files files') queues ≡ map (user_files files) queues
+  pub users_apart : (queues : List QueueKeys) → IsFree key queues
+      → map (user_files files') queues ≡ map (user_files files) queues
   users_apart [] h = refl
   users_apart (q ∷ qs) h = rw (user_apart q (h 0), users_apart qs (λ user. h (suc user))) refl
 
 -- more room changes no file
-pub sound_like : (files files' : Slab SpoolFileValue) → ((k : ℕ) → get files' k ≡ get files k) → (queues : List QueueKeys) → IsSound files queues → IsSound files' queues
+pub sound_like : (files files' : Slab SpoolFileValue) → ((k : ℕ) → get files' k ≡ get files k)
+    → (queues : List QueueKeys) → IsSound files queues → IsSound files' queues
 sound_like files files' like queues sound user = record {
-  waiting = λ i l. subst (λ (o : Option SpoolFileValue). IsSomeAnd o (StandsWith user)) (sym (like (get_or (keys_in (queue_of queues user)) i 0))) ((sound user).waiting i l);
-  once = λ i j li lj e given. (sound user).once i j li lj e (ap is_given (sym (like (get_or (keys_in (queue_of queues user)) i 0))) ∙ given);
-  punched = λ i l. subst (λ (o : Option SpoolFileValue). IsSomeAnd o IsMade) (sym (like (get_or (queue_of queues user).punched i 0))) ((sound user).punched i l);
-  printed = λ i l. subst (λ (o : Option SpoolFileValue). IsSomeAnd o IsMade) (sym (like (get_or (queue_of queues user).printed i 0))) ((sound user).printed i l);
+  waiting = λ i l. subst (λ (o : Option SpoolFileValue). IsSomeAnd o (StandsWith user))
+      (sym (like (get_or (keys_in (queue_of queues user)) i 0))) ((sound user).waiting i l);
+  once = λ i j li lj e given.
+      (sound user).once i j li lj e (ap is_given (sym (like (get_or (keys_in (queue_of queues user)) i 0))) ∙ given);
+  punched = λ i l. subst (λ (o : Option SpoolFileValue). IsSomeAnd o IsMade)
+      (sym (like (get_or (queue_of queues user).punched i 0))) ((sound user).punched i l);
+  printed = λ i l. subst (λ (o : Option SpoolFileValue). IsSomeAnd o IsMade)
+      (sym (like (get_or (queue_of queues user).printed i 0))) ((sound user).printed i l);
 }
 
 -- ---- one queue in the place of another
 
-each_set : (P : ℕ → QueueKeys → Type 0) (queues : List QueueKeys) (user : ℕ) (q : QueueKeys) → user < length queues → P user q → ((other : ℕ) → P other (queue_of queues other)) → (other : ℕ) → P other (queue_of (set queues user q) other)
+each_set : (P : ℕ → QueueKeys → Type 0) (queues : List QueueKeys) (user : ℕ) (q : QueueKeys) → user < length queues
+    → P user q → ((other : ℕ) → P other (queue_of queues other)) → (other : ℕ)
+    → P other (queue_of (set queues user q) other)
 each_set P queues user q inside now before other =
     elim (cases_eq other user) [
       | inl same ↦
-          let here : P user (queue_of (set queues user q) user) = subst (λ (x : QueueKeys). P user x) (sym (get_or-set_same queues user q no_keys inside)) now in
+          let here : P user (queue_of (set queues user q) user) =
+          subst (λ (x : QueueKeys). P user x) (sym (get_or-set_same queues user q no_keys inside)) now in
           subst (λ (u : ℕ). P u (queue_of (set queues user q) u)) (sym same) here
-      | inr apart ↦ subst (λ (x : QueueKeys). P other x) (sym (get_or-set_other queues user other q no_keys apart)) (before other)
+      | inr apart ↦ subst (λ (x : QueueKeys). P other x) (sym (get_or-set_other queues user other q no_keys apart))
+          (before other)
     ]
 
-pub sound_set : (files : Slab SpoolFileValue) (queues : List QueueKeys) (user : ℕ) (q : QueueKeys) → user < length queues → IsSoundOf files user q → IsSound files queues → IsSound files (set queues user q)
+pub sound_set : (files : Slab SpoolFileValue) (queues : List QueueKeys) (user : ℕ) (q : QueueKeys)
+    → user < length queues → IsSoundOf files user q → IsSound files queues → IsSound files (set queues user q)
 sound_set files queues user q inside now before = each_set (λ u x. IsSoundOf files u x) queues user q inside now before
 
 -- ---- a key comes
 
-all_more : (files : Slab SpoolFileValue) (P : SpoolFileValue → Type 0) (key : ℕ) (keys : List ℕ) → AllAt files P keys → IsSomeAnd (get files key) P → AllAt files P (keys ++ key ∷ [])
+all_more : (files : Slab SpoolFileValue) (P : SpoolFileValue → Type 0) (key : ℕ) (keys : List ℕ) → AllAt files P keys
+    → IsSomeAnd (get files key) P → AllAt files P (keys ++ key ∷ [])
 all_more files P key [] all here zero inside = here
 all_more files P key [] all here (suc i) inside = absurd (omega arith)
 all_more files P key (k ∷ ks) all here zero inside = all 0 (omega arith)
-all_more files P key (k ∷ ks) all here (suc i) inside = all_more files P key ks (λ n l. all (suc n) (omega arith)) here i (omega arith)
+all_more files P key (k ∷ ks) all here (suc i) inside =
+    all_more files P key ks (λ n l. all (suc n) (omega arith)) here i (omega arith)
 
-once_more : (files : Slab SpoolFileValue) (key : ℕ) (keys : List ℕ) → Once files keys → (is_given (get files key) ≡ true → Lacks keys key) → Once files (keys ++ key ∷ [])
+once_more : (files : Slab SpoolFileValue) (key : ℕ) (keys : List ℕ) → Once files keys
+    → (is_given (get files key) ≡ true → Lacks keys key) → Once files (keys ++ key ∷ [])
 once_more files key keys once apart i j li lj e given =
     let count : length (keys ++ key ∷ []) ≡ length keys + 1 = length-append keys (key ∷ []) in
-    let left : (n : ℕ) → n < length keys → get_or (keys ++ key ∷ []) n 0 ≡ get_or keys n 0 = λ n l. get_or_append_left keys (key ∷ []) 0 n l in
-    let last : (n : ℕ) → n ≡ length keys → get_or (keys ++ key ∷ []) n 0 ≡ key = λ n is. ap (λ (m : ℕ). get_or (keys ++ key ∷ []) m 0) is ∙ get_or-append_seam keys key [] 0 in
+    let left : (n : ℕ) → n < length keys
+    → get_or (keys ++ key ∷ []) n 0 ≡ get_or keys n 0 = λ n l. get_or_append_left keys (key ∷ []) 0 n l in
+    let last : (n : ℕ) → n ≡ length keys
+    → get_or (keys ++ key ∷ []) n 0 ≡ key =
+    λ n is. ap (λ (m : ℕ). get_or (keys ++ key ∷ []) m 0) is ∙ get_or-append_seam keys key [] 0 in
     elim (cases_lt i (length keys)) [
       | inl a ↦ elim (cases_lt j (length keys)) [
-        | inl b ↦ once i j a b (sym (left i a) ∙ e ∙ left j b) (ap (λ (k : ℕ). is_given (get files k)) (sym (left i a)) ∙ given)
+        | inl b ↦ once i j a b (sym (left i a) ∙ e ∙ left j b)
+            (ap (λ (k : ℕ). is_given (get files k)) (sym (left i a)) ∙ given)
         | inr b ↦
-            let its : is_given (get files key) ≡ true = ap (λ (k : ℕ). is_given (get files k)) (sym (e ∙ last j (omega arith))) ∙ given in
+            let its : is_given (get files key) ≡ true =
+            ap (λ (k : ℕ). is_given (get files k)) (sym (e ∙ last j (omega arith))) ∙ given in
             absurd (apart its i a (sym (left i a) ∙ e ∙ last j (omega arith)))
       ]
       | inr a ↦ elim (cases_lt j (length keys)) [
         | inl b ↦
-            let its : is_given (get files key) ≡ true = ap (λ (k : ℕ). is_given (get files k)) (sym (last i (omega arith))) ∙ given in
+            let its : is_given (get files key) ≡ true =
+            ap (λ (k : ℕ). is_given (get files k)) (sym (last i (omega arith))) ∙ given in
             absurd (apart its j b (sym (left j b) ∙ sym e ∙ last i (omega arith)))
         | inr b ↦ omega arith
       ]
     ]
 
-pub sound_waiting : (files : Slab SpoolFileValue) (user : ℕ) (w : Waiting) (q : QueueKeys) → IsSoundOf files user q → IsSomeAnd (get files w.key) (StandsWith user) → (is_given (get files w.key) ≡ true → Lacks (keys_in q) w.key) → IsSoundOf files user (with_waiting w q)
+pub sound_waiting : (files : Slab SpoolFileValue) (user : ℕ) (w : Waiting) (q : QueueKeys) → IsSoundOf files user q
+    → IsSomeAnd (get files w.key) (StandsWith user) → (is_given (get files w.key) ≡ true → Lacks (keys_in q) w.key)
+    → IsSoundOf files user (with_waiting w q)
 sound_waiting files user w q sound here apart = record {
-  waiting = subst (λ (ks : List ℕ). AllAt files (StandsWith user) ks) (sym (keys_more q w)) (all_more files (StandsWith user) w.key (keys_in q) sound.waiting here);
-  once = subst (λ (ks : List ℕ). Once files ks) (sym (keys_more q w)) (once_more files w.key (keys_in q) sound.once apart);
+  waiting = subst (λ (ks : List ℕ). AllAt files (StandsWith user) ks) (sym (keys_more q w))
+      (all_more files (StandsWith user) w.key (keys_in q) sound.waiting here);
+  once = subst (λ (ks : List ℕ). Once files ks) (sym (keys_more q w))
+      (once_more files w.key (keys_in q) sound.once apart);
   punched = sound.punched;
   printed = sound.printed;
 }
 
-pub sound_punched : (files : Slab SpoolFileValue) (user key : ℕ) (q : QueueKeys) → IsSoundOf files user q → IsSomeAnd (get files key) IsMade → IsSoundOf files user (with_punched_key key q)
+pub sound_punched : (files : Slab SpoolFileValue) (user key : ℕ) (q : QueueKeys) → IsSoundOf files user q
+    → IsSomeAnd (get files key) IsMade → IsSoundOf files user (with_punched_key key q)
 sound_punched files user key q sound here = record {
   waiting = sound.waiting;
   once = sound.once;
@@ -151,7 +192,8 @@ sound_punched files user key q sound here = record {
   printed = sound.printed;
 }
 
-pub sound_printed : (files : Slab SpoolFileValue) (user key : ℕ) (q : QueueKeys) → IsSoundOf files user q → IsSomeAnd (get files key) IsMade → IsSoundOf files user (with_printed_key key q)
+pub sound_printed : (files : Slab SpoolFileValue) (user key : ℕ) (q : QueueKeys) → IsSoundOf files user q
+    → IsSomeAnd (get files key) IsMade → IsSoundOf files user (with_printed_key key q)
 sound_printed files user key q sound here = record {
   waiting = sound.waiting;
   once = sound.once;
@@ -159,15 +201,19 @@ sound_printed files user key q sound here = record {
   printed = all_more files IsMade key q.printed sound.printed here;
 }
 
-pub sound_roomier : (files : Slab SpoolFileValue) (user m n : ℕ) (q : QueueKeys) → IsSoundOf files user q → IsSoundOf files user (record q { punch_room = m; print_room = n })
-sound_roomier files user m n q sound = record { waiting = sound.waiting; once = sound.once; punched = sound.punched; printed = sound.printed }
+pub sound_roomier : (files : Slab SpoolFileValue) (user m n : ℕ) (q : QueueKeys) → IsSoundOf files user q
+    → IsSoundOf files user (record q { punch_room = m; print_room = n })
+sound_roomier files user m n q sound =
+    record { waiting = sound.waiting; once = sound.once; punched = sound.punched; printed = sound.printed }
 
-pub sound_placed : (files : Slab SpoolFileValue) (user : ℕ) (place : Option ℕ) (q : QueueKeys) → IsSoundOf files user q → IsSoundOf files user (record q { place = place })
-sound_placed files user place q sound = record { waiting = sound.waiting; once = sound.once; punched = sound.punched; printed = sound.printed }
+pub sound_placed : (files : Slab SpoolFileValue) (user : ℕ) (place : Option ℕ) (q : QueueKeys) → IsSoundOf files user q
+    → IsSoundOf files user (record q { place = place })
+sound_placed files user place q sound =
+    record { waiting = sound.waiting; once = sound.once; punched = sound.punched; printed = sound.printed }
 
 -- ---- a deck leaves
 
--- where an element that is left stood before
+-- where an element that is left was before
 record Stood (keys : List ℕ) (index i : ℕ) : Type 0 where
   before : ℕ
   inside : before < length keys
@@ -198,12 +244,14 @@ stood keys index i inside l =
       }
     ]
 
-all_less : (files : Slab SpoolFileValue) (P : SpoolFileValue → Type 0) (index : ℕ) (keys : List ℕ) → index < length keys → AllAt files P keys → AllAt files P (remove keys index)
+all_less : (files : Slab SpoolFileValue) (P : SpoolFileValue → Type 0) (index : ℕ) (keys : List ℕ) → index < length keys
+    → AllAt files P keys → AllAt files P (remove keys index)
 all_less files P index keys inside all i l =
     let was = stood keys index i inside l in
     subst (λ (key : ℕ). IsSomeAnd (get files key) P) (sym was.same) (all was.before was.inside)
 
-same_place : (index m n i j : ℕ) → m ≡ n → m ≢ index → (m < index → i ≡ m) → (index < m → i + 1 ≡ m) → (n < index → j ≡ n) → (index < n → j + 1 ≡ n) → i ≡ j
+same_place : (index m n i j : ℕ) → m ≡ n → m ≢ index → (m < index → i ≡ m) → (index < m → i + 1 ≡ m)
+    → (n < index → j ≡ n) → (index < n → j + 1 ≡ n) → i ≡ j
 same_place index m n i j e apart a b c d =
     elim (cases_lt m index) [
       | inl l ↦ a l ∙ e ∙ sym (c (omega arith))
@@ -217,17 +265,23 @@ same_place index m n i j e apart a b c d =
       ]
     ]
 
-once_less : (files : Slab SpoolFileValue) (index : ℕ) (keys : List ℕ) → index < length keys → Once files keys → Once files (remove keys index)
+once_less : (files : Slab SpoolFileValue) (index : ℕ) (keys : List ℕ) → index < length keys → Once files keys
+    → Once files (remove keys index)
 once_less files index keys inside once i j li lj e given =
     let a = stood keys index i inside li in
     let b = stood keys index j inside lj in
-    let its : is_given (get files (get_or keys a.before 0)) ≡ true = ap (λ (k : ℕ). is_given (get files k)) (sym a.same) ∙ given in
-    same_place index a.before b.before i j (once a.before b.before a.inside b.inside (sym a.same ∙ e ∙ b.same) its) a.apart a.below a.above b.below b.above
+    let its : is_given (get files (get_or keys a.before 0)) ≡ true =
+    ap (λ (k : ℕ). is_given (get files k)) (sym a.same) ∙ given in
+    same_place index a.before b.before i j (once a.before b.before a.inside b.inside (sym a.same ∙ e ∙ b.same) its)
+    a.apart a.below a.above b.below b.above
 
-pub sound_less : (files : Slab SpoolFileValue) (user index : ℕ) (q : QueueKeys) → index < length (keys_in q) → IsSoundOf files user q → IsSoundOf files user (without_waiting index q)
+pub sound_less : (files : Slab SpoolFileValue) (user index : ℕ) (q : QueueKeys) → index < length (keys_in q)
+    → IsSoundOf files user q → IsSoundOf files user (without_waiting index q)
 sound_less files user index q there sound = record {
-  waiting = subst (λ (ks : List ℕ). AllAt files (StandsWith user) ks) (sym (keys_less q index)) (all_less files (StandsWith user) index (keys_in q) there sound.waiting);
-  once = subst (λ (ks : List ℕ). Once files ks) (sym (keys_less q index)) (once_less files index (keys_in q) there sound.once);
+  waiting = subst (λ (ks : List ℕ). AllAt files (StandsWith user) ks) (sym (keys_less q index))
+      (all_less files (StandsWith user) index (keys_in q) there sound.waiting);
+  once = subst (λ (ks : List ℕ). Once files ks) (sym (keys_less q index))
+      (once_less files index (keys_in q) there sound.once);
   punched = sound.punched;
   printed = sound.printed;
 }
@@ -238,31 +292,42 @@ given_not_made : (o : Option SpoolFileValue) → is_given o ≡ true → IsSomeA
 given_not_made None given made = made
 given_not_made (Some file) given made = cc (sym given ∙ made)
 
-made_lacks : (files : Slab SpoolFileValue) (key : ℕ) (keys : List ℕ) → is_given (get files key) ≡ true → AllAt files IsMade keys → Lacks keys key
+made_lacks : (files : Slab SpoolFileValue) (key : ℕ) (keys : List ℕ) → is_given (get files key) ≡ true
+    → AllAt files IsMade keys → Lacks keys key
 made_lacks files key keys given all i l e =
     given_not_made (get files (get_or keys i 0)) (ap (λ (k : ℕ). is_given (get files k)) e ∙ given) (all i l)
 
-one_owner : (o : Option SpoolFileValue) (user other : ℕ) → is_given o ≡ true → IsSomeAnd o (StandsWith user) → IsSomeAnd o (StandsWith other) → user ≡ other
+one_owner : (o : Option SpoolFileValue) (user other : ℕ) → is_given o ≡ true → IsSomeAnd o (StandsWith user)
+    → IsSomeAnd o (StandsWith other) → user ≡ other
 one_owner None user other given a b = absurd a
 one_owner (Some file) user other given a b =
     let one : file.target ≡ targets.User user = a given in
     let two : file.target ≡ targets.User other = b given in
     cc
 
-module _ (files : Slab SpoolFileValue) (queues : List QueueKeys) (user index key : ℕ) (inside : user < length queues) (there : index < length (keys_in (queue_of queues user))) (is : get_or (keys_in (queue_of queues user)) index 0 ≡ key) (given : is_given (get files key) ≡ true) (sound : IsSound files queues) where
+module _ (files : Slab SpoolFileValue) (queues : List QueueKeys) (user index key : ℕ) (inside : user < length queues)
+    (there : index < length (keys_in (queue_of queues user)))
+    (is : get_or (keys_in (queue_of queues user)) index 0 ≡ key) (given : is_given (get files key) ≡ true)
+    (sound : IsSound files queues) where
   free_here : Lacks (keys_in (without_waiting index (queue_of queues user))) key
   free_here i l e =
-      let keys : keys_in (without_waiting index (queue_of queues user)) ≡ remove (keys_in (queue_of queues user)) index = keys_less (queue_of queues user) index in
-      let within : i < length (remove (keys_in (queue_of queues user)) index) = subst (λ (ks : List ℕ). i < length ks) keys l in
+      let keys : keys_in (without_waiting index (queue_of queues user))
+      ≡ remove (keys_in (queue_of queues user)) index = keys_less (queue_of queues user) index in
+      let within : i < length (remove (keys_in (queue_of queues user)) index) =
+      subst (λ (ks : List ℕ). i < length ks) keys l in
       let was = stood (keys_in (queue_of queues user)) index i there within in
-      let found : get_or (remove (keys_in (queue_of queues user)) index) i 0 ≡ key = subst (λ (ks : List ℕ). get_or ks i 0 ≡ key) keys e in
+      let found : get_or (remove (keys_in (queue_of queues user)) index) i 0 ≡ key =
+      subst (λ (ks : List ℕ). get_or ks i 0 ≡ key) keys e in
       let its : get_or (keys_in (queue_of queues user)) was.before 0 ≡ key = sym was.same ∙ found in
-      was.apart ((sound user).once was.before index was.inside there (its ∙ sym is) (ap (λ (k : ℕ). is_given (get files k)) its ∙ given))
+      was.apart ((sound user).once was.before index was.inside there (its ∙ sym is)
+      (ap (λ (k : ℕ). is_given (get files k)) its ∙ given))
 
   free_there : (other : ℕ) → other ≢ user → Lacks (keys_in (queue_of queues other)) key
   free_there other apart i l e =
-      let its : IsSomeAnd (get files key) (StandsWith other) = subst (λ (k : ℕ). IsSomeAnd (get files k) (StandsWith other)) e ((sound other).waiting i l) in
-      let mine : IsSomeAnd (get files key) (StandsWith user) = subst (λ (k : ℕ). IsSomeAnd (get files k) (StandsWith user)) is ((sound user).waiting index there) in
+      let its : IsSomeAnd (get files key) (StandsWith other) =
+      subst (λ (k : ℕ). IsSomeAnd (get files k) (StandsWith other)) e ((sound other).waiting i l) in
+      let mine : IsSomeAnd (get files key) (StandsWith user) =
+      subst (λ (k : ℕ). IsSomeAnd (get files k) (StandsWith user)) is ((sound user).waiting index there) in
       apart (sym (one_owner (get files key) user other given mine its))
 
   made_free : (other : ℕ) (q : QueueKeys) → IsSoundOf files other q → Lacks (keys_in q) key → IsFreeIn key q
@@ -277,10 +342,13 @@ module _ (files : Slab SpoolFileValue) (queues : List QueueKeys) (user index key
       elim (cases_eq other user) [
         | inl same ↦
             let q = without_waiting index (queue_of queues user) in
-            let now : IsFreeIn key q = made_free user q (sound_less files user index (queue_of queues user) there (sound user)) free_here in
-            let here : IsFreeIn key (queue_of (set queues user q) user) = subst (λ (x : QueueKeys). IsFreeIn key x) (sym (get_or-set_same queues user q no_keys inside)) now in
+            let now : IsFreeIn key q =
+            made_free user q (sound_less files user index (queue_of queues user) there (sound user)) free_here in
+            let here : IsFreeIn key (queue_of (set queues user q) user) =
+            subst (λ (x : QueueKeys). IsFreeIn key x) (sym (get_or-set_same queues user q no_keys inside)) now in
             subst (λ (u : ℕ). IsFreeIn key (queue_of (set queues user q) u)) (sym same) here
         | inr apart ↦
-            subst (λ (x : QueueKeys). IsFreeIn key x) (sym (get_or-set_other queues user other (without_waiting index (queue_of queues user)) no_keys apart))
+            subst (λ (x : QueueKeys). IsFreeIn key x)
+            (sym (get_or-set_other queues user other (without_waiting index (queue_of queues user)) no_keys apart))
             (made_free other (queue_of queues other) (sound other) (free_there other apart))
       ]

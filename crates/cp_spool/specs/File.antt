@@ -1,5 +1,6 @@
 -- What a spool file is (docs/MACHINE.md, "Unit record devices and console").
-use Rattle.std.specs.Prelude.{ℕ, ◌-◌, Bool, true, false, List, [], ◌++◌, length, map, replicate, take}
+use Rattle.std.specs.Prelude.{ℕ, ◌-◌, Bool, true, false, List, [], ◌++◌, length, map, replicate}
+use Rattle.std.specs.Prelude.{take}
 use Rattle.unit_record.specs.declared.output.Target.{Target}
 use Rattle.unit_record.specs.Output.{EntryValue, FileValue}
 use Rattle.cp_spool.specs.declared.file.Contents.{Contents}
@@ -10,6 +11,7 @@ pub data ContentsValue : Type 0 where
   Cards : List (List ℕ) → ContentsValue
   Entries : List EntryValue → ContentsValue
 
+-- the contents of a file, as the definitions have them
 abbrev pub contents_of : Contents → ContentsValue
 contents_of (contents.Cards cards) = Cards cards.items
 contents_of (contents.Entries entries) = Entries entries.items
@@ -23,6 +25,7 @@ pub record SpoolFileValue : Type 0 where
 abbrev pub card_of : List ℕ → List ℕ
 card_of bytes = take 80 bytes ++ replicate (80 - length bytes) 0x40
 
+-- the card that a punched entry is
 abbrev pub card_of_entry : EntryValue → List ℕ
 card_of_entry entry = card_of entry.bytes
 
@@ -36,6 +39,7 @@ abbrev pub entries_in : ContentsValue → List EntryValue
 entries_in (Cards cards) = []
 entries_in (Entries entries) = entries
 
+-- whether a file is a deck that was given
 abbrev pub is_deck : ContentsValue → Bool
 is_deck (Cards cards) = true
 is_deck (Entries entries) = false

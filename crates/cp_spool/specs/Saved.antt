@@ -7,14 +7,19 @@ use Rattle.unit_record.specs.Saved.{entries_bytes, sender_bytes, target_bytes}
 use Rattle.cp_spool.specs.Queues.{UserFiles}
 use Rattle.cp_spool.specs.Reader.{ReaderPart}
 
+-- the bytes of what a reader keeps
 abbrev pub reader_bytes : ReaderPart → List ℕ
 reader_bytes r = number r.sense ++ bytes r.giving
 
+-- the bytes of a deck
 abbrev pub deck_bytes : DeckValue → List ℕ
 deck_bytes d = number d.label ++ (sender_bytes d.sender ++ each bytes d.cards)
 
+-- the bytes of a closed file
 abbrev pub file_bytes : FileValue → List ℕ
 file_bytes f = target_bytes f.target ++ entries_bytes f.entries
 
+-- the bytes of a user's files
 abbrev pub files_bytes : UserFiles → List ℕ
-files_bytes f = each deck_bytes f.decks ++ (optional number f.place ++ (each file_bytes f.punched ++ each file_bytes f.printed))
+files_bytes f = each deck_bytes f.decks
+    ++ (optional number f.place ++ (each file_bytes f.punched ++ each file_bytes f.printed))

@@ -7,7 +7,7 @@ use unit_record::{Card, Entry, Target};
 
 /// Columns of a card.
 const COLUMNS: usize = 80;
-/// What stands in columns that nothing was punched into.
+/// What is in columns that nothing was punched into.
 const BLANK: u8 = 0x40;
 
 /// What a spool file has.
@@ -37,14 +37,14 @@ impl Model for SpoolFile {
 impl SpoolFile {
     ghost use Rattle.cp_spool.specs.File.{cards_in, contents_of, entries_in, is_deck};
 
-    /// A file for this target.
+    /// Returns a file for this target.
     pub(crate) fn new(target: Target, contents: Contents) -> SpoolFile
         ensures { result ≡ record { target = target; contents = contents_of contents } }
     {
         SpoolFile { target, contents }
     }
 
-    /// For whom it is.
+    /// Returns the user for whom it is.
     pub fn target(&self) -> Target
         ensures { result ≡ self.now.target }
     {
@@ -56,7 +56,7 @@ impl SpoolFile {
         *target
     }
 
-    /// Whether it is a deck that was given.
+    /// Returns whether it is a deck that was given.
     pub(crate) fn is_deck(&self) -> bool
         ensures { result ≡ is_deck self.now.contents }
     {
@@ -66,7 +66,7 @@ impl SpoolFile {
         }
     }
 
-    /// How many cards it has as a deck.
+    /// Returns how many cards it has as a deck.
     pub fn count(&self) -> usize
         ensures { result ≡ length (cards_in self.now.contents) }
     {
@@ -76,7 +76,7 @@ impl SpoolFile {
         }
     }
 
-    /// A card of it as a deck.
+    /// Returns a card of it as a deck.
     pub fn card(&self, index: usize) -> Option<Card>
         ensures value { result ≡ slice_get (cards_in self.now.contents) index }
         ensures fits { IfSome result (λ _. index < usize.MAX) }
@@ -99,7 +99,7 @@ impl SpoolFile {
         }
     }
 
-    /// Its entries, in order, where a punch or a printer made it.
+    /// Returns its entries, in order, where a punch or a printer made it.
     pub fn entries(&self) -> &[Entry]
         ensures { result.now ≡ entries_in self.now.contents }
     {
@@ -110,7 +110,7 @@ impl SpoolFile {
     }
 }
 
-/// The card with these bytes.
+/// Returns the card with these bytes.
 fn card_of(bytes: &[u8]) -> Card
     ensures { result ≡ card_of bytes.now }
 {

@@ -1,8 +1,11 @@
 //! How files are kept: under keys, which the queues of users hold.
-ghost use Rattle.std.specs.Prelude.{◌≡◌, ℕ, ◌<◌, ◌≤◌, [], None, true, false, map, length, replicate, slice_index_or, IfOk, OnErr, OnOk};
+ghost use Rattle.std.specs.Prelude.{◌≡◌, ℕ, ◌<◌, ◌≤◌, [], None, true, false, map, length};
+ghost use Rattle.std.specs.Prelude.{replicate, slice_index_or, IfOk, OnErr, OnOk};
 ghost use Rattle.slab.specs.Slab.{get, Updates, Slab as Files};
 ghost use Rattle.cp_spool.specs.File.{SpoolFileValue};
-ghost use Rattle.cp_spool.specs.Keys.{is_given, no_keys, queue_of, user_files, with_printed_key, with_punched_key, with_queue, with_waiting, without_waiting, keys_in};
+ghost use Rattle.cp_spool.specs.Keys.{is_given, no_keys, queue_of, user_files, with_printed_key};
+ghost use Rattle.cp_spool.specs.Keys.{with_punched_key, with_queue, with_waiting, without_waiting};
+ghost use Rattle.cp_spool.specs.Keys.{keys_in};
 ghost use Rattle.cp_spool.specs.Queues.{no_files};
 
 use crate::file::SpoolFile;
@@ -11,7 +14,7 @@ use slab::Slab;
 use std::alloc::{AllocError, Global};
 use user_names::UserNo;
 
-/// A deck comes to the end of the queue of this user's reader.
+/// Appends a deck to the queue of this user's reader.
 pub(crate) fn push_waiting(
     users: &mut Vec<UserQueue>,
     user: UserNo,
@@ -19,24 +22,27 @@ pub(crate) fn push_waiting(
 ) -> Result<(), AllocError>
     requires { user < length users.old.items }
     ensures ok { OnOk result
-        (users.new.items ≡ with_queue user (with_waiting waiting (queue_of users.old.items user)) users.old.items) }
+        (users.new.items ≡ with_queue user (with_waiting waiting (queue_of users.old.items user))
+        users.old.items) }
     ensures err { OnErr result (users.new.items ≡ users.old.items) }
 {
     users[user.index()].push(waiting)
 }
 
-/// The punch of this user closed the file of this key. This takes no memory.
+/// Records that the punch of this user closed the file of this key. This takes no memory.
 pub(crate) fn push_punched(users: &mut Vec<UserQueue>, user: UserNo, key: usize)
     requires { 1 ≤ (queue_of users.old.items user).punch_room }
-    ensures { users.new.items ≡ with_queue user (with_punched_key key (queue_of users.old.items user)) users.old.items }
+    ensures { users.new.items
+        ≡ with_queue user (with_punched_key key (queue_of users.old.items user)) users.old.items }
 {
     users[user.index()].push_punched(key);
 }
 
-/// The printer of this user closed the file of this key. This takes no memory.
+/// Records that the printer of this user closed the file of this key. This takes no memory.
 pub(crate) fn push_printed(users: &mut Vec<UserQueue>, user: UserNo, key: usize)
     requires { 1 ≤ (queue_of users.old.items user).print_room }
-    ensures { users.new.items ≡ with_queue user (with_printed_key key (queue_of users.old.items user)) users.old.items }
+    ensures { users.new.items
+        ≡ with_queue user (with_printed_key key (queue_of users.old.items user)) users.old.items }
 {
     users[user.index()].push_printed(key);
 }
@@ -55,7 +61,7 @@ pub(crate) fn reserve_closed(users: &mut Vec<UserQueue>, user: UserNo) -> Result
     users[user.index()].reserve()
 }
 
-/// The deck of this index leaves the queue of this user's reader; its key is told.
+/// Takes the deck of this index out of the queue of this user's reader, and returns its key.
 pub(crate) fn take_waiting(users: &mut Vec<UserQueue>, user: UserNo, index: usize) -> usize
     requires user { user < length users.old.items }
     requires index { index < length (queue_of users.old.items user).decks }
@@ -66,16 +72,17 @@ pub(crate) fn take_waiting(users: &mut Vec<UserQueue>, user: UserNo, index: usiz
     users[user.index()].remove(index)
 }
 
-/// So many cards of this user's first deck were read; None where it is not current.
+/// Sets how many cards of this user's first deck were read; None if it is not current.
 pub(crate) fn place_reader(users: &mut Vec<UserQueue>, user: UserNo, place: Option<usize>)
     requires { user < length users.old.items }
     ensures { users.new.items
-        ≡ with_queue user (record (queue_of users.old.items user) { place = place }) users.old.items }
+        ≡ with_queue user (record (queue_of users.old.items user) { place = place })
+        users.old.items }
 {
     users[user.index()].set_place(place);
 }
 
-/// What is kept of this user, who is there.
+/// Returns what is kept of this user, who is there.
 pub(crate) fn queue_at(users: &[UserQueue], user: UserNo) -> &UserQueue
     requires { user < length users.now }
     ensures { result.now ≡ queue_of users.now user }
@@ -83,7 +90,7 @@ pub(crate) fn queue_at(users: &[UserQueue], user: UserNo) -> &UserQueue
     &users[user.index()]
 }
 
-/// The file of this key is gone, where it was given; one that was made is held on.
+/// Removes the file of this key if it was given; one that was made stays.
 pub(crate) fn discard(files: &mut Slab<SpoolFile>, key: usize)
     ensures given { is_given (get files.old key) ≡ true → Updates files.old files.new key None }
     ensures made { is_given (get files.old key) ≡ false → files.new ≡ files.old }
@@ -93,7 +100,7 @@ pub(crate) fn discard(files: &mut Slab<SpoolFile>, key: usize)
     }
 }
 
-/// Whether the file of this key was given.
+/// Returns whether the file of this key was given.
 fn is_given(files: &Slab<SpoolFile>, key: usize) -> bool
     ensures { result ≡ is_given (get files.now key) }
 {
@@ -103,11 +110,13 @@ fn is_given(files: &Slab<SpoolFile>, key: usize) -> bool
     }
 }
 
-/// So many queues in which nothing is kept.
+/// Returns this many queues without files.
 pub(crate) fn empty_queues(alloc: Global, count: usize) -> Result<Vec<UserQueue>, AllocError>
     ensures decks { IfOk result (λ queues. (user : ℕ) → (queue_of queues.items user).decks ≡ []) }
-    ensures punched { IfOk result (λ queues. (user : ℕ) → (queue_of queues.items user).punched ≡ []) }
-    ensures printed { IfOk result (λ queues. (user : ℕ) → (queue_of queues.items user).printed ≡ []) }
+    ensures punched { IfOk result
+        (λ queues. (user : ℕ) → (queue_of queues.items user).punched ≡ []) }
+    ensures printed { IfOk result
+        (λ queues. (user : ℕ) → (queue_of queues.items user).printed ≡ []) }
     ensures files { (files : Files SpoolFileValue)
         → IfOk result (λ queues. map (user_files files) queues.items ≡ replicate count no_files) }
 {

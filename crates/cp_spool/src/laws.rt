@@ -1,9 +1,11 @@
 //! A reader that feeds is a reader.
-ghost use Rattle.cp_spool.specs.Alike.{AFedReaderIsAReader, AFedReaderIsLoadedFrom, AFedReaderStops, AFedReaderTouches, AFedReaderTouchesLoading};
+ghost use Rattle.cp_spool.specs.Alike.{AFedReaderIsAReader, AFedReaderIsLoadedFrom};
+ghost use Rattle.cp_spool.specs.Alike.{AFedReaderStops, AFedReaderTouches};
+ghost use Rattle.cp_spool.specs.Alike.{AFedReaderTouchesLoading};
 
-/// Whatever program runs on a reader that feeds from a queue: it walks as on a reader that has the decks of the queue
-/// itself, and that reader is left as the queue is once it was told what was read
-/// ([`Queues::take_back`](crate::Queues::take_back)).
+/// States that any program walks on a reader that feeds from a queue as on a reader that has the
+/// decks of the queue itself, and that the queue is left as that reader is, after it has taken over
+/// what was read ([`Queues::take_back`](crate::Queues::take_back)).
 pub fn a_fed_reader_is_a_reader()
     ensures walks { AFedReaderIsAReader }
     ensures loads { AFedReaderIsLoadedFrom }

@@ -1,21 +1,24 @@
-//! The spool files of all users: the decks in their readers, and the files that their punches and printers closed.
+//! The spool files of all users: the decks in their readers, and the files that their punches and
+//! printers closed.
 //!
-//! Its one theorem: the files are lists ([`Queues`]). A contract sees of each user the decks of his reader in order, how
-//! far the first is read, and the files that his punch and his printer closed; what a call does to them is one equation
-//! of `specs/Queues.antt`, and a call that is refused memory leaves them as they were.
+//! Its one theorem: the files are lists ([`Queues`]). A contract sees of each user the decks of his
+//! reader in order, how far the first is read, and the files that his punch and his printer closed;
+//! what a call does to them is one equation of `specs/Queues.antt`, and a call that is refused
+//! memory leaves them as they were.
 //!
-//! A file is kept once, in a slab, and named by its key. What a punch made for a user moves: its entries come into the
-//! slab as they stand ([`Queues::close_punched`]), its key comes to the queue of that user's reader
-//! ([`Queues::deliver`]), and no card is copied. The key stays with the punch, too, since a user's closed files are part
-//! of what he is shown. A deck that was given is kept by its reader alone, and is gone when it was read or purged.
+//! A file is kept once, in a slab, and named by its key. What a punch made for a user moves: its
+//! entries come into the slab as they are ([`Queues::close_punched`]), its key comes to the queue
+//! of that user's reader ([`Queues::deliver`]), and no card is copied. The key stays with the
+//! punch, too, since a user's closed files are part of what he is shown. A deck that was given is
+//! kept by its reader alone, and is gone when it was read or purged.
 //!
-//! A reader feeds from the queue of its user ([`FedReader`]): it is a [`Device`](s370_walk::Device) that leaves the
-//! queue as it is while a program runs, and says afterwards what it has read.
+//! A reader feeds from the queue of its user ([`FedReader`]): it is a [`Device`](s370_walk::Device)
+//! that leaves the queue as it is while a program runs, and says afterwards what it has read.
 //!
 //! ```
 //! use cp_spool::{FedReader, Queues, Reader};
 //! use user_names::UserNo;
-//! use s370_walk::{Answer, Command, Device, Flags, Order};
+//! use s370_walk::{Answer, CommandCode, Device, Flags, Order};
 //! use unit_record::{Entry, Record, Sender, Target};
 //!
 //! let (a, b) = (UserNo::new(0), UserNo::new(1));
@@ -25,7 +28,7 @@
 //! queues.close_punched(a, Target::User(1), vec![in alloc; card]?);
 //! queues.deliver(a, 0, b, 1, Sender::User(0))?;
 //! let mut reader = FedReader::new(&queues, b, Reader::new());
-//! let read = Order { command: Command { code: 0x02 }, first: true, flags: Flags::NONE };
+//! let read = Order { command: CommandCode { code: 0x02 }, first: true, flags: Flags::NONE };
 //! assert_eq!(rt; reader.command(read)?, Answer::Input(80));
 //! assert_eq!(rt; reader.give(), 0xC1);
 //! reader.finish();

@@ -1,7 +1,9 @@
 //! What is kept of one user: the queue of his reader, and what his punch and his printer closed.
-ghost use Rattle.std.specs.Prelude.{◌≡◌, ◌<◌, ◌≤◌, [], ◌∷◌, ◌++◌, length, map, slice_get, slice_index_or, None, IfSome, OnOk, OnErr};
+ghost use Rattle.std.specs.Prelude.{◌≡◌, ◌<◌, ◌≤◌, [], ◌∷◌, ◌++◌, length, map, slice_get};
+ghost use Rattle.std.specs.Prelude.{slice_index_or, None, IfSome, OnOk, OnErr};
 ghost use Rattle.unit_record.specs.Reader.{currents};
-ghost use Rattle.cp_spool.specs.Keys.{no_keys, with_printed_key, with_punched_key, with_waiting, without_waiting};
+ghost use Rattle.cp_spool.specs.Keys.{no_keys, with_printed_key, with_punched_key, with_waiting};
+ghost use Rattle.cp_spool.specs.Keys.{without_waiting};
 
 use std::alloc::{AllocError, Global};
 use std::collections::VecDeque;
@@ -16,8 +18,8 @@ pub(crate) struct Waiting {
     pub(crate) key: usize,
 }
 
-/// One user's decks, in order, and how many cards of the first were read, None where it is not current; and the keys of
-/// the files that his punch and his printer closed.
+/// One user's decks, in order, and how many cards of the first were read, None where it is not
+/// current; and the keys of the files that his punch and his printer closed.
 #[derive(Drop)]
 pub(crate) struct UserQueue {
     decks: VecDeque<Waiting>,
@@ -43,7 +45,7 @@ impl Model for UserQueue {
 }
 
 impl UserQueue {
-    /// Nothing is kept.
+    /// Returns a queue without files.
     pub(crate) fn new(alloc: Global) -> UserQueue
         ensures decks { result.decks ≡ [] }
         ensures place { result.place ≡ None }
@@ -58,7 +60,7 @@ impl UserQueue {
         }
     }
 
-    /// A deck comes to the end.
+    /// Appends a deck.
     pub(crate) fn push(&mut self, waiting: Waiting) -> Result<(), AllocError>
         ensures ok { OnOk result (self.new ≡ with_waiting waiting self.old) }
         ensures err { OnErr result (self.new ≡ self.old) }
@@ -69,7 +71,8 @@ impl UserQueue {
 
     /// Makes room for one more file that the punch closes, and one that the printer does.
     pub(crate) fn reserve(&mut self) -> Result<(), AllocError>
-        ensures rest { self.new ≡ record self.old { punch_room = self.new.punch_room; print_room = self.new.print_room } }
+        ensures rest { self.new ≡ record
+            self.old { punch_room = self.new.punch_room; print_room = self.new.print_room } }
         ensures punched { OnOk result (1 ≤ self.new.punch_room) }
         ensures printed { OnOk result (1 ≤ self.new.print_room) }
     {
@@ -77,7 +80,7 @@ impl UserQueue {
         self.printed.reserve(1)
     }
 
-    /// The punch closed the file of this key. This takes no memory.
+    /// Records that the punch closed the file of this key. This takes no memory.
     pub(crate) fn push_punched(&mut self, key: usize)
         requires { 1 ≤ self.old.punch_room }
         ensures { self.new ≡ with_punched_key key self.old }
@@ -85,7 +88,7 @@ impl UserQueue {
         self.punched.push_reserved(key);
     }
 
-    /// The printer closed the file of this key. This takes no memory.
+    /// Records that the printer closed the file of this key. This takes no memory.
     pub(crate) fn push_printed(&mut self, key: usize)
         requires { 1 ≤ self.old.print_room }
         ensures { self.new ≡ with_printed_key key self.old }
@@ -93,7 +96,7 @@ impl UserQueue {
         self.printed.push_reserved(key);
     }
 
-    /// Takes the deck of this index away, and tells its key.
+    /// Removes the deck of this index, and returns its key.
     pub(crate) fn remove(&mut self, index: usize) -> usize
         requires { index < length self.old.decks }
         ensures key { result ≡ slice_index_or (map (λ deck. deck.key) self.old.decks) index 0 }
@@ -112,14 +115,14 @@ impl UserQueue {
         }
     }
 
-    /// So many cards of the first deck were read; None where it is not current.
+    /// Sets how many cards of the first deck were read; None if it is not current.
     pub(crate) fn set_place(&mut self, place: Option<usize>)
         ensures { self.new ≡ record self.old { place = place } }
     {
         self.place = place;
     }
 
-    /// How many cards of the first deck were read; None where it is not current.
+    /// Returns how many cards of the first deck were read; None where it is not current.
     pub(crate) fn place(&self) -> Option<usize>
         ensures { result ≡ self.now.place }
     {
@@ -133,14 +136,14 @@ impl UserQueue {
         *place
     }
 
-    /// How many decks there are.
+    /// Returns how many decks there are.
     pub(crate) fn len(&self) -> usize
         ensures { result ≡ length self.now.decks }
     {
         self.decks.len()
     }
 
-    /// The deck of this index.
+    /// Returns the deck of this index.
     pub(crate) fn deck(&self, index: usize) -> Option<Waiting>
         ensures value { result ≡ slice_get self.now.decks index }
         ensures inside { IfSome result (λ _. index < length self.now.decks) }
@@ -153,7 +156,7 @@ impl UserQueue {
         }
     }
 
-    /// The key of the punch's closed file of this index.
+    /// Returns the key of the punch's closed file of this index.
     pub(crate) fn punched(&self, index: usize) -> Option<usize>
         ensures value { result ≡ slice_get self.now.punched index }
         ensures inside { IfSome result (λ _. index < length self.now.punched) }
@@ -161,7 +164,7 @@ impl UserQueue {
         self.punched.get(index).copied()
     }
 
-    /// The key of the printer's closed file of this index.
+    /// Returns the key of the printer's closed file of this index.
     pub(crate) fn printed(&self, index: usize) -> Option<usize>
         ensures value { result ≡ slice_get self.now.printed index }
         ensures inside { IfSome result (λ _. index < length self.now.printed) }
@@ -169,14 +172,14 @@ impl UserQueue {
         self.printed.get(index).copied()
     }
 
-    /// How many files the punch closed.
+    /// Returns how many files the punch closed.
     pub(crate) fn punched_count(&self) -> usize
         ensures { result ≡ length self.now.punched }
     {
         self.punched.len()
     }
 
-    /// How many files the printer closed.
+    /// Returns how many files the printer closed.
     pub(crate) fn printed_count(&self) -> usize
         ensures { result ≡ length self.now.printed }
     {

@@ -1,9 +1,14 @@
 //! The files of all users.
-ghost use Rattle.std.specs.Prelude.{◌≡◌, ◌≢◌, ◌↔◌, ◌+◌, ◌<◌, ◌≤◌, [], Err, None, Some, is_ok, is_some, length, replicate, slice_get, slice_index, IfSome, IfOk, OnOk, OnErr};
+ghost use Rattle.std.specs.Prelude.{◌≡◌, ◌≢◌, ◌↔◌, ◌+◌, ◌<◌, ◌≤◌, [], Err, None, Some, is_ok};
+ghost use Rattle.std.specs.Prelude.{is_some, length, replicate, slice_get, slice_index, IfSome};
+ghost use Rattle.std.specs.Prelude.{IfOk, OnOk, OnErr};
 ghost use Rattle.std.specs.Option.{option_copied, option_map};
 ghost use Rattle.unit_record.specs.Reader.{currents};
 ghost use Rattle.cp_spool.specs.File.{closed_file};
-ghost use Rattle.cp_spool.specs.Queues.{HasRoom, deck_of, file_of, files_of, no_files, purged, put_back, read_on, waiting_at, with_deck, with_files, with_place, with_printed, with_punched, without_deck, without_first};
+ghost use Rattle.cp_spool.specs.Queues.{HasRoom, deck_of, file_of, files_of, no_files, purged};
+ghost use Rattle.cp_spool.specs.Queues.{put_back, read_on, waiting_at, with_deck, with_files};
+ghost use Rattle.cp_spool.specs.Queues.{with_place, with_printed, with_punched, without_deck};
+ghost use Rattle.cp_spool.specs.Queues.{without_first};
 
 use crate::error::SpoolError;
 use crate::file::{Contents, SpoolFile};
@@ -20,7 +25,8 @@ use std::marker::Model;
 use unit_record::{Card, Entry, Sender, Target};
 use user_names::UserNo;
 
-/// The spool files of all users: the decks in their readers, and the files that their punches and printers closed.
+/// The spool files of all users: the decks in their readers, and the files that their punches and
+/// printers closed.
 #[derive(Drop)]
 pub struct Queues {
     files: Slab<SpoolFile>,
@@ -48,7 +54,11 @@ impl Model for Queues {
 }
 
 impl Queues {
-    /// Of so many users no file is held.
+    /// Returns the queues of this many users, without files.
+    ///
+    /// # Errors
+    ///
+    /// `AllocError` if memory is refused.
     pub fn new(alloc: Global, users: usize) -> Result<Queues, AllocError>
         ensures { IfOk result (λ queues. queues.users ≡ replicate users no_files) }
     {
@@ -58,7 +68,7 @@ impl Queues {
         })
     }
 
-    /// How many users there are.
+    /// Returns how many users there are.
     pub fn users(&self) -> usize
         ensures { result ≡ length self.now.users }
     {
@@ -67,7 +77,12 @@ impl Queues {
         users.len()
     }
 
-    /// A deck of these cards comes to the end of the queue of this user's reader.
+    /// Appends a deck of these cards to the queue of this user's reader.
+    ///
+    /// # Errors
+    ///
+    /// A `SpoolError`: refused memory, or no such user or file. The lists of files are as they
+    /// were.
     pub fn append(
         &mut self,
         user: UserNo,
@@ -76,7 +91,8 @@ impl Queues {
         cards: Vec<Card>,
     ) -> Result<(), SpoolError>
         ensures ok { OnOk result (self.new.users
-            ≡ with_files user (with_deck (record { label = label; sender = sender; cards = cards.items })
+            ≡ with_files user (with_deck
+            (record { label = label; sender = sender; cards = cards.items })
             (files_of self.old.users user)) self.old.users) }
         ensures err { OnErr result (self.new.users ≡ self.old.users) }
         ensures no_user { (result ≡ Err SpoolError.NoSuchUser) ↔ (length self.old.users ≤ user) }
@@ -91,7 +107,7 @@ impl Queues {
         }
     }
 
-    /// The same, of a user who is there.
+    /// Appends a deck of these cards to the queue of the reader of a user who is there.
     fn give(
         &mut self,
         user: UserNo,
@@ -101,7 +117,8 @@ impl Queues {
     ) -> Result<(), AllocError>
         requires { user < length self.old.users }
         ensures ok { OnOk result (self.new.users
-            ≡ with_files user (with_deck (record { label = label; sender = sender; cards = cards.items })
+            ≡ with_files user (with_deck
+            (record { label = label; sender = sender; cards = cards.items })
             (files_of self.old.users user)) self.old.users) }
         ensures err { OnErr result (self.new.users ≡ self.old.users) }
     {
@@ -115,8 +132,12 @@ impl Queues {
         Ok(())
     }
 
-    /// Makes room for one file that this user's punch closes, and one that his printer does: what LOGOFF closes. So
-    /// they can be closed without memory, both or neither.
+    /// Makes room for one file that this user's punch closes, and one that his printer does: what
+    /// LOGOFF closes. So they can be closed without memory, both or neither.
+    ///
+    /// # Errors
+    ///
+    /// A `SpoolError`: refused memory, or no such user or file.
     pub fn make_room(&mut self, user: UserNo) -> Result<(), SpoolError>
         ensures users { self.new.users ≡ self.old.users }
         ensures room { OnOk result (HasRoom user self.new.room) }
@@ -132,7 +153,7 @@ impl Queues {
         }
     }
 
-    /// The same, of a user who is there.
+    /// Makes room for the two files that LOGOFF of a user who is there closes.
     fn reserve(&mut self, user: UserNo) -> Result<(), AllocError>
         requires { user < length self.old.users }
         ensures users { self.new.users ≡ self.old.users }
@@ -143,12 +164,14 @@ impl Queues {
         Ok(())
     }
 
-    /// This user's punch closes a file of these entries for this target. This takes no memory, and no entry is copied.
+    /// Closes a punch file of this user, with these entries and this target. This takes no memory,
+    /// and no entry is copied.
     pub fn close_punched(&mut self, user: UserNo, to: Target, entries: Vec<Entry>)
         requires files { 1 ≤ self.old.room.files }
         requires room { 1 ≤ slice_index self.old.room.punched user }
         ensures users { self.new.users
-            ≡ with_files user (with_punched (file_of to entries.items) (files_of self.old.users user)) self.old.users }
+            ≡ with_files user (with_punched (file_of to entries.items)
+            (files_of self.old.users user)) self.old.users }
         ensures files { self.new.room.files + 1 ≡ self.old.room.files }
         ensures printed { self.new.room.printed ≡ self.old.room.printed }
     {
@@ -158,13 +181,14 @@ impl Queues {
         push_punched(&mut self.users, user, key);
     }
 
-    /// This user's printer closes a file of these entries for this target. This takes no memory, and no entry is
-    /// copied.
+    /// Closes a printer file of this user, with these entries and this target. This takes no
+    /// memory, and no entry is copied.
     pub fn close_printed(&mut self, user: UserNo, to: Target, entries: Vec<Entry>)
         requires files { 1 ≤ self.old.room.files }
         requires room { 1 ≤ slice_index self.old.room.printed user }
         ensures users { self.new.users
-            ≡ with_files user (with_printed (file_of to entries.items) (files_of self.old.users user)) self.old.users }
+            ≡ with_files user (with_printed (file_of to entries.items)
+            (files_of self.old.users user)) self.old.users }
         ensures files { self.new.room.files + 1 ≡ self.old.room.files }
         ensures punched { self.new.room.punched ≡ self.old.room.punched }
     {
@@ -174,8 +198,13 @@ impl Queues {
         push_printed(&mut self.users, user, key);
     }
 
-    /// The file of this index that a user's punch closed comes to the end of the queue of another's reader, as a deck
+    /// Appends the closed punch file of this index to the queue of another user's reader, as a deck
     /// with this label. No card is copied.
+    ///
+    /// # Errors
+    ///
+    /// A `SpoolError`: refused memory, or no such user or file. The lists of files are as they
+    /// were.
     pub fn deliver(
         &mut self,
         from: UserNo,
@@ -185,7 +214,8 @@ impl Queues {
         sender: Sender,
     ) -> Result<(), SpoolError>
         ensures ok { OnOk result (self.new.users
-            ≡ with_files to (with_deck (deck_of (files_of self.old.users from).punched index label sender)
+            ≡ with_files to (with_deck
+            (deck_of (files_of self.old.users from).punched index label sender)
             (files_of self.old.users to)) self.old.users) }
         ensures err { OnErr result (self.new.users ≡ self.old.users) }
         ensures no_user { (result ≡ Err SpoolError.NoSuchUser) ↔ (length self.old.users ≤ to) }
@@ -204,7 +234,7 @@ impl Queues {
         }
     }
 
-    /// The same, of a file and a user who are there.
+    /// Appends a file that is there to the queue of the reader of a user who is there.
     fn send(
         &mut self,
         from: UserNo,
@@ -216,7 +246,8 @@ impl Queues {
         requires index { index < length (files_of self.old.users from).punched }
         requires to { to < length self.old.users }
         ensures ok { OnOk result (self.new.users
-            ≡ with_files to (with_deck (deck_of (files_of self.old.users from).punched index label sender)
+            ≡ with_files to (with_deck
+            (deck_of (files_of self.old.users from).punched index label sender)
             (files_of self.old.users to)) self.old.users) }
         ensures err { OnErr result (self.new.users ≡ self.old.users) }
     {
@@ -228,7 +259,13 @@ impl Queues {
         Ok(())
     }
 
-    /// Takes the first waiting deck of this label away from the reader of this user. A current deck does not wait.
+    /// Takes the first waiting deck of this label away from the reader of this user. A current deck
+    /// does not wait.
+    ///
+    /// # Errors
+    ///
+    /// A `SpoolError`: refused memory, or no such user or file. The lists of files are as they
+    /// were.
     pub fn purge(&mut self, user: UserNo, label: u64) -> Result<(), SpoolError>
         ensures found { is_ok result ≡ is_some (waiting_at (files_of self.old.users user) label) }
         ensures after { self.new.users
@@ -250,10 +287,11 @@ impl Queues {
         }
     }
 
-    /// Where the first waiting deck of this label stands among all decks of this user.
+    /// Returns the place of the first waiting deck of this label among all decks of this user.
     fn waiting_at(&self, user: UserNo, label: u64) -> Option<usize>
         ensures value { result ≡ waiting_at (files_of self.now.users user) label }
-        ensures inside { IfSome result (λ index. index < length (files_of self.now.users user).decks) }
+        ensures inside { IfSome result
+            (λ index. index < length (files_of self.now.users user).decks) }
     {
         for index in self.currents(user)..self.decks(user) {
             let Some(deck) = self.deck(user, index) else {
@@ -266,7 +304,7 @@ impl Queues {
         None
     }
 
-    /// How many of a user's decks do not wait: the current one.
+    /// Returns how many of a user's decks do not wait: the current one.
     fn currents(&self, user: UserNo) -> usize
         ensures { result ≡ currents (files_of self.now.users user).place }
     {
@@ -276,7 +314,7 @@ impl Queues {
         }
     }
 
-    /// How many cards of this user's current deck were read; None where none is current.
+    /// Returns how many cards of this user's current deck were read; None where none is current.
     pub fn place(&self, user: UserNo) -> Option<usize>
         ensures { result ≡ (files_of self.now.users user).place }
     {
@@ -287,7 +325,7 @@ impl Queues {
         }
     }
 
-    /// How many decks a user's reader has, a current one included.
+    /// Returns how many decks a user's reader has, a current one included.
     pub fn decks(&self, user: UserNo) -> usize
         ensures { result ≡ length (files_of self.now.users user).decks }
     {
@@ -298,7 +336,7 @@ impl Queues {
         }
     }
 
-    /// A deck of this user's reader, in their order; a current one is the first.
+    /// Returns a deck of this user's reader, in their order; a current one is the first.
     pub fn deck(&self, user: UserNo, index: usize) -> Option<SeenDeck<'_>>
         ensures value { result ≡ slice_get (files_of self.now.users user).decks index }
         ensures inside { IfSome result (λ _. index < length (files_of self.now.users user).decks) }
@@ -314,11 +352,18 @@ impl Queues {
         }
     }
 
-    /// The deck that this user's reader feeds from: the current one, or that which becomes current when a card is read.
+    /// Returns the deck that this user's reader feeds from: the current one, or that which becomes
+    /// current when a card is read.
+    ///
+    /// # Errors
+    ///
+    /// A `SpoolError`: refused memory, or no such user or file.
     pub fn next_deck(&self, user: UserNo) -> Result<SeenDeck<'_>, SpoolError>
-        ensures ok { IfOk result (λ deck. slice_get (files_of self.now.users user).decks 0 ≡ Some deck) }
+        ensures ok { IfOk result
+            (λ deck. slice_get (files_of self.now.users user).decks 0 ≡ Some deck) }
         ensures no_user { (result ≡ Err SpoolError.NoSuchUser) ↔ (length self.now.users ≤ user) }
-        ensures no_file { result ≡ Err SpoolError.NoSuchFile → slice_get (files_of self.now.users user).decks 0 ≡ None }
+        ensures no_file { result ≡ Err SpoolError.NoSuchFile
+            → slice_get (files_of self.now.users user).decks 0 ≡ None }
         ensures memory { result ≢ Err SpoolError.Memory }
     {
         if user.index() >= self.users.len() {
@@ -330,7 +375,7 @@ impl Queues {
         }
     }
 
-    /// How many files this user's punch closed.
+    /// Returns how many files this user's punch closed.
     pub fn punched_count(&self, user: UserNo) -> usize
         ensures { result ≡ length (files_of self.now.users user).punched }
     {
@@ -341,7 +386,7 @@ impl Queues {
         }
     }
 
-    /// How many files this user's printer closed.
+    /// Returns how many files this user's printer closed.
     pub fn printed_count(&self, user: UserNo) -> usize
         ensures { result ≡ length (files_of self.now.users user).printed }
     {
@@ -352,7 +397,7 @@ impl Queues {
         }
     }
 
-    /// A file that this user's punch closed, in their order.
+    /// Returns a file that this user's punch closed, in their order.
     pub fn punched(&self, user: UserNo, index: usize) -> Option<&SpoolFile>
         ensures { option_map closed_file (option_copied result)
             ≡ slice_get (files_of self.now.users user).punched index }
@@ -366,7 +411,7 @@ impl Queues {
         }
     }
 
-    /// A file that this user's printer closed, in their order.
+    /// Returns a file that this user's printer closed, in their order.
     pub fn printed(&self, user: UserNo, index: usize) -> Option<&SpoolFile>
         ensures { option_map closed_file (option_copied result)
             ≡ slice_get (files_of self.now.users user).printed index }
@@ -380,24 +425,26 @@ impl Queues {
         }
     }
 
-    /// The current deck of this user, if there is one, goes back to the front of the queue, to be read from its first
-    /// card.
+    /// Puts the current deck of this user, if there is one, back to the front of the queue, to be
+    /// read from its first card.
     pub fn put_back(&mut self, user: UserNo)
-        ensures { self.new.users ≡ with_files user (put_back (files_of self.old.users user)) self.old.users }
+        ensures { self.new.users
+            ≡ with_files user (put_back (files_of self.old.users user)) self.old.users }
     {
         self.set_place(user, None);
     }
 
-    /// So many cards of this user's first deck were read; None where it is not current.
+    /// Sets how many cards of this user's first deck were read; None if it is not current.
     pub(crate) fn set_place(&mut self, user: UserNo, place: Option<usize>)
-        ensures { self.new.users ≡ with_files user (with_place place (files_of self.old.users user)) self.old.users }
+        ensures { self.new.users
+            ≡ with_files user (with_place place (files_of self.old.users user)) self.old.users }
     {
         if user.index() < self.users.len() {
             place_reader(&mut self.users, user, place);
         }
     }
 
-    /// A reader of this user has read on.
+    /// Takes over how far a reader of this user has read.
     pub fn take_back(&mut self, user: UserNo, progress: Progress)
         ensures { self.new.users ≡ with_files user
             (read_on progress.ended progress.place (files_of self.old.users user)) self.old.users }
@@ -408,19 +455,21 @@ impl Queues {
         self.set_place(user, progress.place);
     }
 
-    /// The first deck of this user, if there is one, leaves his reader.
+    /// Removes the first deck of this user, if there is one, which has been read.
     fn end_deck(&mut self, user: UserNo)
-        ensures { self.new.users ≡ with_files user (without_first (files_of self.old.users user)) self.old.users }
+        ensures { self.new.users
+            ≡ with_files user (without_first (files_of self.old.users user)) self.old.users }
     {
         if self.decks(user) > 0 {
             self.take_out(user, 0);
         }
     }
 
-    /// The deck of this index leaves the reader of this user. One that was given is gone.
+    /// Removes the deck of this index from the reader of this user. One that was given is gone.
     fn take_out(&mut self, user: UserNo, index: usize)
         requires { index < length (files_of self.old.users user).decks }
-        ensures { self.new.users ≡ with_files user (without_deck index (files_of self.old.users user)) self.old.users }
+        ensures { self.new.users
+            ≡ with_files user (without_deck index (files_of self.old.users user)) self.old.users }
     {
         let key = take_waiting(&mut self.users, user, index);
         discard(&mut self.files, key);

@@ -1,5 +1,6 @@
 //! A card reader that feeds from the queue of its user.
-ghost use Rattle.std.specs.Prelude.{◌≡◌, ◌∷◌, [], drop, length, slice_index, true, IsOk, IfOk, OnOk, OnErr};
+ghost use Rattle.std.specs.Prelude.{◌≡◌, ◌∷◌, [], drop, length, slice_index, true, IsOk, IfOk};
+ghost use Rattle.std.specs.Prelude.{OnOk, OnErr};
 ghost use Rattle.unit_record.specs.Front.{is_sense};
 ghost use Rattle.unit_record.specs.Reader.{read_answer};
 ghost use Rattle.cp_spool.specs.Queues.{files_of};
@@ -7,7 +8,7 @@ ghost use Rattle.cp_spool.specs.Reader.{fed_by, part_new};
 
 use crate::progress::Progress;
 use crate::queues::Queues;
-use channel_trial::{TrialStorage, Tried, TriedLoading, try_loading, try_program};
+use channel_trial::{DryRun, TrialStorage, TriedLoading, try_loading, try_program};
 use s370_channel::Caw;
 use s370_walk::{Answer, Device, Flags, Order, UnitStatus};
 use std::alloc::AllocError;
@@ -19,12 +20,13 @@ use user_names::UserNo;
 const READ: u8 = 0x02;
 /// The command that does nothing.
 const NO_OPERATION: u8 = 0x03;
-/// The command that tells the sense byte.
+/// The command that reads the sense byte.
 const SENSE: u8 = 0x04;
 /// Chain data and chain command.
 const CHAINING: Flags = Flags { bits: 0xC0 };
 
-/// What a card reader keeps beside its decks: its sense byte, and the bytes that are still to be given.
+/// What a card reader keeps next to its decks: its sense byte, and the bytes that are still to be
+/// given.
 #[derive(Drop)]
 pub struct Reader {
     pub(crate) sense: u8,
@@ -44,7 +46,7 @@ impl Model for Reader {
 }
 
 impl Reader {
-    /// A reader that has done nothing, or was reset.
+    /// Returns a reader that feeds from the queue of this user.
     pub fn new() -> Reader
         ensures { result ≡ part_new }
     {
@@ -55,7 +57,7 @@ impl Reader {
         }
     }
 
-    /// The same reader once more.
+    /// Returns the same reader once more.
     fn copy(&self) -> Reader
         ensures { result ≡ self.now }
     {
@@ -66,7 +68,7 @@ impl Reader {
         }
     }
 
-    /// The sense byte of the last unit check.
+    /// Returns the sense byte of the last unit check.
     pub fn sense(&self) -> u8
         ensures { result ≡ self.now.sense }
     {
@@ -79,14 +81,14 @@ impl Reader {
         *sense
     }
 
-    /// A unit check with this sense byte.
+    /// Refuses a command with a unit check and this sense byte.
     fn refuse(&mut self, sense: u8)
         ensures { self.new ≡ record self.old { sense = sense } }
     {
         self.sense = sense;
     }
 
-    /// These bytes are to be given.
+    /// Keeps these bytes, to be given one by one.
     fn hold(&mut self, bytes: Record)
         ensures { self.new ≡ record self.old { giving = bytes } }
     {
@@ -107,8 +109,8 @@ impl Reader {
     }
 }
 
-/// A card reader that feeds from the queue of one user. The queue stays as it is, and is told afterwards what was read
-/// ([`Queues::take_back`]).
+/// A card reader that feeds from the queue of one user. The queue stays as it is, and is told
+/// afterwards what was read ([`Queues::take_back`]).
 #[derive(Drop)]
 pub struct FedReader<'a> {
     queues: &'a Queues,
@@ -181,8 +183,8 @@ impl<'a> Device for FedReader<'a> {
     }
 }
 
-impl<'a> Tried for FedReader<'a> {
-    fn try_on(&self, copy: &mut TrialStorage, start: Caw) -> Result<(), AllocError> {
+impl<'a> DryRun for FedReader<'a> {
+    fn dry_run(&self, copy: &mut TrialStorage, start: Caw) -> Result<(), AllocError> {
         try_program(copy, start, &mut self.trial())
     }
 }
@@ -211,7 +213,7 @@ impl<'a> FedReader<'a> {
         }
     }
 
-    /// The reader on trial, from now on: it feeds from the same queue.
+    /// Returns the reader on trial, from now on: it feeds from the same queue.
     fn trial(&self) -> FedReader<'a>
         ensures { result ≡ self.now }
     {
@@ -223,7 +225,7 @@ impl<'a> FedReader<'a> {
         }
     }
 
-    /// The reader, and what it has read.
+    /// Returns the reader, and what it has read.
     pub fn into_parts(self) -> (Reader, Progress)
         ensures reader { result.0 ≡ self.entry.part }
         ensures ended { result.1.ended ≡ self.entry.ended }
@@ -238,7 +240,7 @@ impl<'a> FedReader<'a> {
         (reader, progress)
     }
 
-    /// A read.
+    /// Reads the next card.
     fn read(&mut self) -> Answer
         ensures answer { result ≡ read_answer (next_card self.old) }
         ensures after { self.new ≡ read_started self.old (next_card self.old) }
@@ -259,7 +261,7 @@ impl<'a> FedReader<'a> {
     }
 }
 
-/// Whether a sense command is asked for and accepted.
+/// Returns whether a sense command is asked for and accepted.
 fn is_sense(order: Order) -> bool
     ensures { result ≡ is_sense order }
 {

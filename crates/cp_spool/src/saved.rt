@@ -19,6 +19,10 @@ use user_names::UserNo;
 
 impl Reader {
     /// Appends all that is seen of what a reader keeps.
+    ///
+    /// # Errors
+    ///
+    /// `AllocError` if memory is refused; `out` may have a part of it then.
     pub fn save(&self, out: &mut Vec<u8>) -> Result<(), AllocError>
         ensures { OnOk result (out.new.items ≡ out.old.items ++ reader_bytes self.now) }
     {
@@ -98,7 +102,7 @@ fn place_of(input: &mut Input<'_>) -> Option<Option<usize>> {
     }
 }
 
-/// Takes the cards that come next.
+/// Takes the cards that are next.
 fn cards_of(alloc: Global, input: &mut Input<'_>) -> Option<Vec<Card>> {
     let mut cards = Vec::new(alloc);
     for _ in 0..u64::MAX {
@@ -112,8 +116,13 @@ fn cards_of(alloc: Global, input: &mut Input<'_>) -> Option<Vec<Card>> {
 
 impl Queues {
     /// Appends all that is seen of a user's files.
+    ///
+    /// # Errors
+    ///
+    /// `AllocError` if memory is refused; `out` may have a part of it then.
     pub fn save(&self, user: UserNo, out: &mut Vec<u8>) -> Result<(), AllocError>
-        ensures { OnOk result (out.new.items ≡ out.old.items ++ files_bytes (files_of self.now.users user)) }
+        ensures { OnOk result (out.new.items ≡ out.old.items
+            ++ files_bytes (files_of self.now.users user)) }
     {
         self.put_decks(user, out)?;
         put_place(out, self.place(user))?;
@@ -166,7 +175,8 @@ impl Queues {
         put_zero(out)
     }
 
-    /// Takes the files that come next, for a user who has none. There are as many users, whatever comes.
+    /// Takes the files that are next, for a user who has none. There are as many users, whatever
+    /// comes.
     pub fn restore(&mut self, alloc: Global, user: UserNo, input: &mut Input<'_>) -> Option<()>
         ensures { length self.new.users ≡ length self.old.users }
     {
@@ -177,7 +187,7 @@ impl Queues {
         self.take_printed(alloc, user, input)
     }
 
-    /// Takes the decks that come next.
+    /// Takes the decks that are next.
     fn take_decks(&mut self, alloc: Global, user: UserNo, input: &mut Input<'_>) -> Option<()>
         ensures { length self.new.users ≡ length self.old.users }
     {
@@ -193,7 +203,7 @@ impl Queues {
         Some(())
     }
 
-    /// Takes the files that come next, as closed by a user's punch.
+    /// Takes the files that are next, as closed by a user's punch.
     fn take_punched(&mut self, alloc: Global, user: UserNo, input: &mut Input<'_>) -> Option<()>
         ensures { length self.new.users ≡ length self.old.users }
     {
@@ -209,7 +219,7 @@ impl Queues {
         Some(())
     }
 
-    /// Takes the files that come next, as closed by a user's printer.
+    /// Takes the files that are next, as closed by a user's printer.
     fn take_printed(&mut self, alloc: Global, user: UserNo, input: &mut Input<'_>) -> Option<()>
         ensures { length self.new.users ≡ length self.old.users }
     {

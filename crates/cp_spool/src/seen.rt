@@ -20,11 +20,15 @@ impl<'a> Model for SeenDeck<'a> {
 
     ghost Value = { DeckValue };
 
-    ghost view = { λ d. record { label = d.label; sender = d.sender; cards = cards_in d.file.now.contents } };
+    ghost view = { λ d. record {
+      label = d.label;
+      sender = d.sender;
+      cards = cards_in d.file.now.contents;
+    } };
 }
 
 impl<'a> SeenDeck<'a> {
-    /// The deck that this file is under this label.
+    /// Returns the deck that this file is under this label.
     pub(crate) fn new(label: u64, sender: Sender, file: &'a SpoolFile) -> SeenDeck<'a>
         ensures label { result.label ≡ label }
         ensures sender { result.sender ≡ sender }
@@ -37,28 +41,28 @@ impl<'a> SeenDeck<'a> {
         }
     }
 
-    /// Its label.
+    /// Returns its label.
     pub fn label(&self) -> u64
         ensures { result ≡ self.now.label }
     {
         self.label
     }
 
-    /// From whom it comes.
+    /// Returns from whom it comes.
     pub fn sender(&self) -> Sender
         ensures { result ≡ self.now.sender }
     {
         self.sender
     }
 
-    /// How many cards it has.
+    /// Returns how many cards it has.
     pub fn count(&self) -> usize
         ensures { result ≡ length self.now.cards }
     {
         self.file.count()
     }
 
-    /// A card of it.
+    /// Returns a card of it.
     pub fn card(&self, index: usize) -> Option<Card>
         ensures value { result ≡ slice_get self.now.cards index }
         ensures fits { IfSome result (λ _. index < usize.MAX) }

@@ -8,9 +8,13 @@ use s370_psw::Ilc;
 use s370_rows::Cpu;
 use s370_store::{Page, Storage};
 
-/// Interrupts a guest: its virtual program status word is stored in its own storage, with this code and instruction
-/// length, and the new one of that class is loaded. Where its page 0 is not present that is the error, and nothing is
-/// changed.
+/// Interrupts a guest: its virtual program status word is stored in its own storage, with this code
+/// and instruction length, and the new one of that class is loaded. Where its page 0 is not present
+/// that is the error, and nothing is changed.
+///
+/// # Errors
+///
+/// A page that is needed and absent; nothing has changed.
 #[inline]
 pub fn reflect<S: Storage>(
     cpu: &mut Cpu,

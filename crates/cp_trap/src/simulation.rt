@@ -16,17 +16,19 @@ use s370_store::{Keyed, Page};
 pub enum Simulated {
     /// It is done, on the virtual registers and the guest's storage.
     Done,
-    /// It is refused: the guest is to be interrupted with this code, and has the next address already.
+    /// It is refused: the guest is to be interrupted with this code, and has the next address
+    /// already.
     Refused(ProgramCode),
-    /// The guest's own device of this address, or its channel, is asked, and the guest has the next address already;
-    /// the condition code is still to be set.
+    /// The guest's own device of this address, or its channel, is asked, and the guest has the next
+    /// address already; the condition code is still to be set.
     InputOutput(IoOperation, u16),
     /// It has to access this page, which is not present. Nothing is changed.
     Absent(Page),
 }
 
-/// Carries out a privileged instruction that was handed back with this length code, as the virtual program status word
-/// has it: in the virtual problem state, and there alone, it is refused as a privileged operation.
+/// Carries out a privileged instruction that was handed back with this length code, as the virtual
+/// program status word has it: in the virtual problem state, and there alone, it is refused as a
+/// privileged operation.
 #[inline]
 pub fn simulate<S: Keyed>(
     cpu: &mut Cpu,
@@ -39,7 +41,8 @@ pub fn simulate<S: Keyed>(
         let after = state_of cpu.new (S.Storage.memory storage.new) in
         MeetsUnit (supervised before instruction ilc)
         (S.Storage.present storage.old) before (stop_of result ilc) after }
-    ensures refused { (result ≡ Simulated.Refused ProgramCode.PrivilegedOperation) ↔ IsTrue cpu.old.psw.problem }
+    ensures refused { (result ≡ Simulated.Refused ProgramCode.PrivilegedOperation) ↔ IsTrue
+        cpu.old.psw.problem }
     ensures rest { S.KeepsRest storage.old storage.new }
 {
     match supervise(cpu, storage, instruction, ilc) {

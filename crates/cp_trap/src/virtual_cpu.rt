@@ -9,8 +9,9 @@ use s370_store::{Keyed, Page};
 
 /// The processor that a guest has, and believes to be a real one.
 ///
-/// Its registers may say that it is in the supervisor state. The real machine is in the problem state whenever it runs
-/// the guest, so the instructions for the supervisor state are simulated, and interruptions are reflected.
+/// Its registers may say that it is in the supervisor state. The real machine is in the problem
+/// state whenever it runs the guest, so the instructions for the supervisor state are simulated,
+/// and interruptions are reflected.
 pub struct VirtualCpu;
 
 impl Processor for VirtualCpu {

@@ -1,5 +1,8 @@
 -- The pages that a loading touches, with that of the PSW.
-use Rattle.std.proofs.Common.{◌≡◌, ℕ, inr, subst}
+use Rattle.std.proofs.Common.{◌≡◌, ℕ, inr, subst, Result, Ok, Err}
+use Rattle.std.specs.Result.{IsErrAnd}
+use Rattle.cp_trial.specs.declared.DryRunError.{DryRunError}
+use Rattle.cp_trial.specs.declared.DryRunError.TheVariants as errors
 use Rattle.s370_channel.specs.Guest.{guest_written}
 use Rattle.s370_channel.specs.Loading.{loading, loading_limits}
 use Rattle.s370_channel.specs.Progress.{setting}
@@ -8,13 +11,34 @@ use Rattle.s370_store.specs.Memory.{Memory}
 use Rattle.s370_walk.specs.Hardware.{Machine}
 use Rattle.channel_trial.specs.declared.TrialStorage.{TrialStorage}
 use Rattle.channel_trial.specs.Trial.{trial_bytes, trial_flags}
-use Rattle.channel_trial.specs.Tried.{IsLoadingTried}
+use Rattle.channel_trial.specs.DryRun.{IsLoadingTried}
 use Rattle.cp_dat.specs.declared.dat.Dat.{Dat}
-use Rattle.cp_dat.specs.Copies.{is_wanted}
+use Rattle.cp_dat.specs.Copies.{StandAll, is_wanted}
 use Rattle.cp_dat.specs.Lent.{lent_memory}
-use Rattle.cp_trial.specs.Tried.{LoadTouches}
+use Rattle.cp_trial.specs.DryRun.{IsPlaced, LoadTouches}
 
-pub loads_flagged : {D : Type 0} (machine : Machine D) (old between : Dat) (d : D) (tried : TrialStorage) → lent_memory between ≡ lent_memory old → IsLoadingTried machine (lent_memory between) d (trial_bytes tried) (trial_flags tried)
+pub loads_flagged : {D : Type 0} (machine : Machine D) (old between : Dat) (d : D) (tried : TrialStorage)
+    → lent_memory between ≡ lent_memory old
+    → IsLoadingTried machine (lent_memory between) d (trial_bytes tried) (trial_flags tried)
     → (page : ℕ) → is_wanted (trial_flags tried) page → LoadTouches machine (lent_memory old) d page
 loads_flagged machine old between d tried same is page it =
-    inr (subst (λ (m : Memory). IsTouched guest_written (setting machine loading_limits) (loading machine m d) page) same (is.touches page it))
+    inr (subst (λ (m : Memory). IsTouched guest_written (setting machine loading_limits) (loading machine m d) page)
+    same (is.touches page it))
+
+pub placed_before : {D : Type 0} (machine : Machine D) (old between new : Dat) (d : D) (tried : TrialStorage)
+    → lent_memory between ≡ lent_memory old
+    → IsLoadingTried machine (lent_memory between) d (trial_bytes tried) (trial_flags tried)
+    → StandAll new (trial_flags tried)
+    → IsPlaced (setting machine loading_limits) (loading machine (lent_memory old) d) (lent_memory old) new
+placed_before machine old between new d tried same is stand = record {
+  bytes = trial_bytes tried;
+  flags = trial_flags tried;
+  tried = subst (λ (m : Memory). IsLoadingTried machine m d (trial_bytes tried) (trial_flags tried)) same is;
+  stand = stand;
+}
+
+-- what is reported on as an error is that error
+pub refused_as : {A : Type 0} (result : Result A DryRunError) (error : DryRunError) → IsErrAnd result (λ e. e ≡ error)
+    → result ≡ Err errors.Memory → error ≡ errors.Memory
+refused_as (Ok a) error is refused = cc
+refused_as (Err e) error is refused = cc

@@ -1,11 +1,13 @@
-//! Channel programs that run as a whole or not at all, on storage that is lent from frames.
+//! Channel programs that run as a whole or not at all, on storage that is borrowed from frames.
 //!
-//! A program is tried first, on a copy of its user's bytes and with what is seen of its device: nothing has happened then,
-//! and it is known which pages the program touches. These are placed; where there is no room for one, this is told, and
-//! nothing has happened. Then the program runs with its device, on a copy again, and the bytes are put back.
+//! A program is tried first, on a copy of its user's bytes and with what is seen of its device:
+//! nothing has happened then, and it is known which pages the program touches. These are placed;
+//! where there is no room for one, this is reported, and nothing has happened. Then the program
+//! runs with its device, on a copy again, and the bytes are put back.
 //!
-//! Its one theorem: a program that is refused for want of room touches a page for which there is none; what is brought
-//! are pages that the program touches; and what runs is the walk of the storage as it stood.
+//! Its one theorem: a program that is refused for lack of room touches a page for which there is
+//! none; what is brought are pages that the program touches; and what runs is the walk of the
+//! storage as it was.
 //!
 //! ```
 //! use cp_dat::Dat;
@@ -45,11 +47,11 @@ ghost use Rattle.cp_dat.specs.Copies.{CameOnly, StandAll, is_wanted};
 ghost use Rattle.cp_dat.specs.Lent.{lent_pool, lent_memory};
 ghost use Rattle.cp_dat.specs.Supplied.{IsBetweenUnits};
 ghost use Rattle.channel_trial.specs.Trial.{is_touched, trial_bytes, trial_flags, trial_memory};
-ghost use Rattle.channel_trial.specs.Tried.{IsLoadingTried, IsProgramTried};
-ghost use Rattle.cp_trial.specs.Tried.{EndsSomehow, LacksSuch};
-ghost use Rattle.cp_trial.specs.declared.TriedError.TheVariants as errors;
+ghost use Rattle.channel_trial.specs.DryRun.{IsLoadingTried, IsProgramTried};
+ghost use Rattle.cp_trial.specs.DryRun.{EndsSomehow, LacksSuch};
+ghost use Rattle.cp_trial.specs.declared.DryRunError.TheVariants as errors;
 
-use channel_trial::{TrialStorage, Tried, TriedLoading, limits_of};
+use channel_trial::{DryRun, TrialStorage, TriedLoading, limits_of};
 use cp_dat::Dat;
 pub use open::{fetch_again, fetch_first, load_open, run_open};
 use s370_channel::{Caw, load_supplied, run_supplied};
@@ -59,14 +61,14 @@ use std::alloc::{AllocError, Global};
 
 /// Why a program that was tried does not run.
 #[derive(Clone, Copy, Debug, PartialEq, Eq)]
-pub enum TriedError {
+pub enum DryRunError {
     /// Memory was refused.
     Memory,
     /// There is no room for a page that it touches.
     FramesOut,
 }
 
-/// A copy of a user's storage, no page of which was touched.
+/// Returns a copy of a user's storage, no page of which was touched.
 fn copy_of(alloc: Global, storage: &Dat<'_>) -> Result<TrialStorage, AllocError>
     ensures memory { IfOk result (λ copy. trial_memory copy ≡ lent_memory storage.now) }
     ensures flags { IfOk result (λ copy. (page : ℕ) → is_touched copy page ≡ false) }
@@ -76,7 +78,12 @@ fn copy_of(alloc: Global, storage: &Dat<'_>) -> Result<TrialStorage, AllocError>
     TrialStorage::new(alloc, bytes, keys, storage.size() / PAGE_SIZE)
 }
 
-/// Tries the program with this start on a copy of the storage, with a device that stands for its own. Nothing is brought.
+/// Tries the program with this start on a copy of the storage, with a device that stands for its
+/// own. Nothing is brought.
+///
+/// # Errors
+///
+/// `AllocError` if memory is refused; what was passed may have changed in part.
 pub fn try_program<T: Device>(
     alloc: Global,
     storage: &Dat<'_>,
@@ -91,8 +98,13 @@ pub fn try_program<T: Device>(
     Ok(copy)
 }
 
-/// Tries the program with this start on a copy of the storage, of a device that stays as it is. Nothing is brought.
-pub fn try_device<D: Tried>(
+/// Tries the program with this start on a copy of the storage, of a device that stays as it is.
+/// Nothing is brought.
+///
+/// # Errors
+///
+/// `AllocError` if memory is refused.
+pub fn try_device<D: DryRun>(
     alloc: Global,
     storage: &Dat<'_>,
     start: Caw,
@@ -102,53 +114,62 @@ pub fn try_device<D: Tried>(
         (lent_memory storage.now) device.now (trial_bytes tried) (trial_flags tried)) }
 {
     let mut copy = copy_of(alloc, storage)?;
-    device.try_on(&mut copy, start)?;
+    device.dry_run(&mut copy, start)?;
     Ok(copy)
 }
 
-/// Runs the program with this start, which was tried: where there is room for the pages that it touches, as a whole, and
-/// else not at all.
+/// Runs the program with this start after its dry run, as a whole if there is room for the pages
+/// that it touches, else not at all.
+///
+/// # Errors
+///
+/// A `DryRunError`: refused memory, or no room for a page that is needed.
 pub fn run_tried<D: Device>(
     alloc: Global,
     storage: &mut Dat<'_>,
     start: Caw,
     device: &mut D,
     tried: &TrialStorage,
-) -> Result<Ending, TriedError>
+) -> Result<Ending, DryRunError>
     requires tried { IsProgramTried D.machine start (lent_memory storage.old)
         device.old (trial_bytes tried.now) (trial_flags tried.now) }
     requires between { IsBetweenUnits (lent_pool storage.old).supply }
-    ensures walk { IfOk result (λ ending. Walks as_reached D.machine start (lent_memory storage.old) device.old ending
+    ensures walk { IfOk result
+        (λ ending. Walks as_reached D.machine start (lent_memory storage.old) device.old ending
         (lent_memory storage.new) device.new) }
-    ensures same { result ≡ Err errors.FramesOut → (lent_memory storage.new ≡ lent_memory storage.old)
+    ensures same { result ≡ Err errors.FramesOut
+        → (lent_memory storage.new ≡ lent_memory storage.old)
         × (device.new ≡ device.old) }
     ensures spared { ((d : D) (o : Order) → D.needs_memory d o ≡ false) → result ≡ Err errors.Memory
         → device.new ≡ device.old }
-    ensures lacking { result ≡ Err errors.FramesOut → LacksSuch (is_wanted (trial_flags tried.now)) storage.new }
+    ensures lacking { result ≡ Err errors.FramesOut
+        → LacksSuch (is_wanted (trial_flags tried.now)) storage.new }
     ensures roomy { result ≡ Err errors.Memory → StandAll storage.new (trial_flags tried.now) }
-    ensures came { CameOnly storage.old (is_wanted (trial_flags tried.now)) storage.new }
+    ensures paged_in { CameOnly storage.old (is_wanted (trial_flags tried.now)) storage.new }
     ensures between { IsBetweenUnits (lent_pool storage.new).supply }
 {
     match storage.place(tried.touched()) {
         Ok(()) => {}
-        Err(FramesOut) => return Err(TriedError::FramesOut),
+        Err(FramesOut) => return Err(DryRunError::FramesOut),
     }
     let ran = run_apart(alloc, storage, start, device);
     let Ok(ending) = ran else {
-        return Err(TriedError::Memory);
+        return Err(DryRunError::Memory);
     };
     storage.put_back(tried.bytes(), tried.touched());
     Ok(ending)
 }
 
-/// Runs the program with this start on a copy of the storage, which has then the bytes that the storage is to have.
+/// Runs the program with this start on a copy of the storage, which has then the bytes that the
+/// storage is to have.
 fn run_apart<D: Device>(
     alloc: Global,
     storage: &Dat<'_>,
     start: Caw,
     device: &mut D,
 ) -> Result<Ending, AllocError>
-    ensures spared { ((d : D) (o : Order) → D.needs_memory d o ≡ false) → OnErr result (device.new ≡ device.old) }
+    ensures spared { ((d : D) (o : Order) → D.needs_memory d o ≡ false)
+        → OnErr result (device.new ≡ device.old) }
     ensures ends { IfOk result (λ ending. EndsSomehow (limited D.machine start)
         (begun start (lent_memory storage.now) device.old) ending device.new) }
 {
@@ -159,7 +180,11 @@ fn run_apart<D: Device>(
     }
 }
 
-/// Tries the program of an initial program loading, likewise.
+/// Makes a dry run of the program of an initial program loading.
+///
+/// # Errors
+///
+/// `AllocError` if memory is refused; what was passed may have changed in part.
 pub fn try_loading<T: Device>(
     alloc: Global,
     storage: &Dat<'_>,
@@ -174,6 +199,10 @@ pub fn try_loading<T: Device>(
 }
 
 /// Tries the program of an initial program loading, of a device that stays as it is.
+///
+/// # Errors
+///
+/// `AllocError` if memory is refused.
 pub fn try_load<D: TriedLoading>(
     alloc: Global,
     storage: &Dat<'_>,
@@ -187,34 +216,43 @@ pub fn try_load<D: TriedLoading>(
     Ok(copy)
 }
 
-/// Runs the program of an initial program loading, which was tried, likewise.
+/// Runs the program of an initial program loading after its dry run, as a whole if there is room
+/// for the pages that it touches, else not at all.
+///
+/// # Errors
+///
+/// A `DryRunError`: refused memory, or no room for a page that is needed.
 pub fn load_tried<D: Device>(
     alloc: Global,
     storage: &mut Dat<'_>,
     device: &mut D,
     tried: &TrialStorage,
-) -> Result<Ending, TriedError>
+) -> Result<Ending, DryRunError>
     requires tried { IsLoadingTried D.machine (lent_memory storage.old)
         device.old (trial_bytes tried.now) (trial_flags tried.now) }
     requires between { IsBetweenUnits (lent_pool storage.old).supply }
-    ensures walk { IfOk result (λ ending. Reaches (live guest_written) (setting D.machine loading_limits)
-        (loading D.machine (lent_memory storage.old) device.old) (Over ending (lent_memory storage.new) device.new)) }
-    ensures same { result ≡ Err errors.FramesOut → (lent_memory storage.new ≡ lent_memory storage.old)
+    ensures walk { IfOk result
+        (λ ending. Reaches (live guest_written) (setting D.machine loading_limits)
+        (loading D.machine (lent_memory storage.old) device.old)
+        (Over ending (lent_memory storage.new) device.new)) }
+    ensures same { result ≡ Err errors.FramesOut
+        → (lent_memory storage.new ≡ lent_memory storage.old)
         × (device.new ≡ device.old) }
     ensures spared { ((d : D) (o : Order) → D.needs_memory d o ≡ false) → result ≡ Err errors.Memory
         → device.new ≡ device.old }
-    ensures lacking { result ≡ Err errors.FramesOut → LacksSuch (is_wanted (trial_flags tried.now)) storage.new }
+    ensures lacking { result ≡ Err errors.FramesOut
+        → LacksSuch (is_wanted (trial_flags tried.now)) storage.new }
     ensures roomy { result ≡ Err errors.Memory → StandAll storage.new (trial_flags tried.now) }
-    ensures came { CameOnly storage.old (is_wanted (trial_flags tried.now)) storage.new }
+    ensures paged_in { CameOnly storage.old (is_wanted (trial_flags tried.now)) storage.new }
     ensures between { IsBetweenUnits (lent_pool storage.new).supply }
 {
     match storage.place(tried.touched()) {
         Ok(()) => {}
-        Err(FramesOut) => return Err(TriedError::FramesOut),
+        Err(FramesOut) => return Err(DryRunError::FramesOut),
     }
     let ran = load_apart(alloc, storage, device);
     let Ok(ending) = ran else {
-        return Err(TriedError::Memory);
+        return Err(DryRunError::Memory);
     };
     storage.put_back(tried.bytes(), tried.touched());
     Ok(ending)
@@ -226,7 +264,8 @@ fn load_apart<D: Device>(
     storage: &Dat<'_>,
     device: &mut D,
 ) -> Result<Ending, AllocError>
-    ensures spared { ((d : D) (o : Order) → D.needs_memory d o ≡ false) → OnErr result (device.new ≡ device.old) }
+    ensures spared { ((d : D) (o : Order) → D.needs_memory d o ≡ false)
+        → OnErr result (device.new ≡ device.old) }
     ensures ends { IfOk result (λ ending. EndsSomehow (setting D.machine loading_limits)
         (loading D.machine (lent_memory storage.now) device.old) ending device.new) }
 {

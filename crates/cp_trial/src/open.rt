@@ -10,33 +10,42 @@ ghost use Rattle.s370_walk.specs.Walk.{Over, Reaches, live};
 ghost use Rattle.cp_dat.specs.Copies.{CameOnly};
 ghost use Rattle.cp_dat.specs.Lent.{is_lent_page, lent_bytes, lent_pool, user_of, lent_memory};
 ghost use Rattle.cp_dat.specs.Supplied.{IsBetweenUnits, Stands};
-ghost use Rattle.cp_trial.specs.Tried.{LacksSuch, LoadTouches};
-ghost use Rattle.cp_trial.specs.declared.TriedError.TheVariants as errors;
+ghost use Rattle.cp_trial.specs.DryRun.{HadRoom, HadRoomAfterFirst, LacksSuch, LoadTouches};
+ghost use Rattle.cp_trial.specs.declared.DryRunError.TheVariants as errors;
 
-use crate::{TriedError, load_tried, run_tried, try_device, try_load};
-use channel_trial::{Tried, TriedLoading};
+use crate::{DryRunError, load_tried, run_tried, try_device, try_load};
+use channel_trial::{DryRun, TriedLoading};
 use cp_dat::Dat;
 use s370_channel::Caw;
 use s370_store::{FramesOut, Page, Storage};
 use s370_walk::Ending;
 use std::alloc::Global;
 
-/// The program with this start is tried, and runs: where there is room for the pages that it touches, as a whole, and else
-/// not at all.
-pub fn run_open<D: Tried>(
+/// Makes a dry run of the program with this start, and runs it as a whole if there is room for the
+/// pages that it touches, else not at all.
+///
+/// # Errors
+///
+/// A `DryRunError`: refused memory, or no room for a page that is needed.
+pub fn run_open<D: DryRun>(
     alloc: Global,
     storage: &mut Dat<'_>,
     start: Caw,
     device: &mut D,
-) -> Result<Ending, TriedError>
+) -> Result<Ending, DryRunError>
     requires { IsBetweenUnits (lent_pool storage.old).supply }
     ensures walk { IfOk result (λ ending. Walks as_reached D.Device.machine start
         (lent_memory storage.old) device.old ending (lent_memory storage.new) device.new) }
-    ensures same { result ≡ Err errors.FramesOut → (lent_memory storage.new ≡ lent_memory storage.old)
+    ensures same { result ≡ Err errors.FramesOut
+        → (lent_memory storage.new ≡ lent_memory storage.old)
         × (device.new ≡ device.old) }
     ensures lacking { result ≡ Err errors.FramesOut → LacksSuch (IsTouched guest_written
-        (limited D.Device.machine start) (begun start (lent_memory storage.old) device.old)) storage.new }
-    ensures came { CameOnly storage.old (IsTouched guest_written (limited D.Device.machine start)
+        (limited D.Device.machine start) (begun start (lent_memory storage.old) device.old))
+        storage.new }
+    ensures roomy { result ≡ Err errors.Memory
+        → HadRoom _ D.Device.machine storage.old start device.old storage.new }
+    ensures paged_in { CameOnly storage.old
+        (IsTouched guest_written (limited D.Device.machine start)
         (begun start (lent_memory storage.old) device.old)) storage.new }
     ensures between { IsBetweenUnits (lent_pool storage.new).supply }
 {
@@ -46,26 +55,35 @@ pub fn run_open<D: Tried>(
     };
     match try_device(alloc, storage, again, device) {
         Ok(tried) => run_tried(alloc, storage, start, device, &tried),
-        Err(_) => Err(TriedError::Memory),
+        Err(_) => Err(DryRunError::Memory),
     }
 }
 
-/// The program of an initial program loading is tried, and runs, likewise; the page of the PSW is brought for it first, and
-/// stands in a frame at its end.
+/// Makes a dry run of the program of an initial program loading, and runs it if there is room for
+/// the pages that it touches; the page of the PSW is brought for it first, and is in a frame at its
+/// end.
+///
+/// # Errors
+///
+/// A `DryRunError`: refused memory, or no room for a page that is needed.
 pub fn load_open<D: TriedLoading>(
     alloc: Global,
     storage: &mut Dat<'_>,
     device: &mut D,
-) -> Result<Ending, TriedError>
+) -> Result<Ending, DryRunError>
     requires { IsBetweenUnits (lent_pool storage.old).supply }
-    ensures walk { IfOk result (λ ending. Reaches (live guest_written) (setting D.Device.machine loading_limits)
+    ensures walk { IfOk result
+        (λ ending. Reaches (live guest_written) (setting D.Device.machine loading_limits)
         (loading D.Device.machine (lent_memory storage.old) device.old)
         (Over ending (lent_memory storage.new) device.new)) }
-    ensures same { result ≡ Err errors.FramesOut → (lent_memory storage.new ≡ lent_memory storage.old)
+    ensures same { result ≡ Err errors.FramesOut
+        → (lent_memory storage.new ≡ lent_memory storage.old)
         × (device.new ≡ device.old) }
     ensures lacking { result ≡ Err errors.FramesOut → LacksSuch (LoadTouches D.Device.machine
         (lent_memory storage.old) device.old) storage.new }
-    ensures came { CameOnly storage.old (LoadTouches D.Device.machine
+    ensures roomy { result ≡ Err errors.Memory
+        → HadRoomAfterFirst _ D.Device.machine storage.old device.old storage.new }
+    ensures paged_in { CameOnly storage.old (LoadTouches D.Device.machine
         (lent_memory storage.old) device.old) storage.new }
     ensures there { OnOk result (is_lent_page storage.new 0 ≡ true) }
     ensures between { IsBetweenUnits (lent_pool storage.new).supply }
@@ -73,47 +91,52 @@ pub fn load_open<D: TriedLoading>(
     fetch_first(storage)?;
     let tried = match try_load(alloc, storage, device) {
         Ok(tried) => tried,
-        Err(_) => return Err(TriedError::Memory),
+        Err(_) => return Err(DryRunError::Memory),
     };
     let ending = load_tried(alloc, storage, device, &tried)?;
     fetch_again(storage);
     Ok(ending)
 }
 
-/// The first page is brought, before a loading.
-pub fn fetch_first(storage: &mut Dat<'_>) -> Result<(), TriedError>
+/// Brings the first page, before a loading.
+///
+/// # Errors
+///
+/// A `DryRunError`: refused memory, or no room for a page that is needed.
+pub fn fetch_first(storage: &mut Dat<'_>) -> Result<(), DryRunError>
     requires { IsBetweenUnits (lent_pool storage.old).supply }
     ensures some { OnOk result (0 < length (lent_bytes storage.new)) }
     ensures there { OnOk result (is_lent_page storage.new 0 ≡ true) }
     ensures lacking { result ≡ Err errors.FramesOut → LacksSuch (λ page. page ≡ 0) storage.new }
     ensures roomy { result ≡ Err errors.Memory → lent_bytes storage.old ≡ [] }
-    ensures came { CameOnly storage.old (λ page. page ≡ 0) storage.new }
+    ensures untouched { result ≡ Err errors.Memory → storage.new ≡ storage.old }
+    ensures paged_in { CameOnly storage.old (λ page. page ≡ 0) storage.new }
     ensures between { IsBetweenUnits (lent_pool storage.new).supply }
     ensures memory { lent_memory storage.new ≡ lent_memory storage.old }
 {
     // No machine is without storage.
     if storage.size() == 0 {
-        return Err(TriedError::Memory);
+        return Err(DryRunError::Memory);
     }
     match storage.fetch(Page(0)) {
         Ok(()) => Ok(()),
-        Err(FramesOut) => Err(TriedError::FramesOut),
+        Err(FramesOut) => Err(DryRunError::FramesOut),
     }
 }
 
-/// The first page, which stands somewhere since before a loading, is brought again.
+/// Brings the first page again, which has been somewhere since before a loading.
 pub fn fetch_again(storage: &mut Dat<'_>)
     requires some { 0 < length (lent_bytes storage.old) }
     requires stands { Stands (lent_pool storage.old).supply (user_of storage.old) 0 }
     requires between { IsBetweenUnits (lent_pool storage.old).supply }
     ensures there { is_lent_page storage.new 0 ≡ true }
-    ensures came { CameOnly storage.old (λ page. page ≡ 0) storage.new }
+    ensures paged_in { CameOnly storage.old (λ page. page ≡ 0) storage.new }
     ensures between { IsBetweenUnits (lent_pool storage.new).supply }
     ensures memory { lent_memory storage.new ≡ lent_memory storage.old }
 {
     match storage.fetch(Page(0)) {
         Ok(()) => {}
-        // It stands somewhere.
+        // It is somewhere.
         Err(FramesOut) => unreachable!(),
     }
 }

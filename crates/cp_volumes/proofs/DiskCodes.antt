@@ -10,7 +10,8 @@ use Rattle.cp_volumes.specs.Saved.{disk_bytes}
 pub disk_code : IsCode disk_bytes
 disk_code =
     let there = both_code number minidisk_bytes number_code minidisk_code in
-    of_parts (both number (both number minidisk_bytes)) (both_code number (both number minidisk_bytes) number_code there)
+    of_parts (both number (both number minidisk_bytes))
+    (both_code number (both number minidisk_bytes) number_code there)
     (λ (d : SharedMinidisk). (d.address, (d.volume, d.minidisk)))
     (λ p. record { address = p.0; volume = p.1.0; minidisk = p.1.1 })
     (λ d. refl)

@@ -1,11 +1,13 @@
 //! Volumes that users share, and their minidisks, which take turns at the units of these volumes.
 //!
-//! Its one theorem: a user's channel program, and that of an IPL, leaves of his minidisk and of storage what it would
-//! leave of a disk of his own ([`UserDisks::run_disk`], [`UserDisks::load_disk`]); every extent on which he may not
-//! write is as it was (their clause `others`). No cylinder is copied, and no program takes memory.
+//! Its one theorem: a user's channel program, and that of an IPL, leaves of his minidisk and of
+//! storage what it would leave of a disk of his own ([`UserDisks::run_disk`],
+//! [`UserDisks::load_disk`]); every extent on which he may not write is as it was (their clause
+//! `others`). No cylinder is copied, and no program takes memory.
 //!
-//! [`Volumes`] has each volume once, on a unit of its own. [`SharedDisk`] is what a minidisk has beside its cylinders.
-//! [`UserDisks`] joins the two while something is done for one user. Begin with `user_disks.rt`.
+//! [`Volumes`] has each volume once, on a unit of its own. [`SharedDisk`] is what a minidisk has
+//! next to its cylinders. [`UserDisks`] joins the two while something is done for one user. Begin
+//! with `user_disks.rt`.
 //!
 //! ```
 //! use ckd_volume::Volume;

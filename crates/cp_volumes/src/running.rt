@@ -1,17 +1,17 @@
-//! Programs of a minidisk that is mounted on the unit of its volume: one that was tried runs to its end or not at all, one
-//! whose pages are held to its end.
+//! Programs of a minidisk that is mounted on the unit of its volume: one that was tried runs to its
+//! end or not at all, one whose pages are held to its end.
 ghost use Rattle.std.specs.Prelude.{◌≡◌, IfOk, OnErr, Err};
 ghost use Rattle.s370_channel.specs.Reading.{as_reached};
 ghost use Rattle.s370_channel.specs.Runs.{Walks};
 ghost use Rattle.ckd_volume.specs.Unit.{disk_machine};
 ghost use Rattle.machine_channels.specs.Channels.{WalksLoading};
-ghost use Rattle.cp_dat.specs.Copies.{CameOnly, is_wanted};
+ghost use Rattle.cp_dat.specs.Copies.{CameOnly, StandAll, is_wanted};
 ghost use Rattle.cp_dat.specs.Lent.{lent_pool, lent_memory};
 ghost use Rattle.cp_dat.specs.Supplied.{IsBetweenUnits};
 ghost use Rattle.channel_trial.specs.Trial.{trial_bytes, trial_flags};
-ghost use Rattle.channel_trial.specs.Tried.{IsLoadingTried, IsProgramTried};
-ghost use Rattle.cp_trial.specs.Tried.{LacksSuch};
-ghost use Rattle.cp_trial.specs.declared.TriedError.TheVariants as errors;
+ghost use Rattle.channel_trial.specs.DryRun.{IsLoadingTried, IsProgramTried};
+ghost use Rattle.cp_trial.specs.DryRun.{LacksSuch};
+ghost use Rattle.cp_trial.specs.declared.DryRunError.TheVariants as errors;
 ghost use Rattle.cp_needs.specs.Words.{IsFixedStill};
 ghost use Rattle.cp_volumes.specs.Running.{KeepsVolume};
 
@@ -19,13 +19,14 @@ use channel_trial::TrialStorage;
 use cp_dat::Dat;
 use cp_minidisk::Mounted;
 use cp_needs::run_held;
-use cp_trial::{TriedError, load_tried, run_tried};
+use cp_trial::{DryRunError, load_tried, run_tried};
 use s370_channel::{Caw, Limits, MOST_COMMANDS};
 use s370_store::Storage;
 use s370_walk::Ending;
 use std::alloc::Global;
 
-/// The program with this start runs, which no input can change, over a storage that has the pages which it needs.
+/// Runs the program with this start, which no input can change, over a storage that has the pages
+/// which it needs.
 pub(crate) fn run_mounted_held<S: Storage>(
     mounted: &mut Mounted,
     storage: &mut S,
@@ -49,46 +50,54 @@ pub(crate) fn run_mounted_held<S: Storage>(
     }
 }
 
-/// The program with this start, which was tried, runs.
+/// Runs the program with this start, after its dry run.
 pub(crate) fn run_mounted(
     alloc: Global,
     mounted: &mut Mounted,
     storage: &mut Dat<'_>,
     start: Caw,
     tried: &TrialStorage,
-) -> Result<Ending, TriedError>
+) -> Result<Ending, DryRunError>
     requires tried { IsProgramTried disk_machine start (lent_memory storage.old)
         mounted.old.disk (trial_bytes tried.now) (trial_flags tried.now) }
     requires between { IsBetweenUnits (lent_pool storage.old).supply }
     ensures walk { IfOk result (λ ending. Walks as_reached disk_machine start
-        (lent_memory storage.old) mounted.old.disk ending (lent_memory storage.new) mounted.new.disk) }
+        (lent_memory storage.old) mounted.old.disk ending (lent_memory storage.new)
+        mounted.new.disk) }
     ensures same { OnErr result (mounted.new ≡ mounted.old) }
-    ensures memory { result ≡ Err errors.FramesOut → lent_memory storage.new ≡ lent_memory storage.old }
-    ensures lacking { result ≡ Err errors.FramesOut → LacksSuch (is_wanted (trial_flags tried.now)) storage.new }
+    ensures memory { result ≡ Err errors.FramesOut
+        → lent_memory storage.new ≡ lent_memory storage.old }
+    ensures lacking { result ≡ Err errors.FramesOut
+        → LacksSuch (is_wanted (trial_flags tried.now)) storage.new }
+    ensures roomy { result ≡ Err errors.Memory → StandAll storage.new (trial_flags tried.now) }
     ensures volume { KeepsVolume mounted.old mounted.new }
-    ensures came { CameOnly storage.old (is_wanted (trial_flags tried.now)) storage.new }
+    ensures paged_in { CameOnly storage.old (is_wanted (trial_flags tried.now)) storage.new }
     ensures between { IsBetweenUnits (lent_pool storage.new).supply }
 {
     run_tried(alloc, storage, start, mounted, tried)
 }
 
-/// The program of an initial program loading, which was tried, runs.
+/// Runs the program of an initial program loading, after its dry run.
 pub(crate) fn load_mounted(
     alloc: Global,
     mounted: &mut Mounted,
     storage: &mut Dat<'_>,
     tried: &TrialStorage,
-) -> Result<Ending, TriedError>
+) -> Result<Ending, DryRunError>
     requires tried { IsLoadingTried disk_machine (lent_memory storage.old)
         mounted.old.disk (trial_bytes tried.now) (trial_flags tried.now) }
     requires between { IsBetweenUnits (lent_pool storage.old).supply }
-    ensures walk { IfOk result (λ ending. WalksLoading disk_machine (lent_memory storage.old) mounted.old.disk ending
+    ensures walk { IfOk result
+        (λ ending. WalksLoading disk_machine (lent_memory storage.old) mounted.old.disk ending
         (lent_memory storage.new) mounted.new.disk) }
     ensures same { OnErr result (mounted.new ≡ mounted.old) }
-    ensures memory { result ≡ Err errors.FramesOut → lent_memory storage.new ≡ lent_memory storage.old }
-    ensures lacking { result ≡ Err errors.FramesOut → LacksSuch (is_wanted (trial_flags tried.now)) storage.new }
+    ensures memory { result ≡ Err errors.FramesOut
+        → lent_memory storage.new ≡ lent_memory storage.old }
+    ensures lacking { result ≡ Err errors.FramesOut
+        → LacksSuch (is_wanted (trial_flags tried.now)) storage.new }
+    ensures roomy { result ≡ Err errors.Memory → StandAll storage.new (trial_flags tried.now) }
     ensures volume { KeepsVolume mounted.old mounted.new }
-    ensures came { CameOnly storage.old (is_wanted (trial_flags tried.now)) storage.new }
+    ensures paged_in { CameOnly storage.old (is_wanted (trial_flags tried.now)) storage.new }
     ensures between { IsBetweenUnits (lent_pool storage.new).supply }
 {
     load_tried(alloc, storage, mounted, tried)

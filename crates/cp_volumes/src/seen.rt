@@ -12,7 +12,8 @@ use ckd_volume::{Arm, Volume};
 use cp_minidisk::{Extent, Minidisk};
 use s370_num::DevAddr;
 
-/// The cylinders of a minidisk, on their volume, its arm and its sense. It is lent from a system, and takes no memory.
+/// The cylinders of a minidisk, on their volume, its arm and its sense. It is borrowed from a
+/// system, and takes no memory.
 ///
 /// ```
 /// let disk = system.minidisk(user, device)?;
@@ -27,21 +28,21 @@ pub struct SeenDisk<'a> {
 }
 
 impl<'a> SeenDisk<'a> {
-    /// The volume on which it stands. It is `None` for a minidisk without cylinders alone.
+    /// Returns the volume on which it is. It is `None` for a minidisk without cylinders alone.
     pub fn volume(&self) -> Option<&Volume>
         ensures { option_copied result ≡ option_copied self.now.volume }
     {
         self.volume
     }
 
-    /// Which cylinders of the volume it has.
+    /// Returns which cylinders of the volume it has.
     pub fn extent(&self) -> Extent
         ensures { result ≡ self.now.minidisk.extent }
     {
         self.minidisk.extent()
     }
 
-    /// Where its arm stands, counted from its own first cylinder, and its sense.
+    /// Returns where its arm is, counted from its own first cylinder, and its sense.
     pub fn arm(&self) -> Arm
         ensures { result ≡ own_arm self.now.minidisk }
     {
@@ -58,11 +59,12 @@ impl<'a> SeenDisk<'a> {
 impl Volumes {
     ghost use Rattle.cp_volumes.specs.Seen.{seen_disk};
 
-    /// The first of these minidisks at this address, as its user sees it.
+    /// Returns the first of these minidisks at this address, as its user sees it.
     #[tactic(auto, using(crate::proofs::Seats::unit_found))]
     pub fn seen(&self, minidisks: &[SharedDisk], device: DevAddr) -> Option<SeenDisk<'_>>
         ensures { option_map seen_disk result
-            ≡ option_map (λ disk. disk.unit) (find (is_disk_at device) (disks_on self.now minidisks.now)) }
+            ≡ option_map (λ disk. disk.unit)
+            (find (is_disk_at device) (disks_on self.now minidisks.now)) }
     {
         let disk = found(minidisks, device)?;
         Some(SeenDisk {
@@ -72,7 +74,7 @@ impl Volumes {
     }
 }
 
-/// The first of these minidisks at this address.
+/// Returns the first of these minidisks at this address.
 fn found(minidisks: &[SharedDisk], device: DevAddr) -> Option<&SharedDisk>
     ensures { option_copied result ≡ find (λ disk. disk.address == device) minidisks.now }
 {

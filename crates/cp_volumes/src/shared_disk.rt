@@ -1,8 +1,8 @@
-//! A minidisk but for its cylinders, which stand on a volume that others share.
+//! A minidisk but for its cylinders, which are on a volume that others share.
 ghost use Rattle.std.specs.Prelude.{◌≡◌, ◌++◌, OnOk};
 ghost use Rattle.cp_minidisk.specs.Minidisk.{minidisk_new, minidisk_reset};
 ghost use Rattle.cp_volumes.specs.Saved.{disk_bytes};
-ghost use Rattle.cp_volumes.specs.Shared.{stand_of};
+ghost use Rattle.cp_volumes.specs.Shared.{placement_of};
 
 use cp_minidisk::{Extent, Minidisk};
 use s370_num::DevAddr;
@@ -25,13 +25,21 @@ impl Model for SharedDisk {
 
     ghost view = { λ d. record { address = d.address; volume = d.volume; minidisk = d.minidisk } };
 
-    ghost inverse = { λ v. record { address = v.address; volume = v.volume; minidisk = v.minidisk } };
+    ghost inverse = { λ v. record {
+      address = v.address;
+      volume = v.volume;
+      minidisk = v.minidisk;
+    } };
 }
 
 impl SharedDisk {
-    /// A minidisk that no program has used, with this extent of the volume of this index.
+    /// Returns a minidisk that no program has used, with this extent of the volume of this index.
     pub fn new(address: DevAddr, volume: usize, extent: Extent) -> SharedDisk
-        ensures { result ≡ record { address = address; volume = volume; minidisk = minidisk_new extent } }
+        ensures { result ≡ record {
+          address = address;
+          volume = volume;
+          minidisk = minidisk_new extent;
+        } }
     {
         SharedDisk {
             address,
@@ -40,18 +48,18 @@ impl SharedDisk {
         }
     }
 
-    /// Its address.
+    /// Returns its address.
     pub fn address(&self) -> DevAddr
         ensures { result ≡ self.now.address }
     {
         self.address
     }
 
-    /// Which of the volumes it stands on.
+    /// Returns which of the volumes it is on.
     pub fn volume(&self) -> usize
         ensures { result ≡ self.now.volume }
     {
-        // All its fields: what is added to them is seen here.
+        // Exhaustive: a new field fails to compile here.
         let SharedDisk {
             address: _,
             volume,
@@ -60,21 +68,21 @@ impl SharedDisk {
         *volume
     }
 
-    /// What it has of its own: its extent, its arm and its sense.
+    /// Returns what it has of its own: its extent, its arm and its sense.
     pub fn minidisk(&self) -> &Minidisk
         ensures { result.now ≡ self.now.minidisk }
     {
         &self.minidisk
     }
 
-    /// A system reset: the arm stays.
+    /// Resets the minidisk: the arm stays.
     pub(crate) fn reset(&mut self)
         ensures { self.new ≡ record self.old { minidisk = minidisk_reset self.old.minidisk } }
     {
         self.minidisk.reset();
     }
 
-    /// As for a LOGON: the arm stands at the first track.
+    /// Clears the minidisk, as for a LOGON: the arm is at the first track.
     pub(crate) fn clear(&mut self)
         ensures { self.new ≡ record self.old { minidisk = minidisk_new self.old.minidisk.extent } }
     {
@@ -84,6 +92,10 @@ impl SharedDisk {
 
 impl SharedDisk {
     /// Appends all that is seen of a minidisk.
+    ///
+    /// # Errors
+    ///
+    /// `AllocError` if memory is refused; `out` may have a part of it then.
     pub fn save(&self, out: &mut Vec<u8>) -> Result<(), AllocError>
         ensures { OnOk result (out.new.items ≡ out.old.items ++ disk_bytes self.now) }
     {
@@ -98,9 +110,9 @@ impl SharedDisk {
         minidisk.save(out)
     }
 
-    /// Takes the arm and the sense that come next. The minidisk stays where it stands, whatever comes.
+    /// Takes the arm and the sense that are next. The minidisk stays where it is, whatever comes.
     pub fn restore(&mut self, input: &mut Input<'_>) -> Option<()>
-        ensures { stand_of self.new ≡ stand_of self.old }
+        ensures { placement_of self.new ≡ placement_of self.old }
     {
         let _address = input.number()?;
         let _volume = input.number()?;

@@ -1,5 +1,6 @@
 //! The volumes of a system, each once and on a unit of its own.
-ghost use Rattle.std.specs.Prelude.{◌≡◌, ◌<◌, [], ◌∷◌, Err, IfOk, IfSome, OnErr, OnOk, length, slice_get, slice_set, Some, option_copied};
+ghost use Rattle.std.specs.Prelude.{◌≡◌, ◌<◌, [], ◌∷◌, Err, IfOk, IfSome, OnErr, OnOk, length};
+ghost use Rattle.std.specs.Prelude.{slice_get, slice_set, Some, option_copied};
 ghost use Rattle.s370_channel.specs.Guest.{guest_written};
 ghost use Rattle.s370_channel.specs.Loading.{loading, loading_limits};
 ghost use Rattle.s370_channel.specs.Progress.{setting};
@@ -14,11 +15,12 @@ ghost use Rattle.cp_dat.specs.Supplied.{IsBetweenUnits};
 ghost use Rattle.cp_minidisk.specs.Minidisk.{users_disk};
 ghost use Rattle.cp_minidisk.specs.Part.{minidisk_of, part_on, unit_of};
 ghost use Rattle.channel_trial.specs.Trial.{trial_bytes, trial_flags};
-ghost use Rattle.channel_trial.specs.Tried.{IsLoadingTried, IsProgramTried};
-ghost use Rattle.cp_trial.specs.Tried.{LacksSuch};
-ghost use Rattle.cp_trial.specs.declared.TriedError.TheVariants as errors;
+ghost use Rattle.channel_trial.specs.DryRun.{IsLoadingTried, IsProgramTried};
+ghost use Rattle.cp_trial.specs.DryRun.{HadRoom, HadRoomToLoad, LacksSuch};
+ghost use Rattle.cp_trial.specs.declared.DryRunError.TheVariants as errors;
 ghost use Rattle.cp_needs.specs.Words.{IsFixedStill};
-ghost use Rattle.cp_volumes.specs.Shared.{AreThere, IsConfined, IsSeated, disk_on, no_volume, stand_of, volume_at, volume_or_none};
+ghost use Rattle.cp_volumes.specs.Shared.{AreThere, IsConfined, IsSeated, disk_on, no_volume};
+ghost use Rattle.cp_volumes.specs.Shared.{placement_of, volume_at, volume_or_none};
 
 use crate::running::{load_mounted, run_mounted, run_mounted_held};
 use crate::shared_disk::SharedDisk;
@@ -26,7 +28,7 @@ use channel_trial::TrialStorage;
 use ckd_volume::{Arm, Sense, Unit, UnitTrial, Volume};
 use cp_dat::Dat;
 use cp_minidisk::Mounted;
-use cp_trial::{TriedError, try_loading, try_program};
+use cp_trial::{DryRunError, try_loading, try_program};
 use s370_channel::Caw;
 use s370_store::Storage;
 use s370_walk::Ending;
@@ -63,7 +65,11 @@ const RESTING: Arm = Arm {
 };
 
 impl Volumes {
-    /// These volumes, in their order.
+    /// Returns these volumes, in their order.
+    ///
+    /// # Errors
+    ///
+    /// `AllocError` if memory is refused.
     pub fn new(alloc: Global, volumes: Vec<Volume>) -> Result<Volumes, AllocError>
         ensures volumes { IfOk result (λ made. made ≡ volumes.items) }
         ensures there { OnOk result (AreThere volumes.items) }
@@ -78,7 +84,7 @@ impl Volumes {
         Ok(Volumes { units })
     }
 
-    /// No volumes. It takes no memory.
+    /// Returns no volumes. It takes no memory.
     pub fn none(alloc: Global) -> Volumes
         ensures { result ≡ [] }
     {
@@ -87,16 +93,16 @@ impl Volumes {
         }
     }
 
-    /// How many there are.
+    /// Returns how many there are.
     pub fn count(&self) -> usize
         ensures { result ≡ length self.now }
     {
-        // All its fields: what is added to them is seen here.
+        // Exhaustive: a new field fails to compile here.
         let Volumes { units } = self;
         units.len()
     }
 
-    /// The volume of this index, which stands here unless a program runs on it.
+    /// Returns the volume of this index, which is here unless a program runs on it.
     pub fn volume(&self, index: usize) -> Option<&Volume>
         ensures volume { IfSome result (λ volume. slice_get self.now index ≡ Some volume.now) }
         ensures at { volume_at self.now index ≡ volume_or_none (option_copied result) }
@@ -108,9 +114,9 @@ impl Volumes {
         }
     }
 
-    /// A minidisk on trial, as its user sees it.
+    /// Returns a minidisk on trial, as its user sees it.
     fn trial(&self, alloc: Global, disk: &SharedDisk) -> Result<UnitTrial<'_>, AllocError>
-        requires { IsSeated self.now (stand_of disk.now) }
+        requires { IsSeated self.now (placement_of disk.now) }
         ensures { IfOk result (λ trial. trial ≡ (disk_on self.now disk.now).unit) }
     {
         let extent = disk.minidisk.extent();
@@ -124,12 +130,12 @@ impl Volumes {
         let count = usize::from(extent.count());
         match self.volume(disk.volume) {
             Some(volume) => volume.trial(alloc, usize::from(extent.start()), count, arm),
-            // A volume on which nothing stands has no extent.
+            // A volume on which nothing is has no extent.
             None => unreachable!(),
         }
     }
 
-    /// The program with this start is tried on a minidisk.
+    /// Makes a dry run of the program with this start on a minidisk.
     fn try_run(
         &self,
         alloc: Global,
@@ -137,43 +143,46 @@ impl Volumes {
         storage: &Dat<'_>,
         start: Caw,
     ) -> Result<TrialStorage, AllocError>
-        requires { IsSeated self.now (stand_of disk.now) }
+        requires { IsSeated self.now (placement_of disk.now) }
         ensures { IfOk result (λ tried. IsProgramTried disk_machine start
-            (lent_memory storage.now) (disk_on self.now disk.now).unit (trial_bytes tried) (trial_flags tried)) }
+            (lent_memory storage.now) (disk_on self.now disk.now).unit (trial_bytes tried)
+            (trial_flags tried)) }
     {
         let mut trial = self.trial(alloc, disk)?;
         try_program(alloc, storage, start, &mut trial)
     }
 
-    /// The program of an initial program loading is tried on a minidisk.
+    /// Makes a dry run of the program of an initial program loading on a minidisk.
     fn try_load(
         &self,
         alloc: Global,
         disk: &SharedDisk,
         storage: &Dat<'_>,
     ) -> Result<TrialStorage, AllocError>
-        requires { IsSeated self.now (stand_of disk.now) }
+        requires { IsSeated self.now (placement_of disk.now) }
         ensures { IfOk result (λ tried. IsLoadingTried disk_machine
-            (lent_memory storage.now) (disk_on self.now disk.now).unit (trial_bytes tried) (trial_flags tried)) }
+            (lent_memory storage.now) (disk_on self.now disk.now).unit (trial_bytes tried)
+            (trial_flags tried)) }
     {
         let mut trial = self.trial(alloc, disk)?;
         try_loading(alloc, storage, &mut trial)
     }
 
-    /// The program with this start, which no input can change, runs on a minidisk, over a storage that has the pages which
-    /// it needs; the minidisk is then at rest.
+    /// Runs the program with this start, which no input can change, on a minidisk, over a storage
+    /// that has the pages which it needs; the minidisk is then at rest.
     pub(crate) fn run_held<S: Storage>(
         &mut self,
         disk: &mut SharedDisk,
         storage: &mut S,
         start: Caw,
     ) -> Ending
-        requires seated { IsSeated self.old (stand_of disk.old) }
-        requires enough { IsFixedStill (S.memory storage.old) (S.present storage.old) start.address }
+        requires seated { IsSeated self.old (placement_of disk.old) }
+        requires enough { IsFixedStill (S.memory storage.old) (S.present storage.old)
+            start.address }
         ensures walk { RestsAfter as_reached start (S.memory storage.old)
             (disk_on self.old disk.old) result (S.memory storage.new) (disk_on self.new disk.new) }
-        ensures stands { stand_of disk.new ≡ stand_of disk.old }
-        ensures confined { IsConfined (stand_of disk.old ∷ []) self.old self.new }
+        ensures placements { placement_of disk.new ≡ placement_of disk.old }
+        ensures confined { IsConfined (placement_of disk.old ∷ []) self.old self.new }
         ensures rest { S.Keeps storage.old storage.new }
     {
         let mut mounted = self.mount(disk);
@@ -182,28 +191,32 @@ impl Volumes {
         ending
     }
 
-    /// The program with this start runs on a minidisk, which is then at rest: where there is room for the pages that it
-    /// touches, and else not at all.
+    /// Runs the program with this start on a minidisk, which is then at rest, as a whole if there
+    /// is room for the pages that it touches, else not at all.
     pub(crate) fn run(
         &mut self,
         alloc: Global,
         disk: &mut SharedDisk,
         storage: &mut Dat<'_>,
         start: Caw,
-    ) -> Result<Ending, TriedError>
-        requires seated { IsSeated self.old (stand_of disk.old) }
+    ) -> Result<Ending, DryRunError>
+        requires seated { IsSeated self.old (placement_of disk.old) }
         requires between { IsBetweenUnits (lent_pool storage.old).supply }
         ensures walk { IfOk result (λ ending. RestsAfter as_reached start
             (lent_memory storage.old) (disk_on self.old disk.old) ending
             (lent_memory storage.new) (disk_on self.new disk.new)) }
         ensures same { OnErr result (self.new ≡ self.old) }
-        ensures memory { result ≡ Err errors.FramesOut → lent_memory storage.new ≡ lent_memory storage.old }
+        ensures memory { result ≡ Err errors.FramesOut
+            → lent_memory storage.new ≡ lent_memory storage.old }
         ensures lacking { result ≡ Err errors.FramesOut
             → LacksSuch (IsTouched guest_written (limited disk_machine start)
             (begun start (lent_memory storage.old) (disk_on self.old disk.old).unit)) storage.new }
-        ensures stands { stand_of disk.new ≡ stand_of disk.old }
-        ensures confined { IsConfined (stand_of disk.old ∷ []) self.old self.new }
-        ensures came { CameOnly storage.old (IsTouched guest_written (limited disk_machine start)
+        ensures roomy { result ≡ Err errors.Memory → HadRoom _ disk_machine storage.old start
+            (disk_on self.old disk.old).unit storage.new }
+        ensures placements { placement_of disk.new ≡ placement_of disk.old }
+        ensures confined { IsConfined (placement_of disk.old ∷ []) self.old self.new }
+        ensures paged_in { CameOnly storage.old
+            (IsTouched guest_written (limited disk_machine start)
             (begun start (lent_memory storage.old) (disk_on self.old disk.old).unit)) storage.new }
         ensures between { IsBetweenUnits (lent_pool storage.new).supply }
     {
@@ -213,7 +226,7 @@ impl Volumes {
         };
         let tried = match self.try_run(alloc, disk, storage, again) {
             Ok(tried) => tried,
-            Err(_) => return Err(TriedError::Memory),
+            Err(_) => return Err(DryRunError::Memory),
         };
         let mut mounted = self.mount(disk);
         match run_mounted(alloc, &mut mounted, storage, start, &tried) {
@@ -228,31 +241,39 @@ impl Volumes {
         }
     }
 
-    /// The program of an initial program loading runs on a minidisk likewise.
+    /// Runs the program of an initial program loading on a minidisk, as a whole if there is room
+    /// for the pages that it touches, else not at all.
     pub(crate) fn load(
         &mut self,
         alloc: Global,
         disk: &mut SharedDisk,
         storage: &mut Dat<'_>,
-    ) -> Result<Ending, TriedError>
-        requires seated { IsSeated self.old (stand_of disk.old) }
+    ) -> Result<Ending, DryRunError>
+        requires seated { IsSeated self.old (placement_of disk.old) }
         requires between { IsBetweenUnits (lent_pool storage.old).supply }
-        ensures walk { IfOk result (λ ending. RestsLoaded (lent_memory storage.old) (disk_on self.old disk.old) ending
+        ensures walk { IfOk result
+            (λ ending. RestsLoaded (lent_memory storage.old) (disk_on self.old disk.old) ending
             (lent_memory storage.new) (disk_on self.new disk.new)) }
         ensures same { OnErr result (self.new ≡ self.old) }
-        ensures memory { result ≡ Err errors.FramesOut → lent_memory storage.new ≡ lent_memory storage.old }
+        ensures memory { result ≡ Err errors.FramesOut
+            → lent_memory storage.new ≡ lent_memory storage.old }
         ensures lacking { result ≡ Err errors.FramesOut
             → LacksSuch (IsTouched guest_written (setting disk_machine loading_limits)
-            (loading disk_machine (lent_memory storage.old) (disk_on self.old disk.old).unit)) storage.new }
-        ensures stands { stand_of disk.new ≡ stand_of disk.old }
-        ensures confined { IsConfined (stand_of disk.old ∷ []) self.old self.new }
-        ensures came { CameOnly storage.old (IsTouched guest_written (setting disk_machine loading_limits)
-            (loading disk_machine (lent_memory storage.old) (disk_on self.old disk.old).unit)) storage.new }
+            (loading disk_machine (lent_memory storage.old) (disk_on self.old disk.old).unit))
+            storage.new }
+        ensures roomy { result ≡ Err errors.Memory → HadRoomToLoad _ disk_machine storage.old
+            (disk_on self.old disk.old).unit storage.new }
+        ensures placements { placement_of disk.new ≡ placement_of disk.old }
+        ensures confined { IsConfined (placement_of disk.old ∷ []) self.old self.new }
+        ensures paged_in { CameOnly storage.old
+            (IsTouched guest_written (setting disk_machine loading_limits)
+            (loading disk_machine (lent_memory storage.old) (disk_on self.old disk.old).unit))
+            storage.new }
         ensures between { IsBetweenUnits (lent_pool storage.new).supply }
     {
         let tried = match self.try_load(alloc, disk, storage) {
             Ok(tried) => tried,
-            Err(_) => return Err(TriedError::Memory),
+            Err(_) => return Err(DryRunError::Memory),
         };
         let mut mounted = self.mount(disk);
         match load_mounted(alloc, &mut mounted, storage, &tried) {
@@ -267,9 +288,9 @@ impl Volumes {
         }
     }
 
-    /// A minidisk on the unit of its volume, which is away meanwhile.
+    /// Mounts a minidisk on the unit of its volume, which is away meanwhile.
     fn mount(&mut self, disk: &SharedDisk) -> Mounted
-        requires { IsSeated self.old (stand_of disk.now) }
+        requires { IsSeated self.old (placement_of disk.now) }
         ensures mounted { result ≡ part_on (volume_at self.old disk.now.volume) disk.now.minidisk }
         ensures away { self.new ≡ slice_set self.old disk.now.volume no_volume }
         ensures inside { disk.now.volume < length self.old }
@@ -277,17 +298,19 @@ impl Volumes {
         let _cylinders = disk.minidisk.extent().count();
         match self.units[disk.volume].take() {
             Some(unit) => disk.minidisk.mount_on(unit),
-            // A volume on which nothing stands has no extent.
+            // A volume on which nothing is has no extent.
             None => unreachable!(),
         }
     }
 
-    /// The unit is back, and the minidisk has what it had of its own there.
+    /// Puts the unit back, and gives the minidisk what it had of its own there.
     fn dismount(&mut self, disk: &mut SharedDisk, mounted: Mounted)
         requires { disk.old.volume < length self.old }
-        ensures volumes { self.new ≡ slice_set self.old disk.old.volume (volume_of (unit_of mounted)) }
+        ensures volumes { self.new
+            ≡ slice_set self.old disk.old.volume (volume_of (unit_of mounted)) }
         ensures disk { disk.new ≡ record disk.old { minidisk = minidisk_of mounted } }
-        ensures left { users_disk (volume_of (unit_of mounted)) (minidisk_of mounted) ≡ rested mounted.disk }
+        ensures left { users_disk (volume_of (unit_of mounted)) (minidisk_of mounted)
+            ≡ rested mounted.disk }
     {
         let (unit, minidisk) = mounted.dismount();
         self.units[disk.volume] = Some(unit);

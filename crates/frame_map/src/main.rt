@@ -1,5 +1,6 @@
-//! The program `framemap [--frames N] [--slots N] [--save] DIRECTORY SCRIPT [VOLUME]...`, which tells who has which
-//! frame and which slot: the map of a system's places, for people (docs/FORMATS.md, "Frame maps").
+//! The program `framemap [--frames N] [--slots N] [--save] DIRECTORY SCRIPT [VOLUME]...`, which
+//! says who has which frame and which slot: the map of a system's places, for people
+//! (docs/FORMATS.md, "Frame maps").
 //!
 //! It runs a script as `vm370` does, and then prints the map in place of the transcript.
 #![tactic(auto)]
@@ -10,8 +11,8 @@ mod places;
 mod program;
 
 use crate::program::program;
-use programs::Ended;
+use programs::ProgramEnd;
 
-fn main(rt: HostRuntime) -> Ended {
+fn main(rt: HostRuntime) -> ProgramEnd {
     program(&rt)
 }

@@ -1,4 +1,5 @@
-//! The map: a line for each run of places that have successive pages of one user, and how many are free.
+//! The map: a line for each run of places that have successive pages of one user, and how many are
+//! free.
 ghost use Rattle.std.specs.Prelude.{◌≡◌, ◌<◌, ◌≤◌, length};
 ghost use Rattle.frame_map.specs.Runs.{AreTogether, follows};
 
@@ -9,8 +10,12 @@ use s370_store::PAGE_SIZE;
 use std::alloc::{AllocError, Global};
 use user_names::name_of;
 
-/// The map of a system that has so many frames and slots, as lines that are ended by LF: frames, slots, and how many
-/// pages have come into frames so far.
+/// Returns the map of a system that has so many frames and slots, as lines that are ended by LF:
+/// frames, slots, and how many pages have come into frames so far.
+///
+/// # Errors
+///
+/// `AllocError` if memory is refused.
 pub fn frame_map(alloc: Global, system: &System, sizes: Sizes) -> Result<Vec<u8>, AllocError> {
     let places = Places::of_system(alloc, system, sizes)?;
     let users = system.directory().users();
@@ -22,8 +27,8 @@ pub fn frame_map(alloc: Global, system: &System, sizes: Sizes) -> Result<Vec<u8>
     Ok(text)
 }
 
-/// Adds the lines of these places, which are frames or slots by this word: those that have pages, and how many are
-/// free.
+/// Adds the lines of these places, which are frames or slots by this word: those that have pages,
+/// and how many are free.
 fn print_places(
     alloc: Global,
     out: &mut Vec<u8>,
@@ -44,7 +49,8 @@ fn print_places(
     out.extend_from_slice(line.as_bytes())
 }
 
-/// How many of the first places are one run: free ones, or such as have successive pages of one user.
+/// Returns how many of the first places are one run: free ones, or such as have successive pages of
+/// one user.
 fn run_length(places: &[Option<Owner>]) -> usize
     requires { 0 < length places.now }
     ensures some { 0 < result }
@@ -58,7 +64,7 @@ fn run_length(places: &[Option<Owner>]) -> usize
     count
 }
 
-/// Whether a place belongs to the run of the one before it.
+/// Returns whether a place belongs to the run of the one before it.
 fn follows(before: Option<Owner>, next: Option<Owner>) -> bool
     ensures { result ≡ follows before next }
 {
@@ -71,7 +77,8 @@ fn follows(before: Option<Owner>, next: Option<Owner>) -> bool
     }
 }
 
-/// Adds the line of so many places from this one on, which have the successive pages of a user from this one on.
+/// Adds the line of so many places from this one on, which have the successive pages of a user from
+/// this one on.
 fn print_run(
     alloc: Global,
     out: &mut Vec<u8>,
@@ -99,7 +106,7 @@ fn print_run(
     out.extend_from_slice(line.as_bytes())
 }
 
-/// The address of the page that is so many after this one.
+/// Returns the address of the page that is so many after this one.
 fn address_of(page: u32, after: usize) -> u64 {
     (u64::from(page))
         .saturating_add(after as u64)

@@ -1,4 +1,4 @@
-//! The places of a system, frames and slots, and the page that stands in each.
+//! The places of a system, frames and slots, and the page that is in each.
 use cp_core::{Sizes, System};
 use s370_store::Page;
 use std::alloc::{AllocError, Global};
@@ -13,7 +13,7 @@ pub struct Owner {
     pub page: u32,
 }
 
-/// What stands in each frame and in each slot; nothing in one that is free.
+/// What is in each frame and in each slot; nothing in one that is free.
 #[derive(Drop)]
 pub(crate) struct Places {
     pub(crate) frames: Vec<Option<Owner>>,
@@ -21,14 +21,14 @@ pub(crate) struct Places {
 }
 
 impl Places {
-    /// So many frames and slots that are free.
+    /// Returns this many frames and slots that are free.
     fn free(alloc: Global, sizes: Sizes) -> Result<Places, AllocError> {
         let frames = vec![in alloc; None; sizes.frames() as usize]?;
         let slots = vec![in alloc; None; sizes.slots() as usize]?;
         Ok(Places { frames, slots })
     }
 
-    /// What stands in the frames and slots of a system that has so many.
+    /// Returns what is in the frames and slots of a system that has so many.
     pub(crate) fn of_system(
         alloc: Global,
         system: &System,
@@ -43,7 +43,7 @@ impl Places {
         Ok(places)
     }
 
-    /// Puts the first pages of a user, so many of them, where they stand.
+    /// Puts the first pages of a user, so many of them, where they are.
     fn put_user(&mut self, system: &System, user: UserNo, pages: u32) {
         for page in 0..pages {
             if let Some(frame) = system.frame_of(user, Page(page)) {

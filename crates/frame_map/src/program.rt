@@ -1,21 +1,22 @@
-//! The program `framemap [--frames N] [--slots N] [--save] DIRECTORY SCRIPT [VOLUME]...`: the script is done as `vm370`
-//! does it, and then the map of frames and slots is printed.
+//! The program `framemap [--frames N] [--slots N] [--save] DIRECTORY SCRIPT [VOLUME]...`: the
+//! script is done as `vm370` does it, and then the map of frames and slots is printed.
 //!
-//! Its words, its refusals and its exit statuses are those of `vm370`; what that would print is not kept.
+//! Its words, its refusals and its exit statuses are those of `vm370`; what that would print is not
+//! kept.
 use crate::map::frame_map;
 use crate::nowhere::Nowhere;
 use programs::program::{output, words, wrong_use};
-use programs::{Ended, Failure, FileStore, HostFiles, finish, save_images, saved_paths};
+use programs::{Failure, FileStore, HostFiles, ProgramEnd, finish, save_images, saved_paths};
 use s370_num::host::{HostWriter, write_all};
 use sessions::session::session;
 use std::rt::{Env, Files};
 use vm370::arguments::arguments;
 use vm370::runs::read_system;
 
-/// The program's name, as it tells it.
+/// The program's name, as it says it.
 const PROGRAM: &str = "framemap";
 
-/// What is told after a usage text: what is printed, an example, and the exit statuses.
+/// What is reported after a usage text: what is printed, an example, and the exit statuses.
 const USAGE_NOTE: &str = "
 Prints who has which frame and which slot after the script, in place of what the terminals show.
 
@@ -32,14 +33,14 @@ The map goes to standard output, a fault as one line to standard error. Exit sta
   4  there was not memory enough
 ";
 
-/// The whole program: what it is started with names a directory, a script and volumes, and the map of what that leaves
-/// is written. A failure is told on standard error.
-pub fn program<R: AllocGlobal + Files + Env + Print + Eprint>(rt: &R) -> Ended {
+/// Runs the whole program: what it is started with names a directory, a script and volumes, and
+/// the map of what that leaves is written. A failure is reported on standard error.
+pub fn program<R: AllocGlobal + Files + Env + Print + Eprint>(rt: &R) -> ProgramEnd {
     finish(rt, run(rt))
 }
 
-/// Reads the words, the directory, the images and the script, does the script, writes the map, and saves the volumes
-/// where that is asked for. A wrong use is told here.
+/// Reads the words, the directory, the images and the script, does the script, writes the map, and
+/// saves the volumes where that is asked for. A wrong use is reported here.
 fn run<R: AllocGlobal + Files + Env + Print + Eprint>(rt: &R) -> Result<(), Failure> {
     let alloc = rt.alloc();
     let words = words(rt, PROGRAM)?;

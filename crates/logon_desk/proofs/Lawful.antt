@@ -24,7 +24,7 @@ use Rattle.logon_desk.specs.declared.connection.Stage.{Stage}
 use Rattle.logon_desk.specs.declared.connection.Stage.TheVariants.{Gone, Naming, Asking, Waiting, Judged, Refused, On}
 use Rattle.terminal_lines.specs.declared.decoder.Decoded.{Decoded}
 use Rattle.terminal_lines.specs.declared.decoder.Decoded.TheVariants.{Nothing, Line, Declines as Refuses, AreYouThere}
-use Rattle.logon_desk.specs.declared.output.Entry.TheVariants.{IsBack, Leaves}
+use Rattle.logon_desk.specs.declared.output.JournalEntry.TheVariants.{IsBack, Leaves}
 use Rattle.logon_desk.specs.declared.output.Notice.{Notice}
 use Rattle.logon_desk.specs.declared.output.Notice.TheVariants.{Reconnected, TakesOver}
 use Rattle.logon_desk.specs.declared.output.Output.{Output}
@@ -101,7 +101,7 @@ may_again d event c user (line ∷ rest) l kept = ((l, kept line (inl refl)), ma
 
 may_greet : (d : Desk) (c user : ℕ) (guess : Guess) (now : ℕ) (b : Bool) → LogsOn d c user (Answers c guess true now)
     → AllMay d (Answers c guess true now)
-    (cond b (Notes (Rattle.logon_desk.specs.declared.output.Entry.TheVariants.LogsOn user c) ∷ Types user logon_command ∷ [])
+    (cond b (Notes (Rattle.logon_desk.specs.declared.output.JournalEntry.TheVariants.LogsOn user c) ∷ Types user logon_command ∷ [])
     (Notes (IsBack user c) ∷ Says c Reconnected ∷ map (λ (line : KeptLine). ShowsAgain c user line) (account_of d user).kept))
 may_greet d c user guess now true l = (tt, (inr (c, l, refl), tt))
 may_greet d c user guess now false l = (tt, (refl, may_again d (Answers c guess true now) c user (account_of d user).kept l (λ line h. h)))
@@ -262,7 +262,7 @@ again : (d : Desk) (c user : ℕ) (event : Event) → LogsOn d c user event → 
     → (step d event).outputs ≡ Notes (IsBack user c) ∷ Says c Reconnected ∷ map (λ (line : KeptLine). ShowsAgain c user line) (account_of d user).kept
 again d c user event l is_on =
     ap (λ (s : Step). s.outputs) (on_step d c user event l)
-    ∙ ap (λ (b : Bool). cond (not b && not (account_of d user).is_busy) (Notes (Rattle.logon_desk.specs.declared.output.Entry.TheVariants.LogsOn user c) ∷ Types user logon_command ∷ [])
+    ∙ ap (λ (b : Bool). cond (not b && not (account_of d user).is_busy) (Notes (Rattle.logon_desk.specs.declared.output.JournalEntry.TheVariants.LogsOn user c) ∷ Types user logon_command ∷ [])
     (Notes (IsBack user c) ∷ Says c Reconnected ∷ map (λ (line : KeptLine). ShowsAgain c user line) (account_of d user).kept)) is_on
 
 wrong_desk : (d : Desk) (c : ℕ) (guess : Guess) (who : Option ℕ) (is_right : Bool) (now : ℕ) → (is_right ≡ false) ⊎ (who ≡ None) → (judged_as d c guess who is_right now).desk ≡ (wrong_guess d c None now).desk

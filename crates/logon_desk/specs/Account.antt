@@ -9,4 +9,11 @@ last_lines lines = if nat_lt 24 (length lines) then drop 1 lines else lines
 
 -- a user whose machine is off
 abbrev pub new_account : List ℕ → Account
-new_account name = record { name = name; terminal = None; is_on = false; is_running = false; is_busy = false; kept = [] }
+new_account name = record {
+  name = name;
+  terminal = None;
+  is_on = false;
+  is_running = false;
+  is_busy = false;
+  kept = [];
+}

@@ -1,13 +1,16 @@
 -- A connection, and how far whoever is there has come.
-use Rattle.std.specs.Prelude.{ℕ, ◌+◌, ◌-◌, ◌==◌, if◌then◌else◌, min, List, [], ◌∷◌, Option, Some, None}
+use Rattle.std.specs.Prelude.{ℕ, ◌+◌, ◌-◌, ◌==◌, if◌then◌else◌, min, List, [], ◌∷◌, Option, Some}
+use Rattle.std.specs.Prelude.{None}
 use Rattle.terminal_lines.specs.Decoder.{nothing_typed}
 use Rattle.logon_desk.specs.declared.connection.Answer.{Answer}
 use Rattle.logon_desk.specs.declared.connection.Connection.{Connection}
 use Rattle.logon_desk.specs.declared.connection.Patience.{Patience}
 use Rattle.logon_desk.specs.declared.connection.Stage.{Stage}
-use Rattle.logon_desk.specs.declared.connection.Stage.TheVariants.{Gone, Naming, Asking, Waiting, Judged}
+use Rattle.logon_desk.specs.declared.connection.Stage.TheVariants.{Gone, Naming, Asking, Waiting}
+use Rattle.logon_desk.specs.declared.connection.Stage.TheVariants.{Judged}
 use Rattle.logon_desk.specs.declared.connection.Stage.TheVariants.{Refused, On}
-use Rattle.logon_desk.specs.declared.output.Notice.TheVariants.{EnterPassword, NoPassword, PasswordTaken}
+use Rattle.logon_desk.specs.declared.output.Notice.TheVariants.{EnterPassword, NoPassword}
+use Rattle.logon_desk.specs.declared.output.Notice.TheVariants.{PasswordTaken}
 use Rattle.logon_desk.specs.declared.output.Notice.TheVariants.{TypeLogon}
 use Rattle.terminal_lines.specs.declared.words.Said.{Said}
 use Rattle.terminal_lines.specs.declared.words.Said.TheVariants.{Both, Name, Word, Other}
@@ -32,15 +35,18 @@ opened address now = record {
   address = address;
 }
 
--- what comes of a line of somebody who is about to log on. A name and its password stand in one line or in
--- two; nothing else is
--- a guess
+-- what comes of a line of somebody who is about to log on. A name and its password are in one line
+-- or in two; nothing else is a guess
 abbrev pub after_line : Stage → Said → Answer
 after_line Naming (Both guess) = record { stage = Waiting guess; notice = None }
 after_line Naming (Name name) = record { stage = Asking name; notice = Some EnterPassword }
 after_line Naming (Word word) = record { stage = Naming; notice = Some TypeLogon }
 after_line Naming Other = record { stage = Naming; notice = Some TypeLogon }
-after_line (Asking name) (Word password) = record { stage = Waiting (record { name = name; password = password }); notice = Some PasswordTaken }
+after_line (Asking name) (Word password) =
+    record {
+      stage = Waiting (record { name = name; password = password });
+      notice = Some PasswordTaken;
+    }
 after_line (Asking name) (Both guess) = record { stage = Naming; notice = Some NoPassword }
 after_line (Asking name) (Name other) = record { stage = Naming; notice = Some NoPassword }
 after_line (Asking name) Other = record { stage = Naming; notice = Some NoPassword }
@@ -54,6 +60,7 @@ after_line (On user) said = record { stage = On user; notice = None }
 abbrev pub begun : Patience → ℕ → ℕ → Patience
 begun p now wait = record p { left = p.deadline - now; due = now + wait }
 
+-- how many milliseconds a guess waits after this many wrong ones
 abbrev pub pause_of : ℕ → ℕ
 pause_of tries = if tries == 0 then 500 else (if tries == 1 then 1000 else 2000)
 

@@ -1,11 +1,13 @@
 -- How long a guess of a password waits for its turn.
-use Rattle.std.specs.Prelude.{◌+◌, ◌-◌, ◌*◌, ◌/◌, ◌%◌, ◌^◌, ℕ, List, fold, replicate, nat_lt, if◌then◌else◌}
+use Rattle.std.specs.Prelude.{◌+◌, ◌-◌, ◌*◌, ◌/◌, ◌%◌, ◌^◌, ℕ, List, fold, replicate, nat_lt}
+use Rattle.std.specs.Prelude.{if◌then◌else◌}
 use Rattle.std.specs.Prelude.{min}
 
 -- the queue in which a guess waits: guesses of one name from one address wait in one queue
 abbrev pub mixed : ℕ → ℕ → ℕ
 mixed number c = (number * 257 % 2 ^ 64 + c) % 2 ^ 64
 
+-- the queue of the guesses of a name from an address
 abbrev pub queue_of : List ℕ → ℕ → ℕ
 queue_of name address = fold mixed address name / 2 ^ 54
 
@@ -13,7 +15,7 @@ queue_of name address = fold mixed address name / 2 ^ 54
 unfoldable pub no_guesses : List ℕ
 no_guesses = replicate 1024 0
 
--- for how many milliseconds the guesses of lately are still remembered
+-- for how many milliseconds recent guesses are still remembered
 abbrev pub debt : ℕ → ℕ → ℕ
 debt until now = until - now
 
@@ -23,7 +25,8 @@ guessed until now = now + (min (debt until now) 190000 + 10000)
 
 -- a right one is remembered no more
 abbrev pub right_after : ℕ → ℕ → ℕ
-right_after until now = if nat_lt (debt until now) 10000 then now else now + min (debt until now - 10000) 200000
+right_after until now = if nat_lt (debt until now) 10000 then now
+    else now + min (debt until now - 10000) 200000
 
 -- the first guess waits for nothing, and each further one twice as long, up to four seconds
 abbrev pub wait_of : ℕ → ℕ

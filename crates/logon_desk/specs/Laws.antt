@@ -1,25 +1,30 @@
 -- What the desk promises, whatever happens.
-use Rattle.std.specs.Prelude.{◌≡◌, ◌⊎◌, ◌+◌, ◌<◌, ◌≤◌, ◌||◌, ℕ, Bool, true, false, List, [], ◌∷◌, ◌++◌}
+use Rattle.std.specs.Prelude.{◌≡◌, ◌⊎◌, ◌+◌, ◌<◌, ◌≤◌, ◌||◌, ℕ, Bool, true, false, List, [], ◌∷◌}
+use Rattle.std.specs.Prelude.{◌++◌}
 use Rattle.std.specs.Prelude.{length, map, Option, Some, None}
 use Rattle.std.specs.List.{AllByRecursion}
 use Rattle.user_names.specs.Users.{user_of}
 use Rattle.logon_desk.specs.Connection.{refused}
 use Rattle.terminal_lines.specs.Decoder.{after_byte}
-use Rattle.logon_desk.specs.Desk.{Answers, Closes, Comes, Desk, Event, Finishes, Keeps, Opens, Prints, Takes}
-use Rattle.logon_desk.specs.Desk.{Turns, Wakes, account_of, connection_at, is_gone, is_on_at, is_taking}
+use Rattle.logon_desk.specs.Desk.{Answers, Closes, Comes, Desk, Event, Finishes, Keeps, Opens}
+use Rattle.logon_desk.specs.Desk.{Prints, Takes}
+use Rattle.logon_desk.specs.Desk.{Turns, Wakes, account_of, connection_at, is_gone, is_on_at}
+use Rattle.logon_desk.specs.Desk.{is_taking}
 use Rattle.logon_desk.specs.Desk.{logon_command, names, new_desk, shown, step, with_connection}
 use Rattle.logon_desk.specs.History.{IsOnBy, LogsOn, after, arrived, kept_of, reading_of}
 use Rattle.terminal_lines.specs.Script.{script_line}
 use Rattle.logon_desk.specs.declared.account.KeptLine.{KeptLine}
 use Rattle.logon_desk.specs.declared.connection.Stage.TheVariants.{Judged, Refused, Waiting}
 use Rattle.terminal_lines.specs.declared.decoder.Decoded.TheVariants.{Line}
-use Rattle.logon_desk.specs.declared.output.Entry.TheVariants.{IsBack}
+use Rattle.logon_desk.specs.declared.output.JournalEntry.TheVariants.{IsBack}
 use Rattle.logon_desk.specs.declared.output.Notice.TheVariants.{Reconnected}
 use Rattle.logon_desk.specs.declared.output.Output.{Output}
-use Rattle.logon_desk.specs.declared.output.Output.TheVariants.{Says, Declines, Shows, ShowsAgain, Types}
+use Rattle.logon_desk.specs.declared.output.Output.TheVariants.{Says, Declines, Shows, ShowsAgain}
+use Rattle.logon_desk.specs.declared.output.Output.TheVariants.{Types}
 use Rattle.logon_desk.specs.declared.output.Output.TheVariants.{Asks, Ends, Notes}
 use Rattle.terminal_lines.specs.declared.words.Guess.{Guess}
 
+-- a line is one of these
 abbrev pub IsIn : KeptLine → List KeptLine → Type 0
 IsIn line [] = ⊥
 IsIn line (first ∷ rest) = (line ≡ first) ⊎ IsIn line rest
@@ -50,17 +55,18 @@ pub record IsTyped (d : Desk) (event : Event) (user : ℕ) (line : List ℕ) : T
   pub whole : (after_byte (connection_at d c).decoder byte).decoded ≡ Line typed
   pub script : line ≡ script_line (account_of d user).is_running typed
 
--- what may be done then. A line of the script is typed by somebody who is on as its user, or switches on the
--- machine of who logs on;
--- a connection is given the desk's own texts, lines of the transcript of who is on there, and kept lines of
--- who logs on there; and a
--- name and a password are only for the host
+-- what may be done then. A line of the script is typed by somebody who is on as its user, or
+-- switches on the machine of who logs on; a connection is given the desk's own texts, lines of the
+-- transcript of who is on there, and kept lines of who logs on there; and a name and a password are
+-- only for the host
 abbrev pub May : Desk → Event → Output → Type 0
 May d event (Says c notice) = IsAt c event
 May d event (Declines c command option) = IsAt c event
-May d event (Shows c user line) = (is_on_at d c user ≡ true) × (text : List ℕ) × (event ≡ Prints user text) × (line ≡ shown text)
+May d event (Shows c user line) = (is_on_at d c user ≡ true) × (text : List ℕ)
+    × (event ≡ Prints user text) × (line ≡ shown text)
 May d event (ShowsAgain c user line) = LogsOn d c user event × IsIn line (account_of d user).kept
-May d event (Types user line) = IsTyped d event user line ⊎ ((c : ℕ) × LogsOn d c user event × (line ≡ logon_command))
+May d event (Types user line) = IsTyped d event user line
+    ⊎ ((c : ℕ) × LogsOn d c user event × (line ≡ logon_command))
 May d event (Asks c guess) = IsAt c event × ((connection_at d c).stage ≡ Waiting guess)
 May d event (Ends c) = IsAt c event
 May d event (Notes entry) = Unit {0}
@@ -85,35 +91,48 @@ pub record IsComplete : Type 0 where
       → (account_of d user).is_busy ≡ false
       → (connection_at d c).waiting ≡ byte ∷ rest
       → (after_byte (connection_at d c).decoder byte).decoded ≡ Line line
-      → (step d (Takes c now)).outputs ≡ Types user (script_line (account_of d user).is_running line) ∷ []
-  -- no byte is lost, read twice or left from another connection: all that have come were taken, in order, or
-  -- wait
+      → (step d (Takes c now)).outputs
+      ≡ Types user (script_line (account_of d user).is_running line) ∷ []
+  -- no byte is lost, read twice or left from another connection: all that have come were taken, in
+  -- order, or wait
   pub reads : (users : List (List ℕ)) (size : ℕ) (events : List Event) (c : ℕ)
       → is_gone (connection_at (after (new_desk users size) events) c).stage ≡ false
-      → (taken : List ℕ) × (arrived c events ≡ taken ++ (connection_at (after (new_desk users size) events) c).waiting)
+      → (taken : List ℕ) × (arrived c events ≡ taken
+      ++ (connection_at (after (new_desk users size) events) c).waiting)
       × ((connection_at (after (new_desk users size) events) c).decoder ≡ (reading_of taken).typed)
   -- the last lines are kept for who comes back
-  pub keeps : (users : List (List ℕ)) (size : ℕ) (events : List Event) (user : ℕ) → user < length users
+  pub keeps : (users : List (List ℕ)) (size : ℕ) (events : List Event) (user : ℕ)
+      → user < length users
       → (account_of (after (new_desk users size) events) user).kept ≡ kept_of user events
   pub again : (d : Desk) (c user : ℕ) (event : Event) → LogsOn d c user event
       → (account_of d user).is_on ≡ true
-      → (step d event).outputs ≡ Notes (IsBack user c) ∷ Says c Reconnected ∷ map (λ line. ShowsAgain c user line) (account_of d user).kept
+      → (step d event).outputs
+      ≡ Notes (IsBack user c) ∷ Says c Reconnected ∷ map (λ line. ShowsAgain c user line)
+      (account_of d user).kept
 
 -- a wrong password and a name that is nobody's are answered alike, and after the same wait
 pub record HasSecrets : Type 0 where
   pub alike : (d : Desk) (c : ℕ) (guess : Guess) (is_right : Bool) (now : ℕ)
-      → (connection_at d c).stage ≡ Judged guess → (is_right ≡ false) ⊎ (user_of (names d) guess.name ≡ None)
-      → (step d (Answers c guess is_right now)).desk ≡ with_connection d c (record (connection_at d c) { stage = Refused; patience = refused (connection_at d c).patience now })
+      → (connection_at d c).stage ≡ Judged guess
+      → (is_right ≡ false) ⊎ (user_of (names d) guess.name ≡ None)
+      → (step d (Answers c guess is_right now)).desk
+      ≡ with_connection d c (record
+      (connection_at d c) {
+        stage = Refused;
+        patience = refused (connection_at d c).patience now;
+      })
 
--- a guess waits for four seconds at most, whatever others do; then the host is asked, and a right one is let
--- on at once
+-- a guess waits for four seconds at most, whatever others do; then the host is asked, and a right
+-- one is let on at once
 pub record WaitsBriefly : Type 0 where
-  pub waits : (d : Desk) (c now : ℕ) (guess : Guess) → is_taking d c (connection_at d c).stage ≡ true
+  pub waits : (d : Desk) (c now : ℕ) (guess : Guess)
+      → is_taking d c (connection_at d c).stage ≡ true
       → (connection_at (step d (Takes c now)).desk c).stage ≡ Waiting guess
       → (connection_at (step d (Takes c now)).desk c).patience.due ≤ now + 4000
   pub asks : (d : Desk) (c now : ℕ) (guess : Guess) → (connection_at d c).stage ≡ Waiting guess
       → (connection_at d c).patience.due ≤ now → (step d (Wakes c now)).outputs ≡ Asks c guess ∷ []
-  pub lets_on : (d : Desk) (c user now : ℕ) (guess : Guess) → (connection_at d c).stage ≡ Judged guess
+  pub lets_on : (d : Desk) (c user now : ℕ) (guess : Guess)
+      → (connection_at d c).stage ≡ Judged guess
       → user_of (names d) guess.name ≡ Some user
       → is_on_at (step d (Answers c guess true now)).desk c user ≡ true
 

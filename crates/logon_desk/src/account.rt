@@ -21,7 +21,11 @@ pub struct KeptLine {
 }
 
 impl KeptLine {
-    /// A copy.
+    /// Returns a copy.
+    ///
+    /// # Errors
+    ///
+    /// `AllocError` if memory is refused.
     pub fn copy(&self, alloc: Global) -> Result<KeptLine, AllocError>
         ensures { IfOk result (λ copy. copy ≡ self.now) }
     {
@@ -58,6 +62,10 @@ impl KeptLines {
     }
 
     /// Keeps one line more, and forgets the oldest of too many.
+    ///
+    /// # Errors
+    ///
+    /// `AllocError` if memory is refused; what this is then is not specified.
     pub fn keep(&mut self, line: KeptLine) -> Result<(), AllocError>
         ensures { OnOk result (self.new ≡ last_lines (self.old ++ line ∷ [])) }
     {
@@ -75,7 +83,7 @@ impl KeptLines {
         self.lines.clear();
     }
 
-    /// The lines.
+    /// Returns the lines.
     pub fn as_slice(&self) -> &[KeptLine]
         ensures { result.now ≡ self.now }
     {
@@ -109,7 +117,7 @@ impl Named for Account {
 }
 
 impl Account {
-    /// A user whose machine is off.
+    /// Returns a user whose machine is off.
     pub fn new(alloc: Global, name: Bytes) -> Account
         ensures { result ≡ new_account name }
     {

@@ -1,6 +1,7 @@
 //! A connection, and how far whoever is there has come.
 ghost use Rattle.std.specs.Prelude.{◌≡◌, ◌<◌, ◌≤◌, ◌^◌};
-ghost use Rattle.logon_desk.specs.Connection.{after_line, again, begun, gone, opened, pause_of, refused};
+ghost use Rattle.logon_desk.specs.Connection.{after_line, again, begun, gone, opened, pause_of};
+ghost use Rattle.logon_desk.specs.Connection.{refused};
 
 use crate::output::Notice;
 use crate::waiting::WaitingBytes;
@@ -24,7 +25,7 @@ pub enum Stage {
     Waiting(Guess),
     /// The host is asked whether they are right.
     Judged(Guess),
-    /// They are wrong, which he is told after a while.
+    /// They are wrong, and he is told so after a while.
     Refused,
     /// He has logged on as this user.
     On(UserNo),
@@ -77,7 +78,7 @@ impl Connection {
         }
     }
 
-    /// A connection that has come from an address.
+    /// Returns a connection that has come from an address.
     pub fn opened(alloc: Global, address: u64, now: u64) -> Connection
         requires { now < 2 ^ 62 }
         ensures { result ≡ opened address now }
@@ -106,7 +107,7 @@ pub struct Answer {
     pub notice: Option<Notice>,
 }
 
-/// What comes of a line of somebody who is about to log on.
+/// Returns what comes of a line of somebody who is about to log on.
 pub fn after_line(stage: Stage, said: Said) -> Answer
     ensures { result ≡ after_line stage said }
 {
@@ -176,7 +177,7 @@ impl Patience {
     }
 }
 
-/// How long one waits for the answer to a wrong guess, after so many others.
+/// Returns how long one waits for the answer to a wrong guess, after so many others.
 fn pause(tries: u8) -> u64
     ensures value { result ≡ pause_of tries }
     ensures bounded { result ≤ 2000 }

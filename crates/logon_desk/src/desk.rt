@@ -1,22 +1,28 @@
 //! The desk.
-ghost use Rattle.std.specs.Prelude.{◌≡◌, ◌<◌, ◌≤◌, ◌^◌, ◌++◌, ◌∷◌, [], IfNone, IfOk, IfSome, count_by, false};
+ghost use Rattle.std.specs.Prelude.{◌≡◌, ◌<◌, ◌≤◌, ◌^◌, ◌++◌, ◌∷◌, [], IfNone, IfOk, IfSome};
+ghost use Rattle.std.specs.Prelude.{count_by, false};
 ghost use Rattle.std.specs.Prelude.{length, map, not, replicate, take};
 ghost use Rattle.std.specs.List.{All};
 ghost use Rattle.logon_desk.specs.Strangers.{IsBusiest, is_stranger};
 ghost use Rattle.std.specs.Result.{OnOk};
 ghost use Rattle.logon_desk.specs.Account.{new_account};
 ghost use Rattle.logon_desk.specs.Connection.{gone};
-ghost use Rattle.logon_desk.specs.Desk.{Answers, Closes, Comes, Does, Finishes, IsStep, Keeps, Opens, Prints};
-ghost use Rattle.logon_desk.specs.Desk.{Takes, Turns, Wakes, account_of, after_decoded, after_first};
-ghost use Rattle.logon_desk.specs.Desk.{after_line_at, answered, comes_to, connection_at, ended, farewell};
-ghost use Rattle.logon_desk.specs.Desk.{greeting, guess_waits, is_gone, is_taking, leaving, logged_on};
-ghost use Rattle.logon_desk.specs.Desk.{logon_line, new_desk, after_pause, same_guess, shown, terminal_of};
+ghost use Rattle.logon_desk.specs.Desk.{Answers, Closes, Comes, Does, Finishes, IsStep, Keeps};
+ghost use Rattle.logon_desk.specs.Desk.{Opens, Prints};
+ghost use Rattle.logon_desk.specs.Desk.{Takes, Turns, Wakes, account_of, after_decoded};
+ghost use Rattle.logon_desk.specs.Desk.{after_first};
+ghost use Rattle.logon_desk.specs.Desk.{after_line_at, answered, comes_to, connection_at, ended};
+ghost use Rattle.logon_desk.specs.Desk.{farewell};
+ghost use Rattle.logon_desk.specs.Desk.{greeting, guess_waits, is_gone, is_taking, leaving};
+ghost use Rattle.logon_desk.specs.Desk.{logged_on};
+ghost use Rattle.logon_desk.specs.Desk.{logon_line, new_desk, after_pause, same_guess, shown};
+ghost use Rattle.logon_desk.specs.Desk.{terminal_of};
 ghost use Rattle.logon_desk.specs.Desk.{typed_line, wrong_guess};
 
 use crate::account::{Account, KeptLine};
 use crate::connection::{Answer, Connection, Stage, after_line};
 use crate::guesses::{Guesses, queue_of};
-use crate::output::{Entry, Notice, Output, Outputs};
+use crate::output::{JournalEntry, Notice, Output, Outputs};
 use crate::strangers::{busiest, strangers};
 use std::alloc::{AllocError, Global};
 use std::marker::Model;
@@ -47,13 +53,22 @@ impl Model for LogonDesk {
 
     ghost Value = { Desk };
 
-    ghost view = { λ d. record { connections = d.connections.items; accounts = d.accounts.items; guesses = d.guesses } };
+    ghost view = { λ d. record {
+      connections = d.connections.items;
+      accounts = d.accounts.items;
+      guesses = d.guesses;
+    } };
 
     ghost invariant = { λ d. length d.accounts.items ≤ 64 };
 }
 
 impl LogonDesk {
-    /// A desk for the users of these names, with so many places for connections, to which nobody has come.
+    /// Returns a desk for the users of these names, with so many places for connections, to which
+    /// nobody has come.
+    ///
+    /// # Errors
+    ///
+    /// `AllocError` if memory is refused.
     pub fn new(alloc: Global, names: &[Bytes], connections: usize) -> Result<LogonDesk, AllocError>
         requires { length names.now ≤ 64 }
         ensures { IfOk result (λ desk. desk ≡ new_desk names.now connections) }
@@ -65,14 +80,14 @@ impl LogonDesk {
         })
     }
 
-    /// How many places there are for connections.
+    /// Returns how many places there are for connections.
     pub fn connections(&self) -> usize
         ensures { result ≡ length self.now.connections }
     {
         self.connections.len()
     }
 
-    /// How many users there are.
+    /// Returns how many users there are.
     pub fn users(&self) -> usize
         ensures value { result ≡ length self.now.accounts }
         ensures bound { result ≤ 64 }
@@ -80,7 +95,7 @@ impl LogonDesk {
         self.accounts.len()
     }
 
-    /// How many are about to log on.
+    /// Returns how many are about to log on.
     pub fn strangers(&self) -> usize
         ensures { result ≡ count_by is_stranger self.now.connections }
     {
@@ -91,12 +106,13 @@ impl LogonDesk {
     pub fn busiest(&self) -> Option<usize>
         ensures within { IfSome result (λ c. c < length self.now.connections) }
         ensures busiest { IfSome result (λ c. IsBusiest self.now.connections c) }
-        ensures none { IfNone result (All (λ connection. is_stranger connection ≡ false) self.now.connections) }
+        ensures none { IfNone result
+            (All (λ connection. is_stranger connection ≡ false) self.now.connections) }
     {
         busiest(&self.connections)
     }
 
-    /// Whether a connection is there.
+    /// Returns whether a connection is there.
     pub fn is_open(&self, connection: usize) -> bool
         requires { connection < length self.now.connections }
         ensures { result ≡ not (is_gone (connection_at self.now connection).stage) }
@@ -105,6 +121,10 @@ impl LogonDesk {
     }
 
     /// A connection has come from an address.
+    ///
+    /// # Errors
+    ///
+    /// `AllocError` if memory is refused; what this is then is not specified.
     pub fn open(
         &mut self,
         alloc: Global,
@@ -115,13 +135,18 @@ impl LogonDesk {
     ) -> Result<(), AllocError>
         requires within { connection < length self.old.connections }
         requires now { now < 2 ^ 62 }
-        ensures { OnOk result (IsStep self.old (Opens connection address now) out.old self.new out.new) }
+        ensures { OnOk result (IsStep self.old (Opens connection address now) out.old self.new
+            out.new) }
     {
         self.connections[connection] = Connection::opened(alloc, address, now);
         say(connection, Notice::Online, out)
     }
 
     /// Bytes have come at a connection.
+    ///
+    /// # Errors
+    ///
+    /// `AllocError` if memory is refused; what this is then is not specified.
     pub fn receive(
         &mut self,
         alloc: Global,
@@ -130,7 +155,8 @@ impl LogonDesk {
         out: &mut Outputs,
     ) -> Result<(), AllocError>
         requires within { connection < length self.old.connections }
-        ensures { OnOk result (IsStep self.old (Comes connection bytes.now) out.old self.new out.new) }
+        ensures { OnOk result (IsStep self.old (Comes connection bytes.now) out.old self.new
+            out.new) }
     {
         let place = &mut self.connections[connection];
         if bytes.len() > MOST_WAITING || place.waiting.len() > MOST_WAITING - bytes.len() {
@@ -140,6 +166,10 @@ impl LogonDesk {
     }
 
     /// Takes the first byte that waits at a connection, if one is taken there now.
+    ///
+    /// # Errors
+    ///
+    /// `AllocError` if memory is refused; what this is then is not specified.
     pub fn take(
         &mut self,
         alloc: Global,
@@ -168,7 +198,9 @@ impl LogonDesk {
         requires within { connection < length self.old.connections }
         requires some { 0 < length (connection_at self.old connection).waiting }
         requires now { now < 2 ^ 62 }
-        ensures { OnOk result (Does (after_first self.old connection (connection_at self.old connection).waiting now) out.old self.new out.new) }
+        ensures { OnOk result (Does
+            (after_first self.old connection (connection_at self.old connection).waiting now)
+            out.old self.new out.new) }
     {
         let place = &mut self.connections[connection];
         let Some(byte) = place.waiting.take() else {
@@ -178,7 +210,7 @@ impl LogonDesk {
         self.after_decoded(alloc, connection, decoded, now, out)
     }
 
-    /// Whether bytes of a connection are taken now.
+    /// Returns whether bytes of a connection are taken now.
     pub fn is_taking(&self, connection: usize) -> bool
         requires { connection < length self.now.connections }
         ensures { result ≡ is_taking self.now connection (connection_at self.now connection).stage }
@@ -199,7 +231,7 @@ impl LogonDesk {
         }
     }
 
-    /// How many bytes wait at a connection.
+    /// Returns how many bytes wait at a connection.
     pub fn waiting(&self, connection: usize) -> usize
         requires { connection < length self.now.connections }
         ensures { result ≡ length (connection_at self.now connection).waiting }
@@ -217,7 +249,8 @@ impl LogonDesk {
     ) -> Result<(), AllocError>
         requires within { connection < length self.old.connections }
         requires now { now < 2 ^ 62 }
-        ensures { OnOk result (Does (after_decoded self.old connection decoded now) out.old self.new out.new) }
+        ensures { OnOk result (Does (after_decoded self.old connection decoded now) out.old self.new
+            out.new) }
     {
         match decoded {
             Decoded::Nothing => Ok(()),
@@ -241,7 +274,8 @@ impl LogonDesk {
     ) -> Result<(), AllocError>
         requires within { connection < length self.old.connections }
         requires now { now < 2 ^ 62 }
-        ensures { OnOk result (Does (after_line_at self.old connection line now) out.old self.new out.new) }
+        ensures { OnOk result (Does (after_line_at self.old connection line now) out.old self.new
+            out.new) }
     {
         match &self.connections[connection].stage {
             Stage::On(user) => {
@@ -287,7 +321,9 @@ impl LogonDesk {
     ) -> Result<(), AllocError>
         requires within { connection < length self.old.connections }
         requires now { now < 2 ^ 62 }
-        ensures { OnOk result (Does (logon_line self.old connection (connection_at self.old connection) line.now now) out.old self.new out.new) }
+        ensures { OnOk result (Does
+            (logon_line self.old connection (connection_at self.old connection) line.now now)
+            out.old self.new out.new) }
     {
         let capitals = in_capitals(alloc, line.as_slice())?;
         let said = said_of(alloc, capitals.as_slice())?;
@@ -305,7 +341,9 @@ impl LogonDesk {
     ) -> Result<(), AllocError>
         requires within { connection < length self.old.connections }
         requires now { now < 2 ^ 62 }
-        ensures { OnOk result (Does (answered self.old connection (connection_at self.old connection) answer now) out.old self.new out.new) }
+        ensures { OnOk result (Does
+            (answered self.old connection (connection_at self.old connection) answer now) out.old
+            self.new out.new) }
     {
         let Answer { stage, notice } = answer;
         self.come_to(connection, stage, now);
@@ -318,7 +356,8 @@ impl LogonDesk {
     fn come_to(&mut self, connection: usize, stage: Stage, now: u64)
         requires within { connection < length self.old.connections }
         requires now { now < 2 ^ 62 }
-        ensures { self.new ≡ comes_to self.old connection (connection_at self.old connection) stage now }
+        ensures { self.new ≡ comes_to self.old connection (connection_at self.old connection) stage
+            now }
     {
         match stage {
             Stage::Waiting(guess) => self.guess_waits(connection, guess, now),
@@ -329,7 +368,8 @@ impl LogonDesk {
     fn guess_waits(&mut self, connection: usize, guess: Guess, now: u64)
         requires within { connection < length self.old.connections }
         requires now { now < 2 ^ 62 }
-        ensures { self.new ≡ guess_waits self.old connection (connection_at self.old connection) guess now }
+        ensures { self.new ≡ guess_waits self.old connection (connection_at self.old connection)
+            guess now }
     {
         let place = &mut self.connections[connection];
         let queue = queue_of(guess.name.as_slice(), place.address);
@@ -339,6 +379,10 @@ impl LogonDesk {
     }
 
     /// This time has come for a connection.
+    ///
+    /// # Errors
+    ///
+    /// `AllocError` if memory is refused; what this is then is not specified.
     pub fn wake(
         &mut self,
         alloc: Global,
@@ -385,7 +429,9 @@ impl LogonDesk {
     ) -> Result<(), AllocError>
         requires within { connection < length self.old.connections }
         requires now { now < 2 ^ 62 }
-        ensures { OnOk result (Does (after_pause self.old connection (connection_at self.old connection) now) out.old self.new out.new) }
+        ensures { OnOk result (Does
+            (after_pause self.old connection (connection_at self.old connection) now) out.old
+            self.new out.new) }
     {
         say(connection, Notice::Refused, out)?;
         let place = &mut self.connections[connection];
@@ -405,7 +451,9 @@ impl LogonDesk {
         out: &mut Outputs,
     ) -> Result<(), AllocError>
         requires within { connection < length self.old.connections }
-        ensures { OnOk result (Does (Rattle.logon_desk.specs.Desk.wake_by self.old connection (connection_at self.old connection) (Stage.On user) 0) out.old self.new out.new) }
+        ensures { OnOk result (Does
+            (Rattle.logon_desk.specs.Desk.wake_by self.old connection
+            (connection_at self.old connection) (Stage.On user) 0) out.old self.new out.new) }
     {
         let terminal = self.terminal(user);
         if is_terminal(terminal, connection) {
@@ -417,7 +465,8 @@ impl LogonDesk {
         self.end(alloc, connection, out)
     }
 
-    /// The connection that was the last at which a user logged on, if he has not logged off.
+    /// Returns the connection that was the last at which a user logged on, if he has not logged
+    /// off.
     fn terminal(&self, user: UserNo) -> Option<usize>
         ensures { result ≡ (account_of self.now user).terminal }
     {
@@ -428,6 +477,10 @@ impl LogonDesk {
     }
 
     /// The host answers whether a name and a password are right.
+    ///
+    /// # Errors
+    ///
+    /// `AllocError` if memory is refused; what this is then is not specified.
     pub fn answer(
         &mut self,
         alloc: Global,
@@ -439,7 +492,8 @@ impl LogonDesk {
     ) -> Result<(), AllocError>
         requires within { connection < length self.old.connections }
         requires now { now < 2 ^ 62 }
-        ensures { OnOk result (IsStep self.old (Answers connection guess.now is_right now) out.old self.new out.new) }
+        ensures { OnOk result (IsStep self.old (Answers connection guess.now is_right now) out.old
+            self.new out.new) }
     {
         let is_awaited = match &self.connections[connection].stage {
             Stage::Judged(other) => is_same(other, guess),
@@ -466,7 +520,8 @@ impl LogonDesk {
         requires within { connection < length self.old.connections }
         requires user { user < length self.old.accounts }
         requires now { now < 2 ^ 62 }
-        ensures { OnOk result (Does (logged_on self.old connection guess.now user now) out.old self.new out.new) }
+        ensures { OnOk result (Does (logged_on self.old connection guess.now user now) out.old
+            self.new out.new) }
     {
         greet(alloc, connection, user, &self.accounts[user.index()], out)?;
         let place = &mut self.connections[connection];
@@ -488,15 +543,20 @@ impl LogonDesk {
     ) -> Result<(), AllocError>
         requires within { connection < length self.old.connections }
         requires now { now < 2 ^ 62 }
-        ensures { OnOk result (Does (wrong_guess self.old connection user now) out.old self.new out.new) }
+        ensures { OnOk result (Does (wrong_guess self.old connection user now) out.old self.new
+            out.new) }
     {
         let place = &mut self.connections[connection];
         place.stage = Stage::Refused;
         place.patience = place.patience.refused(now);
-        out.push(Output::Notes(Entry::WrongPassword { user, connection }))
+        out.push(Output::Notes(JournalEntry::WrongPassword { user, connection }))
     }
 
     /// A connection has ended, or is to end.
+    ///
+    /// # Errors
+    ///
+    /// `AllocError` if memory is refused; what this is then is not specified.
     pub fn close(
         &mut self,
         alloc: Global,
@@ -509,7 +569,7 @@ impl LogonDesk {
         if let Stage::On(user) = &self.connections[connection].stage {
             let user = *user;
             if is_terminal(self.terminal(user), connection) {
-                out.push(Output::Notes(Entry::Leaves { user, connection }))?;
+                out.push(Output::Notes(JournalEntry::Leaves { user, connection }))?;
             }
         }
         self.end(alloc, connection, out)
@@ -524,6 +584,10 @@ impl LogonDesk {
     }
 
     /// Shows a user a line of the transcript, which is on the disk.
+    ///
+    /// # Errors
+    ///
+    /// `AllocError` if memory is refused; what was passed may have changed in part.
     pub fn print(
         &self,
         alloc: Global,
@@ -543,7 +607,7 @@ impl LogonDesk {
         }
     }
 
-    /// The connection at which a user is on.
+    /// Returns the connection at which a user is on.
     pub fn terminal_of(&self, user: UserNo) -> Option<usize>
         ensures { result ≡ terminal_of self.now user }
     {
@@ -555,6 +619,10 @@ impl LogonDesk {
     }
 
     /// Keeps a line of a user for when he comes back.
+    ///
+    /// # Errors
+    ///
+    /// `AllocError` if memory is refused; what this is then is not specified.
     pub fn keep(&mut self, alloc: Global, user: UserNo, line: &KeptLine) -> Result<(), AllocError>
         requires { user < length self.old.accounts }
         ensures { OnOk result (IsStep self.old (Keeps user line.now) [] self.new []) }
@@ -633,13 +701,13 @@ fn greet(
     ensures { OnOk result (out.new ≡ out.old ++ greeting connection user account.now) }
 {
     if !account.is_on && !account.is_busy {
-        out.push(Output::Notes(Entry::LogsOn { user, connection }))?;
+        out.push(Output::Notes(JournalEntry::LogsOn { user, connection }))?;
         return out.push(Output::Types {
             user,
             line: Bytes::of(alloc, b"LOGON")?,
         });
     }
-    out.push(Output::Notes(Entry::IsBack { user, connection }))?;
+    out.push(Output::Notes(JournalEntry::IsBack { user, connection }))?;
     say(connection, Notice::Reconnected, out)?;
     show_again(alloc, connection, user, account.kept.as_slice(), out)
 }
@@ -651,7 +719,8 @@ fn show_again(
     lines: &[KeptLine],
     out: &mut Outputs,
 ) -> Result<(), AllocError>
-    ensures { OnOk result (out.new ≡ out.old ++ map (λ line. Output.ShowsAgain connection user line) lines.now) }
+    ensures { OnOk result (out.new ≡ out.old
+        ++ map (λ line. Output.ShowsAgain connection user line) lines.now) }
 {
     for line in lines {
         out.push(Output::ShowsAgain {

@@ -1,6 +1,7 @@
 //! How guessing is slowed: in queues, and nobody is locked out.
 ghost use Rattle.std.specs.Prelude.{◌≡◌, ◌≤◌, ◌<◌, ◌+◌, ◌^◌, IfOk, length, slice_index, slice_set};
-ghost use Rattle.logon_desk.specs.Guesses.{debt, guessed, mixed, no_guesses, queue_of, right_after, wait_of};
+ghost use Rattle.logon_desk.specs.Guesses.{debt, guessed, mixed, no_guesses, queue_of, right_after};
+ghost use Rattle.logon_desk.specs.Guesses.{wait_of};
 
 use std::alloc::{AllocError, Global};
 use std::marker::Model;
@@ -36,6 +37,10 @@ impl Model for Guesses {
 
 impl Guesses {
     /// No guess was made.
+    ///
+    /// # Errors
+    ///
+    /// `AllocError` if memory is refused.
     #[tactic(auto, unfolding(crate::specs::Guesses::no_guesses))]
     pub fn new(alloc: Global) -> Result<Guesses, AllocError>
         ensures { IfOk result (λ guesses. guesses ≡ no_guesses) }
@@ -51,7 +56,8 @@ impl Guesses {
         requires now { now < 2 ^ 62 }
         ensures wait { result ≡ wait_of (debt (slice_index self.old queue) now) }
         ensures bounded { result ≤ LONGEST_WAIT }
-        ensures noted { self.new ≡ slice_set self.old queue (guessed (slice_index self.old queue) now) }
+        ensures noted { self.new
+            ≡ slice_set self.old queue (guessed (slice_index self.old queue) now) }
     {
         let owed = self.until[queue].saturating_sub(now);
         self.until[queue] = now + (owed.min(LONGEST_REMEMBERED - REMEMBERED) + REMEMBERED);
@@ -62,7 +68,8 @@ impl Guesses {
     pub fn was_right(&mut self, queue: usize, now: u64)
         requires queue { queue < QUEUES }
         requires now { now < 2 ^ 62 }
-        ensures { self.new ≡ slice_set self.old queue (right_after (slice_index self.old queue) now) }
+        ensures { self.new ≡ slice_set self.old queue
+            (right_after (slice_index self.old queue) now) }
     {
         let owed = self.until[queue].saturating_sub(now);
         self.until[queue] = if owed < REMEMBERED {
@@ -73,7 +80,7 @@ impl Guesses {
     }
 }
 
-/// How long a guess waits in a queue that remembers others for so long.
+/// Returns how long a guess waits in a queue that remembers others for so long.
 fn wait(owed: u64) -> u64
     ensures value { result ≡ wait_of owed }
     ensures bounded { result ≤ LONGEST_WAIT }
@@ -88,7 +95,7 @@ fn wait(owed: u64) -> u64
     }
 }
 
-/// The queue of the guesses of a name from an address.
+/// Returns the queue of the guesses of a name from an address.
 pub fn queue_of(name: &[u8], address: u64) -> usize
     ensures value { result ≡ queue_of name.now address }
     ensures within { result < QUEUES }

@@ -1,5 +1,6 @@
 //! What the desk promises, whatever happens.
-ghost use Rattle.logon_desk.specs.Laws.{HasAuthority, HasBounds, HasSecrets, IsComplete, IsIsolated};
+ghost use Rattle.logon_desk.specs.Laws.{HasAuthority, HasBounds, HasSecrets, IsComplete};
+ghost use Rattle.logon_desk.specs.Laws.{IsIsolated};
 ghost use Rattle.logon_desk.specs.Laws.{WaitsBriefly};
 
 /// Whoever is on has given the user's name and password at that connection, and the host has said

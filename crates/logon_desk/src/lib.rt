@@ -51,5 +51,5 @@ pub use connection::{Answer, Connection, Patience, Stage, TIME_TO_LOG_ON, after_
 pub use desk::{LONGEST_SHOWN, LogonDesk, MOST_WAITING};
 pub use guesses::{Guesses, LONGEST_REMEMBERED, LONGEST_WAIT, QUEUES, REMEMBERED, queue_of};
 pub use laws::keeps_its_promises;
-pub use output::{Entry, Notice, Output, Outputs};
+pub use output::{JournalEntry, Notice, Output, Outputs};
 pub use waiting::WaitingBytes;

@@ -23,7 +23,7 @@ pub enum Notice {
     NoPassword,
     /// Name and password are wrong.
     Refused,
-    /// There was time enough to log on.
+    /// He has not logged on in time.
     TooLate,
     /// The user's machine is on already.
     Reconnected,
@@ -35,7 +35,7 @@ pub enum Notice {
 
 /// A line for the journal. It has no byte that anybody typed.
 #[derive(Clone, Copy, Drop)]
-pub enum Entry {
+pub enum JournalEntry {
     /// A user logs on.
     LogsOn {
         /// The user.
@@ -123,7 +123,7 @@ pub enum Output {
         connection: usize,
     },
     /// The journal gets a line.
-    Notes(Entry),
+    Notes(JournalEntry),
 }
 
 /// All that is to be done, in order.
@@ -152,6 +152,10 @@ impl Outputs {
     }
 
     /// Adds one thing at the end.
+    ///
+    /// # Errors
+    ///
+    /// `AllocError` if memory is refused; what this is then is not specified.
     pub fn push(&mut self, output: Output) -> Result<(), AllocError>
         ensures { OnOk result (self.new ≡ self.old ++ output ∷ []) }
     {
@@ -159,7 +163,7 @@ impl Outputs {
         Ok(())
     }
 
-    /// All that is to be done.
+    /// Returns all that is to be done.
     pub fn as_slice(&self) -> &[Output]
         ensures { result.now ≡ self.now }
     {

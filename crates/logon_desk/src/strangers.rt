@@ -1,11 +1,12 @@
 //! Those who are about to log on, and who of them goes where there are too many.
-ghost use Rattle.std.specs.Prelude.{◌≡◌, ◌+◌, ◌<◌, ◌≤◌, IfNone, IfSome, count_by, false, length, true};
+ghost use Rattle.std.specs.Prelude.{◌≡◌, ◌+◌, ◌<◌, ◌≤◌, IfNone, IfSome, count_by, false, length};
+ghost use Rattle.std.specs.Prelude.{true};
 ghost use Rattle.std.specs.List.{All};
 ghost use Rattle.logon_desk.specs.Strangers.{IsBusiest, comes_from, is_stranger, strangers_from};
 
 use crate::connection::{Connection, Stage};
 
-/// Whether somebody there is about to log on.
+/// Returns whether somebody there is about to log on.
 pub fn is_stranger(connection: &Connection) -> bool
     ensures { result ≡ is_stranger connection.now }
 {
@@ -18,7 +19,7 @@ fn comes_from(connection: &Connection, address: u64) -> bool
     is_stranger(connection) && connection.address == address
 }
 
-/// How many are about to log on.
+/// Returns how many are about to log on.
 pub fn strangers(connections: &[Connection]) -> usize
     ensures { result ≡ count_by is_stranger connections.now }
 {
@@ -37,8 +38,8 @@ fn strangers_from(connections: &[Connection], address: u64) -> usize
         .count()
 }
 
-/// Whether a stranger goes before the one who was found: from a busier address, or later from one
-/// as busy.
+/// Returns whether a stranger goes before the one who was found: from a busier address, or later
+/// from one as busy.
 fn goes_first(count: usize, most: usize, deadline: u64, latest: u64) -> bool
     ensures above { result ≡ true → most ≤ count }
     ensures below { result ≡ false → count ≤ most }
@@ -52,7 +53,8 @@ fn goes_first(count: usize, most: usize, deadline: u64, latest: u64) -> bool
 pub fn busiest(connections: &[Connection]) -> Option<usize>
     ensures within { IfSome result (λ c. c < length connections.now) }
     ensures busiest { IfSome result (λ c. IsBusiest connections.now c) }
-    ensures none { IfNone result (All (λ connection. is_stranger connection ≡ false) connections.now) }
+    ensures none { IfNone result
+        (All (λ connection. is_stranger connection ≡ false) connections.now) }
 {
     let mut found = None;
     let mut most = 0;

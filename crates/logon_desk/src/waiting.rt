@@ -30,7 +30,7 @@ impl WaitingBytes {
         }
     }
 
-    /// How many wait.
+    /// Returns how many wait.
     pub fn len(&self) -> usize
         ensures { result ≡ length self.now }
     {
@@ -38,6 +38,10 @@ impl WaitingBytes {
     }
 
     /// More have come.
+    ///
+    /// # Errors
+    ///
+    /// `AllocError` if memory is refused; what this is then is not specified.
     pub fn add(&mut self, bytes: &[u8]) -> Result<(), AllocError>
         ensures { OnOk result (self.new ≡ self.old ++ bytes.now) }
     {

@@ -35,6 +35,7 @@ came_at d (Turn user state) = []
 came_at d (Done user) = []
 came_at d (Says place is_right guess) = []
 
+-- how many bytes wait at a place
 abbrev pub waits_at : Desk → ℕ → ℕ
 waits_at d place = length (connection_at d place).waiting
 

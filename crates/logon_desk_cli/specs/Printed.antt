@@ -1,9 +1,9 @@
 -- The lines that the program writes.
 use Rattle.std.specs.Prelude.{ℕ, ◌+◌, ◌-◌, ◌/◌, ◌%◌, if◌then◌else◌, nat_lt, List, [], ◌∷◌, ◌++◌}
 use Rattle.std.specs.Prelude.{codes, Option, Some, None}
-use Rattle.logon_desk.specs.declared.output.Entry.{Entry}
-use Rattle.logon_desk.specs.declared.output.Entry.TheVariants.{LogsOn, IsBack, Leaves}
-use Rattle.logon_desk.specs.declared.output.Entry.TheVariants.{WrongPassword}
+use Rattle.logon_desk.specs.declared.output.JournalEntry.{JournalEntry}
+use Rattle.logon_desk.specs.declared.output.JournalEntry.TheVariants.{LogsOn, IsBack, Leaves}
+use Rattle.logon_desk.specs.declared.output.JournalEntry.TheVariants.{WrongPassword}
 use Rattle.logon_desk.specs.declared.output.Notice.{Notice}
 use Rattle.logon_desk.specs.declared.output.Notice.TheVariants.{EnterPassword, IsThere, NoPassword}
 use Rattle.logon_desk.specs.declared.output.Notice.TheVariants.{Online}
@@ -45,6 +45,7 @@ begun word number = word ++ 32 ∷ hex_number number
 abbrev pub line : List ℕ → ℕ → List ℕ → List ℕ
 line word number fields = begun word number ++ (fields ++ 10 ∷ [])
 
+-- CR and LF, which end a line at a terminal
 abbrev pub end_of_line : List ℕ
 end_of_line = 13 ∷ 10 ∷ []
 
@@ -71,7 +72,8 @@ user_text (Some user) = hex_number user
 abbrev pub entry_line : List ℕ → Option ℕ → ℕ → List ℕ
 entry_line word user connection = line (codes "NOTE") connection (32 ∷ word ++ 32 ∷ user_text user)
 
-abbrev pub noted : Entry → List ℕ
+-- the line of an entry of the journal
+abbrev pub noted : JournalEntry → List ℕ
 noted (LogsOn user connection) = entry_line (codes "LOGS") (Some user) connection
 noted (IsBack user connection) = entry_line (codes "BACK") (Some user) connection
 noted (Leaves user connection) = entry_line (codes "LEFT") (Some user) connection

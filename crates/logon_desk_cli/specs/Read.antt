@@ -23,6 +23,7 @@ and_then value next = option_and_then next value
 abbrev pub more_digit : ℕ → ℕ → Option ℕ
 more_digit n digit = if nat_lt (n * 16 + digit) (2 ^ 64) then Some (n * 16 + digit) else None
 
+-- the number that more digits make of one
 abbrev pub number_from : ℕ → List ℕ → Option ℕ
 number_from n [] = Some n
 number_from n (c ∷ cs) =
@@ -49,10 +50,12 @@ abbrev pub number_at : List (List ℕ) → Option ℕ
 number_at [] = None
 number_at (word ∷ words) = number_from 0 word
 
+-- the bytes that the first word spells
 abbrev pub bytes_at : List (List ℕ) → Option (List ℕ)
 bytes_at [] = None
 bytes_at (word ∷ words) = bytes_of word
 
+-- the words after the first
 abbrev pub after_first : List (List ℕ) → List (List ℕ)
 after_first [] = []
 after_first (word ∷ words) = words
@@ -73,12 +76,15 @@ verb_of word =
     else if bytes_eq word (codes "SAYS") then Some verbs.Says
     else None
 
+-- the words from the second on
 abbrev pub second : List (List ℕ) → List (List ℕ)
 second words = after_first words
 
+-- the words from the third on
 abbrev pub third : List (List ℕ) → List (List ℕ)
 third words = after_first (after_first words)
 
+-- the words from the fourth on
 abbrev pub fourth : List (List ℕ) → List (List ℕ)
 fourth words = after_first (after_first (after_first words))
 
@@ -87,6 +93,7 @@ abbrev pub two_numbers : (ℕ → ℕ → Frame) → List (List ℕ) → Option 
 two_numbers make words =
     and_then (number_at words) (λ n. option_map (λ m. make n m) (number_at (second words)))
 
+-- a frame of a number and of bytes
 abbrev pub number_and_bytes : (ℕ → List ℕ → Frame) → List (List ℕ) → Option Frame
 number_and_bytes make words =
     and_then (number_at words) (λ n. option_map (λ bytes. make n bytes) (bytes_at (second words)))

@@ -173,7 +173,7 @@ impl<'a> Words<'a> {
     }
 }
 
-/// The number that hexadecimal digits spell, if it has 64 bits.
+/// Returns the number that hexadecimal digits spell, if it has 64 bits.
 fn number_of(digits: &[u8]) -> Option<u64>
     ensures { result ≡ number_from 0 digits.now }
 {
@@ -190,7 +190,7 @@ fn more_digit(number: u64, digit: u8) -> Option<u64>
     number.checked_mul(16)?.checked_add(u64::from(digit))
 }
 
-/// The bytes that hexadecimal digits spell; `-` for none.
+/// Returns the bytes that hexadecimal digits spell; `-` for none.
 fn bytes_of(alloc: Global, digits: &[u8]) -> Result<Bytes, FrameError>
     ensures { IsRead result (bytes_of digits.now) }
 {
@@ -224,7 +224,11 @@ fn byte_of(high: u8, low: u8) -> Result<u8, FrameError>
     Ok(high * 16 + low)
 }
 
-/// What a line says, and its time.
+/// Returns what a line says, and its time.
+///
+/// # Errors
+///
+/// A `FrameError`: a faulty line, or refused memory.
 pub fn frame_of(alloc: Global, line: &[u8]) -> Result<TimedFrame, FrameError>
     ensures value { IsRead result (frame_of line.now) }
     ensures time { IfOk result (λ found. found.time < 2 ^ 62) }

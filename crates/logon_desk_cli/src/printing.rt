@@ -5,12 +5,12 @@ ghost use Rattle.logon_desk_cli.specs.Printed.{begun, entry_line, field, hex, he
 ghost use Rattle.logon_desk_cli.specs.Printed.{hex_number, line};
 ghost use Rattle.logon_desk_cli.specs.Printed.{notice_text, noted, output_line};
 
-use logon_desk::{Entry, Notice, Output};
+use logon_desk::{JournalEntry, Notice, Output};
 use std::alloc::AllocError;
 use terminal_lines::Bytes;
 use user_names::UserNo;
 
-/// The desk's own texts.
+/// Returns the desk's own texts.
 fn text_of(notice: Notice) -> &'static [u8]
     ensures { result.now ≡ notice_text notice }
 {
@@ -29,6 +29,10 @@ fn text_of(notice: Notice) -> &'static [u8]
 }
 
 /// The line for one thing that is to be done.
+///
+/// # Errors
+///
+/// `AllocError` if memory is refused; `text` may have a part of it then.
 pub fn print(output: &Output, text: &mut Bytes) -> Result<(), AllocError>
     ensures { OnOk result (text.new ≡ text.old ++ output_line output.now) }
 {
@@ -74,6 +78,10 @@ pub fn print(output: &Output, text: &mut Bytes) -> Result<(), AllocError>
 }
 
 /// A line that only has a number.
+///
+/// # Errors
+///
+/// `AllocError` if memory is refused; `text` may have a part of it then.
 pub fn print_number(name: &[u8], number: usize, text: &mut Bytes) -> Result<(), AllocError>
     ensures { OnOk result (text.new ≡ text.old ++ line name.now number []) }
 {
@@ -81,14 +89,16 @@ pub fn print_number(name: &[u8], number: usize, text: &mut Bytes) -> Result<(), 
     text.push(b'\n')
 }
 
-fn note(entry: Entry, text: &mut Bytes) -> Result<(), AllocError>
+fn note(entry: JournalEntry, text: &mut Bytes) -> Result<(), AllocError>
     ensures { OnOk result (text.new ≡ text.old ++ noted entry) }
 {
     match entry {
-        Entry::LogsOn { user, connection } => note_of(b"LOGS", Some(user), connection, text),
-        Entry::IsBack { user, connection } => note_of(b"BACK", Some(user), connection, text),
-        Entry::Leaves { user, connection } => note_of(b"LEFT", Some(user), connection, text),
-        Entry::WrongPassword { user, connection } => note_of(b"FAIL", user, connection, text),
+        JournalEntry::LogsOn { user, connection } => note_of(b"LOGS", Some(user), connection, text),
+        JournalEntry::IsBack { user, connection } => note_of(b"BACK", Some(user), connection, text),
+        JournalEntry::Leaves { user, connection } => note_of(b"LEFT", Some(user), connection, text),
+        JournalEntry::WrongPassword { user, connection } => note_of(
+            b"FAIL", user, connection, text,
+        ),
     }
 }
 

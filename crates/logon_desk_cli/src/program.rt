@@ -61,7 +61,7 @@ impl Session {
         }
     }
 
-    /// What is to be written.
+    /// Returns what is to be written.
     pub fn printed(&self) -> &[u8]
         ensures { result.now ≡ self.now.text }
     {
@@ -76,6 +76,10 @@ impl Session {
     }
 
     /// Takes a line; false for one that says nothing here.
+    ///
+    /// # Errors
+    ///
+    /// `AllocError` if memory is refused; what this is then is not specified.
     pub fn take(&mut self, alloc: Global, line: &[u8]) -> Result<bool, AllocError>
         ensures { IfOk result (λ taken. TakesLine self.old line.now taken self.new) }
     {
@@ -121,7 +125,7 @@ impl Session {
     }
 }
 
-/// Whether the desk has the place or the user of a frame.
+/// Returns whether the desk has the place or the user of a frame.
 fn is_for(desk: &LogonDesk, frame: &Frame) -> bool
     ensures { result ≡ is_for desk.now frame.now }
 {
@@ -280,7 +284,7 @@ fn give(
     }
 }
 
-/// The user of a number.
+/// Returns the user of a number.
 fn user_no(desk: &LogonDesk, user: usize) -> UserNo
     requires { user < length desk.now.accounts }
     ensures { result ≡ user }
@@ -340,7 +344,7 @@ fn take_all(
     Ok(())
 }
 
-/// Whether a byte waits at a place, and is taken there now.
+/// Returns whether a byte waits at a place, and is taken there now.
 fn takes_next(desk: &LogonDesk, place: usize) -> bool
     ensures value { result ≡ takes_next desk.now place }
     ensures within { result ≡ true → place < length desk.now.connections }
@@ -358,7 +362,7 @@ fn print_all(outputs: &[Output], text: &mut Bytes) -> Result<(), AllocError>
     Ok(())
 }
 
-/// The places of which bytes still wait.
+/// Returns the places of which bytes still wait.
 fn still_reading(
     alloc: Global,
     desk: &LogonDesk,

@@ -1,5 +1,6 @@
 -- A walk leaves as many bytes of storage; so what it lacks is a page of the storage that it began with.
-use Rattle.std.proofs.Common.{◌≡◌, ◌∙◌, ℕ, zero, suc, ◌==◌, Bool, true, false, [], ◌∷◌, length, Option, None, Some, refl, arith, inl, inr}
+use Rattle.std.proofs.Common.{◌≡◌, ◌∙◌, ℕ, zero, suc, ◌==◌, Bool, true, false, [], ◌∷◌, length, Option, None, Some}
+use Rattle.std.proofs.Common.{refl, arith, inl, inr}
 use Rattle.std.specs.Prelude.{◌+◌, ◌&&◌, if◌then◌else◌, not}
 use Rattle.s370_store.specs.declared.Fault.{Fault}
 use Rattle.s370_store.specs.declared.Page.{Page}
@@ -14,15 +15,18 @@ use Rattle.s370_walk.specs.declared.parts.Kind.{Kind}
 use Rattle.s370_walk.specs.declared.parts.Kind.TheVariants.{Gives, Takes, TakesUpTo}
 use Rattle.s370_walk.specs.declared.parts.Order.{Order}
 use Rattle.s370_walk.specs.declared.parts.Transfer.{Transfer}
-use Rattle.s370_walk.specs.declared.parts.Spot.{Spot}
+use Rattle.s370_walk.specs.declared.parts.NextCcw.{NextCcw}
 use Rattle.s370_walk.specs.declared.parts.Position.{Position}
 use Rattle.s370_walk.specs.declared.parts.Progress.{Progress}
 use Rattle.s370_walk.specs.declared.parts.Progress.TheVariants.{At, Ended}
-use Rattle.s370_walk.specs.declared.parts.Word.{Word}
+use Rattle.s370_walk.specs.declared.parts.Ccw.{Ccw}
 use Rattle.s370_store.specs.Memory.{Memory}
 use Rattle.s370_walk.specs.Hardware.{Machine, fault_of, area}
 use Rattle.s370_walk.specs.Stuck.{size_in}
-use Rattle.s370_walk.specs.Walk.{Form, Setting, State, Written, live, Fetching, Moving, Over, Verdict, Bad, Jump, Good, next, walk, Reaches, fetched, obeyed, entered, answered, judged, fails, closed, closes, state_of, moved, rest, tells_length, chains_data, order_of, no_status, given_at, given_to, taken_at, taken_from, byte_moved, stepped, skips, start_spot}
+use Rattle.s370_walk.specs.Walk.{Form, Setting, State, Written, live, Fetching, Moving, Over, Verdict, Bad, Jump, Good}
+use Rattle.s370_walk.specs.Walk.{next, walk, Reaches, fetched, obeyed, entered, answered, judged, fails, closed, closes}
+use Rattle.s370_walk.specs.Walk.{state_of, moved, rest, tells_length, chains_data, order_of, no_status, given_at}
+use Rattle.s370_walk.specs.Walk.{given_to, taken_at, taken_from, byte_moved, stepped, skips, start_spot}
 use Rattle.s370_channel.specs.declared.running.ChannelError.{ChannelError}
 use Rattle.s370_channel.specs.declared.running.ChannelError.TheVariants as errors
 use Rattle.s370_channel.specs.Loading.{MatchLoading, implied_word, loading, loading_limits}
@@ -37,69 +41,89 @@ module _ {D : Type 0} (h : Setting D) (n : ℕ) where
   of_state (At spot) m d i = i
   of_state (Ended e) m d i = i
 
-  of_failure : (role : Option Transfer) (at : ℕ) (m : Memory) (d : D) → length m.bytes ≡ n → size_in (fails h role at m d) ≡ n
+  of_failure : (role : Option Transfer) (at : ℕ) (m : Memory) (d : D) → length m.bytes ≡ n
+      → size_in (fails h role at m d) ≡ n
   of_failure None at m d i = i
   of_failure (Some t) at m d i = i
 
-  of_closing : (wrong : Bool) (p : Position) (m : Memory) (d : D) → length m.bytes ≡ n → size_in (closes h wrong p m d) ≡ n
-  of_closing wrong p m d i = of_state (closed h.prefix wrong (h.machine.status d) p.at p.started p.word p.count) m (h.machine.finished d) i
+  of_closing : (wrong : Bool) (p : Position) (m : Memory) (d : D) → length m.bytes ≡ n
+      → size_in (closes h wrong p m d) ≡ n
+  of_closing wrong p m d i =
+      of_state (closed h.prefix wrong (h.machine.status d) p.at p.started p.word p.count) m (h.machine.finished d) i
 
-  of_answer : (spot : Spot) (w : Word) (a : Answer) (m : Memory) (d : D) → length m.bytes ≡ n → size_in (answered h.prefix spot w a m d) ≡ n
+  of_answer : (spot : NextCcw) (w : Ccw) (a : Answer) (m : Memory) (d : D) → length m.bytes ≡ n
+      → size_in (answered h.prefix spot w a m d) ≡ n
   of_answer spot w (answers.Refused status) m d i = i
-  of_answer spot w answers.Immediate m d i = of_state (closed h.prefix false no_status spot.at (spot.started + 1) w w.count) m d i
+  of_answer spot w answers.Immediate m d i =
+      of_state (closed h.prefix false no_status spot.at (spot.started + 1) w w.count) m d i
   of_answer spot w (answers.Input n) m d i = i
   of_answer spot w (answers.Output n) m d i = i
   of_answer spot w (answers.OutputUpTo n) m d i = i
 
-  of_entry : (spot : Spot) (w : Word) (role : Option Transfer) (m : Memory) (d : D) → length m.bytes ≡ n → size_in (entered h spot w role m d) ≡ n
-  of_entry spot w None m d i = of_answer spot w (h.machine.answer d (order_of h.prefix spot w)) m (h.machine.started d (order_of h.prefix spot w)) i
+  of_entry : (spot : NextCcw) (w : Ccw) (role : Option Transfer) (m : Memory) (d : D) → length m.bytes ≡ n
+      → size_in (entered h spot w role m d) ≡ n
+  of_entry spot w None m d i =
+      of_answer spot w (h.machine.answer d (order_of h.prefix spot w)) m
+      (h.machine.started d (order_of h.prefix spot w)) i
   of_entry spot w (Some t) m d i = i
 
-  of_obeying : (spot : Spot) (w : Word) (v : Verdict) (m : Memory) (d : D) → length m.bytes ≡ n → size_in (obeyed h spot w v m d) ≡ n
+  of_obeying : (spot : NextCcw) (w : Ccw) (v : Verdict) (m : Memory) (d : D) → length m.bytes ≡ n
+      → size_in (obeyed h spot w v m d) ≡ n
   of_obeying spot w Bad m d i = of_failure spot.role spot.at m d i
   of_obeying spot w Jump m d i = i
   of_obeying spot w Good m d i = of_entry spot w spot.role m d i
 
-  of_fetch : (spot : Spot) (w : Option Word) (m : Memory) (d : D) → length m.bytes ≡ n → size_in (fetched h spot w m d) ≡ n
+  of_fetch : (spot : NextCcw) (w : Option Ccw) (m : Memory) (d : D) → length m.bytes ≡ n
+      → size_in (fetched h spot w m d) ≡ n
   of_fetch spot None m d i = of_failure spot.role spot.at m d i
   of_fetch spot (Some w) m d i = of_obeying spot w (judged h.limit spot w) m d i
 
-  of_given : (p : Position) (a : ℕ) (fault : Option Fault) (m : Memory) (d : D) → fault_of m h.key (area Store a 1) ≡ fault → length m.bytes ≡ n → size_in (given_at h p a fault m d) ≡ n
-  of_given p a None m d fine i = length-put m.bytes (h.machine.gives d ∷ []) a (fits (length m.bytes) m.keys h.key Store a 1 fine (omega arith)) ∙ i
+  of_given : (p : Position) (a : ℕ) (fault : Option Fault) (m : Memory) (d : D)
+      → fault_of m h.key (area Store a 1) ≡ fault → length m.bytes ≡ n → size_in (given_at h p a fault m d) ≡ n
+  of_given p a None m d fine i =
+      length-put m.bytes (h.machine.gives d ∷ []) a (fits (length m.bytes) m.keys h.key Store a 1 fine (omega arith)) ∙
+      i
   of_given p a (Some Protection) m d fine i = i
   of_given p a (Some Addressing) m d fine i = i
   of_given p a (Some (Absent page)) m d fine i = i
 
-  of_giving : (p : Position) (place : Option ℕ) (m : Memory) (d : D) → length m.bytes ≡ n → size_in (given_to h p place m d) ≡ n
+  of_giving : (p : Position) (place : Option ℕ) (m : Memory) (d : D) → length m.bytes ≡ n
+      → size_in (given_to h p place m d) ≡ n
   of_giving p None m d i = i
   of_giving p (Some a) m d i = of_given p a (fault_of m h.key (area Store a 1)) m d refl i
 
-  of_taken : (p : Position) (a : ℕ) (load : ℕ → ℕ) (fault : Option Fault) (m : Memory) (d : D) → length m.bytes ≡ n → size_in (taken_at h p a load fault m d) ≡ n
+  of_taken : (p : Position) (a : ℕ) (load : ℕ → ℕ) (fault : Option Fault) (m : Memory) (d : D) → length m.bytes ≡ n
+      → size_in (taken_at h p a load fault m d) ≡ n
   of_taken p a load None m d i = i
   of_taken p a load (Some Protection) m d i = i
   of_taken p a load (Some Addressing) m d i = i
   of_taken p a load (Some (Absent page)) m d i = i
 
-  of_taking : (p : Position) (place : Option ℕ) (load : ℕ → ℕ) (m : Memory) (d : D) → length m.bytes ≡ n → size_in (taken_from h p place load m d) ≡ n
+  of_taking : (p : Position) (place : Option ℕ) (load : ℕ → ℕ) (m : Memory) (d : D) → length m.bytes ≡ n
+      → size_in (taken_from h p place load m d) ≡ n
   of_taking p None load m d i = i
   of_taking p (Some a) load m d i = of_taken p a load (fault_of m h.key (area Fetch a 1)) m d i
 
-  of_skip : (p : Position) (place : Option ℕ) (m : Memory) (d : D) (skip : Bool) → length m.bytes ≡ n → size_in (if skip then Moving (stepped p p.before) m (h.machine.gave d) else given_to h p place m d) ≡ n
+  of_skip : (p : Position) (place : Option ℕ) (m : Memory) (d : D) (skip : Bool) → length m.bytes ≡ n
+      → size_in (if skip then Moving (stepped p p.before) m (h.machine.gave d) else given_to h p place m d) ≡ n
   of_skip p place m d true i = i
   of_skip p place m d false i = of_giving p place m d i
 
-  of_byte : (p : Position) (place : Option ℕ) (load : ℕ → ℕ) (kind : Kind) (m : Memory) (d : D) → length m.bytes ≡ n → size_in (byte_moved h p place load kind m d) ≡ n
+  of_byte : (p : Position) (place : Option ℕ) (load : ℕ → ℕ) (kind : Kind) (m : Memory) (d : D) → length m.bytes ≡ n
+      → size_in (byte_moved h p place load kind m d) ≡ n
   of_byte p place load Gives m d i = of_skip p place m d (skips p.word) i
   of_byte p place load Takes m d i = of_taking p place load m d i
   of_byte p place load TakesUpTo m d i = of_taking p place load m d i
 
   of_chain : (p : Position) (left : ℕ) (m : Memory) (d : D) (chains : Bool) → length m.bytes ≡ n
-      → size_in (if chains then Fetching (record { at = p.word.next; role = Some p.transfer; jumped = false; started = p.started }) m d
+      → size_in (if chains then Fetching
+      (record { at = p.word.next; role = Some p.transfer; jumped = false; started = p.started }) m d
       else closes h (not (left == 0) && tells_length p) p m d) ≡ n
   of_chain p left m d true i = i
   of_chain p left m d false i = of_closing (not (left == 0) && tells_length p) p m d i
 
-  of_move : (p : Position) (place : Option ℕ) (load : ℕ → ℕ) (count left : ℕ) (m : Memory) (d : D) → length m.bytes ≡ n → size_in (moved h p place load count left m d) ≡ n
+  of_move : (p : Position) (place : Option ℕ) (load : ℕ → ℕ) (count left : ℕ) (m : Memory) (d : D) → length m.bytes ≡ n
+      → size_in (moved h p place load count left m d) ≡ n
   of_move p place load zero left m d i = of_chain p left m d (chains_data p.word) i
   of_move p place load (suc count) zero m d i = of_closing (tells_length p) p m d i
   of_move p place load (suc count) (suc left) m d i = of_byte p place load p.transfer.kind m d i
@@ -114,23 +138,32 @@ module _ {D : Type 0} (h : Setting D) (n : ℕ) where
   walk_size form (suc k) s i = walk_size form k (next form h s) (next_size form s i)
 
   pub reach_size : (form : Form) (s t : State D) → Reaches form h s t → size_in s ≡ n → size_in t ≡ n
-  reach_size form s t to i = let there : size_in (walk form h to.steps s) ≡ n = walk_size form to.steps s i in rw (← to.comes) there
+  reach_size form s t to i = let there : size_in (walk form h to.steps s) ≡ n =
+      walk_size form to.steps s i in rw (← to.comes) there
 
 -- the page that the program of a loading lacks is one of the storage
-pub loading_lacks : {D : Type 0} (w : Written) (machine : Machine D) (needs : D → Order → Bool) (present : ℕ → Bool) (m : Memory) (d : D) (page : Page) → MatchLoading w machine needs present m d (errors.Absent page) → IsAway (length m.bytes) present page.0
+pub loading_lacks : {D : Type 0} (w : Written) (machine : Machine D) (needs : D → Order → Bool) (present : ℕ → Bool)
+    (m : Memory) (d : D) (page : Page) → MatchLoading w machine needs present m d (errors.Absent page)
+    → IsAway (length m.bytes) present page.0
 loading_lacks w machine needs present m d page s =
     let h : Setting _ = setting machine loading_limits in
-    let first : size_in (loading machine m d) ≡ length m.bytes = of_entry h (length m.bytes) (start_spot 0) implied_word None m d refl in
-    let size : size_in s.state ≡ length m.bytes = reach_size h (length m.bytes) (live w) (loading machine m d) s.state s.comes first in
+    let first : size_in (loading machine m d) ≡ length m.bytes =
+    of_entry h (length m.bytes) (start_spot 0) implied_word None m d refl in
+    let size : size_in s.state ≡ length m.bytes =
+    reach_size h (length m.bytes) (live w) (loading machine m d) s.state s.comes first in
     let inside = s.away.inside in
     record { inside = omega (arith, inside, size); away = s.away.away }
 
 -- and so is the page that the program of a device lacks which needs no memory
-pub none_lacks : {D : Type 0} (machine : Machine D) (present : ℕ → Bool) (m : Memory) (d : D) (error : ChannelError) → MatchLoading guest_written machine nothing_needed present m d error → LacksPage (length m.bytes) present error
+pub none_lacks : {D : Type 0} (machine : Machine D) (present : ℕ → Bool) (m : Memory) (d : D) (error : ChannelError)
+    → MatchLoading guest_written machine nothing_needed present m d error → LacksPage (length m.bytes) present error
 none_lacks machine present m d errors.Memory (inl h) = let no : false ≡ true = h in cc
 none_lacks machine present m d errors.Memory (inr s) = let no : false ≡ true = s.needed in cc
-none_lacks machine present m d (errors.Absent page) s = loading_lacks guest_written machine nothing_needed present m d page s
+none_lacks machine present m d (errors.Absent page) s =
+    loading_lacks guest_written machine nothing_needed present m d page s
 
 -- a disk is one
-pub disk_lacks : (present : ℕ → Bool) (m : Memory) (disk : Disk) (error : ChannelError) → MatchLoading guest_written disk_machine nothing_needed present m disk error → LacksPage (length m.bytes) present error
+pub disk_lacks : (present : ℕ → Bool) (m : Memory) (disk : Disk) (error : ChannelError)
+    → MatchLoading guest_written disk_machine nothing_needed present m disk error
+    → LacksPage (length m.bytes) present error
 disk_lacks present m disk error s = none_lacks disk_machine present m disk error s

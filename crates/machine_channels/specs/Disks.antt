@@ -7,6 +7,7 @@ pub record DiskAt : Type 0 where
   pub address : ℕ
   pub unit : Disk
 
+-- whether a disk has this address
 abbrev pub is_disk_at : ℕ → DiskAt → Bool
 is_disk_at device disk = disk.address == device
 
@@ -14,6 +15,6 @@ is_disk_at device disk = disk.address == device
 abbrev pub reset_disk : DiskAt → DiskAt
 reset_disk disk = record disk { unit = disk_reset disk.unit }
 
--- as for a LOGON: the arm stands at the first track
+-- as for a LOGON: the arm is at the first track
 abbrev pub cleared_disk : DiskAt → DiskAt
 cleared_disk disk = record disk { unit = disk_cleared disk.unit }

@@ -1,3 +1,3 @@
 pub mod Disks
 pub mod Channels
-pub mod Own
+pub mod DedicatedChannels

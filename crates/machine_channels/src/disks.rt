@@ -30,28 +30,29 @@ impl Model for AttachedDisk {
 }
 
 impl AttachedDisk {
-    /// This unit at this address.
+    /// Returns this unit at this address.
     pub fn new(address: DevAddr, unit: Unit) -> AttachedDisk
         ensures { result ≡ record { address = address; unit = unit } }
     {
         AttachedDisk { address, unit }
     }
 
-    /// Its address.
+    /// Returns its address.
     pub fn address(&self) -> DevAddr
         ensures { result ≡ self.now.address }
     {
         self.address
     }
 
-    /// The unit.
+    /// Returns the unit.
     pub fn unit(&self) -> &Unit
         ensures { result.now ≡ self.now.unit }
     {
         &self.unit
     }
 
-    /// The program with this start runs on the unit, each word read when it is reached; the unit is then at rest.
+    /// Runs the program with this start on the unit, each word read when it is reached; the unit is
+    /// then at rest.
     pub(crate) fn run<S: Storage>(
         &mut self,
         storage: &mut S,
@@ -72,14 +73,15 @@ impl AttachedDisk {
         Ok(ending)
     }
 
-    /// The program of an initial program loading runs on the unit, which is then at rest. It has gone well where its
-    /// ending says so.
+    /// Runs the program of an initial program loading on the unit, which is then at rest. It has
+    /// gone well where its ending says so.
     #[tactic(auto, using(crate::proofs::Staying::disk_lacks))]
     pub(crate) fn load<S: Storage>(&mut self, storage: &mut S) -> Result<Ending, ChannelError>
         ensures walk { IfOk result
             (λ ending. RestsLoaded (S.memory storage.old) self.old ending
             (S.memory storage.new) self.new) }
-        ensures lacks { IfErr result (LacksPage (length (S.memory storage.old).bytes) (S.present storage.old)) }
+        ensures lacks { IfErr result
+            (LacksPage (length (S.memory storage.old).bytes) (S.present storage.old)) }
         ensures rest { S.Keeps storage.old storage.new }
     {
         let ending = run_ipl(&Guest, storage, &mut self.unit)?;
@@ -87,14 +89,14 @@ impl AttachedDisk {
         Ok(ending)
     }
 
-    /// A system reset.
+    /// Resets the disk: the arm stays.
     pub(crate) fn reset(&mut self)
         ensures { self.new ≡ reset_disk self.old }
     {
         self.unit.reset();
     }
 
-    /// As for a LOGON.
+    /// Clears the disk, as for a LOGON.
     pub(crate) fn clear(&mut self)
         ensures { self.new ≡ cleared_disk self.old }
     {

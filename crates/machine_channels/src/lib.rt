@@ -1,11 +1,11 @@
 //! The channels of a machine: who runs the programs of its devices, and has its disks.
 //!
-//! Its one theorem: whoever runs a program, what it leaves is the walk of that program, read as [`Channels`] says, and
-//! what stands beside the disks stays; and so for [`Own`], in which each word is read when it is reached, and beside
-//! whose disks nothing stands.
+//! Its one theorem: whoever runs a program, what it leaves is the walk of that program, read as
+//! [`Channels`] says, and what is next to the disks stays; and so for [`DedicatedChannels`], in
+//! which each word is read when it is reached, and next to whose disks nothing is.
 //!
 //! ```
-//! use machine_channels::{Channels, Own, UnitRecord};
+//! use machine_channels::{Channels, DedicatedChannels, UnitRecord};
 //! use s370_channel::Caw;
 //! use s370_store::{PlainStorage, Storage, store_doubleword};
 //! use s370_walk::UnitStatus;
@@ -15,7 +15,7 @@
 //! store_doubleword(&mut storage, 0x800, 0x0900_0840_0000_0005); // write five bytes from 840
 //! storage.store(0x840, &[0xC8, 0xC5, 0xD3, 0xD3, 0xD6]); // HELLO
 //! let start = Caw::from_word(0x800).ok_or("no address")?;
-//! let (mut channels, mut printer) = (Own::new(Vec::new(alloc)), Printer::new(alloc)); // no disks
+//! let (mut channels, mut printer) = (DedicatedChannels::new(Vec::new(alloc)), Printer::new(alloc)); // no disks
 //! let ending = channels.run(&mut storage, start, UnitRecord::Printer, &mut printer)?;
 //! assert!(rt; ending.unit == UnitStatus::ENDED);
 //! assert_eq!(rt; printer.entries()[0].bytes(), [0xC8, 0xC5, 0xD3, 0xD3, 0xD6].as_slice());
@@ -31,4 +31,4 @@ mod running;
 pub use channels::{Channels, Disks, UnitRecord};
 pub use disks::AttachedDisk;
 pub use none::NoDisks;
-pub use own::Own;
+pub use own::DedicatedChannels;

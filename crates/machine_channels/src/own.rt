@@ -1,45 +1,46 @@
 //! The channels of a machine of its own, with disk units of its own.
 ghost use Rattle.std.specs.Prelude.{◌≡◌, map};
 ghost use Rattle.machine_channels.specs.Disks.{cleared_disk, reset_disk};
-ghost use Rattle.machine_channels.specs.Own.{disks_of};
+ghost use Rattle.machine_channels.specs.DedicatedChannels.{disks_of};
 
 use crate::channels::{Channels, Disks, UnitRecord};
 use crate::disks::{AttachedDisk, clear_each, reset_each};
 use crate::running::{load_live, run_live};
-use channel_trial::{Tried, TriedLoading};
+use channel_trial::{DryRun, TriedLoading};
 use s370_channel::{Caw, ChannelError};
 use s370_store::Storage;
 use s370_walk::Ending;
 
-/// Each program is read as it is reached, in the machine's own storage; each disk has a volume of its own.
+/// Each program is read as it is reached, in the machine's own storage; each disk has a volume of
+/// its own.
 #[derive(Drop)]
-pub struct Own {
+pub struct DedicatedChannels {
     disks: Vec<AttachedDisk>,
 }
 
-impl Own {
-    /// The channels on which these disks hang, in this order.
-    pub fn new(disks: Vec<AttachedDisk>) -> Own
+impl DedicatedChannels {
+    /// Returns the channels on which these disks hang, in this order.
+    pub fn new(disks: Vec<AttachedDisk>) -> DedicatedChannels
         ensures { disks_of result ≡ disks.items }
     {
-        Own { disks }
+        DedicatedChannels { disks }
     }
 
-    /// The disks, in the order in which they were attached.
+    /// Returns the disks, in the order in which they were attached.
     pub fn disks(&self) -> &[AttachedDisk]
         ensures { result.now ≡ disks_of self.now }
     {
         self.disks.as_slice()
     }
 
-    /// A system reset of the disks: the arms stay.
+    /// Resets the disks: the arms stay.
     pub fn reset(&mut self)
         ensures { disks_of self.new ≡ map reset_disk (disks_of self.old) }
     {
         reset_each(&mut self.disks);
     }
 
-    /// As for a LOGON: the arms stand over cylinder 0, with head 0 chosen.
+    /// Clears the disks, as for a LOGON: the arms are over cylinder 0, with head 0 chosen.
     pub fn clear(&mut self)
         ensures { disks_of self.new ≡ map cleared_disk (disks_of self.old) }
     {
@@ -47,8 +48,8 @@ impl Own {
     }
 }
 
-impl Disks for Own {
-    ghost use Rattle.machine_channels.specs.Own.{disks_of};
+impl Disks for DedicatedChannels {
+    ghost use Rattle.machine_channels.specs.DedicatedChannels.{disks_of};
 
     ghost disks = { disks_of };
 
@@ -75,7 +76,7 @@ impl Disks for Own {
     }
 }
 
-impl<S: Storage> Channels<S> for Own {
+impl<S: Storage> Channels<S> for DedicatedChannels {
     ghost use Rattle.std.specs.Prelude.{false};
     ghost use Rattle.s370_channel.specs.Reading.{as_reached};
 
@@ -93,11 +94,15 @@ impl<S: Storage> Channels<S> for Own {
 
     ghost Came = { λ s _ t. S.Keeps s t };
 
+    ghost HadRoom = { λ _ _ _ _ _ _. Unit {0} };
+
+    ghost HadRoomToLoad = { λ _ _ _ _ _. Unit {0} };
+
     ghost Reuses = { λ _ _ _ _ _ _. Unit {0} };
 
     ghost ReusesDisk = { λ _ _ _ _ _ _. Unit {0} };
 
-    fn run<D: Tried>(
+    fn run<D: DryRun>(
         &mut self,
         storage: &mut S,
         start: Caw,
@@ -131,11 +136,11 @@ impl<S: Storage> Channels<S> for Own {
 
     ghost came_none = { λ s ready. S.keeps_same s };
 
-    ghost came_kept = { λ s t u units came kept. S.keeps_on s t u came kept };
+    ghost came_kept = { λ s t u units paged_in kept. S.keeps_on s t u paged_in kept };
 
     ghost ready_kept = { λ s t kept ready. tt };
 
-    ghost came_size = { λ s t units came. S.keeps_size s t came };
+    ghost came_size = { λ s t units paged_in. S.keeps_size s t paged_in };
 
-    ghost came_keys = { λ s t units came. S.keeps_keys s t came };
+    ghost came_keys = { λ s t units paged_in. S.keeps_keys s t paged_in };
 }

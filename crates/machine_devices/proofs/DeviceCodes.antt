@@ -1,22 +1,18 @@
--- Bytes are those of one machine's devices, of one note, and of one delivery.
-use Rattle.std.specs.Prelude.{ℕ, zero, suc, ◌≡◌, refl, List, ◌∷◌, ◌++◌, Option, Bool, drop, get_or}
-use Rattle.std.proofs.Common.{ap, arith}
-use Rattle.saved_bytes.specs.Codes.{both, bytes, number, optional, IsCode}
-use Rattle.saved_bytes.proofs.Codes.{both_code, bytes_code, number_code, optional_code, of_parts}
+-- Bytes are those of one machine's devices, and of one note.
+use Rattle.std.specs.Prelude.{ℕ, zero, suc, ◌≡◌, refl}
+use Rattle.std.proofs.Common.{ap}
+use Rattle.saved_bytes.specs.Codes.{both, number, optional, IsCode}
+use Rattle.saved_bytes.proofs.Codes.{both_code, number_code, optional_code, of_parts}
 use Rattle.unit_record.specs.Saved.{console_bytes, printer_bytes, punch_bytes, target_bytes}
 use Rattle.unit_record.proofs.DeviceCodes.{console_code, printer_code, punch_code, target_code}
-use Rattle.cp_console.specs.ConsoleLine.{line_bytes}
-use Rattle.cp_console.specs.declared.console_line.ConsoleLine.{ConsoleLine}
 use Rattle.cp_spool.specs.Saved.{reader_bytes}
 use Rattle.cp_spool.proofs.FileCodes.{reader_code}
 use Rattle.machine_devices.specs.declared.files.FileKind.{FileKind}
 use Rattle.machine_devices.specs.declared.files.FileKind.TheVariants as kinds
 use Rattle.machine_devices.specs.declared.files.FileNote.{FileNote}
 use Rattle.machine_devices.specs.declared.places.Places.{Places}
-use Rattle.machine_devices.specs.declared.reply.Delivery.{Delivery}
-use Rattle.machine_devices.specs.declared.reply.Delivery.TheVariants as deliveries
 use Rattle.machine_devices.specs.Lent.{DevicesParts}
-use Rattle.machine_devices.specs.Saved.{delivery_bytes, devices_bytes, kind_number, kind_place, note_bytes, places_bytes}
+use Rattle.machine_devices.specs.Saved.{devices_bytes, kind_number, kind_place, note_bytes, places_bytes}
 
 -- ---- devices
 
@@ -37,9 +33,12 @@ devices_code =
     let outputs = both_code punch_bytes printer_bytes punch_code printer_code in
     let spooled = both_code reader_bytes (both punch_bytes printer_bytes) reader_code outputs in
     let owner = both_code target_bytes number target_code number_code in
-    let back = both_code (both reader_bytes (both punch_bytes printer_bytes)) (both target_bytes number) spooled owner in
-    of_parts (both (both places_bytes console_bytes) (both (both reader_bytes (both punch_bytes printer_bytes)) (both target_bytes number)))
-    (both_code (both places_bytes console_bytes) (both (both reader_bytes (both punch_bytes printer_bytes)) (both target_bytes number)) front back)
+    let back = both_code (both reader_bytes (both punch_bytes printer_bytes)) (both target_bytes number) spooled owner
+    in
+    of_parts (both (both places_bytes console_bytes)
+    (both (both reader_bytes (both punch_bytes printer_bytes)) (both target_bytes number)))
+    (both_code (both places_bytes console_bytes)
+    (both (both reader_bytes (both punch_bytes printer_bytes)) (both target_bytes number)) front back)
     (λ (d : DevicesParts). ((d.places, d.console), ((d.reader, (d.punch, d.printer)), (d.target, d.user))))
     (λ p. record {
       places = p.0.0;
@@ -66,24 +65,9 @@ kind_again (kinds.Printer place) = refl
 
 pub note_code : IsCode note_bytes
 note_code =
-    of_parts (both number (both number number)) (both_code number (both number number) number_code (both_code number number number_code number_code))
+    of_parts (both number (both number number))
+    (both_code number (both number number) number_code (both_code number number number_code number_code))
     (λ (n : FileNote). (n.user, (kind_number n.kind, kind_place n.kind)))
     (λ p. record { user = p.0; kind = kind_at p.1.0 p.1.1 })
-    (λ n. ap (λ (kind : FileKind). let note : FileNote = record { user = n.user; kind = kind } in note) (kind_again n.kind))
-
--- ---- deliveries
-
-pub line_code : IsCode line_bytes
-line_code =
-    of_parts (both bytes number) (both_code bytes number bytes_code number_code)
-    (λ (line : ConsoleLine). (line.characters, line.length)) (λ p. record { characters = p.0; length = p.1 }) (λ line. refl)
-
-pub delivery_code : IsCode delivery_bytes
-delivery_code (deliveries.Deck a) (deliveries.Deck b) x y e =
-    let same = number_code a b x y (ap (λ l. drop 1 l) e) in
-    record { this = ap deliveries.Deck same.this; rest = same.rest }
-delivery_code (deliveries.Deck a) (deliveries.Message b) x y e = absurd (omega (arith, ap (λ l. get_or l 0 0) e))
-delivery_code (deliveries.Message a) (deliveries.Deck b) x y e = absurd (omega (arith, ap (λ l. get_or l 0 0) e))
-delivery_code (deliveries.Message a) (deliveries.Message b) x y e =
-    let same = line_code a b x y (ap (λ l. drop 1 l) e) in
-    record { this = ap deliveries.Message same.this; rest = same.rest }
+    (λ n. ap (λ (kind : FileKind). let note : FileNote = record { user = n.user; kind = kind } in note)
+    (kind_again n.kind))

@@ -12,3 +12,4 @@ pub mod Answered
 mod OneLife
 mod Working
 pub mod DeviceCodes
+pub mod Forgotten

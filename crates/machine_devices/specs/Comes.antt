@@ -1,14 +1,23 @@
--- What comes of a line besides what it says: a loading, files that are closed, a message; and where that takes memory.
-use Rattle.std.specs.Prelude.{◌≡◌, ℕ, ◌⊎◌, ◌||◌, Bool, true, false, List, IsSome}
+-- What comes of a line besides what it says: a loading, files that are closed, a message; and where
+-- that takes memory.
+use Rattle.std.specs.Prelude.{◌≡◌, ℕ, ◌<◌, ◌⊎◌, ◌||◌, Bool, true, false, List, IsSome, Option, Some}
+use Rattle.std.specs.Prelude.{None}
 use Rattle.cp_console.specs.declared.device_commands.DeviceCommand.{DeviceCommand}
 use Rattle.cp_console.specs.declared.device_commands.DeviceCommand.TheVariants as commands
 use Rattle.machine_devices.specs.declared.files.ClosedFiles.{ClosedFiles}
-use Rattle.machine_devices.specs.declared.line.Told.{Told}
-use Rattle.machine_devices.specs.declared.line.Told.TheVariants.{Silent, Said, Files, Sent, Closed, LoggedOff}
+use Rattle.machine_devices.specs.declared.line.LineOutcome.{LineOutcome}
+use Rattle.machine_devices.specs.declared.line.LineOutcome.TheVariants.{Silent, Said, Files, Sent}
+use Rattle.machine_devices.specs.declared.line.LineOutcome.TheVariants.{Closed, LoggedOff}
 use Rattle.machine_devices.specs.declared.request.Request.{Request}
-use Rattle.machine_devices.specs.declared.request.Request.TheVariants.{LogsOn, LogsOff, Resets, Types, Loads, Asks, Alone}
+use Rattle.machine_devices.specs.declared.request.Request.TheVariants.{LogsOn, LogsOff, Resets}
+use Rattle.machine_devices.specs.declared.request.Request.TheVariants.{Types, Loads, Asks, Alone}
+use Rattle.machine_devices.specs.declared.places.Kind.{Kind}
+use Rattle.machine_devices.specs.declared.places.Kind.TheVariants as kinds
+use Rattle.machine_devices.specs.Devices.{DevicesValue, kind_at, part_at}
 use Rattle.machine_devices.specs.Equipped.{Equipped}
-use Rattle.machine_devices.specs.Lines.{IplNeeds, MayTakeMemory, files_closed, requested}
+use Rattle.machine_devices.specs.Lines.{IplNeeds, can_load, files_closed, requested}
+use Rattle.machine_devices.specs.Spooling.{open_files}
+use Rattle.machine_panel.specs.Panel.{line_room}
 
 -- ---- what a line asks for
 
@@ -62,7 +71,7 @@ abbrev pub HasClosed : ClosedFiles → Type 0
 HasClosed files = IsSome files.punched ⊎ IsSome files.printed
 
 -- a message is to be sent
-abbrev pub is_sent : Told → Bool
+abbrev pub is_sent : LineOutcome → Bool
 is_sent (Sent user line) = true
 is_sent Silent = false
 is_sent (Said response) = false
@@ -70,9 +79,39 @@ is_sent Files = false
 is_sent (Closed files) = false
 is_sent (LoggedOff files) = false
 
--- and what comes of a line that was answered so takes memory only for a message and for files that it closed
-abbrev pub NeedsMemory : Told → Type 0
-NeedsMemory told = (is_sent told ≡ true) ⊎ HasClosed (files_closed told)
+-- and what comes of a line that was answered so takes memory only for a message and for files that
+-- it closed
+abbrev pub NeedsMemory : LineOutcome → Type 0
+NeedsMemory reported = (is_sent reported ≡ true) ⊎ HasClosed (files_closed reported)
+
+-- the device of this kind has an open file
+abbrev pub HasOpen : Option Kind → DevicesValue → Type 0
+HasOpen (Some kinds.Punch) d = IsSome (open_files d).punched
+HasOpen (Some kinds.Printer) d = IsSome (open_files d).printed
+HasOpen (Some kinds.Console) d = ⊥
+HasOpen (Some kinds.Reader) d = ⊥
+HasOpen (Some (kinds.Disk index)) d = ⊥
+HasOpen None d = ⊥
+
+-- an open file that is closed takes memory, and a message that is sent
+abbrev pub CommandMayTakeMemory : DeviceCommand → DevicesValue → Type 0
+CommandMayTakeMemory (commands.Close device) d = HasOpen (part_at d device) d
+CommandMayTakeMemory (commands.Message name text) d = Unit {0}
+CommandMayTakeMemory commands.QueryFiles d = ⊥
+CommandMayTakeMemory commands.QueryUsers d = ⊥
+CommandMayTakeMemory (commands.Spool device name) d = ⊥
+CommandMayTakeMemory (commands.Purge file) d = ⊥
+
+-- and so do open files that LOGOFF closes, the answer to a reset, a line that waits for the
+-- console, a loading from a device that can be loaded from, and what a machine alone makes room for
+abbrev pub MayTakeMemory : Request → Equipped → Type 0
+MayTakeMemory LogsOn e = ⊥
+MayTakeMemory LogsOff e = HasClosed (open_files e.devices)
+MayTakeMemory Resets e = Unit {0}
+MayTakeMemory Types e = Unit {0}
+MayTakeMemory (Loads device) e = can_load (kind_at e.devices e.disks device) ≡ true
+MayTakeMemory (Asks command) e = CommandMayTakeMemory command e.devices
+MayTakeMemory (Alone asked) e = 0 < line_room asked
 
 -- the lines that may take memory
 abbrev pub LineMay : List ℕ → Equipped → Type 0

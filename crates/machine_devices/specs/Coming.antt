@@ -9,14 +9,17 @@ use Rattle.machine_devices.specs.Equipped.{Equipped}
 use Rattle.machine_devices.specs.Life.{Event, Deck, Message}
 use Rattle.machine_devices.specs.Spooling.{deck_punched}
 
--- what comes of the line of this user: the deck that his punch's file of this index is, or a message
+-- what comes of the line of this user: the deck that his punch's file of this index is, or a
+-- message
 abbrev pub comes_by_line : ℕ → ℕ → Equipped → Delivery → Event
-comes_by_line user index e (deliveries.Deck number) = Deck (deck_punched e.devices index number (senders.User user))
+comes_by_line user index e (deliveries.Deck number) =
+    Deck (deck_punched e.devices index number (senders.User user))
 comes_by_line user index e (deliveries.Message line) = Message (characters_of line)
 
 -- what comes of the operator's cards
 abbrev pub comes_from_operator : List (List ℕ) → Delivery → Event
-comes_from_operator cards (deliveries.Deck number) = Deck (record { label = number; sender = senders.System; cards = cards })
+comes_from_operator cards (deliveries.Deck number) =
+    Deck (record { label = number; sender = senders.System; cards = cards })
 comes_from_operator cards (deliveries.Message line) = Message (characters_of line)
 
 -- what is delivered, if anything is

@@ -1,6 +1,8 @@
--- The parts of the devices of one machine: console, card reader, card punch and line printer, each at its address or without
--- one. The disks are those of its channels.
-use Rattle.std.specs.Prelude.{ℕ, ◌≡◌, ◌<◌, ◌==◌, ◌||◌, ◌&&◌, ◌++◌, ◌∷◌, [], Bool, true, false, not, nat_le, nat_lt, if◌then◌else◌, is_some, List, length, map, Option, Some, None}
+-- The parts of the devices of one machine: console, card reader, card punch and line printer, each
+-- at its address or without one. The disks are those of its channels.
+use Rattle.std.specs.Prelude.{ℕ, ◌≡◌, ◌<◌, ◌==◌, ◌||◌, ◌&&◌, ◌++◌, ◌∷◌, [], Bool, true, false, not}
+use Rattle.std.specs.Prelude.{nat_le, nat_lt, if◌then◌else◌, is_some, List, length, map, Option}
+use Rattle.std.specs.Prelude.{Some, None}
 use Rattle.std.specs.Option.{option_map, option_to_list}
 use Rattle.std.specs.List.{filter, list_all, list_any, position, range_with_len}
 use Rattle.s370_subchannels.specs.declared.subchannel.Subchannel.{Subchannel}
@@ -50,6 +52,7 @@ devices_new places =
 
 -- ---- which device has an address
 
+-- whether a device that may be missing has this address
 abbrev pub is_there : Option ℕ → ℕ → Bool
 is_there None device = false
 is_there (Some address) device = address == device
@@ -63,6 +66,7 @@ place_at places device =
     else if is_there places.printer device then Some kinds.Printer
     else None
 
+-- the kind of the device with this address, if it is no disk
 abbrev pub part_at : DevicesValue → ℕ → Option Kind
 part_at d device = place_at d.places device
 
@@ -71,13 +75,16 @@ abbrev pub part_or_disk : Option Kind → Option ℕ → Option Kind
 part_or_disk (Some part) disk = Some part
 part_or_disk None disk = option_map kinds.Disk disk
 
+-- the kind of the device with this address, among these places and disks
 abbrev pub kind_in : Places → List DiskAt → ℕ → Option Kind
-kind_in places disks device = part_or_disk (place_at places device) (position (is_disk_at device) disks)
+kind_in places disks device =
+    part_or_disk (place_at places device) (position (is_disk_at device) disks)
 
+-- the kind of the device with this address
 abbrev pub kind_at : DevicesValue → List DiskAt → ℕ → Option Kind
 kind_at d disks device = kind_in d.places disks device
 
--- Where it is a disk, there is a disk of its index.
+-- If it is a disk, there is a disk of its index.
 abbrev pub IsAttached : List DiskAt → Kind → Type 0
 IsAttached disks (kinds.Disk index) = index < length disks
 IsAttached disks kinds.Console = Unit {0}
@@ -91,7 +98,8 @@ has_device d disks device = is_some (part_at d device) || list_any (is_disk_at d
 
 -- the same of disks at these addresses
 abbrev pub has_at : DevicesValue → List ℕ → ℕ → Bool
-has_at d addresses device = is_some (part_at d device) || list_any (λ (address : ℕ). address == device) addresses
+has_at d addresses device =
+    is_some (part_at d device) || list_any (λ (address : ℕ). address == device) addresses
 
 -- a device more, above all others, if it is there
 abbrev pub attached : Bool → ℕ → List Subchannel → List Subchannel
@@ -99,9 +107,11 @@ attached is_there device list = if is_there then list ++ new_device device ∷ [
 
 -- the idle subchannels, without a start, of each of them below this address, by address
 abbrev pub subchannels_below : (ℕ → Bool) → ℕ → List Subchannel
-subchannels_below has address = filter (λ (s : Subchannel). has s.address) (map new_device (range_with_len 0 address))
+subchannels_below has address =
+    filter (λ (s : Subchannel). has s.address) (map new_device (range_with_len 0 address))
 
--- there is an idle subchannel, without a start, for each of them, and no other, on channels 0 to 5, in the order of their addresses
+-- there is an idle subchannel, without a start, for each of them, and no other, on channels 0 to 5,
+-- in the order of their addresses
 abbrev pub AreAttached : DevicesValue → List DiskAt → List Subchannel → Type 0
 AreAttached d disks list = list ≡ subchannels_below (has_device d disks) 0x600
 
@@ -109,7 +119,8 @@ AreAttached d disks list = list ≡ subchannels_below (has_device d disks) 0x600
 
 -- where console, reader, punch and printer are
 abbrev pub places_of : Places → List ℕ
-places_of p = option_to_list p.console ++ (option_to_list p.reader ++ (option_to_list p.punch ++ option_to_list p.printer))
+places_of p = option_to_list p.console
+    ++ (option_to_list p.reader ++ (option_to_list p.punch ++ option_to_list p.printer))
 
 -- each has an address of its own
 abbrev pub are_apart : List ℕ → Bool
@@ -118,4 +129,5 @@ are_apart (one ∷ others) = not (list_any (λ (other : ℕ). other == one) othe
 
 -- at most 32, each at an address of its own, on channels 0 to 5
 abbrev pub can_attach : List ℕ → Bool
-can_attach addresses = (nat_le (length addresses) 32 && list_all (λ (address : ℕ). nat_lt address 0x600) addresses) && are_apart addresses
+can_attach addresses = (nat_le (length addresses) 32 && list_all
+    (λ (address : ℕ). nat_lt address 0x600) addresses) && are_apart addresses

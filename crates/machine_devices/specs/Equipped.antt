@@ -6,6 +6,7 @@ use Rattle.machine_panel.specs.Machine.{Machine, Parts, machine_of, unused, with
 use Rattle.machine_channels.specs.Disks.{DiskAt}
 use Rattle.machine_devices.specs.Devices.{DevicesValue, devices_new, no_places}
 
+-- a machine with its devices and its disks
 pub record Equipped : Type 0 where
   pub machine : Machine
   pub devices : DevicesValue
@@ -14,11 +15,16 @@ pub record Equipped : Type 0 where
 
 -- the parts of both, the disks of the channels, and the storage, which are lent
 abbrev pub equipped : Parts → DevicesValue → List DiskAt → Memory → Equipped
-equipped parts devices disks m = record { machine = machine_of parts m; devices = devices; disks = disks }
+equipped parts devices disks m =
+    record { machine = machine_of parts m; devices = devices; disks = disks }
 
 -- the machine of nobody
 abbrev pub nobody : Equipped
-nobody = record { machine = unused (memory_of [] []) []; devices = devices_new no_places; disks = [] }
+nobody = record {
+  machine = unused (memory_of [] []) [];
+  devices = devices_new no_places;
+  disks = [];
+}
 
 -- the device has attention to give
 abbrev pub with_attended : ℕ → Machine → Machine
@@ -30,7 +36,8 @@ with_lines m lines = record m { output = m.output ++ lines }
 
 -- these bytes of storage
 abbrev pub with_bytes : Machine → List ℕ → Machine
-with_bytes m bytes = record m { core = record m.core { processor = record m.core.processor { bytes = bytes } } }
+with_bytes m bytes = record
+    m { core = record m.core { processor = record m.core.processor { bytes = bytes } } }
 
 -- the storage, as channel programs have it
 abbrev pub storage_in : Machine → Memory

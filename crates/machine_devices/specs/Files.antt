@@ -1,4 +1,4 @@
--- The lines that QUERY FILES tells (docs/COMMANDS.md).
+-- The lines that QUERY FILES says (docs/COMMANDS.md).
 use Rattle.std.specs.Prelude.{ℕ, List, codes, length, map}
 use Rattle.user_names.specs.Users.{name_of}
 use Rattle.cp_console.specs.Responses.{file_text}

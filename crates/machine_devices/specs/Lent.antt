@@ -1,4 +1,5 @@
--- The devices of one machine but for their files, which stand among those of all users and are lent to each call.
+-- The devices of one machine but for their files, which are among those of all users and are lent
+-- to each call.
 use Rattle.std.specs.Prelude.{◌≡◌, ℕ}
 use Rattle.unit_record.specs.declared.output.Target.{Target}
 use Rattle.unit_record.specs.declared.output.Target.TheVariants.{System}
@@ -11,6 +12,7 @@ use Rattle.cp_spool.specs.Reader.{ReaderPart, part_new}
 use Rattle.machine_devices.specs.declared.places.Places.{Places}
 use Rattle.machine_devices.specs.Devices.{DevicesValue}
 
+-- the devices of a machine without their files
 pub record DevicesParts : Type 0 where
   pub places : Places
   pub console : ConsoleState
@@ -33,6 +35,7 @@ parts_new places user = record {
   user = user;
 }
 
+-- the devices after a reset
 abbrev pub parts_reset : DevicesParts → DevicesParts
 parts_reset d = record d {
   console = console_reset d.console;
@@ -59,6 +62,7 @@ abbrev pub devices_on : DevicesParts → QueuesValue → DevicesValue
 devices_on d queues = devices_with d (files_of queues.users d.user)
 
 -- they are the same user's, and what every other user has is as it was
-pub record KeepsBeside (d : DevicesParts) (queues : QueuesValue) (d' : DevicesParts) (queues' : QueuesValue) : Type 0 where
+pub record KeepsOtherUsers (d : DevicesParts) (queues : QueuesValue) (d' : DevicesParts)
+    (queues' : QueuesValue) : Type 0 where
   pub user : d'.user ≡ d.user
   pub others : KeepsOthers d.user queues.users queues'.users

@@ -5,7 +5,7 @@ pub mod Equipped
 pub mod Serve
 pub mod Stopped
 pub mod Loading
-pub mod World
+pub mod UserDirectory
 pub mod Requests
 pub mod Lines
 pub mod Comes
@@ -20,3 +20,4 @@ pub mod Reuses
 pub mod OneLife
 pub mod Working
 pub mod Saved
+pub mod Forgotten

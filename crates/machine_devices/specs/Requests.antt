@@ -13,7 +13,8 @@ use Rattle.machine_panel.specs.declared.machine.Mode.{Mode}
 use Rattle.machine_panel.specs.declared.machine.Mode.TheVariants.{Off, Stopped, Running}
 use Rattle.machine_panel.specs.Panel.{line_needs}
 use Rattle.machine_devices.specs.declared.request.Request.{Request}
-use Rattle.machine_devices.specs.declared.request.Request.TheVariants.{LogsOn, LogsOff, Resets, Types, Loads, Asks, Alone}
+use Rattle.machine_devices.specs.declared.request.Request.TheVariants.{LogsOn, LogsOff, Resets}
+use Rattle.machine_devices.specs.declared.request.Request.TheVariants.{Types, Loads, Asks, Alone}
 
 -- ---- how it is read
 
@@ -38,9 +39,11 @@ command_request (Err wrong.Unknown) = Alone (lines.Says responses.UnknownCommand
 command_request (Err (wrong.Operand place)) = Alone (lines.Says (responses.BadOperand place))
 command_request (Err wrong.Memory) = Alone lines.Nothing
 
--- a machine that runs takes a line for its console, if it has one; a machine that is stopped takes it as a command
+-- a machine that runs takes a line for its console, if it has one; a machine that is stopped takes
+-- it as a command
 abbrev pub plain_request : Mode → Bool → List ℕ → Request
-plain_request Running has_console text = if has_console then Types else Alone (lines.Says responses.NoConsole)
+plain_request Running has_console text = if has_console then Types
+    else Alone (lines.Says responses.NoConsole)
 plain_request Stopped has_console text = command_request (command_of text)
 plain_request Off has_console text = Alone lines.Nothing
 

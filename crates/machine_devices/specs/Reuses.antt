@@ -1,4 +1,5 @@
--- What channels keep of the programs of a machine's devices, as they are served and as lines are typed.
+-- What channels keep of the programs of a machine's devices, as they are served and as lines are
+-- typed.
 use Rattle.std.specs.Prelude.{◌≡◌, ℕ, Bool, true, false, Option, None, Some}
 use Rattle.s370_channel.specs.declared.words.Caw.{Caw}
 use Rattle.machine_channels.specs.declared.channels.UnitRecord.{UnitRecord}
@@ -6,13 +7,15 @@ use Rattle.machine_channels.specs.declared.channels.UnitRecord.TheVariants as un
 use Rattle.machine_devices.specs.declared.places.Kind.{Kind}
 use Rattle.machine_devices.specs.declared.places.Kind.TheVariants as kinds
 use Rattle.machine_devices.specs.declared.request.Request.{Request}
-use Rattle.machine_devices.specs.declared.request.Request.TheVariants.{LogsOn, LogsOff, Resets, Types, Loads, Asks, Alone}
+use Rattle.machine_devices.specs.declared.request.Request.TheVariants.{LogsOn, LogsOff, Resets}
+use Rattle.machine_devices.specs.declared.request.Request.TheVariants.{Types, Loads, Asks, Alone}
 use Rattle.machine_devices.specs.Devices.{kind_at}
 use Rattle.machine_devices.specs.Equipped.{Equipped}
 use Rattle.machine_devices.specs.Lines.{can_load}
 
 -- so channels keep what ran on them, over such storage, from the first to the last
-module _ {C S : Type 0} (Reuses : C → S → Caw → UnitRecord → Bool → C → Type 0) (ReusesDisk : C → S → Caw → ℕ → Bool → C → Type 0) (old : C) (s : S) (new : C) where
+module _ {C S : Type 0} (Reuses : C → S → Caw → UnitRecord → Bool → C → Type 0)
+    (ReusesDisk : C → S → Caw → ℕ → Bool → C → Type 0) (old : C) (s : S) (new : C) where
   -- the program of a device of this kind ran, or was refused
   abbrev pub KindReuses : Kind → Caw → Bool → Type 0
   KindReuses kinds.Console start done = Reuses old s start units.Console done new
@@ -27,7 +30,8 @@ module _ {C S : Type 0} (Reuses : C → S → Caw → UnitRecord → Bool → C 
   StartReuses (Some kind) None done = new ≡ old
   StartReuses (Some kind) (Some start) done = KindReuses kind start done
 
--- What a line drops: LOGON, LOGOFF, SYSTEM RESET, and an IPL that finds its device; else they are as they were.
+-- What a line drops: LOGON, LOGOFF, SYSTEM RESET, and an IPL that finds its device; else they are
+-- as they were.
 module _ {C : Type 0} (Forgets : C → C → Type 0) (old new : C) where
   abbrev pub LoadForgets : Bool → Type 0
   LoadForgets true = Forgets old new

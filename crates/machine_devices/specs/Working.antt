@@ -4,7 +4,8 @@ use Rattle.s370_channel.specs.Reading.{Reading}
 use Rattle.s370_channel.specs.Words.{caw_of}
 use Rattle.s370_store.specs.Memory.{Memory}
 use Rattle.s370_subchannels.specs.declared.subchannel.DeviceState.{DeviceState}
-use Rattle.s370_subchannels.specs.declared.subchannel.DeviceState.TheVariants.{Idle, Working, Pending}
+use Rattle.s370_subchannels.specs.declared.subchannel.DeviceState.TheVariants.{Idle, Working}
+use Rattle.s370_subchannels.specs.declared.subchannel.DeviceState.TheVariants.{Pending}
 use Rattle.s370_subchannels.specs.declared.subchannel.Subchannel.{Subchannel}
 use Rattle.s370_subchannels.specs.Programs.{program_of}
 use Rattle.s370_subchannels.specs.Starts.{works}
@@ -26,19 +27,24 @@ AllHavePrograms (s ∷ ss) = HasProgram s.state × AllHavePrograms ss
 
 -- a machine that was never switched on has no device that works
 abbrev pub NoneWorksAtFirst : Type 0
-NoneWorksAtFirst = (m : Memory) (list : List Subchannel) → AllHavePrograms (unused m list).core.subchannels
+NoneWorksAtFirst = (m : Memory) (list : List Subchannel)
+    → AllHavePrograms (unused m list).core.subchannels
 
 -- and so it stays, whatever happens to the machine
 abbrev pub AllGoOnHavingPrograms : Type 0
 AllGoOnHavingPrograms = (reads : Reading) (events : List Event) (first last : Equipped) →
-    Lives reads events first last → AllHavePrograms first.machine.core.subchannels → AllHavePrograms last.machine.core.subchannels
+    Lives reads events first last → AllHavePrograms first.machine.core.subchannels
+    → AllHavePrograms last.machine.core.subchannels
 
 -- a device that is served has a program exactly where it works
 abbrev pub WorksWithProgram : Type 0
 WorksWithProgram = (device : ℕ) (list : List Subchannel) (s : Subchannel) →
-    AllHavePrograms list → found device list ≡ Some s → is_some (program_of device list) ≡ works s.state
+    AllHavePrograms list → found device list ≡ Some s
+    → is_some (program_of device list) ≡ works s.state
 
 -- the devices have the addresses that they had
 abbrev pub DevicesStay : Type 0
-DevicesStay = (reads : Reading) (events : List Event) (first last : Equipped) → Lives reads events first last →
-    map (λ (s : Subchannel). s.address) last.machine.core.subchannels ≡ map (λ (s : Subchannel). s.address) first.machine.core.subchannels
+DevicesStay = (reads : Reading) (events : List Event) (first last : Equipped)
+    → Lives reads events first last →
+    map (λ (s : Subchannel). s.address) last.machine.core.subchannels
+    ≡ map (λ (s : Subchannel). s.address) first.machine.core.subchannels

@@ -1,8 +1,10 @@
 //! The subchannels of the devices of one machine.
 ghost use Rattle.std.specs.List.{list_any};
-ghost use Rattle.std.specs.Prelude.{◌≡◌, ◌==◌, ◌≤◌, ◌++◌, Err, IfOk, IsOk, List, false, length, map, true};
+ghost use Rattle.std.specs.Prelude.{◌≡◌, ◌==◌, ◌≤◌, ◌++◌, Err, IfOk, IsOk, List, false, length};
+ghost use Rattle.std.specs.Prelude.{map, true};
 ghost use Rattle.machine_channels.specs.Disks.{DiskAt};
-ghost use Rattle.machine_devices.specs.Devices.{AreAttached, attached, can_attach, has_at, places_of};
+ghost use Rattle.machine_devices.specs.Devices.{AreAttached, attached, can_attach, has_at};
+ghost use Rattle.machine_devices.specs.Devices.{places_of};
 ghost use Rattle.machine_devices.specs.declared.attaching.AttachError.TheVariants as errors;
 ghost use Rattle.s370_subchannels.specs.Subchannels.{can_add};
 ghost use Rattle.machine_devices.specs.Lent.{devices_with};
@@ -28,17 +30,25 @@ pub enum AttachError {
 }
 
 impl Devices {
-    /// The subchannels of these devices and disks, all idle: one at each address, in their order. `Address` tells, and
-    /// it alone, that one of them has no address of its own on one of channels 0 to 5, or that they are more than 32.
+    /// Returns the subchannels of these devices and disks, all idle: one at each address, in their
+    /// order. `Address` says, and it alone, that one of them has no address of its own on one of
+    /// channels 0 to 5, or that they are more than 32.
+    ///
+    /// # Errors
+    ///
+    /// An `AttachError`: refused memory, or addresses that conflict.
     pub fn subchannels(
         &self,
         alloc: Global,
         disks: &[AttachedDisk],
     ) -> Result<Subchannels, AttachError>
-        ensures ok { (files : UserFiles) → IfOk result (AreAttached (devices_with self.now files) disks.now) }
-        ensures apart { let addresses = places_of self.now.places ++ map (λ disk. disk.address) disks.now in
+        ensures ok { (files : UserFiles)
+            → IfOk result (AreAttached (devices_with self.now files) disks.now) }
+        ensures apart { let addresses = places_of self.now.places
+            ++ map (λ disk. disk.address) disks.now in
             IsOk result → can_attach addresses ≡ true }
-        ensures address { let addresses = places_of self.now.places ++ map (λ disk. disk.address) disks.now in
+        ensures address { let addresses = places_of self.now.places
+            ++ map (λ disk. disk.address) disks.now in
             result ≡ Err errors.Address → can_attach addresses ≡ false }
     {
         match addresses_of(alloc, disks) {
@@ -47,15 +57,22 @@ impl Devices {
         }
     }
 
-    /// The same of disks at these addresses.
+    /// Returns the subchannels of these devices and of disks at these addresses, as
+    /// [`Devices::subchannels`] does.
+    ///
+    /// # Errors
+    ///
+    /// An `AttachError`: refused memory, or addresses that conflict.
     pub fn subchannels_at(
         &self,
         alloc: Global,
         addresses: &[DevAddr],
     ) -> Result<Subchannels, AttachError>
-        ensures ok { (files : UserFiles) (disks : List DiskAt) → addresses.now ≡ map (λ disk. disk.address) disks
+        ensures ok { (files : UserFiles) (disks : List DiskAt)
+            → addresses.now ≡ map (λ disk. disk.address) disks
             → IfOk result (AreAttached (devices_with self.now files) disks) }
-        ensures apart { IsOk result → can_attach (places_of self.now.places ++ addresses.now) ≡ true }
+        ensures apart { IsOk result
+            → can_attach (places_of self.now.places ++ addresses.now) ≡ true }
         ensures address { result ≡ Err errors.Address
             → can_attach (places_of self.now.places ++ addresses.now) ≡ false }
     {
@@ -70,7 +87,7 @@ impl Devices {
         Ok(subchannels)
     }
 
-    /// Whether one of these devices, or of disks at these addresses, has this one.
+    /// Returns whether one of these devices, or of disks at these addresses, has this one.
     fn has_device(&self, addresses: &[DevAddr], device: u16) -> bool
         ensures { result ≡ has_at (devices_with self.now no_files) addresses.now device }
     {
@@ -81,14 +98,14 @@ impl Devices {
     }
 }
 
-/// Whether this is one of these addresses.
+/// Returns whether this is one of these addresses.
 fn is_among(addresses: &[DevAddr], device: u16) -> bool
     ensures { result ≡ list_any (λ address. address == device) addresses.now }
 {
     addresses.iter().any(|address| address.get() == device)
 }
 
-/// The address of each of these disks.
+/// Returns the address of each of these disks.
 fn addresses_of(alloc: Global, disks: &[AttachedDisk]) -> Result<Vec<DevAddr>, AllocError>
     ensures { IfOk result (λ made. made.items ≡ map (λ disk. disk.address) disks.now) }
 {

@@ -11,9 +11,9 @@ use std::marker::Model;
 use unit_record::{Console, Printer, Punch, Target};
 use user_names::UserNo;
 
-/// The parts of the devices of one machine, but for its disks and its files, which stand among those of all users
-/// ([`Queues`](cp_spool::Queues)) and are lent to each call. Console, reader, punch and printer are there also where no
-/// address leads to them.
+/// The parts of the devices of one machine, but for its disks and its files, which are among those
+/// of all users ([`Queues`](cp_spool::Queues)) and are lent to each call. Console, reader, punch
+/// and printer are there also where no address leads to them.
 #[derive(Drop)]
 pub struct Devices {
     pub(crate) places: Places,
@@ -42,8 +42,8 @@ impl Model for Devices {
 }
 
 impl Devices {
-    /// Devices at these places that have done nothing, whose files are those of this user. What is punched is for the
-    /// operator.
+    /// Returns devices at these places that have done nothing, whose files are those of this user.
+    /// What is punched is for the operator.
     pub fn new(alloc: Global, places: Places, user: UserNo) -> Devices
         ensures { result ≡ parts_new places user }
     {
@@ -58,7 +58,7 @@ impl Devices {
         }
     }
 
-    /// Which of console, reader, punch and printer has this address, if any has.
+    /// Returns which of console, reader, punch and printer has this address, if any has.
     pub fn part_at(&self, device: u16) -> Option<Kind>
         ensures { result ≡ place_at self.now.places device }
     {
@@ -76,7 +76,7 @@ impl Devices {
         }
     }
 
-    /// What has this address, if anything has, these disks included.
+    /// Returns what has this address, if anything has, these disks included.
     pub fn kind_at<D: Disks>(&self, disks: &D, device: u16) -> Option<Kind>
         ensures kind { result ≡ kind_in self.now.places (D.disks disks.now) device }
         ensures inside { IfSome result (IsAttached (D.disks disks.now)) }
@@ -90,8 +90,8 @@ impl Devices {
         }
     }
 
-    /// A system reset of all but the disks: no command is under way, no console line waits, and no device has sense.
-    /// Files, decks, the lines that were written and the punch's target stay.
+    /// Resets all but the disks: no command is under way, no console line waits, and no device has
+    /// sense. Files, decks, the lines that were written and the punch's target stay.
     pub fn reset(&mut self)
         ensures { self.new ≡ parts_reset self.old }
     {
@@ -101,7 +101,7 @@ impl Devices {
         self.printer.reset();
     }
 
-    /// The same of all but the reader.
+    /// Resets all but the disks and the reader.
     pub(crate) fn reset_beside(&mut self)
         ensures { self.new ≡ record (parts_reset self.old) { reader = self.old.reader } }
     {
@@ -110,32 +110,32 @@ impl Devices {
         self.printer.reset();
     }
 
-    /// Where the devices are.
+    /// Returns where the devices are.
     pub fn places(&self) -> Places
         ensures { result ≡ self.now.places }
     {
         self.places
     }
 
-    /// The console.
+    /// Returns the console.
     pub fn console(&self) -> &Console
         ensures { result.now ≡ self.now.console }
     {
         &self.console
     }
 
-    /// What the card reader has beside its decks.
+    /// Returns what the card reader has next to its decks.
     pub fn reader(&self) -> &Reader
         ensures { result.now ≡ self.now.reader }
     {
         &self.reader
     }
 
-    /// The user whose files are theirs.
+    /// Returns the user whose files are theirs.
     pub fn user(&self) -> UserNo
         ensures { result ≡ self.now.user }
     {
-        // All its fields: what is added to them is seen here.
+        // Exhaustive: a new field fails to compile here.
         let Devices {
             places: _,
             console: _,
@@ -148,21 +148,21 @@ impl Devices {
         *user
     }
 
-    /// The card punch.
+    /// Returns the card punch.
     pub fn punch(&self) -> &Punch
         ensures { result.now ≡ self.now.punch }
     {
         &self.punch
     }
 
-    /// The line printer.
+    /// Returns the line printer.
     pub fn printer(&self) -> &Printer
         ensures { result.now ≡ self.now.printer }
     {
         &self.printer
     }
 
-    /// For whom the punch's open file is.
+    /// Returns the target of the punch's open file.
     pub fn target(&self) -> Target
         ensures { result ≡ self.now.target }
     {

@@ -1,12 +1,16 @@
 //! The card reader of a machine feeds from the queue of its user.
-ghost use Rattle.std.specs.Prelude.{◌≡◌, ◌*◌, ◌<◌, false, true, IfErr, IfOk, OnErr, OnOk, is_ok, length};
+ghost use Rattle.std.specs.Prelude.{◌≡◌, ◌*◌, ◌<◌, false, true, Err, IfErr, IfOk, OnErr, OnOk};
+ghost use Rattle.std.specs.Prelude.{is_ok, length};
 ghost use Rattle.s370_channel.specs.Runs.{Walks};
 ghost use Rattle.unit_record.specs.Reader.{reader_machine};
-ghost use Rattle.machine_channels.specs.Channels.{Brings, LacksPage, LoadNeeds, NoRoom, ProgramNeeds, StopsForPage, WalksLoading, WhereOut};
+ghost use Rattle.machine_channels.specs.Channels.{Brings, LacksPage, LoadNeeds, NoRoom};
+ghost use Rattle.machine_channels.specs.Channels.{ProgramNeeds, StopsForPage, WalksLoading};
+ghost use Rattle.machine_channels.specs.Channels.{WhereOut};
 ghost use Rattle.machine_channels.specs.declared.channels.UnitRecord.TheVariants as units;
 ghost use Rattle.cp_spool.specs.Alike.{reader_of};
 ghost use Rattle.cp_spool.specs.Queues.{KeepsOthers, files_of};
-ghost use Rattle.cp_spool.specs.Reader.{part_new};
+ghost use Rattle.cp_spool.specs.Reader.{FeedState, feed_machine, part_new};
+ghost use Rattle.s370_channel.specs.declared.running.ChannelError.TheVariants as errors;
 
 use cp_spool::{FedReader, Queues, Reader};
 use machine_channels::{Channels, UnitRecord};
@@ -16,9 +20,9 @@ use s370_walk::Ending;
 use std::mem::replace;
 use user_names::UserNo;
 
-/// Runs the program with this start on the reader, which feeds from the queue of this user: it walks as on a reader
-/// that has the decks itself. An error is told only where memory was refused, a page is not present, or there is no
-/// room for one.
+/// Runs the program with this start on the reader, which feeds from the queue of this user: it
+/// walks as on a reader that has the decks itself. An error is reported only where memory was
+/// refused, a page is not present, or there is no room for one.
 pub(crate) fn feed<S: Storage, C: Channels<S>>(
     reader: &mut Reader,
     queues: &mut Queues,
@@ -33,8 +37,10 @@ pub(crate) fn feed<S: Storage, C: Channels<S>>(
         (λ ending. Walks C.reads reader_machine start (S.memory storage.old)
         (reader_of (files_of queues.old.users user) reader.old) ending
         (S.memory storage.new) (reader_of (files_of queues.new.users user) reader.new)) }
-    ensures punched { (files_of queues.new.users user).punched ≡ (files_of queues.old.users user).punched }
-    ensures printed { (files_of queues.new.users user).printed ≡ (files_of queues.old.users user).printed }
+    ensures punched { (files_of queues.new.users user).punched
+        ≡ (files_of queues.old.users user).punched }
+    ensures printed { (files_of queues.new.users user).printed
+        ≡ (files_of queues.old.users user).printed }
     ensures disks { C.disks channels.new ≡ C.disks channels.old }
     ensures stopped { C.is_whole ≡ false
         → IfErr result (StopsForPage reader_machine (S.present storage.old) start
@@ -46,12 +52,17 @@ pub(crate) fn feed<S: Storage, C: Channels<S>>(
         (NoRoom C.IsOut C.IsFilled S.present storage.new needs)
         ((S.memory storage.new ≡ S.memory storage.old) × (reader.new ≡ reader.old)
         × (files_of queues.new.users user ≡ files_of queues.old.users user))) }
-    ensures came { Brings C.Came storage.old (ProgramNeeds C.holds reader_machine start
-        (S.memory storage.old) (reader_of (files_of queues.old.users user) reader.old)) storage.new }
+    ensures roomy { C.is_whole ≡ true → result ≡ Err errors.Memory
+        → ((feed : FeedState) × C.HadRoom FeedState feed_machine storage.old start feed
+        storage.new) }
+    ensures paged_in { Brings C.Came storage.old (ProgramNeeds C.holds reader_machine start
+        (S.memory storage.old) (reader_of (files_of queues.old.users user) reader.old))
+        storage.new }
     ensures ready { C.IsReady storage.new }
-    ensures beside { KeepsOthers user queues.old.users queues.new.users }
+    ensures other_users { KeepsOthers user queues.old.users queues.new.users }
     ensures others { C.KeepsOthers channels.old channels.new }
-    ensures kept { C.Reuses channels.old storage.old start units.Reader (is_ok result) channels.new }
+    ensures kept { C.Reuses channels.old storage.old start units.Reader (is_ok result)
+        channels.new }
 {
     let mut fed = FedReader::new(queues, user, replace(reader, Reader::new()));
     let ended = channels.run(storage, start, UnitRecord::Reader, &mut fed);
@@ -61,8 +72,9 @@ pub(crate) fn feed<S: Storage, C: Channels<S>>(
     ended
 }
 
-/// Resets the reader, and runs the program of an initial program loading on it, which feeds from the queue of this user:
-/// it walks as on a reader that has the decks itself. Where it is not run to its end, the reader and the queue stay.
+/// Resets the reader, and runs the program of an initial program loading on it, which feeds from
+/// the queue of this user: it walks as on a reader that has the decks itself. If it is not run to
+/// its end, the reader and the queue stay.
 pub(crate) fn load_fed<S: Storage, C: Channels<S>>(
     reader: &mut Reader,
     queues: &mut Queues,
@@ -76,8 +88,10 @@ pub(crate) fn load_fed<S: Storage, C: Channels<S>>(
         (λ ending. WalksLoading reader_machine (S.memory storage.old)
         (reader_of (files_of queues.old.users user) part_new) ending
         (S.memory storage.new) (reader_of (files_of queues.new.users user) reader.new)) }
-    ensures punched { (files_of queues.new.users user).punched ≡ (files_of queues.old.users user).punched }
-    ensures printed { (files_of queues.new.users user).printed ≡ (files_of queues.old.users user).printed }
+    ensures punched { (files_of queues.new.users user).punched
+        ≡ (files_of queues.old.users user).punched }
+    ensures printed { (files_of queues.new.users user).printed
+        ≡ (files_of queues.old.users user).printed }
     ensures disks { C.disks channels.new ≡ C.disks channels.old }
     ensures lacks { C.is_whole ≡ false
         → IfErr result (LacksPage (length (S.memory storage.old).bytes) (S.present storage.old)) }
@@ -87,13 +101,16 @@ pub(crate) fn load_fed<S: Storage, C: Channels<S>>(
         → IfErr result (WhereOut (length (S.memory storage.old).bytes) needs
         (NoRoom C.IsOut C.IsFilled S.present storage.new needs)
         (S.memory storage.new ≡ S.memory storage.old)) }
+    ensures roomy { C.is_whole ≡ true → result ≡ Err errors.Memory
+        → ((feed : FeedState) × C.HadRoomToLoad FeedState feed_machine storage.old feed
+        storage.new) }
     ensures stays { OnErr result ((reader.new ≡ reader.old) × (queues.new ≡ queues.old)) }
     ensures there { C.is_whole ≡ true → OnOk result (S.present storage.new 0 ≡ true) }
     ensures same { C.is_whole ≡ false → S.present storage.new ≡ S.present storage.old }
-    ensures came { Brings C.Came storage.old (LoadNeeds reader_machine
+    ensures paged_in { Brings C.Came storage.old (LoadNeeds reader_machine
         (S.memory storage.old) (reader_of (files_of queues.old.users user) part_new)) storage.new }
     ensures ready { C.IsReady storage.new }
-    ensures beside { KeepsOthers user queues.old.users queues.new.users }
+    ensures other_users { KeepsOthers user queues.old.users queues.new.users }
     ensures others { C.KeepsOthers channels.old channels.new }
     ensures kept { channels.new ≡ channels.old }
 {

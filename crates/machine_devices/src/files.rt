@@ -1,4 +1,4 @@
-//! What files of the control program are, and the lines that `QUERY FILES` tells.
+//! What files of the control program are, and the lines that `QUERY FILES` says.
 ghost use Rattle.std.specs.Prelude.{◌≡◌, IfOk, map};
 ghost use Rattle.machine_devices.specs.Files.{deck_line, sender_name};
 
@@ -8,8 +8,8 @@ use std::alloc::{AllocError, Global};
 use unit_record::Sender;
 use user_names::{Named, UserNo};
 
-/// What a file was when it got its number; and of one that a device closed its place among all that this device has
-/// closed, from 0.
+/// What a file was when it got its number; and of one that a device closed its place among all that
+/// this device has closed, from 0.
 #[derive(Clone, Copy, Debug, PartialEq, Eq)]
 pub enum FileKind {
     /// A deck that the operator gave.
@@ -29,8 +29,8 @@ pub struct FileNote {
     pub kind: FileKind,
 }
 
-/// The files that a line closed: of the punch and of the printer the place of its file among all that it has closed, from
-/// 0.
+/// The files that a line closed: of the punch and of the printer the place of its file among all
+/// that it has closed, from 0.
 #[derive(Clone, Copy, Debug, PartialEq, Eq)]
 pub struct ClosedFiles {
     /// That of the punch.
@@ -47,12 +47,16 @@ impl ClosedFiles {
     };
 }
 
-/// The line that tells of a deck of the reader, where these are all users: its number, from whom it comes, and how many
-/// cards it has. Only want of memory is an error.
+/// Returns the line that reports a deck of the reader, where these are all users: its number, from
+/// whom it comes, and how many cards it has. Only lack of memory is an error.
 ///
 /// ```text
 /// let line = deck_line(alloc, &users, deck)?; // b"FILE 0001 FROM A CARDS 3"
 /// ```
+///
+/// # Errors
+///
+/// `AllocError` if memory is refused.
 pub fn deck_line<N: Named>(
     alloc: Global,
     users: &[N],
@@ -68,7 +72,7 @@ pub fn deck_line<N: Named>(
     )
 }
 
-/// Who sent a deck, by name: the operator is `SYSTEM`.
+/// Returns the name of the sender of a deck: the operator is `SYSTEM`.
 fn sender_name<N: Named>(users: &[N], sender: Sender) -> &[u8]
     ensures { result.now ≡ sender_name (map N.name users.now) sender }
 {

@@ -1,18 +1,20 @@
 //! IPL, which the owner of a machine does for it.
-ghost use Rattle.std.specs.Prelude.{◌≡◌, ◌<◌, ◌≤◌, ℕ, false, true, Err, IfOk, OnOk, Some, length, map, slice_get};
+ghost use Rattle.std.specs.Prelude.{◌≡◌, ◌<◌, ◌≤◌, ℕ, false, true, Err, IfOk, OnOk, Some, length};
+ghost use Rattle.std.specs.Prelude.{map, slice_get};
 ghost use Rattle.s370_store.specs.Access.{IsAway};
-ghost use Rattle.machine_channels.specs.Channels.{Brings, LacksRoom, NoRoom};
+ghost use Rattle.machine_channels.specs.Channels.{Brings, IsOutOfFrames, NoRoom};
 ghost use Rattle.machine_channels.specs.Disks.{reset_disk};
-ghost use Rattle.machine_devices.specs.Devices.{kind_in};
+ghost use Rattle.machine_devices.specs.Devices.{kind_at, kind_in};
 ghost use Rattle.machine_devices.specs.Equipped.{equipped};
-ghost use Rattle.machine_devices.specs.Lent.{KeepsBeside, devices_on};
-ghost use Rattle.machine_devices.specs.Lines.{IplNeeds, IsIpl, KindLoads, LoadsDisk, LoadsReader, can_load, ipl_told};
+ghost use Rattle.machine_devices.specs.Lent.{KeepsOtherUsers, devices_on};
+ghost use Rattle.machine_devices.specs.Lines.{IplNeeds, IsIpl, KindLoads, LoadHadRoom, LoadsDisk};
+ghost use Rattle.machine_devices.specs.Lines.{LoadsReader, can_load, ipl_told};
 ghost use Rattle.machine_devices.specs.Reuses.{LoadForgets};
 ghost use Rattle.machine_devices.specs.declared.places.Kind.TheVariants as kinds;
 
 use crate::devices::Devices;
 use crate::feeding::load_fed;
-use crate::line::Told;
+use crate::line::LineOutcome;
 use crate::loading::start_loaded;
 use crate::places::Kind;
 use cp_console::responses::Response;
@@ -23,22 +25,23 @@ use s370_channel::ChannelError;
 use s370_num::DevAddr;
 use s370_store::Storage;
 
-/// What an IPL tells.
-fn loaded(well: bool) -> Told
+/// Returns what an IPL says.
+fn loaded(well: bool) -> LineOutcome
     ensures { result ≡ ipl_told well }
 {
     if well {
-        Told::Silent
+        LineOutcome::Silent
     } else {
-        Told::Said(Response::IplFailed)
+        LineOutcome::Said(Response::IplFailed)
     }
 }
 
 impl Devices {
-    /// The machine is loaded from the device of this address, a reader or a disk. Where the channels are whole and there
-    /// is no room for a page that this needs, nothing has happened but that such pages came; else, where it is not
-    /// obeyed, nothing is said of the machine. Memory is taken only for a reader or a disk: where the channels are not
-    /// whole, for the answer and the notice of the machine's stop alone.
+    /// Loads the machine from the device of this address, a reader or a disk. If the channels are
+    /// whole and there is no room for a page that this needs, nothing has happened but that such
+    /// pages came; else, where it is not obeyed, nothing is said of the machine. Memory is taken
+    /// only for a reader or a disk: where the channels are not whole, for the answer and the notice
+    /// of the machine's stop alone.
     pub(crate) fn ipl<S: Storage, C: Channels<S>>(
         &mut self,
         queues: &mut Queues,
@@ -46,37 +49,49 @@ impl Devices {
         storage: &mut S,
         channels: &mut C,
         device: DevAddr,
-    ) -> Result<Told, LineError>
+    ) -> Result<LineOutcome, LineError>
         requires size { 8192 ≤ length (S.memory storage.old).bytes }
         requires user { self.old.user < length queues.old.users }
         requires ready { C.IsReady storage.old }
-        ensures ok { let before = equipped machine.old (devices_on self.old queues.old) (C.disks channels.old)
+        ensures ok { let before = equipped machine.old (devices_on self.old queues.old)
+            (C.disks channels.old)
             (S.memory storage.old) in
             let after = equipped machine.new (devices_on self.new queues.new) (C.disks channels.new)
             (S.memory storage.new) in
-            IfOk result (λ told. IsIpl device before told after) }
+            IfOk result (λ reported. IsIpl device before reported after) }
         ensures lacks { C.is_whole ≡ false → result ≡ Err LineError.FramesOut
-            → ((page : ℕ) × IsAway (length (S.memory storage.old).bytes) (S.present storage.old) page) }
-        ensures same { let before = equipped machine.old (devices_on self.old queues.old) (C.disks channels.old)
+            → ((page : ℕ) × IsAway (length (S.memory storage.old).bytes) (S.present storage.old)
+            page) }
+        ensures same { let before = equipped machine.old (devices_on self.old queues.old)
+            (C.disks channels.old)
             (S.memory storage.old) in
             let after = equipped machine.new (devices_on self.new queues.new) (C.disks channels.new)
             (S.memory storage.new) in
             C.is_whole ≡ true → result ≡ Err LineError.FramesOut → after ≡ before }
-        ensures out { let before = equipped machine.old (devices_on self.old queues.old) (C.disks channels.old)
+        ensures out { let before = equipped machine.old (devices_on self.old queues.old)
+            (C.disks channels.old)
             (S.memory storage.old) in
             let needs = IplNeeds device before in
             C.is_whole ≡ true → result ≡ Err LineError.FramesOut
-            → LacksRoom (length (S.memory storage.old).bytes) needs
+            → IsOutOfFrames (length (S.memory storage.old).bytes) needs
             (NoRoom C.IsOut C.IsFilled S.present storage.new needs) }
-        ensures came { let before = equipped machine.old (devices_on self.old queues.old) (C.disks channels.old)
+        ensures roomy { let before = equipped machine.old (devices_on self.old queues.old)
+            (C.disks channels.old)
+            (S.memory storage.old) in
+            C.is_whole ≡ true → result ≡ Err LineError.Memory
+            → LoadHadRoom C.HadRoomToLoad storage.old storage.new
+            (kind_at before.devices before.disks device) before }
+        ensures paged_in { let before = equipped machine.old (devices_on self.old queues.old)
+            (C.disks channels.old)
             (S.memory storage.old) in
             Brings C.Came storage.old (IplNeeds device before) storage.new }
         ensures ready { C.IsReady storage.new }
         ensures others { C.KeepsOthers channels.old channels.new }
-        ensures beside { KeepsBeside self.old queues.old self.new queues.new }
+        ensures other_users { KeepsOtherUsers self.old queues.old self.new queues.new }
         ensures dropped { OnOk result (LoadForgets C.Forgets channels.old channels.new
             (can_load (kind_in self.old.places (C.disks channels.old) device))) }
-        ensures kept { C.is_whole ≡ true → result ≡ Err LineError.FramesOut → channels.new ≡ channels.old }
+        ensures kept { C.is_whole ≡ true → result ≡ Err LineError.FramesOut
+            → channels.new ≡ channels.old }
         ensures takes { result ≡ Err LineError.Memory
             → can_load (kind_in self.old.places (C.disks channels.old) device) ≡ true }
         ensures memory { C.is_whole ≡ false → result ≡ Err LineError.Memory → machine.old.room < 2 }
@@ -86,11 +101,11 @@ impl Devices {
             Some(Kind::Disk(index)) => self.load_disk(
                 queues, machine, storage, channels, device, index,
             ),
-            _ => Ok(Told::Said(Response::DeviceNotFound)),
+            _ => Ok(LineOutcome::Said(Response::DeviceNotFound)),
         }
     }
 
-    /// The machine is loaded from the reader.
+    /// Loads the machine from the reader.
     fn load_reader<S: Storage, C: Channels<S>>(
         &mut self,
         queues: &mut Queues,
@@ -98,36 +113,47 @@ impl Devices {
         storage: &mut S,
         channels: &mut C,
         device: DevAddr,
-    ) -> Result<Told, LineError>
+    ) -> Result<LineOutcome, LineError>
         requires size { 8192 ≤ length (S.memory storage.old).bytes }
         requires user { self.old.user < length queues.old.users }
         requires ready { C.IsReady storage.old }
-        ensures ok { let before = equipped machine.old (devices_on self.old queues.old) (C.disks channels.old)
+        ensures ok { let before = equipped machine.old (devices_on self.old queues.old)
+            (C.disks channels.old)
             (S.memory storage.old) in
             let after = equipped machine.new (devices_on self.new queues.new) (C.disks channels.new)
             (S.memory storage.new) in
-            IfOk result (λ told. LoadsReader device before told after) }
+            IfOk result (λ reported. LoadsReader device before reported after) }
         ensures lacks { C.is_whole ≡ false → result ≡ Err LineError.FramesOut
-            → ((page : ℕ) × IsAway (length (S.memory storage.old).bytes) (S.present storage.old) page) }
-        ensures same { let before = equipped machine.old (devices_on self.old queues.old) (C.disks channels.old)
+            → ((page : ℕ) × IsAway (length (S.memory storage.old).bytes) (S.present storage.old)
+            page) }
+        ensures same { let before = equipped machine.old (devices_on self.old queues.old)
+            (C.disks channels.old)
             (S.memory storage.old) in
             let after = equipped machine.new (devices_on self.new queues.new) (C.disks channels.new)
             (S.memory storage.new) in
             C.is_whole ≡ true → result ≡ Err LineError.FramesOut → after ≡ before }
-        ensures out { let before = equipped machine.old (devices_on self.old queues.old) (C.disks channels.old)
+        ensures out { let before = equipped machine.old (devices_on self.old queues.old)
+            (C.disks channels.old)
             (S.memory storage.old) in
             let needs = KindLoads (Some kinds.Reader) before in
             C.is_whole ≡ true → result ≡ Err LineError.FramesOut
-            → LacksRoom (length (S.memory storage.old).bytes) needs
+            → IsOutOfFrames (length (S.memory storage.old).bytes) needs
             (NoRoom C.IsOut C.IsFilled S.present storage.new needs) }
-        ensures came { let before = equipped machine.old (devices_on self.old queues.old) (C.disks channels.old)
+        ensures roomy { let before = equipped machine.old (devices_on self.old queues.old)
+            (C.disks channels.old)
+            (S.memory storage.old) in
+            C.is_whole ≡ true → result ≡ Err LineError.Memory
+            → LoadHadRoom C.HadRoomToLoad storage.old storage.new (Some kinds.Reader) before }
+        ensures paged_in { let before = equipped machine.old (devices_on self.old queues.old)
+            (C.disks channels.old)
             (S.memory storage.old) in
             Brings C.Came storage.old (KindLoads (Some kinds.Reader) before) storage.new }
         ensures ready { C.IsReady storage.new }
         ensures others { C.KeepsOthers channels.old channels.new }
-        ensures beside { KeepsBeside self.old queues.old self.new queues.new }
+        ensures other_users { KeepsOtherUsers self.old queues.old self.new queues.new }
         ensures dropped { OnOk result (C.Forgets channels.old channels.new) }
-        ensures kept { C.is_whole ≡ true → result ≡ Err LineError.FramesOut → channels.new ≡ channels.old }
+        ensures kept { C.is_whole ≡ true → result ≡ Err LineError.FramesOut
+            → channels.new ≡ channels.old }
         ensures memory { C.is_whole ≡ false → result ≡ Err LineError.Memory → machine.old.room < 2 }
     {
         match machine.make_room(1) {
@@ -149,7 +175,7 @@ impl Devices {
         }
     }
 
-    /// The machine is loaded from the disk of this index.
+    /// Loads the machine from the disk of this index.
     fn load_disk<S: Storage, C: Channels<S>>(
         &mut self,
         queues: &Queues,
@@ -158,36 +184,49 @@ impl Devices {
         channels: &mut C,
         device: DevAddr,
         index: usize,
-    ) -> Result<Told, LineError>
+    ) -> Result<LineOutcome, LineError>
         requires size { 8192 ≤ length (S.memory storage.old).bytes }
         requires ready { C.IsReady storage.old }
         requires inside { index < length (C.disks channels.old) }
-        ensures ok { let before = equipped machine.old (devices_on self.old queues.now) (C.disks channels.old)
+        ensures ok { let before = equipped machine.old (devices_on self.old queues.now)
+            (C.disks channels.old)
             (S.memory storage.old) in
             let after = equipped machine.new (devices_on self.new queues.now) (C.disks channels.new)
             (S.memory storage.new) in
-            IfOk result (λ told. LoadsDisk index (slice_get (map reset_disk (C.disks channels.old)) index) device before told after) }
+            IfOk result (λ reported.
+            LoadsDisk index (slice_get (map reset_disk (C.disks channels.old)) index) device
+            before reported after) }
         ensures lacks { C.is_whole ≡ false → result ≡ Err LineError.FramesOut
-            → ((page : ℕ) × IsAway (length (S.memory storage.old).bytes) (S.present storage.old) page) }
-        ensures same { let before = equipped machine.old (devices_on self.old queues.now) (C.disks channels.old)
+            → ((page : ℕ) × IsAway (length (S.memory storage.old).bytes) (S.present storage.old)
+            page) }
+        ensures same { let before = equipped machine.old (devices_on self.old queues.now)
+            (C.disks channels.old)
             (S.memory storage.old) in
             let after = equipped machine.new (devices_on self.new queues.now) (C.disks channels.new)
             (S.memory storage.new) in
             C.is_whole ≡ true → result ≡ Err LineError.FramesOut → after ≡ before }
-        ensures out { let before = equipped machine.old (devices_on self.old queues.now) (C.disks channels.old)
+        ensures out { let before = equipped machine.old (devices_on self.old queues.now)
+            (C.disks channels.old)
             (S.memory storage.old) in
             let needs = KindLoads (Some (kinds.Disk index)) before in
             C.is_whole ≡ true → result ≡ Err LineError.FramesOut
-            → LacksRoom (length (S.memory storage.old).bytes) needs
+            → IsOutOfFrames (length (S.memory storage.old).bytes) needs
             (NoRoom C.IsOut C.IsFilled S.present storage.new needs) }
-        ensures came { let before = equipped machine.old (devices_on self.old queues.now) (C.disks channels.old)
+        ensures roomy { let before = equipped machine.old (devices_on self.old queues.now)
+            (C.disks channels.old)
+            (S.memory storage.old) in
+            C.is_whole ≡ true → result ≡ Err LineError.Memory
+            → LoadHadRoom C.HadRoomToLoad storage.old storage.new (Some (kinds.Disk index)) before }
+        ensures paged_in { let before = equipped machine.old (devices_on self.old queues.now)
+            (C.disks channels.old)
             (S.memory storage.old) in
             Brings C.Came storage.old (KindLoads (Some (kinds.Disk index)) before) storage.new }
         ensures ready { C.IsReady storage.new }
         ensures others { C.KeepsOthers channels.old channels.new }
         ensures user { self.new.user ≡ self.old.user }
         ensures dropped { OnOk result (C.Forgets channels.old channels.new) }
-        ensures kept { C.is_whole ≡ true → result ≡ Err LineError.FramesOut → channels.new ≡ channels.old }
+        ensures kept { C.is_whole ≡ true → result ≡ Err LineError.FramesOut
+            → channels.new ≡ channels.old }
         ensures memory { C.is_whole ≡ false → result ≡ Err LineError.Memory → machine.old.room < 2 }
     {
         match machine.make_room(1) {

@@ -1,8 +1,8 @@
-//! The parts of the devices of one machine: a console, a card reader, a card punch and a line printer. Its disks are
-//! those of the channels on which its programs run.
+//! The parts of the devices of one machine: a console, a card reader, a card punch and a line
+//! printer. Its disks are those of the channels on which its programs run.
 //!
-//! Their one theorem: each call makes of all the parts what a definition of `specs/` says, and a part that it does not
-//! name stays as it was. Where memory is refused all stay.
+//! Their one theorem: each call makes of all the parts what a definition of `specs/` says, and a
+//! part that it does not name stays as it was. Where memory is refused all stay.
 //!
 //! ```
 //! use machine_devices::{Devices, Kind, Places};
@@ -43,10 +43,10 @@ mod world;
 pub use attaching::AttachError;
 pub use devices::Devices;
 pub use files::{ClosedFiles, FileKind, FileNote, deck_line};
-pub use laws::attention_agrees;
-pub use line::Told;
+pub use laws::{attention_agrees, printed_lines_do_not_matter};
+pub use line::LineOutcome;
 pub use places::{Kind, Places};
 pub use reply::{Delivered, Delivery, Ended, Reply, Saying, said_to_line};
 pub use seen::SeenDevices;
 pub use spooling::copy_of;
-pub use world::{World, is_logged_on};
+pub use world::{UserDirectory, is_logged_on};

@@ -1,22 +1,25 @@
 //! Lines that are typed to a machine with devices.
-ghost use Rattle.std.specs.Prelude.{◌≡◌, ◌<◌, ◌≤◌, ℕ, List, [], IfOk, OnErr, OnOk, Err, false, true, length};
+ghost use Rattle.std.specs.Prelude.{◌≡◌, ◌<◌, ◌≤◌, ℕ, List, [], IfOk, OnErr, OnOk, Err, false};
+ghost use Rattle.std.specs.Prelude.{true, length};
 ghost use Rattle.s370_store.specs.Memory.{Memory};
 ghost use Rattle.s370_store.specs.Access.{IsAway, Touches};
-ghost use Rattle.machine_channels.specs.Channels.{Brings, LacksRoom, NoRoom};
+ghost use Rattle.machine_channels.specs.Channels.{Brings, IsOutOfFrames, NoRoom};
 ghost use Rattle.machine_channels.specs.Disks.{DiskAt};
 ghost use Rattle.s370_intr.specs.Run.{AllNeeded, IsLacking};
 ghost use Rattle.cp_spool.specs.Queues.{UserFiles};
 ghost use Rattle.machine_devices.specs.Equipped.{equipped};
-ghost use Rattle.machine_devices.specs.Lent.{KeepsBeside, devices_on, devices_with};
+ghost use Rattle.machine_devices.specs.Lent.{KeepsOtherUsers, devices_on, devices_with};
 ghost use Rattle.machine_devices.specs.Requests.{needs_of, switches};
-ghost use Rattle.machine_devices.specs.Comes.{LineMay, LoadWants, is_ipl};
+ghost use Rattle.machine_devices.specs.Comes.{HasClosed, LineMay, LoadWants, is_ipl};
+ghost use Rattle.machine_devices.specs.Spooling.{open_files};
 ghost use Rattle.machine_devices.specs.Reuses.{LineForgets};
-ghost use Rattle.machine_devices.specs.Lines.{IsLine, files_closed, logged_off, outcome, said, requested, typed_at, was_reset};
+ghost use Rattle.machine_devices.specs.Lines.{IsLine, files_closed, logged_off, outcome, said};
+ghost use Rattle.machine_devices.specs.Lines.{requested, typed_at, was_reset};
 
 use crate::devices::Devices;
 use crate::files::ClosedFiles;
 use crate::request::{Request, request_of};
-use crate::world::World;
+use crate::world::UserDirectory;
 use cp_console::console_line::ConsoleLine;
 use cp_console::lines::ConsoleText;
 use cp_console::responses::Response;
@@ -27,9 +30,9 @@ use s370_store::Supply;
 use std::alloc::Global;
 use unit_record::Arrival;
 
-/// What is told to a line.
+/// What a line is answered.
 #[derive(Clone, Copy, Debug, PartialEq, Eq)]
-pub enum Told {
+pub enum LineOutcome {
     /// Nothing.
     Silent,
     /// A response.
@@ -40,38 +43,46 @@ pub enum Told {
     Sent(u8, ConsoleLine),
     /// That this file was closed: its owner gives it a number.
     Closed(ClosedFiles),
-    /// That the machine was switched off, and these files were closed: their owner gives them numbers.
+    /// That the machine was switched off, and these files were closed: their owner gives them
+    /// numbers.
     LoggedOff(ClosedFiles),
 }
 
-impl Told {
-    /// A response that is said, where there is one.
+impl LineOutcome {
+    /// Returns a response that is said, where there is one.
     #[inline]
-    pub fn of(response: Option<Response>) -> Told
+    pub fn of(response: Option<Response>) -> LineOutcome
         ensures { result ≡ said response }
     {
         match response {
-            None => Told::Silent,
-            Some(response) => Told::Said(response),
+            None => LineOutcome::Silent,
+            Some(response) => LineOutcome::Said(response),
         }
     }
 
-    /// The files that were closed.
+    /// Returns the files that were closed.
     pub fn closed(&self) -> ClosedFiles
         ensures { result ≡ files_closed self.now }
     {
         match self {
-            Told::Closed(files) | Told::LoggedOff(files) => *files,
-            Told::Silent | Told::Said(_) | Told::Files | Told::Sent(_, _) => ClosedFiles::NONE,
+            LineOutcome::Closed(files) | LineOutcome::LoggedOff(files) => *files,
+            LineOutcome::Silent
+            | LineOutcome::Said(_)
+            | LineOutcome::Files
+            | LineOutcome::Sent(_, _) => ClosedFiles::NONE,
         }
     }
 }
 
 impl Devices {
-    /// A line that is typed to a machine with these devices, and what is told. Where it is not obeyed, nothing has
-    /// happened; but of a machine whose loading is not obeyed nothing is said, where the channels are not whole or memory
-    /// is refused.
-    pub fn line<S: Supply, C: Channels<S>, W: World>(
+    /// Types a line to a machine with these devices, and returns its outcome. If it is not obeyed,
+    /// nothing has happened; but of a machine whose loading is not obeyed nothing is said, where
+    /// the channels are not whole or memory is refused.
+    ///
+    /// # Errors
+    ///
+    /// A `LineError`: refused memory, or no room for a page that is needed.
+    pub fn line<S: Supply, C: Channels<S>, W: UserDirectory>(
         &mut self,
         alloc: Global,
         queues: &mut Queues,
@@ -80,70 +91,94 @@ impl Devices {
         channels: &mut C,
         world: &W,
         typed: &[u8],
-    ) -> Result<Told, LineError>
+    ) -> Result<LineOutcome, LineError>
         requires size { 8192 ≤ length (S.Storage.memory storage.old).bytes }
         requires user { self.old.user < length queues.old.users }
         requires ready { C.IsReady storage.old }
-        ensures ok { let before = equipped machine.old (devices_on self.old queues.old) (C.disks channels.old)
+        ensures ok { let before = equipped machine.old (devices_on self.old queues.old)
+            (C.disks channels.old)
             (S.Storage.memory storage.old) in
             let after = equipped machine.new (devices_on self.new queues.new) (C.disks channels.new)
             (S.Storage.memory storage.new) in
-            IfOk result (λ told. IsLine (W.known world.now) typed.now before told after) }
-        ensures err { let before = equipped machine.old (devices_on self.old queues.old) (C.disks channels.old)
+            IfOk result (λ reported. IsLine (W.known world.now) typed.now before reported after) }
+        ensures err { let before = equipped machine.old (devices_on self.old queues.old)
+            (C.disks channels.old)
             (S.Storage.memory storage.old) in
             let after = equipped machine.new (devices_on self.new queues.new) (C.disks channels.new)
             (S.Storage.memory storage.new) in
             is_ipl (requested typed.now before) ≡ false → OnErr result (after ≡ before) }
-        ensures same { let before = equipped machine.old (devices_on self.old queues.old) (C.disks channels.old)
+        ensures same { let before = equipped machine.old (devices_on self.old queues.old)
+            (C.disks channels.old)
             (S.Storage.memory storage.old) in
             let after = equipped machine.new (devices_on self.new queues.new) (C.disks channels.new)
             (S.Storage.memory storage.new) in
             C.is_whole ≡ true → result ≡ Err LineError.FramesOut → after ≡ before }
-        ensures memory { let before = equipped machine.old (devices_on self.old queues.old) (C.disks channels.old)
+        ensures memory { let before = equipped machine.old (devices_on self.old queues.old)
+            (C.disks channels.old)
             (S.Storage.memory storage.old) in
             result ≡ Err LineError.Memory → LineMay typed.now before }
-        ensures frames { let before = equipped machine.old (devices_on self.old queues.old) (C.disks channels.old)
+        ensures frames { let before = equipped machine.old (devices_on self.old queues.old)
+            (C.disks channels.old)
             (S.Storage.memory storage.old) in
             let asked = requested typed.now before in
             is_ipl asked ≡ false → result ≡ Err LineError.FramesOut
             → IsLacking (Touches (needs_of asked)) (length (S.Storage.memory storage.old).bytes)
             (S.IsShort storage.new) }
-        ensures lacks { let before = equipped machine.old (devices_on self.old queues.old) (C.disks channels.old)
+        ensures lacks { let before = equipped machine.old (devices_on self.old queues.old)
+            (C.disks channels.old)
             (S.Storage.memory storage.old) in
-            is_ipl (requested typed.now before) ≡ true → C.is_whole ≡ false → result ≡ Err LineError.FramesOut
-            → ((page : ℕ) × IsAway (length (S.Storage.memory storage.old).bytes) (S.Storage.present storage.old) page) }
-        ensures out { let before = equipped machine.old (devices_on self.old queues.old) (C.disks channels.old)
+            is_ipl (requested typed.now before) ≡ true → C.is_whole ≡ false
+            → result ≡ Err LineError.FramesOut
+            → ((page : ℕ) × IsAway (length (S.Storage.memory storage.old).bytes)
+            (S.Storage.present storage.old) page) }
+        ensures out { let before = equipped machine.old (devices_on self.old queues.old)
+            (C.disks channels.old)
             (S.Storage.memory storage.old) in
             let needs = LoadWants (requested typed.now before) before in
-            is_ipl (requested typed.now before) ≡ true → C.is_whole ≡ true → result ≡ Err LineError.FramesOut
-            → LacksRoom (length (S.Storage.memory storage.old).bytes) needs
+            is_ipl (requested typed.now before) ≡ true → C.is_whole ≡ true
+            → result ≡ Err LineError.FramesOut
+            → IsOutOfFrames (length (S.Storage.memory storage.old).bytes) needs
             (NoRoom C.IsOut C.IsFilled S.Storage.present storage.new needs) }
-        ensures cleared { let before = equipped machine.old (devices_on self.old queues.old) (C.disks channels.old)
+        ensures cleared { let before = equipped machine.old (devices_on self.old queues.old)
+            (C.disks channels.old)
             (S.Storage.memory storage.old) in
-            switches (requested typed.now before) ≡ true → OnOk result (S.Cleared storage.old storage.new) }
-        ensures not_cleared { let before = equipped machine.old (devices_on self.old queues.old) (C.disks channels.old)
+            switches (requested typed.now before) ≡ true
+            → OnOk result (S.Cleared storage.old storage.new) }
+        ensures not_cleared { let before = equipped machine.old (devices_on self.old queues.old)
+            (C.disks channels.old)
             (S.Storage.memory storage.old) in
-            switches (requested typed.now before) ≡ true → OnErr result (S.Brought storage.old [] storage.new) }
-        ensures supply { let before = equipped machine.old (devices_on self.old queues.old) (C.disks channels.old)
+            switches (requested typed.now before) ≡ true
+            → OnErr result (S.Brought storage.old [] storage.new) }
+        ensures supply { let before = equipped machine.old (devices_on self.old queues.old)
+            (C.disks channels.old)
             (S.Storage.memory storage.old) in
             let asked = requested typed.now before in
             switches asked ≡ false → is_ipl asked ≡ false
-            → ((pages : List ℕ) × S.Brought storage.old pages storage.new × AllNeeded (Touches (needs_of asked)) pages) }
-        ensures came { let before = equipped machine.old (devices_on self.old queues.old) (C.disks channels.old)
+            → ((pages : List ℕ) × S.Brought storage.old pages storage.new
+            × AllNeeded (Touches (needs_of asked)) pages) }
+        ensures paged_in { let before = equipped machine.old (devices_on self.old queues.old)
+            (C.disks channels.old)
             (S.Storage.memory storage.old) in
             let asked = requested typed.now before in
             is_ipl asked ≡ true
-            → Brings C.Came storage.old (LoadWants asked before) storage.new × C.IsReady storage.new }
+            → Brings C.Came storage.old (LoadWants asked before) storage.new
+            × C.IsReady storage.new }
         ensures others { C.KeepsOthers channels.old channels.new }
-        ensures beside { KeepsBeside self.old queues.old self.new queues.new }
-        ensures size { length (S.Storage.memory storage.new).bytes ≡ length (S.Storage.memory storage.old).bytes }
-        ensures dropped { let before = equipped machine.old (devices_on self.old queues.old) (C.disks channels.old)
+        ensures other_users { KeepsOtherUsers self.old queues.old self.new queues.new }
+        ensures size { length (S.Storage.memory storage.new).bytes
+            ≡ length (S.Storage.memory storage.old).bytes }
+        ensures dropped { let before = equipped machine.old (devices_on self.old queues.old)
+            (C.disks channels.old)
             (S.Storage.memory storage.old) in
-            OnOk result (LineForgets C.Forgets channels.old channels.new (requested typed.now before) before) }
-        ensures kept { let before = equipped machine.old (devices_on self.old queues.old) (C.disks channels.old)
+            OnOk result (LineForgets C.Forgets channels.old channels.new
+            (requested typed.now before) before) }
+        ensures kept { let before = equipped machine.old (devices_on self.old queues.old)
+            (C.disks channels.old)
             (S.Storage.memory storage.old) in
-            is_ipl (requested typed.now before) ≡ false → OnErr result (channels.new ≡ channels.old) }
-        ensures kept_without_room { C.is_whole ≡ true → result ≡ Err LineError.FramesOut → channels.new ≡ channels.old }
+            is_ipl (requested typed.now before) ≡ false
+            → OnErr result (channels.new ≡ channels.old) }
+        ensures kept_without_room { C.is_whole ≡ true → result ≡ Err LineError.FramesOut
+            → channels.new ≡ channels.old }
     {
         let text = ConsoleText::new(typed);
         let has_console = self.places().console.is_some();
@@ -152,7 +187,7 @@ impl Devices {
                 machine.clear(storage);
                 self.reset();
                 channels.clear_disks();
-                Ok(Told::Said(Response::LogonOk))
+                Ok(LineOutcome::Said(Response::LogonOk))
             }
             Request::LogsOff => self.leave(alloc, queues, machine, storage, channels),
             Request::Resets => self.reset_machine(machine, channels),
@@ -160,13 +195,13 @@ impl Devices {
             Request::Loads(device) => self.ipl(queues, machine, storage, channels, device),
             Request::Asks(command) => self.obey(alloc, queues, world, &command),
             Request::Alone(asked) => match machine.answer(storage, asked) {
-                Ok(response) => Ok(Told::of(response)),
+                Ok(response) => Ok(LineOutcome::of(response)),
                 Err(error) => Err(error),
             },
         }
     }
 
-    /// LOGOFF.
+    /// Does LOGOFF.
     fn leave<S: Supply, D: Disks>(
         &mut self,
         alloc: Global,
@@ -174,26 +209,30 @@ impl Devices {
         machine: &mut Machine,
         storage: &mut S,
         disks: &mut D,
-    ) -> Result<Told, LineError>
+    ) -> Result<LineOutcome, LineError>
         requires { self.old.user < length queues.old.users }
-        ensures ok { let before = equipped machine.old (devices_on self.old queues.old) (D.disks disks.old)
+        ensures ok { let before = equipped machine.old (devices_on self.old queues.old)
+            (D.disks disks.old)
             (S.Storage.memory storage.old) in
             let after = equipped machine.new (devices_on self.new queues.new) (D.disks disks.new)
             (S.Storage.memory storage.new) in
-            IfOk result (λ told. outcome after told ≡ logged_off before) }
-        ensures err { let before = equipped machine.old (devices_on self.old queues.old) (D.disks disks.old)
+            IfOk result (λ reported. outcome after reported ≡ logged_off before) }
+        ensures err { let before = equipped machine.old (devices_on self.old queues.old)
+            (D.disks disks.old)
             (S.Storage.memory storage.old) in
             let after = equipped machine.new (devices_on self.new queues.new) (D.disks disks.new)
             (S.Storage.memory storage.new) in
             OnErr result (after ≡ before) }
+        ensures asked { OnErr result (HasClosed (open_files (devices_on self.old queues.old))) }
         ensures memory { result ≡ Err LineError.FramesOut → ⊥ }
         ensures cleared { OnOk result (S.Cleared storage.old storage.new) }
         ensures not_cleared { OnErr result (S.Brought storage.old [] storage.new) }
         ensures others { D.KeepsOthers disks.old disks.new }
         ensures dropped { OnOk result (D.Forgets disks.old disks.new) }
         ensures kept { OnErr result (disks.new ≡ disks.old) }
-        ensures beside { KeepsBeside self.old queues.old self.new queues.new }
-        ensures size { length (S.Storage.memory storage.new).bytes ≡ length (S.Storage.memory storage.old).bytes }
+        ensures other_users { KeepsOtherUsers self.old queues.old self.new queues.new }
+        ensures size { length (S.Storage.memory storage.new).bytes
+            ≡ length (S.Storage.memory storage.old).bytes }
     {
         let closed = self.open_files(queues);
         match self.log_off(alloc, queues) {
@@ -203,18 +242,21 @@ impl Devices {
         machine.switch_off(storage);
         self.reset();
         disks.clear_disks();
-        Ok(Told::LoggedOff(closed))
+        Ok(LineOutcome::LoggedOff(closed))
     }
 
-    /// SYSTEM RESET.
+    /// Does SYSTEM RESET.
     fn reset_machine<D: Disks>(
         &mut self,
         machine: &mut Machine,
         disks: &mut D,
-    ) -> Result<Told, LineError>
+    ) -> Result<LineOutcome, LineError>
         ensures ok { (files : UserFiles) (m : Memory)
-            → IfOk result (λ told. outcome (equipped machine.new (devices_with self.new files) (D.disks disks.new) m) told
-            ≡ was_reset (equipped machine.old (devices_with self.old files) (D.disks disks.old) m)) }
+            → IfOk result (λ reported.
+            outcome (equipped machine.new (devices_with self.new files) (D.disks disks.new) m)
+            reported
+            ≡ was_reset (equipped machine.old (devices_with self.old files) (D.disks disks.old)
+            m)) }
         ensures err { (files : UserFiles) (m : Memory)
             → OnErr result (equipped machine.new (devices_with self.new files) (D.disks disks.new) m
             ≡ equipped machine.old (devices_with self.old files) (D.disks disks.old) m) }
@@ -230,15 +272,17 @@ impl Devices {
         }
         self.reset();
         disks.reset_disks();
-        Ok(Told::Said(Response::SystemReset))
+        Ok(LineOutcome::Said(Response::SystemReset))
     }
 
-    /// A line for the console.
-    fn type_line(&mut self, machine: &mut Machine, text: &[u8]) -> Result<Told, LineError>
+    /// Types a line for the console.
+    fn type_line(&mut self, machine: &mut Machine, text: &[u8]) -> Result<LineOutcome, LineError>
         requires { length text.now ≤ 132 }
         ensures ok { (files : UserFiles) (disks : List DiskAt) (m : Memory)
-            → IfOk result (λ told. outcome (equipped machine.new (devices_with self.new files) disks m) told
-            ≡ typed_at self.old.places.console text.now (equipped machine.old (devices_with self.old files) disks m)) }
+            → IfOk result (λ reported.
+            outcome (equipped machine.new (devices_with self.new files) disks m) reported
+            ≡ typed_at self.old.places.console text.now
+            (equipped machine.old (devices_with self.old files) disks m)) }
         ensures err { (files : UserFiles) (disks : List DiskAt) (m : Memory)
             → OnErr result (equipped machine.new (devices_with self.new files) disks m
             ≡ equipped machine.old (devices_with self.old files) disks m) }
@@ -246,12 +290,12 @@ impl Devices {
         ensures user { self.new.user ≡ self.old.user }
     {
         let Some(device) = self.places.console else {
-            return Ok(Told::Silent);
+            return Ok(LineOutcome::Silent);
         };
         match self.console.line(text) {
             Ok(Arrival::Kept) => {
                 machine.attend(device);
-                Ok(Told::Silent)
+                Ok(LineOutcome::Silent)
             }
             Ok(Arrival::Lost) => {
                 match machine.make_room(1) {
@@ -259,7 +303,7 @@ impl Devices {
                     Err(_) => return Err(LineError::Memory),
                 }
                 machine.print(&Response::LineLost);
-                Ok(Told::Said(Response::LineLost))
+                Ok(LineOutcome::Said(Response::LineLost))
             }
             Err(_) => Err(LineError::Memory),
         }

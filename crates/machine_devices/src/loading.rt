@@ -14,8 +14,8 @@ use s370_walk::{ChannelStatus, Ending, UnitStatus};
 /// Where the device's address is stored, in the PSW that is loaded.
 const IPL_PSW: Range = Range { start: 0, count: 8 };
 
-/// Lets a machine run whose program of loading ended well, and tells whether it did. There is room for a line and for
-/// the notice of the machine's stop.
+/// Lets a machine run whose program of loading ended well, and says whether it did. There is room
+/// for a line and for the notice of the machine's stop.
 pub(crate) fn start_loaded<S: Storage>(
     machine: &mut Machine,
     storage: &mut S,
@@ -27,7 +27,8 @@ pub(crate) fn start_loaded<S: Storage>(
     ensures well { IfOk result (λ well. well ≡ is_good ending.now) }
     ensures left { let before = machine_of machine.old (S.memory storage.old) in
         let after = machine_of machine.new (S.memory storage.new) in
-        IfOk result (λ well. after ≡ left_by (is_good ending.now) device before (S.memory storage.old).bytes) }
+        IfOk result (λ well. after
+        ≡ left_by (is_good ending.now) device before (S.memory storage.old).bytes) }
     ensures stopped { IfErr result (LacksPsw (S.present storage.old)) }
     ensures rest { S.Keeps storage.old storage.new }
 {
@@ -47,7 +48,7 @@ pub(crate) fn start_loaded<S: Storage>(
     Ok(true)
 }
 
-/// Whether nothing went wrong.
+/// Returns whether nothing went wrong.
 fn is_good(ending: &Ending) -> bool
     ensures { result ≡ is_good ending.now }
 {

@@ -1,20 +1,25 @@
 //! The commands that concern the files of a machine's devices, and other users.
-ghost use Rattle.std.specs.Prelude.{◌≡◌, ◌<◌, List, is_some, if◌then◌else◌, length, IfOk, OnErr, Err};
+ghost use Rattle.std.specs.Prelude.{◌≡◌, ◌<◌, IsSome, List, is_some, if◌then◌else◌, length, IfOk};
+ghost use Rattle.std.specs.Prelude.{OnErr, Err};
 ghost use Rattle.user_names.specs.Users.{user_of};
 ghost use Rattle.cp_console.specs.declared.responses.Response.TheVariants as responses;
 ghost use Rattle.machine_panel.specs.Machine.{Machine as WholeMachine};
 ghost use Rattle.unit_record.specs.Reader.{queued_at};
 ghost use Rattle.machine_channels.specs.Disks.{DiskAt};
 ghost use Rattle.cp_spool.specs.Queues.{UserFiles};
-ghost use Rattle.machine_devices.specs.Lent.{KeepsBeside, devices_on, devices_with};
-ghost use Rattle.machine_devices.specs.Lines.{CommandMayTakeMemory, IsObeyed, SendsTo, close_answered, files_told, outcome, printer_answered, punch_answered, spool_answered, target_of};
+ghost use Rattle.machine_devices.specs.Lent.{KeepsOtherUsers, devices_on, devices_with};
+ghost use Rattle.machine_devices.specs.Comes.{CommandMayTakeMemory, HasOpen};
+ghost use Rattle.machine_devices.specs.Devices.{part_at};
+ghost use Rattle.machine_devices.specs.Lines.{IsObeyed, SendsTo, close_answered, files_told};
+ghost use Rattle.machine_devices.specs.Lines.{outcome, printer_answered, punch_answered};
+ghost use Rattle.machine_devices.specs.Lines.{spool_answered, target_of};
 ghost use Rattle.machine_devices.specs.Spooling.{with_deck_purged};
 
 use crate::devices::Devices;
 use crate::files::ClosedFiles;
-use crate::line::Told;
+use crate::line::LineOutcome;
 use crate::places::Kind;
-use crate::world::World;
+use crate::world::UserDirectory;
 use cp_console::console_line::ConsoleLine;
 use cp_console::device_commands::DeviceCommand;
 use cp_console::printing::message_line;
@@ -25,8 +30,8 @@ use s370_num::DevAddr;
 use std::alloc::Global;
 use unit_record::Target;
 
-/// The target that a name says: `SYSTEM` is the operator, another name is a user's.
-fn target_of<W: World>(world: &W, name: &[u8]) -> Option<Target>
+/// Returns the target that a name says: `SYSTEM` is the operator, another name is a user's.
+fn target_of<W: UserDirectory>(world: &W, name: &[u8]) -> Option<Target>
     ensures { result ≡ target_of (W.known world.now) name.now }
 {
     if name == b"SYSTEM".as_slice() {
@@ -38,46 +43,55 @@ fn target_of<W: World>(world: &W, name: &[u8]) -> Option<Target>
     }
 }
 
-/// MSG.
-fn send<W: World>(alloc: Global, world: &W, name: &[u8], text: &[u8]) -> Result<Told, LineError>
-    ensures ok { IfOk result (λ told.
-        SendsTo (user_of (W.known world.now).names name.now) (W.known world.now) text.now told) }
+/// Does MSG.
+fn send<W: UserDirectory>(
+    alloc: Global,
+    world: &W,
+    name: &[u8],
+    text: &[u8],
+) -> Result<LineOutcome, LineError>
+    ensures ok { IfOk result (λ reported.
+        SendsTo (user_of (W.known world.now).names name.now) (W.known world.now) text.now
+        reported) }
     ensures memory { result ≡ Err LineError.FramesOut → ⊥ }
 {
     let Some(user) = world.user_of(name) else {
-        return Ok(Told::Said(Response::UserNotFound));
+        return Ok(LineOutcome::Said(Response::UserNotFound));
     };
     if !world.is_on(user) {
-        return Ok(Told::Said(Response::UserNotLoggedOn));
+        return Ok(LineOutcome::Said(Response::UserNotLoggedOn));
     }
     match message_line(alloc, world.own_name(), text) {
-        Ok(line) => Ok(Told::Sent(user, ConsoleLine::of(&line))),
+        Ok(line) => Ok(LineOutcome::Sent(user, ConsoleLine::of(&line))),
         Err(_) => Err(LineError::Memory),
     }
 }
 
 impl Devices {
-    /// A command to a machine with these devices. Where it is not obeyed, nothing has happened.
-    pub(crate) fn obey<W: World>(
+    /// Does a command to a machine with these devices. If it is not obeyed, nothing has happened.
+    pub(crate) fn obey<W: UserDirectory>(
         &mut self,
         alloc: Global,
         queues: &mut Queues,
         world: &W,
         command: &DeviceCommand<'_>,
-    ) -> Result<Told, LineError>
+    ) -> Result<LineOutcome, LineError>
         requires { self.old.user < length queues.old.users }
         ensures ok { (m : WholeMachine) (disks : List DiskAt)
-            → IfOk result (λ told. IsObeyed (W.known world.now) command.now
-            (record { machine = m; devices = devices_on self.old queues.old; disks = disks }) told
+            → IfOk result (λ reported. IsObeyed (W.known world.now) command.now
+            (record { machine = m; devices = devices_on self.old queues.old; disks = disks })
+            reported
             (record { machine = m; devices = devices_on self.new queues.new; disks = disks })) }
-        ensures err { OnErr result (devices_on self.new queues.new ≡ devices_on self.old queues.old) }
-        ensures memory { result ≡ Err LineError.Memory → CommandMayTakeMemory command.now }
+        ensures err { OnErr result
+            (devices_on self.new queues.new ≡ devices_on self.old queues.old) }
+        ensures memory { result ≡ Err LineError.Memory
+            → CommandMayTakeMemory command.now (devices_on self.old queues.old) }
         ensures frames { result ≡ Err LineError.FramesOut → ⊥ }
-        ensures beside { KeepsBeside self.old queues.old self.new queues.new }
+        ensures other_users { KeepsOtherUsers self.old queues.old self.new queues.new }
     {
         match command {
             DeviceCommand::QueryFiles => Ok(self.tell_files(queues)),
-            DeviceCommand::QueryUsers => Ok(Told::Said(Response::Users(world.users_on()))),
+            DeviceCommand::QueryUsers => Ok(LineOutcome::Said(Response::Users(world.users_on()))),
             DeviceCommand::Spool(device, name) => {
                 Ok(self.answer_spool(world, *device, name.as_slice()))
             }
@@ -89,36 +103,44 @@ impl Devices {
         }
     }
 
-    /// QUERY FILES.
-    fn tell_files(&self, queues: &Queues) -> Told
+    /// Does QUERY FILES.
+    fn tell_files(&self, queues: &Queues) -> LineOutcome
         ensures { result ≡ files_told (devices_on self.now queues.now).reader.decks }
     {
         if queues.decks(self.user) == 0 {
-            Told::Said(Response::NoFiles)
+            LineOutcome::Said(Response::NoFiles)
         } else {
-            Told::Files
+            LineOutcome::Files
         }
     }
 
-    /// PURGE.
-    fn answer_purge(&self, queues: &mut Queues, file: u64) -> Told
+    /// Does PURGE.
+    fn answer_purge(&self, queues: &mut Queues, file: u64) -> LineOutcome
         requires { self.now.user < length queues.old.users }
-        ensures told { result ≡ Told.Said
-            (if is_some (queued_at (devices_on self.now queues.old).reader file) then responses.Purged else responses.FileNotFound) }
-        ensures after { devices_on self.now queues.new ≡ with_deck_purged (devices_on self.now queues.old) file }
-        ensures beside { KeepsBeside self.now queues.old self.now queues.new }
+        ensures reported { result ≡ LineOutcome.Said
+            (if is_some (queued_at (devices_on self.now queues.old).reader file)
+            then responses.Purged else responses.FileNotFound) }
+        ensures after { devices_on self.now queues.new
+            ≡ with_deck_purged (devices_on self.now queues.old) file }
+        ensures other_users { KeepsOtherUsers self.now queues.old self.now queues.new }
     {
         if self.purge(queues, file) {
-            Told::Said(Response::Purged)
+            LineOutcome::Said(Response::Purged)
         } else {
-            Told::Said(Response::FileNotFound)
+            LineOutcome::Said(Response::FileNotFound)
         }
     }
 
-    /// SPOOL.
-    fn answer_spool<W: World>(&mut self, world: &W, device: DevAddr, name: &[u8]) -> Told
-        ensures told { (m : WholeMachine) (files : UserFiles) (disks : List DiskAt)
-            → outcome (record { machine = m; devices = devices_with self.new files; disks = disks }) result
+    /// Does SPOOL.
+    fn answer_spool<W: UserDirectory>(
+        &mut self,
+        world: &W,
+        device: DevAddr,
+        name: &[u8],
+    ) -> LineOutcome
+        ensures reported { (m : WholeMachine) (files : UserFiles) (disks : List DiskAt)
+            → outcome (record { machine = m; devices = devices_with self.new files; disks = disks })
+            result
             ≡ spool_answered (W.known world.now) device name.now
             (record { machine = m; devices = devices_with self.old files; disks = disks }) }
         ensures user { self.new.user ≡ self.old.user }
@@ -127,34 +149,46 @@ impl Devices {
             Some(Kind::Punch) => match target_of(world, name) {
                 Some(target) => {
                     self.spool(target);
-                    Told::Said(Response::Spooled)
+                    LineOutcome::Said(Response::Spooled)
                 }
-                None => Told::Said(Response::UserNotFound),
+                None => LineOutcome::Said(Response::UserNotFound),
             },
-            _ => Told::Said(Response::DeviceNotFound),
+            _ => LineOutcome::Said(Response::DeviceNotFound),
         }
     }
 
-    /// CLOSE.
+    /// Does CLOSE.
     fn answer_close(
         &mut self,
         alloc: Global,
         queues: &mut Queues,
         device: DevAddr,
-    ) -> Result<Told, LineError>
+    ) -> Result<LineOutcome, LineError>
         requires { self.old.user < length queues.old.users }
         ensures ok { (m : WholeMachine) (disks : List DiskAt)
-            → IfOk result (λ told. outcome (record { machine = m; devices = devices_on self.new queues.new; disks = disks }) told
-            ≡ close_answered device (record { machine = m; devices = devices_on self.old queues.old; disks = disks })) }
-        ensures err { OnErr result (devices_on self.new queues.new ≡ devices_on self.old queues.old) }
+            → IfOk result (λ reported.
+            outcome (record {
+              machine = m;
+              devices = devices_on self.new queues.new;
+              disks = disks;
+            }) reported
+            ≡ close_answered device (record {
+              machine = m;
+              devices = devices_on self.old queues.old;
+              disks = disks;
+            })) }
+        ensures err { OnErr result
+            (devices_on self.new queues.new ≡ devices_on self.old queues.old) }
+        ensures asked { let before = devices_on self.old queues.old in
+            result ≡ Err LineError.Memory → HasOpen (part_at before device) before }
         ensures memory { result ≡ Err LineError.FramesOut → ⊥ }
-        ensures beside { KeepsBeside self.old queues.old self.new queues.new }
+        ensures other_users { KeepsOtherUsers self.old queues.old self.new queues.new }
     {
         let open = self.open_files(queues);
         match self.part_at(device.get()) {
             Some(Kind::Punch) => self.close_punched(alloc, queues, open.punched),
             Some(Kind::Printer) => self.close_printed(alloc, queues, open.printed),
-            _ => Ok(Told::Said(Response::DeviceNotFound)),
+            _ => Ok(LineOutcome::Said(Response::DeviceNotFound)),
         }
     }
 
@@ -164,20 +198,31 @@ impl Devices {
         alloc: Global,
         queues: &mut Queues,
         place: Option<usize>,
-    ) -> Result<Told, LineError>
+    ) -> Result<LineOutcome, LineError>
         requires { self.old.user < length queues.old.users }
         ensures ok { (m : WholeMachine) (disks : List DiskAt)
-            → IfOk result (λ told. outcome (record { machine = m; devices = devices_on self.new queues.new; disks = disks }) told
-            ≡ punch_answered place (record { machine = m; devices = devices_on self.old queues.old; disks = disks })) }
-        ensures err { OnErr result (devices_on self.new queues.new ≡ devices_on self.old queues.old) }
+            → IfOk result (λ reported.
+            outcome (record {
+              machine = m;
+              devices = devices_on self.new queues.new;
+              disks = disks;
+            }) reported
+            ≡ punch_answered place (record {
+              machine = m;
+              devices = devices_on self.old queues.old;
+              disks = disks;
+            })) }
+        ensures err { OnErr result
+            (devices_on self.new queues.new ≡ devices_on self.old queues.old) }
+        ensures asked { result ≡ Err LineError.Memory → IsSome place }
         ensures memory { result ≡ Err LineError.FramesOut → ⊥ }
-        ensures beside { KeepsBeside self.old queues.old self.new queues.new }
+        ensures other_users { KeepsOtherUsers self.old queues.old self.new queues.new }
     {
         if place.is_none() {
-            return Ok(Told::Said(Response::NoFile));
+            return Ok(LineOutcome::Said(Response::NoFile));
         }
         match self.close_punch(alloc, queues) {
-            Ok(()) => Ok(Told::Closed(ClosedFiles {
+            Ok(()) => Ok(LineOutcome::Closed(ClosedFiles {
                 punched: place,
                 printed: None,
             })),
@@ -185,26 +230,34 @@ impl Devices {
         }
     }
 
-    /// The same of the printer.
+    /// Closes the open file of the printer, which will have this place, if there is one.
     fn close_printed(
         &mut self,
         alloc: Global,
         queues: &mut Queues,
         place: Option<usize>,
-    ) -> Result<Told, LineError>
+    ) -> Result<LineOutcome, LineError>
         requires { self.old.user < length queues.old.users }
         ensures ok { (m : WholeMachine) (disks : List DiskAt)
-            → IfOk result (λ told. outcome (record { machine = m; devices = devices_on self.new queues.new; disks = disks }) told
-            ≡ printer_answered place (record { machine = m; devices = devices_on self.old queues.old; disks = disks })) }
-        ensures err { OnErr result (devices_on self.new queues.new ≡ devices_on self.old queues.old) }
+            → IfOk result (λ reported.
+            outcome (record {
+              machine = m;
+              devices = devices_on self.new queues.new;
+              disks = disks;
+            }) reported
+            ≡ printer_answered place
+            (record { machine = m; devices = devices_on self.old queues.old; disks = disks })) }
+        ensures err { OnErr result
+            (devices_on self.new queues.new ≡ devices_on self.old queues.old) }
+        ensures asked { result ≡ Err LineError.Memory → IsSome place }
         ensures memory { result ≡ Err LineError.FramesOut → ⊥ }
-        ensures beside { KeepsBeside self.old queues.old self.new queues.new }
+        ensures other_users { KeepsOtherUsers self.old queues.old self.new queues.new }
     {
         if place.is_none() {
-            return Ok(Told::Said(Response::NoFile));
+            return Ok(LineOutcome::Said(Response::NoFile));
         }
         match self.close_printer(alloc, queues) {
-            Ok(()) => Ok(Told::Closed(ClosedFiles {
+            Ok(()) => Ok(LineOutcome::Closed(ClosedFiles {
                 punched: None,
                 printed: place,
             })),

@@ -23,7 +23,7 @@ impl Places {
         printer: None,
     };
 
-    /// How many of them a machine has.
+    /// Returns how many of them a machine has.
     pub fn count(&self) -> usize
         ensures count { result ≡ length (places_of self.now) }
         ensures most { result ≤ 4 }
@@ -38,7 +38,7 @@ impl Places {
     }
 }
 
-/// One where a device is there, else none.
+/// Returns one if a device is there, else zero.
 fn one_if(place: Option<DevAddr>) -> usize
     ensures count { result ≡ length (option_to_list place) }
     ensures most { result ≤ 1 }
@@ -60,7 +60,7 @@ pub enum Kind {
     Disk(usize),
 }
 
-/// Whether this is the address of the device.
+/// Returns whether this is the address of the device.
 pub(crate) fn is_there(place: Option<DevAddr>, device: u16) -> bool
     ensures { result ≡ is_there place device }
 {

@@ -2,7 +2,7 @@
 ghost use Rattle.std.specs.Prelude.{◌≡◌};
 ghost use Rattle.machine_devices.specs.Replies.{said_to_line, saying, silent};
 
-use crate::line::Told;
+use crate::line::LineOutcome;
 use cp_console::console_line::ConsoleLine;
 use cp_console::responses::Response;
 use s370_intr::Ran;
@@ -33,7 +33,7 @@ pub enum Saying {
 }
 
 impl Saying {
-    /// A response that is said, where there is one.
+    /// Returns a response that is said, where there is one.
     #[inline]
     pub fn of(response: Option<Response>) -> Saying
         ensures { result ≡ saying response }
@@ -50,16 +50,18 @@ impl Saying {
 pub struct Reply {
     /// How the event ended.
     pub ended: Ended,
-    /// What is said to the user whom the event names: the answer to his line, or the notice of a machine that stopped.
+    /// What is said to the user whom the event names: the answer to his line, or the notice of a
+    /// machine that stopped.
     pub said: Saying,
     /// How many lines have joined the console of that user, the last of its output.
     pub lines: usize,
-    /// What was delivered, and to whom. The cards of a deck are those of the last deck of his reader.
+    /// What was delivered, and to whom. The cards of a deck are those of the last deck of his
+    /// reader.
     pub delivered: Option<Delivered>,
 }
 
 impl Reply {
-    /// Nothing is said, and nothing was delivered.
+    /// Returns a reply that says nothing and delivers nothing.
     pub fn silent(ended: Ended) -> Reply
         ensures { result ≡ silent ended }
     {
@@ -72,7 +74,7 @@ impl Reply {
     }
 }
 
-/// What a user was told as delivered to him.
+/// What was delivered to a user.
 #[derive(Clone, Copy, Debug, PartialEq, Eq)]
 pub enum Delivery {
     /// The deck of the file with this number, which is the last of his reader.
@@ -90,16 +92,16 @@ pub struct Delivered {
     pub what: Delivery,
 }
 
-/// What is said to a line that was answered so, where the next file has this number.
-pub fn said_to_line(number: u64, told: &Told) -> Saying
-    ensures { result ≡ said_to_line number told.now }
+/// Returns what is said to a line that was answered so, where the next file has this number.
+pub fn said_to_line(number: u64, reported: &LineOutcome) -> Saying
+    ensures { result ≡ said_to_line number reported.now }
 {
-    match told {
-        Told::Silent => Saying::Nothing,
-        Told::Said(response) => Saying::Said(*response),
-        Told::Files => Saying::Files,
-        Told::Sent(_, _) => Saying::Said(Response::Sent),
-        Told::Closed(_) => Saying::Said(Response::FileClosed(number)),
-        Told::LoggedOff(_) => Saying::Said(Response::LogoffOk),
+    match reported {
+        LineOutcome::Silent => Saying::Nothing,
+        LineOutcome::Said(response) => Saying::Said(*response),
+        LineOutcome::Files => Saying::Files,
+        LineOutcome::Sent(_, _) => Saying::Said(Response::Sent),
+        LineOutcome::Closed(_) => Saying::Said(Response::FileClosed(number)),
+        LineOutcome::LoggedOff(_) => Saying::Said(Response::LogoffOk),
     }
 }

@@ -2,7 +2,8 @@
 ghost use Rattle.std.specs.Prelude.{◌≡◌, Ok};
 ghost use Rattle.cp_console.specs.Asked.{asked_of};
 ghost use Rattle.cp_console.specs.Commands.{command_of};
-ghost use Rattle.machine_devices.specs.Requests.{asked_request, command_request, off_request, plain_request, request_in};
+ghost use Rattle.machine_devices.specs.Requests.{asked_request, command_request, off_request};
+ghost use Rattle.machine_devices.specs.Requests.{plain_request, request_in};
 
 use cp_console::commands::{Command, CommandError, read_command};
 use cp_console::device_commands::DeviceCommand;
@@ -30,7 +31,8 @@ pub enum Request<'a> {
     Alone(PanelLine),
 }
 
-/// What a line that was cut and cleaned asks of a machine in this mode, with a console or without one.
+/// Returns what a line that was cut and cleaned asks of a machine in this mode, with a console or
+/// without one.
 pub(crate) fn request_of(mode: Mode, has_console: bool, text: &[u8]) -> Request<'_>
     ensures { result ≡ request_in mode has_console text.now }
 {
@@ -40,7 +42,7 @@ pub(crate) fn request_of(mode: Mode, has_console: bool, text: &[u8]) -> Request<
     }
 }
 
-/// Of a line to a machine that is on.
+/// Returns the request of a line to a machine that is on.
 fn on_request(mode: Mode, has_console: bool, text: &[u8]) -> Request<'_>
     ensures { result ≡ asked_request mode has_console (asked_of text.now) }
 {
@@ -51,7 +53,7 @@ fn on_request(mode: Mode, has_console: bool, text: &[u8]) -> Request<'_>
     }
 }
 
-/// Of a line that does not name the control program.
+/// Returns the request of a line that does not name the control program.
 fn plain_request(mode: Mode, has_console: bool, text: &[u8]) -> Request<'_>
     ensures { result ≡ plain_request mode has_console text.now }
 {
@@ -68,7 +70,7 @@ fn plain_request(mode: Mode, has_console: bool, text: &[u8]) -> Request<'_>
     }
 }
 
-/// Of a line to a machine that is off.
+/// Returns the request of a line to a machine that is off.
 fn off_request(text: &[u8]) -> Request<'_>
     ensures { result ≡ off_request (command_of text.now) }
 {
@@ -78,7 +80,7 @@ fn off_request(text: &[u8]) -> Request<'_>
     }
 }
 
-/// Of a command's text.
+/// Returns the request of a command's text.
 fn command_request(text: &[u8]) -> Request<'_>
     ensures { result ≡ command_request (command_of text.now) }
 {
@@ -93,7 +95,7 @@ fn command_request(text: &[u8]) -> Request<'_>
     }
 }
 
-/// Of a command.
+/// Returns the request of a command.
 fn request_by(command: Command<'_>) -> Request<'_>
     ensures { result ≡ command_request (Ok command.entry) }
 {

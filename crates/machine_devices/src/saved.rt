@@ -1,16 +1,16 @@
-//! Devices, what is noted of files, and deliveries as bytes, and back.
+//! Devices, and what is noted of files, as bytes, and back.
 //!
-//! What is saved is exact: no two values have the same bytes. What is restored is lawful whatever the bytes are, and
-//! whoever saves it again sees whether it is what was saved.
+//! What is saved is exact: no two values have the same bytes. What is restored is lawful whatever
+//! the bytes are, and whoever saves it again sees whether it is what was saved.
 ghost use Rattle.std.specs.Prelude.{◌≡◌, ◌++◌, OnOk};
-ghost use Rattle.machine_devices.specs.Saved.{console_part_bytes, delivery_bytes, devices_bytes, kind_number, kind_place, note_bytes, owner_bytes, places_bytes, spooled_bytes};
+ghost use Rattle.machine_devices.specs.Saved.{console_part_bytes, devices_bytes, kind_number};
+ghost use Rattle.machine_devices.specs.Saved.{kind_place, note_bytes, owner_bytes, places_bytes};
+ghost use Rattle.machine_devices.specs.Saved.{spooled_bytes};
 ghost use Rattle.saved_bytes.specs.Codes.{number, optional};
 
 use crate::devices::Devices;
 use crate::files::{FileKind, FileNote};
 use crate::places::Places;
-use crate::reply::Delivery;
-use cp_console::console_line::ConsoleLine;
 use s370_num::DevAddr;
 use saved_bytes::{Input, put_number, put_one, put_zero};
 use std::alloc::{AllocError, Global};
@@ -30,7 +30,7 @@ fn put_address(out: &mut Vec<u8>, address: Option<DevAddr>) -> Result<(), AllocE
     }
 }
 
-/// The address of a device that comes next, or that there is none.
+/// Takes the address of a device that is next, or that there is none.
 fn address_of(input: &mut Input<'_>) -> Option<Option<DevAddr>> {
     if input.flag()? {
         Some(Some(DevAddr::new(input.half()?)))
@@ -56,7 +56,7 @@ fn put_places(out: &mut Vec<u8>, places: Places) -> Result<(), AllocError>
     put_address(out, printer)
 }
 
-/// Where devices are that come next.
+/// Takes the addresses of devices that are next.
 fn places_of(input: &mut Input<'_>) -> Option<Places> {
     Some(Places {
         console: address_of(input)?,
@@ -66,7 +66,7 @@ fn places_of(input: &mut Input<'_>) -> Option<Places> {
     })
 }
 
-/// The user who comes next.
+/// Takes the user who is next.
 fn user_of(input: &mut Input<'_>) -> Option<UserNo> {
     let number = input.small()?;
     if usize::from(number) < MOST_USERS {
@@ -77,7 +77,7 @@ fn user_of(input: &mut Input<'_>) -> Option<UserNo> {
 }
 
 impl Devices {
-    /// Appends where they are, and the console.
+    /// Appends the addresses of devices, and the console.
     fn put_console(&self, out: &mut Vec<u8>) -> Result<(), AllocError>
         ensures { OnOk result (out.new.items ≡ out.old.items ++ console_part_bytes self.now) }
     {
@@ -103,6 +103,10 @@ impl Devices {
     }
 
     /// Appends all of them but their files.
+    ///
+    /// # Errors
+    ///
+    /// `AllocError` if memory is refused; `out` may have a part of it then.
     pub fn save(&self, out: &mut Vec<u8>) -> Result<(), AllocError>
         ensures { OnOk result (out.new.items ≡ out.old.items ++ devices_bytes self.now) }
     {
@@ -121,8 +125,9 @@ impl Devices {
         self.put_owner(out)
     }
 
-    /// Takes what comes next, in the place of devices that have done nothing, at the same places and of the same user.
-    /// None is told of other bytes; what is left then is lawful, and nothing else is said of it.
+    /// Restores what is next in the input, in devices that have done nothing, at the same places
+    /// and of the same user. None is reported of other bytes; what is left then is lawful, and
+    /// nothing else is said of it.
     pub fn restore(&mut self, alloc: Global, input: &mut Input<'_>) -> Option<()>
         ensures places { self.new.places ≡ self.old.places }
         ensures user { self.new.user ≡ self.old.user }
@@ -143,7 +148,7 @@ impl Devices {
     }
 }
 
-/// What a file was when it got its number.
+/// Returns what a file was when it got its number.
 fn number_of(kind: FileKind) -> u64
     ensures { result ≡ kind_number kind }
 {
@@ -154,7 +159,7 @@ fn number_of(kind: FileKind) -> u64
     }
 }
 
-/// The place of a file among those of its device.
+/// Returns the place of a file among those of its device.
 fn place_of(kind: FileKind) -> usize
     ensures { result ≡ kind_place kind }
 {
@@ -166,6 +171,10 @@ fn place_of(kind: FileKind) -> usize
 }
 
 /// Appends what is noted of a file.
+///
+/// # Errors
+///
+/// `AllocError` if memory is refused; `out` may have a part of it then.
 pub fn put_note(out: &mut Vec<u8>, note: FileNote) -> Result<(), AllocError>
     ensures { OnOk result (out.new.items ≡ out.old.items ++ note_bytes note) }
 {
@@ -175,7 +184,7 @@ pub fn put_note(out: &mut Vec<u8>, note: FileNote) -> Result<(), AllocError>
     put_number(out, place_of(kind) as u64)
 }
 
-/// What is noted of a file, which comes next.
+/// Takes the note of a file that is next.
 pub fn note_of(input: &mut Input<'_>) -> Option<FileNote> {
     let user = user_of(input)?;
     let number = input.small()?;
@@ -187,29 +196,4 @@ pub fn note_of(input: &mut Input<'_>) -> Option<FileNote> {
         _ => return None,
     };
     Some(FileNote { user, kind })
-}
-
-/// Appends what was delivered.
-pub fn put_delivery(out: &mut Vec<u8>, delivery: &Delivery) -> Result<(), AllocError>
-    ensures { OnOk result (out.new.items ≡ out.old.items ++ delivery_bytes delivery.now) }
-{
-    match delivery {
-        Delivery::Deck(number) => {
-            put_zero(out)?;
-            put_number(out, *number)
-        }
-        Delivery::Message(line) => {
-            put_one(out)?;
-            line.save(out)
-        }
-    }
-}
-
-/// What was delivered, which comes next.
-pub fn delivery_of(input: &mut Input<'_>) -> Option<Delivery> {
-    if input.flag()? {
-        Some(Delivery::Message(ConsoleLine::restored(input)?))
-    } else {
-        Some(Delivery::Deck(input.number()?))
-    }
 }

@@ -10,8 +10,8 @@ use cp_spool::{Queues, SeenDeck, SpoolFile};
 use std::marker::Model;
 use unit_record::{Console, Printer, Punch, Target};
 
-/// The devices of one machine as they are seen, with the decks of its reader and the files that its punch and its
-/// printer closed.
+/// The devices of one machine as they are seen, with the decks of its reader and the files that its
+/// punch and its printer closed.
 #[derive(Drop)]
 pub struct SeenDevices<'a> {
     devices: &'a Devices,
@@ -28,98 +28,98 @@ impl<'a> Model for SeenDevices<'a> {
 }
 
 impl<'a> SeenDevices<'a> {
-    /// These devices, with their files among these.
+    /// Returns these devices, with their files among these.
     pub fn new(devices: &'a Devices, queues: &'a Queues) -> SeenDevices<'a>
         ensures { result ≡ devices_on devices.now queues.now }
     {
         SeenDevices { devices, queues }
     }
 
-    /// Where the devices are.
+    /// Returns where the devices are.
     pub fn places(&self) -> Places
         ensures { result ≡ self.now.places }
     {
         self.devices.places()
     }
 
-    /// The console.
+    /// Returns the console.
     pub fn console(&self) -> &'a Console
         ensures { result.now ≡ self.now.console }
     {
         self.devices.console()
     }
 
-    /// How many decks the reader has, a current one included.
+    /// Returns how many decks the reader has, a current one included.
     pub fn decks(&self) -> usize
         ensures { result ≡ length self.now.reader.decks }
     {
         self.queues.decks(self.devices.user())
     }
 
-    /// A deck of the reader, in their order; a current one is the first.
+    /// Returns a deck of the reader, in their order; a current one is the first.
     pub fn deck(&self, index: usize) -> Option<SeenDeck<'a>>
         ensures { result ≡ slice_get self.now.reader.decks index }
     {
         self.queues.deck(self.devices.user(), index)
     }
 
-    /// How many cards of the current deck were read, or None where no deck is current.
+    /// Returns how many cards of the current deck were read, or None where no deck is current.
     pub fn place(&self) -> Option<usize>
         ensures { result ≡ self.now.reader.place }
     {
         self.queues.place(self.devices.user())
     }
 
-    /// The sense byte of the reader's last unit check.
+    /// Returns the sense byte of the reader's last unit check.
     pub fn reader_sense(&self) -> u8
         ensures { result ≡ self.now.reader.sense }
     {
         self.devices.reader().sense()
     }
 
-    /// The card punch.
+    /// Returns the card punch.
     pub fn punch(&self) -> &'a Punch
         ensures { result.now ≡ self.now.punch }
     {
         self.devices.punch()
     }
 
-    /// The line printer.
+    /// Returns the line printer.
     pub fn printer(&self) -> &'a Printer
         ensures { result.now ≡ self.now.printer }
     {
         self.devices.printer()
     }
 
-    /// For whom the punch's open file is.
+    /// Returns the target of the punch's open file.
     pub fn target(&self) -> Target
         ensures { result ≡ self.now.target }
     {
         self.devices.target()
     }
 
-    /// How many files the punch closed.
+    /// Returns how many files the punch closed.
     pub fn punched_count(&self) -> usize
         ensures { result ≡ length self.now.punched }
     {
         self.queues.punched_count(self.devices.user())
     }
 
-    /// How many files the printer closed.
+    /// Returns how many files the printer closed.
     pub fn printed_count(&self) -> usize
         ensures { result ≡ length self.now.printed }
     {
         self.queues.printed_count(self.devices.user())
     }
 
-    /// A file that the punch closed, in their order.
+    /// Returns a file that the punch closed, in their order.
     pub fn punched(&self, index: usize) -> Option<&'a SpoolFile>
         ensures { option_map closed_file (option_copied result) ≡ slice_get self.now.punched index }
     {
         self.queues.punched(self.devices.user(), index)
     }
 
-    /// A file that the printer closed, in their order.
+    /// Returns a file that the printer closed, in their order.
     pub fn printed(&self, index: usize) -> Option<&'a SpoolFile>
         ensures { option_map closed_file (option_copied result) ≡ slice_get self.now.printed index }
     {

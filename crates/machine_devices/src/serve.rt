@@ -1,15 +1,19 @@
 //! The devices of a machine are served.
-ghost use Rattle.std.specs.Prelude.{◌≡◌, ◌<◌, ◌++◌, Bool, false, true, IfErr, IfOk, OnErr, OnOk, is_ok, length};
+ghost use Rattle.std.specs.Prelude.{◌≡◌, ◌<◌, ◌++◌, Bool, false, true, Err, IfErr, IfOk, OnErr};
+ghost use Rattle.std.specs.Prelude.{OnOk, is_ok, length};
 ghost use Rattle.machine_channels.specs.Channels.{Brings, NoRoom, WhereOut};
 ghost use Rattle.machine_channels.specs.declared.channels.UnitRecord.TheVariants as units;
+ghost use Rattle.s370_channel.specs.declared.running.ChannelError.TheVariants as errors;
 ghost use Rattle.s370_subchannels.specs.Programs.{program_of};
 ghost use Rattle.machine_devices.specs.Devices.{IsAttached, kind_at};
 ghost use Rattle.machine_devices.specs.declared.places.Kind.TheVariants as kinds;
 ghost use Rattle.machine_devices.specs.Equipped.{equipped};
-ghost use Rattle.machine_devices.specs.Lent.{KeepsBeside, devices_on};
+ghost use Rattle.machine_devices.specs.Lent.{KeepsOtherUsers, devices_on};
 ghost use Rattle.machine_devices.specs.Reuses.{KindReuses, StartReuses};
-ghost use Rattle.machine_devices.specs.Serve.{IsServedAt, KindNeeds, RunsConsole, RunsKind, ServeNeeds};
-ghost use Rattle.machine_devices.specs.Stopped.{StopsAt, StopsConsole, StopsKind};
+ghost use Rattle.machine_devices.specs.Serve.{IsServedAt, KindNeeds, RunsConsole, RunsKind};
+ghost use Rattle.machine_devices.specs.Serve.{ServeNeeds};
+ghost use Rattle.machine_devices.specs.Stopped.{KindHadRoom, ServeHadRoom, StopsAt, StopsConsole};
+ghost use Rattle.machine_devices.specs.Stopped.{StopsKind};
 
 use crate::devices::Devices;
 use crate::feeding::feed;
@@ -26,10 +30,15 @@ use std::alloc::AllocError;
 use unit_record::Console;
 
 impl Devices {
-    /// Serves the device of this address: the channel program that was started runs as a whole on these channels, and
-    /// its status is pending. Tells whether there was one; else nothing has happened. An error is told only where
-    /// memory was refused, or a page is not present that the program needs. Where the channels are whole, there is no
-    /// room for that page then, and nothing has happened but that pages came which the program needs.
+    /// Serves the device of this address: the channel program that was started runs as a whole on
+    /// these channels, and its status is pending. Reports whether there was one; else nothing has
+    /// happened. An error is reported only where memory was refused, or a page is not present that
+    /// the program needs. If the channels are whole, there is no room for that page then, and
+    /// nothing has happened but that pages came which the program needs.
+    ///
+    /// # Errors
+    ///
+    /// A `ChannelError`: refused memory that a command or the analysis needs, or an absent page.
     pub fn serve<S: Storage, C: Channels<S>>(
         &mut self,
         queues: &mut Queues,
@@ -40,12 +49,14 @@ impl Devices {
     ) -> Result<bool, ChannelError>
         requires user { self.old.user < length queues.old.users }
         requires ready { C.IsReady storage.old }
-        ensures served { let before = equipped machine.old (devices_on self.old queues.old) (C.disks channels.old)
+        ensures served { let before = equipped machine.old (devices_on self.old queues.old)
+            (C.disks channels.old)
             (S.memory storage.old) in
             let after = equipped machine.new (devices_on self.new queues.new) (C.disks channels.new)
             (S.memory storage.new) in
             IfOk result (λ done. IsServedAt C.reads device before done after) }
-        ensures whole { let before = equipped machine.old (devices_on self.old queues.old) (C.disks channels.old)
+        ensures whole { let before = equipped machine.old (devices_on self.old queues.old)
+            (C.disks channels.old)
             (S.memory storage.old) in
             let after = equipped machine.new (devices_on self.new queues.new) (C.disks channels.new)
             (S.memory storage.new) in
@@ -53,23 +64,36 @@ impl Devices {
             C.is_whole ≡ true
             → IfErr result (WhereOut (length (S.memory storage.old).bytes) needs
             (NoRoom C.IsOut C.IsFilled S.present storage.new needs) (after ≡ before)) }
-        ensures stopped { let before = equipped machine.old (devices_on self.old queues.old) (C.disks channels.old)
+        ensures roomy { let before = equipped machine.old (devices_on self.old queues.old)
+            (C.disks channels.old)
             (S.memory storage.old) in
-            C.is_whole ≡ false → IfErr result (StopsAt C.reads (S.present storage.old) device before) }
+            C.is_whole ≡ true → result ≡ Err errors.Memory
+            → ServeHadRoom C.reads C.HadRoom storage.old storage.new device before }
+        ensures stopped { let before = equipped machine.old (devices_on self.old queues.old)
+            (C.disks channels.old)
+            (S.memory storage.old) in
+            C.is_whole ≡ false → IfErr result
+            (StopsAt C.reads (S.present storage.old) device before) }
         ensures others { C.KeepsOthers channels.old channels.new }
-        ensures beside { KeepsBeside self.old queues.old self.new queues.new }
-        ensures came { let before = equipped machine.old (devices_on self.old queues.old) (C.disks channels.old)
+        ensures other_users { KeepsOtherUsers self.old queues.old self.new queues.new }
+        ensures paged_in { let before = equipped machine.old (devices_on self.old queues.old)
+            (C.disks channels.old)
             (S.memory storage.old) in
             Brings C.Came storage.old (ServeNeeds C.holds device before) storage.new }
         ensures ready { C.IsReady storage.new }
-        ensures kept { let before = equipped machine.old (devices_on self.old queues.old) (C.disks channels.old)
+        ensures kept { let before = equipped machine.old (devices_on self.old queues.old)
+            (C.disks channels.old)
             (S.memory storage.old) in
             OnOk result (StartReuses C.Reuses C.ReusesDisk channels.old storage.old channels.new
-            (kind_at before.devices before.disks device) (program_of device machine.old.subchannels) true) }
-        ensures kept_if_refused { let before = equipped machine.old (devices_on self.old queues.old) (C.disks channels.old)
+            (kind_at before.devices before.disks device) (program_of device machine.old.subchannels)
+            true) }
+        ensures kept_if_refused { let before = equipped machine.old (devices_on self.old queues.old)
+            (C.disks channels.old)
             (S.memory storage.old) in
-            OnErr result ((done : Bool) × StartReuses C.Reuses C.ReusesDisk channels.old storage.old channels.new
-            (kind_at before.devices before.disks device) (program_of device machine.old.subchannels) done) }
+            OnErr result ((done : Bool)
+            × StartReuses C.Reuses C.ReusesDisk channels.old storage.old channels.new
+            (kind_at before.devices before.disks device) (program_of device machine.old.subchannels)
+            done) }
     {
         let Some(kind) = self.kind_at(channels, device.get()) else {
             return Ok(false);
@@ -83,7 +107,7 @@ impl Devices {
         }
     }
 
-    /// The program of the device of this kind, at this address, runs.
+    /// Runs the program of the device of this kind, at this address.
     fn run_kind<S: Storage, C: Channels<S>>(
         &mut self,
         queues: &mut Queues,
@@ -97,12 +121,14 @@ impl Devices {
         requires attached { IsAttached (C.disks channels.old) kind }
         requires user { self.old.user < length queues.old.users }
         requires ready { C.IsReady storage.old }
-        ensures runs { let before = equipped machine.old (devices_on self.old queues.old) (C.disks channels.old)
+        ensures runs { let before = equipped machine.old (devices_on self.old queues.old)
+            (C.disks channels.old)
             (S.memory storage.old) in
             let after = equipped machine.new (devices_on self.new queues.new) (C.disks channels.new)
             (S.memory storage.new) in
             OnOk result (RunsKind C.reads kind device start before after) }
-        ensures whole { let before = equipped machine.old (devices_on self.old queues.old) (C.disks channels.old)
+        ensures whole { let before = equipped machine.old (devices_on self.old queues.old)
+            (C.disks channels.old)
             (S.memory storage.old) in
             let after = equipped machine.new (devices_on self.new queues.new) (C.disks channels.new)
             (S.memory storage.new) in
@@ -110,18 +136,29 @@ impl Devices {
             C.is_whole ≡ true
             → IfErr result (WhereOut (length (S.memory storage.old).bytes) needs
             (NoRoom C.IsOut C.IsFilled S.present storage.new needs) (after ≡ before)) }
-        ensures stopped { let before = equipped machine.old (devices_on self.old queues.old) (C.disks channels.old)
+        ensures roomy { let before = equipped machine.old (devices_on self.old queues.old)
+            (C.disks channels.old)
             (S.memory storage.old) in
-            C.is_whole ≡ false → IfErr result (StopsKind C.reads (S.present storage.old) kind start before) }
+            C.is_whole ≡ true → result ≡ Err errors.Memory
+            → KindHadRoom C.reads C.HadRoom storage.old storage.new kind start before }
+        ensures stopped { let before = equipped machine.old (devices_on self.old queues.old)
+            (C.disks channels.old)
+            (S.memory storage.old) in
+            C.is_whole ≡ false → IfErr result
+            (StopsKind C.reads (S.present storage.old) kind start before) }
         ensures others { C.KeepsOthers channels.old channels.new }
-        ensures beside { KeepsBeside self.old queues.old self.new queues.new }
-        ensures came { let before = equipped machine.old (devices_on self.old queues.old) (C.disks channels.old)
+        ensures other_users { KeepsOtherUsers self.old queues.old self.new queues.new }
+        ensures paged_in { let before = equipped machine.old (devices_on self.old queues.old)
+            (C.disks channels.old)
             (S.memory storage.old) in
             Brings C.Came storage.old (KindNeeds C.holds kind start before) storage.new }
         ensures ready { C.IsReady storage.new }
-        ensures kept { OnOk result (KindReuses C.Reuses C.ReusesDisk channels.old storage.old channels.new kind start true) }
+        ensures kept { OnOk result
+            (KindReuses C.Reuses C.ReusesDisk channels.old storage.old channels.new kind start
+            true) }
         ensures kept_if_refused { OnErr result ((done : Bool)
-            × KindReuses C.Reuses C.ReusesDisk channels.old storage.old channels.new kind start done) }
+            × KindReuses C.Reuses C.ReusesDisk channels.old storage.old channels.new kind start
+            done) }
     {
         let key = start.key;
         let ending = match kind {
@@ -153,7 +190,7 @@ impl Devices {
         Ok(())
     }
 
-    /// The program of the reader runs.
+    /// Runs the program of the reader.
     fn run_reader<S: Storage, C: Channels<S>>(
         &mut self,
         queues: &mut Queues,
@@ -165,12 +202,14 @@ impl Devices {
     ) -> Result<(), ChannelError>
         requires user { self.old.user < length queues.old.users }
         requires ready { C.IsReady storage.old }
-        ensures runs { let before = equipped machine.old (devices_on self.old queues.old) (C.disks channels.old)
+        ensures runs { let before = equipped machine.old (devices_on self.old queues.old)
+            (C.disks channels.old)
             (S.memory storage.old) in
             let after = equipped machine.new (devices_on self.new queues.new) (C.disks channels.new)
             (S.memory storage.new) in
             OnOk result (RunsKind C.reads kinds.Reader device start before after) }
-        ensures whole { let before = equipped machine.old (devices_on self.old queues.old) (C.disks channels.old)
+        ensures whole { let before = equipped machine.old (devices_on self.old queues.old)
+            (C.disks channels.old)
             (S.memory storage.old) in
             let after = equipped machine.new (devices_on self.new queues.new) (C.disks channels.new)
             (S.memory storage.new) in
@@ -178,16 +217,25 @@ impl Devices {
             C.is_whole ≡ true
             → IfErr result (WhereOut (length (S.memory storage.old).bytes) needs
             (NoRoom C.IsOut C.IsFilled S.present storage.new needs) (after ≡ before)) }
-        ensures stopped { let before = equipped machine.old (devices_on self.old queues.old) (C.disks channels.old)
+        ensures roomy { let before = equipped machine.old (devices_on self.old queues.old)
+            (C.disks channels.old)
             (S.memory storage.old) in
-            C.is_whole ≡ false → IfErr result (StopsKind C.reads (S.present storage.old) kinds.Reader start before) }
+            C.is_whole ≡ true → result ≡ Err errors.Memory
+            → KindHadRoom C.reads C.HadRoom storage.old storage.new kinds.Reader start before }
+        ensures stopped { let before = equipped machine.old (devices_on self.old queues.old)
+            (C.disks channels.old)
+            (S.memory storage.old) in
+            C.is_whole ≡ false → IfErr result
+            (StopsKind C.reads (S.present storage.old) kinds.Reader start before) }
         ensures others { C.KeepsOthers channels.old channels.new }
-        ensures beside { KeepsBeside self.old queues.old self.new queues.new }
-        ensures came { let before = equipped machine.old (devices_on self.old queues.old) (C.disks channels.old)
+        ensures other_users { KeepsOtherUsers self.old queues.old self.new queues.new }
+        ensures paged_in { let before = equipped machine.old (devices_on self.old queues.old)
+            (C.disks channels.old)
             (S.memory storage.old) in
             Brings C.Came storage.old (KindNeeds C.holds kinds.Reader start before) storage.new }
         ensures ready { C.IsReady storage.new }
-        ensures kept { C.Reuses channels.old storage.old start units.Reader (is_ok result) channels.new }
+        ensures kept { C.Reuses channels.old storage.old start units.Reader (is_ok result)
+            channels.new }
     {
         let key = start.key;
         match feed(
@@ -206,7 +254,7 @@ impl Devices {
         }
     }
 
-    /// The program of the console runs.
+    /// Runs the program of the console.
     fn run_console<S: Storage, C: Channels<S>>(
         &mut self,
         queues: &Queues,
@@ -217,12 +265,14 @@ impl Devices {
         start: Caw,
     ) -> Result<(), ChannelError>
         requires { C.IsReady storage.old }
-        ensures runs { let before = equipped machine.old (devices_on self.old queues.now) (C.disks channels.old)
+        ensures runs { let before = equipped machine.old (devices_on self.old queues.now)
+            (C.disks channels.old)
             (S.memory storage.old) in
             let after = equipped machine.new (devices_on self.new queues.now) (C.disks channels.new)
             (S.memory storage.new) in
             OnOk result (RunsConsole C.reads device start before after) }
-        ensures whole { let before = equipped machine.old (devices_on self.old queues.now) (C.disks channels.old)
+        ensures whole { let before = equipped machine.old (devices_on self.old queues.now)
+            (C.disks channels.old)
             (S.memory storage.old) in
             let after = equipped machine.new (devices_on self.new queues.now) (C.disks channels.new)
             (S.memory storage.new) in
@@ -230,16 +280,25 @@ impl Devices {
             C.is_whole ≡ true
             → IfErr result (WhereOut (length (S.memory storage.old).bytes) needs
             (NoRoom C.IsOut C.IsFilled S.present storage.new needs) (after ≡ before)) }
-        ensures stopped { let before = equipped machine.old (devices_on self.old queues.now) (C.disks channels.old)
+        ensures roomy { let before = equipped machine.old (devices_on self.old queues.now)
+            (C.disks channels.old)
             (S.memory storage.old) in
-            C.is_whole ≡ false → IfErr result (StopsConsole C.reads (S.present storage.old) start before) }
+            C.is_whole ≡ true → result ≡ Err errors.Memory
+            → KindHadRoom C.reads C.HadRoom storage.old storage.new kinds.Console start before }
+        ensures stopped { let before = equipped machine.old (devices_on self.old queues.now)
+            (C.disks channels.old)
+            (S.memory storage.old) in
+            C.is_whole ≡ false → IfErr result
+            (StopsConsole C.reads (S.present storage.old) start before) }
         ensures others { C.KeepsOthers channels.old channels.new }
         ensures user { self.new.user ≡ self.old.user }
-        ensures came { let before = equipped machine.old (devices_on self.old queues.now) (C.disks channels.old)
+        ensures paged_in { let before = equipped machine.old (devices_on self.old queues.now)
+            (C.disks channels.old)
             (S.memory storage.old) in
             Brings C.Came storage.old (KindNeeds C.holds kinds.Console start before) storage.new }
         ensures ready { C.IsReady storage.new }
-        ensures kept { OnOk result (C.Reuses channels.old storage.old start units.Console true channels.new) }
+        ensures kept { OnOk result
+            (C.Reuses channels.old storage.old start units.Console true channels.new) }
         ensures kept_if_refused { OnErr result ((done : Bool)
             × C.Reuses channels.old storage.old start units.Console done channels.new) }
     {

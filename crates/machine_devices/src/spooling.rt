@@ -1,9 +1,14 @@
 //! Files and decks: what SPOOL, CLOSE, PURGE and LOGOFF do with the devices.
-ghost use Rattle.std.specs.Prelude.{◌≡◌, ◌+◌, ◌<◌, ◌≤◌, is_some, length, slice_index, IfOk, OnOk, OnErr};
+ghost use Rattle.std.specs.Prelude.{◌≡◌, ◌+◌, ◌<◌, ◌≤◌, is_some, length, slice_index, IfOk, OnOk};
+ghost use Rattle.std.specs.Prelude.{OnErr};
+ghost use Rattle.machine_devices.specs.Comes.{HasClosed};
 ghost use Rattle.unit_record.specs.Reader.{queued_at};
-ghost use Rattle.cp_spool.specs.Queues.{deck_of, files_of};
-ghost use Rattle.machine_devices.specs.Lent.{KeepsBeside, devices_on};
-ghost use Rattle.machine_devices.specs.Spooling.{devices_logged_off, open_files, place_of, with_deck_purged, with_deck_put_back, with_deck_queued, with_printer_closed, with_punch_closed};
+ghost use Rattle.cp_spool.specs.Queues.{HasRoom, deck_of, files_of};
+ghost use Rattle.machine_devices.specs.Lent.{KeepsOtherUsers, devices_on};
+ghost use Rattle.machine_devices.specs.Spooling.{devices_logged_off, open_files, place_of};
+ghost use Rattle.machine_devices.specs.Spooling.{with_deck_purged, with_deck_put_back};
+ghost use Rattle.machine_devices.specs.Spooling.{with_deck_queued, with_printer_closed};
+ghost use Rattle.machine_devices.specs.Spooling.{with_punch_closed};
 
 use crate::devices::Devices;
 use crate::files::ClosedFiles;
@@ -13,14 +18,14 @@ use unit_record::{Card, Entry, Sender, Target};
 use user_names::UserNo;
 
 impl Devices {
-    /// From now on what the punch punches is for this target.
+    /// Sets the target of what is punched from now on.
     pub(crate) fn spool(&mut self, to: Target)
         ensures { self.new ≡ record self.old { target = to } }
     {
         self.target = to;
     }
 
-    /// Which files LOGOFF closes.
+    /// Returns which files LOGOFF closes.
     pub(crate) fn open_files(&self, queues: &Queues) -> ClosedFiles
         ensures { result ≡ open_files (devices_on self.now queues.now) }
     {
@@ -30,12 +35,19 @@ impl Devices {
         }
     }
 
-    /// Closes the punch's open file, for its target. Where memory is refused all stays. No card is copied.
+    /// Closes the punch's open file, for its target. Where memory is refused all stays. No card is
+    /// copied.
+    ///
+    /// # Errors
+    ///
+    /// `AllocError` if memory is refused; nothing has changed.
     pub fn close_punch(&mut self, alloc: Global, queues: &mut Queues) -> Result<(), AllocError>
         requires { self.old.user < length queues.old.users }
-        ensures closed { OnOk result (devices_on self.new queues.new ≡ with_punch_closed (devices_on self.old queues.old)) }
-        ensures err { OnErr result (devices_on self.new queues.new ≡ devices_on self.old queues.old) }
-        ensures beside { KeepsBeside self.old queues.old self.new queues.new }
+        ensures closed { OnOk result
+            (devices_on self.new queues.new ≡ with_punch_closed (devices_on self.old queues.old)) }
+        ensures err { OnErr result
+            (devices_on self.new queues.new ≡ devices_on self.old queues.old) }
+        ensures other_users { KeepsOtherUsers self.old queues.old self.new queues.new }
     {
         if queues.make_room(self.user).is_err() {
             return Err(AllocError);
@@ -44,12 +56,20 @@ impl Devices {
         Ok(())
     }
 
-    /// Closes the printer's open file, for the operator. Where memory is refused all stays. No line is copied.
+    /// Closes the printer's open file, for the operator. Where memory is refused all stays. No line
+    /// is copied.
+    ///
+    /// # Errors
+    ///
+    /// `AllocError` if memory is refused; nothing has changed.
     pub fn close_printer(&mut self, alloc: Global, queues: &mut Queues) -> Result<(), AllocError>
         requires { self.old.user < length queues.old.users }
-        ensures closed { OnOk result (devices_on self.new queues.new ≡ with_printer_closed (devices_on self.old queues.old)) }
-        ensures err { OnErr result (devices_on self.new queues.new ≡ devices_on self.old queues.old) }
-        ensures beside { KeepsBeside self.old queues.old self.new queues.new }
+        ensures closed { OnOk result
+            (devices_on self.new queues.new
+            ≡ with_printer_closed (devices_on self.old queues.old)) }
+        ensures err { OnErr result
+            (devices_on self.new queues.new ≡ devices_on self.old queues.old) }
+        ensures other_users { KeepsOtherUsers self.old queues.old self.new queues.new }
     {
         if queues.make_room(self.user).is_err() {
             return Err(AllocError);
@@ -58,13 +78,15 @@ impl Devices {
         Ok(())
     }
 
-    /// The same, where there is room for the file.
+    /// Closes the punch's open file, for which there is room.
     fn close_punch_reserved(&mut self, alloc: Global, queues: &mut Queues)
         requires user { self.old.user < length queues.old.users }
-        requires files { 1 ≤ queues.old.room.files }
-        requires room { 1 ≤ slice_index queues.old.room.punched self.old.user }
-        ensures closed { devices_on self.new queues.new ≡ with_punch_closed (devices_on self.old queues.old) }
-        ensures beside { KeepsBeside self.old queues.old self.new queues.new }
+        requires files { 0 < length self.old.punch.entries → 1 ≤ queues.old.room.files }
+        requires room { 0 < length self.old.punch.entries
+            → 1 ≤ slice_index queues.old.room.punched self.old.user }
+        ensures closed { devices_on self.new queues.new
+            ≡ with_punch_closed (devices_on self.old queues.old) }
+        ensures other_users { KeepsOtherUsers self.old queues.old self.new queues.new }
         ensures files { queues.old.room.files ≤ queues.new.room.files + 1 }
         ensures printed { queues.new.room.printed ≡ queues.old.room.printed }
     {
@@ -74,13 +96,15 @@ impl Devices {
         }
     }
 
-    /// The same, where there is room for the file.
+    /// Closes the printer's open file, for which there is room.
     fn close_printer_reserved(&mut self, alloc: Global, queues: &mut Queues)
         requires user { self.old.user < length queues.old.users }
-        requires files { 1 ≤ queues.old.room.files }
-        requires room { 1 ≤ slice_index queues.old.room.printed self.old.user }
-        ensures closed { devices_on self.new queues.new ≡ with_printer_closed (devices_on self.old queues.old) }
-        ensures beside { KeepsBeside self.old queues.old self.new queues.new }
+        requires files { 0 < length self.old.printer.entries → 1 ≤ queues.old.room.files }
+        requires room { 0 < length self.old.printer.entries
+            → 1 ≤ slice_index queues.old.room.printed self.old.user }
+        ensures closed { devices_on self.new queues.new
+            ≡ with_printer_closed (devices_on self.old queues.old) }
+        ensures other_users { KeepsOtherUsers self.old queues.old self.new queues.new }
     {
         let entries = self.printer.take_entries(alloc);
         if !entries.is_empty() {
@@ -88,15 +112,39 @@ impl Devices {
         }
     }
 
-    /// What LOGOFF does: closes the open files of punch and printer, and puts the current deck back into the queue.
-    /// Where memory is refused all stays.
+    /// Makes room for the files that LOGOFF closes. Without one no memory is asked for.
+    fn make_room_for_open(&self, queues: &mut Queues) -> Result<(), AllocError>
+        ensures users { queues.new.users ≡ queues.old.users }
+        ensures room { OnOk result (HasClosed (open_files (devices_on self.now queues.old))
+            → HasRoom self.now.user queues.new.room) }
+        ensures asked { OnErr result (HasClosed (open_files (devices_on self.now queues.old))) }
+    {
+        let open = self.open_files(queues);
+        if open.punched.is_none() && open.printed.is_none() {
+            return Ok(());
+        }
+        match queues.make_room(self.user) {
+            Ok(()) => Ok(()),
+            Err(_) => Err(AllocError),
+        }
+    }
+
+    /// What LOGOFF does: closes the open files of punch and printer, and puts the current deck back
+    /// into the queue. Where memory is refused all stays.
+    ///
+    /// # Errors
+    ///
+    /// `AllocError` if memory is refused; nothing has changed.
     pub fn log_off(&mut self, alloc: Global, queues: &mut Queues) -> Result<(), AllocError>
         requires { self.old.user < length queues.old.users }
-        ensures after { OnOk result (devices_on self.new queues.new ≡ devices_logged_off (devices_on self.old queues.old)) }
-        ensures err { OnErr result (devices_on self.new queues.new ≡ devices_on self.old queues.old) }
-        ensures beside { KeepsBeside self.old queues.old self.new queues.new }
+        ensures after { OnOk result
+            (devices_on self.new queues.new ≡ devices_logged_off (devices_on self.old queues.old)) }
+        ensures err { OnErr result
+            (devices_on self.new queues.new ≡ devices_on self.old queues.old) }
+        ensures asked { OnErr result (HasClosed (open_files (devices_on self.old queues.old))) }
+        ensures other_users { KeepsOtherUsers self.old queues.old self.new queues.new }
     {
-        if queues.make_room(self.user).is_err() {
+        if self.make_room_for_open(queues).is_err() {
             return Err(AllocError);
         }
         self.close_punch_reserved(alloc, queues);
@@ -105,8 +153,12 @@ impl Devices {
         Ok(())
     }
 
-    /// A deck of these cards comes to the end of the reader's queue. Where memory is refused all stays, and the cards
-    /// are gone.
+    /// Appends a deck of these cards to the reader's queue. If memory is refused all stays, and the
+    /// cards are gone.
+    ///
+    /// # Errors
+    ///
+    /// `AllocError` if memory is refused; nothing has changed.
     pub fn deck(
         &self,
         queues: &mut Queues,
@@ -118,8 +170,9 @@ impl Devices {
         ensures kept { OnOk result (devices_on self.now queues.new
             ≡ with_deck_queued (devices_on self.now queues.old)
             (record { label = label; sender = sender; cards = cards.items })) }
-        ensures err { OnErr result (devices_on self.now queues.new ≡ devices_on self.now queues.old) }
-        ensures beside { KeepsBeside self.now queues.old self.now queues.new }
+        ensures err { OnErr result
+            (devices_on self.now queues.new ≡ devices_on self.now queues.old) }
+        ensures other_users { KeepsOtherUsers self.now queues.old self.now queues.new }
     {
         match queues.append(self.user, label, sender, cards) {
             Ok(()) => Ok(()),
@@ -127,8 +180,12 @@ impl Devices {
         }
     }
 
-    /// The file of this index that a user's punch closed comes to the end of the reader's queue, as a deck with this
+    /// Appends the closed punch file of this index to the reader's queue, as a deck with this
     /// label. Where memory is refused all stays. No card is copied.
+    ///
+    /// # Errors
+    ///
+    /// `AllocError` if memory is refused; nothing has changed.
     pub fn receive(
         &self,
         queues: &mut Queues,
@@ -141,8 +198,9 @@ impl Devices {
         ensures kept { OnOk result (devices_on self.now queues.new
             ≡ with_deck_queued (devices_on self.now queues.old)
             (deck_of (files_of queues.old.users from).punched index label (Sender.User from))) }
-        ensures err { OnErr result (devices_on self.now queues.new ≡ devices_on self.now queues.old) }
-        ensures beside { KeepsBeside self.now queues.old self.now queues.new }
+        ensures err { OnErr result
+            (devices_on self.now queues.new ≡ devices_on self.now queues.old) }
+        ensures other_users { KeepsOtherUsers self.now queues.old self.now queues.new }
     {
         match queues.deliver(from, index, self.user, label, Sender::User(from.number())) {
             Ok(()) => Ok(()),
@@ -150,27 +208,32 @@ impl Devices {
         }
     }
 
-    /// Takes the queued deck of this id away, and tells whether there was any. The current deck is not queued.
+    /// Takes the queued deck of this id away, and says whether there was any. The current deck is
+    /// not queued.
     pub fn purge(&self, queues: &mut Queues, id: u64) -> bool
         requires { self.now.user < length queues.old.users }
         ensures found { result ≡ is_some (queued_at (devices_on self.now queues.old).reader id) }
-        ensures after { devices_on self.now queues.new ≡ with_deck_purged (devices_on self.now queues.old) id }
-        ensures beside { KeepsBeside self.now queues.old self.now queues.new }
+        ensures after { devices_on self.now queues.new
+            ≡ with_deck_purged (devices_on self.now queues.old) id }
+        ensures other_users { KeepsOtherUsers self.now queues.old self.now queues.new }
     {
         queues.purge(self.user, id).is_ok()
     }
 
-    /// The current deck, if there is one, goes back to the front of the queue, to be read from its first card.
+    /// Puts the current deck, if there is one, back to the front of the queue, to be read from its
+    /// first card.
     pub fn put_back(&self, queues: &mut Queues)
         requires { self.now.user < length queues.old.users }
-        ensures after { devices_on self.now queues.new ≡ with_deck_put_back (devices_on self.now queues.old) }
-        ensures beside { KeepsBeside self.now queues.old self.now queues.new }
+        ensures after { devices_on self.now queues.new
+            ≡ with_deck_put_back (devices_on self.now queues.old) }
+        ensures other_users { KeepsOtherUsers self.now queues.old self.now queues.new }
     {
         queues.put_back(self.user);
     }
 }
 
-/// The place that an open file of these entries will have, where so many were closed before; one without an entry is none.
+/// Returns the place that an open file of these entries will have, where so many were closed
+/// before; one without an entry is none.
 fn place_of(entries: &[Entry], closed: usize) -> Option<usize>
     ensures { result ≡ place_of entries.now closed }
 {
@@ -181,7 +244,11 @@ fn place_of(entries: &[Entry], closed: usize) -> Option<usize>
     }
 }
 
-/// The same cards once more.
+/// Returns the same cards once more.
+///
+/// # Errors
+///
+/// `AllocError` if memory is refused.
 pub fn copy_of(alloc: Global, cards: &[Card]) -> Result<Vec<Card>, AllocError>
     ensures { IfOk result (λ copy. copy.items ≡ cards.now) }
 {

@@ -1,33 +1,34 @@
 //! What a line of one machine may ask of the others.
 ghost use Rattle.std.specs.Prelude.{◌≡◌};
 ghost use Rattle.user_names.specs.Users.{user_of};
-ghost use Rattle.machine_devices.specs.World.{World as Known, is_logged_on, is_on, users_on};
+ghost use Rattle.machine_devices.specs.UserDirectory.{UserDirectory as Known, is_logged_on, is_on};
+ghost use Rattle.machine_devices.specs.UserDirectory.{users_on};
 
 use machine_panel::Mode;
 
-/// What the control program knows beside one machine: its users, and who of them is logged on.
-pub trait World {
+/// What the control program knows next to one machine: its users, and who of them is logged on.
+pub trait UserDirectory {
     /// What is known.
     ghost known: { Self → Known };
 
-    /// The number of the user of this name.
+    /// Returns the number of the user of this name.
     fn user_of(&self, name: &[u8]) -> Option<u8>
         ensures { result ≡ user_of (known self.now).names name.now };
 
-    /// The name of the user whose machine it is.
+    /// Returns the name of the user whose machine it is.
     fn own_name(&self) -> &[u8]
         ensures { result.now ≡ (known self.now).own };
 
-    /// Whether the user of this number is logged on.
+    /// Returns whether the user of this number is logged on.
     fn is_on(&self, user: u8) -> bool
         ensures { result ≡ is_on (known self.now) user };
 
-    /// How many users are logged on.
+    /// Returns how many users are logged on.
     fn users_on(&self) -> u64
         ensures { result ≡ users_on (known self.now) };
 }
 
-/// Whether the user of a machine in this mode is logged on.
+/// Returns whether the user of a machine in this mode is logged on.
 pub fn is_logged_on(mode: Mode) -> bool
     ensures { result ≡ is_logged_on mode }
 {

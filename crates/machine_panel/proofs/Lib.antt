@@ -2,3 +2,4 @@ pub mod Reached
 pub mod Nothing
 pub mod Readies
 pub mod MachineCodes
+pub mod Forgotten

@@ -13,7 +13,8 @@ use Rattle.s370_subchannels.proofs.SubchannelCodes.{subchannels_code}
 use Rattle.machine_panel.specs.declared.machine.Mode.{Mode}
 use Rattle.machine_panel.specs.declared.machine.Mode.TheVariants.{Off, Stopped, Running}
 use Rattle.machine_panel.specs.Machine.{Parts, machine_of}
-use Rattle.machine_panel.specs.Saved.{psw_masks_bytes, psw_flags_bytes, psw_bytes, cpu_bytes, pending_bytes, mode_number, mode_bytes, SavedParts, saved_of, restored_of, saved_parts_bytes}
+use Rattle.machine_panel.specs.Saved.{psw_masks_bytes, psw_flags_bytes, psw_bytes, cpu_bytes, pending_bytes}
+use Rattle.machine_panel.specs.Saved.{mode_number, mode_bytes, SavedParts, saved_of, restored_of, saved_parts_bytes}
 
 -- ---- the processor
 
@@ -24,9 +25,14 @@ psw_code =
     let flags = both_code flag (both flag (both flag flag)) flag_code (both_code flag (both flag flag) flag_code two) in
     let last = both_code number number number_code number_code in
     let behind = both_code (both flag (both flag (both flag flag))) (both number number) flags last in
-    of_parts (both (both number (both number number)) (both (both flag (both flag (both flag flag))) (both number number)))
-    (both_code (both number (both number number)) (both (both flag (both flag (both flag flag))) (both number number)) masks behind)
-    (λ (f : Fields). ((f.system_mask, (f.key, f.program_mask)), ((f.extended, (f.machine_check, (f.wait, f.problem))), (f.condition, f.address))))
+    of_parts (both (both number (both number number))
+    (both (both flag (both flag (both flag flag))) (both number number)))
+    (both_code (both number (both number number)) (both (both flag (both flag (both flag flag))) (both number number))
+    masks behind)
+    (λ (f : Fields). (
+      (f.system_mask, (f.key, f.program_mask)),
+      ((f.extended, (f.machine_check, (f.wait, f.problem))), (f.condition, f.address)),
+    ))
     (λ p. record {
       system_mask = p.0.0;
       key = p.0.1.0;
@@ -45,8 +51,10 @@ unfolding cpu_bytes
 cpu_code =
     let registers = each_code number number_code in
     let control = both_code (each number) psw_bytes registers psw_code in
-    of_parts (both (each number) (both (each number) psw_bytes)) (both_code (each number) (both (each number) psw_bytes) registers control)
-    (λ (c : Cpu). (c.general, (c.control, c.psw))) (λ p. record { general = p.0; control = p.1.0; psw = p.1.1 }) (λ c. refl)
+    of_parts (both (each number) (both (each number) psw_bytes))
+    (both_code (each number) (both (each number) psw_bytes) registers control)
+    (λ (c : Cpu). (c.general, (c.control, c.psw))) (λ p. record { general = p.0; control = p.1.0; psw = p.1.1 })
+    (λ c. refl)
 
 -- ---- the machine
 
@@ -70,7 +78,8 @@ pub saved_parts_code : IsCode saved_parts_bytes
 saved_parts_code =
     let last = both_code mode_bytes printed_bytes mode_code printed_code in
     let devices = both_code subchannels_bytes (both mode_bytes printed_bytes) subchannels_code last in
-    let pending = both_code pending_bytes (both subchannels_bytes (both mode_bytes printed_bytes)) pending_code devices in
+    let pending = both_code pending_bytes (both subchannels_bytes (both mode_bytes printed_bytes)) pending_code devices
+    in
     of_parts (both cpu_bytes (both pending_bytes (both subchannels_bytes (both mode_bytes printed_bytes))))
     (both_code cpu_bytes (both pending_bytes (both subchannels_bytes (both mode_bytes printed_bytes))) cpu_code pending)
     (λ (p : SavedParts). (p.cpu, (p.pending, (p.subchannels, (p.mode, p.output)))))

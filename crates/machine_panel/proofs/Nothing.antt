@@ -13,7 +13,8 @@ unfolding put
 put_nothing bytes a = take-append-drop a bytes
 
 -- where no byte is stored, nothing changes
-pub nothing_changes : (s : State) (a : ℕ) (bytes : List ℕ) → length bytes ≡ 0 → a + length bytes ≤ length s.bytes → (Stored ≡ stored (Storage a bytes) s) × (s ≡ changed (Storage a bytes) s)
+pub nothing_changes : (s : State) (a : ℕ) (bytes : List ℕ) → length bytes ≡ 0 → a + length bytes ≤ length s.bytes
+    → (Stored ≡ stored (Storage a bytes) s) × (s ≡ changed (Storage a bytes) s)
 nothing_changes s a [] e h =
     let t = le-leb (a + 0) (length s.bytes) h in
     (rw t refl, rw (t, put_nothing s.bytes a) refl)

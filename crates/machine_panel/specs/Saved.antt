@@ -1,4 +1,5 @@
--- The bytes of a machine but for its storage, in a saved state. For how many lines its console has room is not among them.
+-- The bytes of a machine but for its storage, in a saved state. For how many lines its console has
+-- room is not among them.
 use Rattle.std.specs.Prelude.{ℕ, List, ◌++◌}
 use Rattle.saved_bytes.specs.Codes.{each, flag, number}
 use Rattle.cp_console.specs.Saved.{printed_bytes}
@@ -16,12 +17,15 @@ use Rattle.machine_panel.specs.Machine.{Machine, Parts}
 
 -- ---- the processor
 
+-- the bytes of a PSW's masks and key
 abbrev pub psw_masks_bytes : Fields → List ℕ
 psw_masks_bytes f = number f.system_mask ++ (number f.key ++ number f.program_mask)
 
+-- the bytes of a PSW's flags
 abbrev pub psw_flags_bytes : Fields → List ℕ
 psw_flags_bytes f = flag f.extended ++ (flag f.machine_check ++ (flag f.wait ++ flag f.problem))
 
+-- the bytes of a PSW
 abbrev pub psw_bytes : Fields → List ℕ
 psw_bytes f = psw_masks_bytes f ++ (psw_flags_bytes f ++ (number f.condition ++ number f.address))
 
@@ -30,14 +34,17 @@ cpu_bytes c = each number c.general ++ (each number c.control ++ psw_bytes c.psw
 
 -- ---- the machine
 
+-- the bytes of the external conditions that are pending
 abbrev pub pending_bytes : Pending → List ℕ
 pending_bytes p = flag p.timer ++ flag p.key
 
+-- the number of a mode
 abbrev pub mode_number : Mode → ℕ
 mode_number Off = 0
 mode_number Stopped = 1
 mode_number Running = 2
 
+-- the bytes of a mode
 abbrev pub mode_bytes : Mode → List ℕ
 mode_bytes mode = number (mode_number mode)
 
@@ -49,16 +56,30 @@ pub record SavedParts : Type 0 where
   pub mode : Mode
   pub output : List (List ℕ)
 
+-- what a saved state has of a machine's parts
 abbrev pub saved_of : Parts → SavedParts
-saved_of p = record { cpu = p.cpu; pending = p.pending; subchannels = p.subchannels; mode = p.mode; output = p.output }
+saved_of p = record {
+  cpu = p.cpu;
+  pending = p.pending;
+  subchannels = p.subchannels;
+  mode = p.mode;
+  output = p.output;
+}
 
 -- the machine that they are with this storage: that of the parts (machine_of)
 abbrev pub restored_of : SavedParts → Memory → Machine
-restored_of p m = record { core = core_of (state_of p.cpu m) p.pending p.subchannels; mode = p.mode; output = p.output }
+restored_of p m = record {
+  core = core_of (state_of p.cpu m) p.pending p.subchannels;
+  mode = p.mode;
+  output = p.output;
+}
 
+-- the bytes of what a saved state has of a machine
 abbrev pub saved_parts_bytes : SavedParts → List ℕ
 saved_parts_bytes p =
-    cpu_bytes p.cpu ++ (pending_bytes p.pending ++ (subchannels_bytes p.subchannels ++ (mode_bytes p.mode ++ printed_bytes p.output)))
+    cpu_bytes p.cpu ++ (pending_bytes p.pending
+    ++ (subchannels_bytes p.subchannels ++ (mode_bytes p.mode ++ printed_bytes p.output)))
 
+-- the bytes of a machine without its storage
 abbrev pub machine_bytes : Parts → List ℕ
 machine_bytes p = saved_parts_bytes (saved_of p)

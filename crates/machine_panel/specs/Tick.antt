@@ -5,6 +5,7 @@ use Rattle.machine_panel.specs.declared.machine.Mode.{Mode}
 use Rattle.machine_panel.specs.declared.machine.Mode.TheVariants.{Off, Stopped, Running}
 use Rattle.machine_panel.specs.Machine.{Machine}
 
+-- a tick of the interval timer in this mode
 abbrev pub ticked_in : Mode → Machine → Machine
 ticked_in Running m = record m { core = ticked_core m.core }
 ticked_in Stopped m = m

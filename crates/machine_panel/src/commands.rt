@@ -1,5 +1,6 @@
 //! The commands of the panel that change or show a machine.
-ghost use Rattle.std.specs.Prelude.{◌≡◌, ◌<◌, ℕ, List, None, Some, IfOk, OnErr, OnOk, Result, length, true};
+ghost use Rattle.std.specs.Prelude.{◌≡◌, ◌<◌, ℕ, List, None, Some, IfOk, OnErr, OnOk, Result};
+ghost use Rattle.std.specs.Prelude.{length, true};
 ghost use Rattle.s370_store.specs.Memory.{Memory};
 ghost use Rattle.s370_rows.specs.State.{state_of};
 ghost use Rattle.s370_store.specs.Access.{Touches};
@@ -22,7 +23,7 @@ use s370_store::{FramesOut, Supply};
 use std::alloc::AllocError;
 
 impl Machine {
-    /// BEGIN: the machine runs, and the room for the notice of its stop is made.
+    /// Does BEGIN: the machine runs, and the room for the notice of its stop is made.
     pub(crate) fn begin(&mut self, address: Option<Addr24>) -> Result<(), AllocError>
         ensures ok { (m : Memory)
             → OnOk result (line (lines.Begin address) (machine_of self.old m)
@@ -40,7 +41,11 @@ impl Machine {
         Ok(())
     }
 
-    /// SYSTEM RESET: general registers, storage, keys and what was printed stay.
+    /// Does SYSTEM RESET: general registers, storage, keys and what was printed stay.
+    ///
+    /// # Errors
+    ///
+    /// `AllocError` if memory is refused; what this is then is not specified.
     pub fn system_reset(&mut self) -> Result<(), AllocError>
         ensures ok { (m : Memory)
             → OnOk result (machine_of self.new m
@@ -56,7 +61,7 @@ impl Machine {
         Ok(())
     }
 
-    /// EXTERNAL: the interrupt key is pressed.
+    /// Does EXTERNAL: the interrupt key is pressed.
     pub(crate) fn external(&mut self)
         ensures { (m : Memory)
             → line lines.External (machine_of self.old m)
@@ -65,7 +70,7 @@ impl Machine {
         self.pending.key = true;
     }
 
-    /// DISPLAY. A machine that runs keeps the room for the notice of its stop.
+    /// Does DISPLAY. A machine that runs keeps the room for the notice of its stop.
     pub(crate) fn display<S: Supply>(
         &mut self,
         storage: &mut S,
@@ -73,16 +78,19 @@ impl Machine {
     ) -> Result<Option<Response>, LineError>
         ensures ok { let before = machine_of self.old (S.Storage.memory storage.old) in
             let after = machine_of self.new (S.Storage.memory storage.new) in
-            IfOk result (λ reply. line (lines.Display place) before ≡ record { machine = after; reply = reply }) }
+            IfOk result (λ reply. line (lines.Display place) before
+            ≡ record { machine = after; reply = reply }) }
         ensures err { let before = machine_of self.old (S.Storage.memory storage.old) in
             let after = machine_of self.new (S.Storage.memory storage.new) in
             OnErr result (after ≡ before) }
         ensures memory { result ≡ Err LineError.Memory → self.old.room < 2 }
         ensures frames { result ≡ Err LineError.FramesOut
-            → IsLacking (Touches (shown place)) (length (S.Storage.memory storage.old).bytes) (S.IsShort storage.new) }
+            → IsLacking (Touches (shown place)) (length (S.Storage.memory storage.old).bytes)
+            (S.IsShort storage.new) }
         ensures supply { (pages : List ℕ) × S.Brought storage.old pages storage.new
             × AllNeeded (Touches (shown place)) pages }
-        ensures size { length (S.Storage.memory storage.new).bytes ≡ length (S.Storage.memory storage.old).bytes }
+        ensures size { length (S.Storage.memory storage.new).bytes
+            ≡ length (S.Storage.memory storage.old).bytes }
     {
         match self.output.make_room(2) {
             Ok(()) => {}
@@ -97,7 +105,7 @@ impl Machine {
         }
     }
 
-    /// STORE. A machine that runs keeps the room for the notice of its stop.
+    /// Does STORE. A machine that runs keeps the room for the notice of its stop.
     pub(crate) fn store<S: Supply>(
         &mut self,
         storage: &mut S,
@@ -105,7 +113,8 @@ impl Machine {
     ) -> Result<Option<Response>, LineError>
         ensures ok { let before = machine_of self.old (S.Storage.memory storage.old) in
             let after = machine_of self.new (S.Storage.memory storage.new) in
-            IfOk result (λ reply. line (lines.Store change) before ≡ record { machine = after; reply = reply }) }
+            IfOk result (λ reply. line (lines.Store change) before
+            ≡ record { machine = after; reply = reply }) }
         ensures err { let before = machine_of self.old (S.Storage.memory storage.old) in
             let after = machine_of self.new (S.Storage.memory storage.new) in
             OnErr result (after ≡ before) }
@@ -115,7 +124,8 @@ impl Machine {
             (S.IsShort storage.new) }
         ensures supply { (pages : List ℕ) × S.Brought storage.old pages storage.new
             × AllNeeded (Touches (touched change)) pages }
-        ensures size { length (S.Storage.memory storage.new).bytes ≡ length (S.Storage.memory storage.old).bytes }
+        ensures size { length (S.Storage.memory storage.new).bytes
+            ≡ length (S.Storage.memory storage.old).bytes }
     {
         match self.output.make_room(2) {
             Ok(()) => {}
@@ -131,7 +141,7 @@ impl Machine {
     }
 }
 
-/// What a place holds, after each page was brought that is shown.
+/// Returns what a place holds, after each page that is shown was brought.
 fn display_supplied<S: Supply>(
     cpu: &Cpu,
     storage: &mut S,
@@ -141,7 +151,8 @@ fn display_supplied<S: Supply>(
         IfOk result (λ response. response ≡ displayed place.now s) }
     ensures kept { IfOk result (λ response. is_panel response ≡ true) }
     ensures err { OnErr result
-        (IsLacking (Touches (shown place.now)) (length (S.Storage.memory storage.old).bytes) (S.IsShort storage.new)) }
+        (IsLacking (Touches (shown place.now)) (length (S.Storage.memory storage.old).bytes)
+        (S.IsShort storage.new)) }
     ensures supply { (pages : List ℕ) × S.Brought storage.old pages storage.new
         × AllNeeded (Touches (shown place.now)) pages }
     ensures still { S.Storage.memory storage.new ≡ S.Storage.memory storage.old }
@@ -156,7 +167,7 @@ fn display_supplied<S: Supply>(
     }
 }
 
-/// Gives a place what a command stores there, after each page was brought that is changed.
+/// Changes a place as a command says, after each page that is changed was brought.
 fn change_supplied<S: Supply>(
     cpu: &mut Cpu,
     storage: &mut S,
@@ -164,7 +175,8 @@ fn change_supplied<S: Supply>(
 ) -> Result<Response, FramesOut>
     ensures ok { let before = state_of cpu.old (S.Storage.memory storage.old) in
         let after = state_of cpu.new (S.Storage.memory storage.new) in
-        IfOk result (λ response. (response ≡ stored change_of.now before) × (after ≡ changed change_of.now before)) }
+        IfOk result (λ response. (response ≡ stored change_of.now before)
+        × (after ≡ changed change_of.now before)) }
     ensures kept { IfOk result (λ response. is_panel response ≡ true) }
     ensures unchanged { let before = state_of cpu.old (S.Storage.memory storage.old) in
         let after = state_of cpu.new (S.Storage.memory storage.new) in
@@ -174,7 +186,8 @@ fn change_supplied<S: Supply>(
         (S.IsShort storage.new)) }
     ensures supply { (pages : List ℕ) × S.Brought storage.old pages storage.new
         × AllNeeded (Touches (touched change_of.now)) pages }
-    ensures size { length (S.Storage.memory storage.new).bytes ≡ length (S.Storage.memory storage.old).bytes }
+    ensures size { length (S.Storage.memory storage.new).bytes
+        ≡ length (S.Storage.memory storage.old).bytes }
 {
     loop {
         match change(*change_of, cpu, storage) {

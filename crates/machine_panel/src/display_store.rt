@@ -12,7 +12,11 @@ use s370_psw::{Ilc, Psw};
 use s370_rows::Cpu;
 use s370_store::{Access, BLOCK_SIZE, Fault, Keyed, Page, Range, Storage};
 
-/// What a place holds.
+/// Returns what a place holds.
+///
+/// # Errors
+///
+/// A page that is needed and absent.
 pub fn display<S: Keyed>(place: Place, cpu: &Cpu, storage: &S) -> Result<Response, Page>
     ensures { let s = state_of cpu.now (S.Storage.memory storage.now) in
         Displays place (S.Storage.present storage.now) s result }
@@ -38,7 +42,7 @@ pub fn display<S: Keyed>(place: Place, cpu: &Cpu, storage: &S) -> Result<Respons
     }
 }
 
-/// The key of the block in which an address lies.
+/// Returns the key of the block in which an address lies.
 fn display_key<S: Keyed>(address: Addr24, cpu: &Cpu, storage: &S) -> Response
     ensures { let s = state_of cpu.now (S.Storage.memory storage.now) in
         result ≡ displayed (Place.Key address) s }
@@ -49,7 +53,7 @@ fn display_key<S: Keyed>(address: Addr24, cpu: &Cpu, storage: &S) -> Response
     Response::Key(address, storage.key_of(address.get() / BLOCK_SIZE))
 }
 
-/// The sixteen bytes round an address.
+/// Returns the sixteen bytes round an address.
 fn display_storage<S: Storage>(address: Addr24, cpu: &Cpu, storage: &S) -> Result<Response, Page>
     ensures { let s = state_of cpu.now (S.memory storage.now) in
         Displays (Place.Storage address) (S.present storage.now) s result }
@@ -64,7 +68,11 @@ fn display_storage<S: Storage>(address: Addr24, cpu: &Cpu, storage: &S) -> Resul
     Ok(Response::Storage(address, bytes))
 }
 
-/// Gives a place what a command stores there.
+/// Changes a place as a command says.
+///
+/// # Errors
+///
+/// A page that is needed and absent; nothing has changed.
 pub fn change<S: Storage>(change: Change, cpu: &mut Cpu, storage: &mut S) -> Result<Response, Page>
     ensures change { let before = state_of cpu.old (S.memory storage.old) in
         let after = state_of cpu.new (S.memory storage.new) in
@@ -110,11 +118,13 @@ fn change_storage<S: Storage>(
     Ok(Response::Stored)
 }
 
-/// Leave to access a range that lies in storage, whatever its keys; or a page of it that is not present.
+/// Tests the access to a range that lies in storage, whatever its keys: it passes, or a page of it
+/// is not present.
 fn reach<S: Storage>(storage: &S, range: Range, access: Access) -> Result<(), Page>
     requires short { range.count ≤ 256 }
     requires inside { range.start + range.count ≤ length (S.memory storage.now).bytes }
-    ensures { Reaches (length (S.memory storage.now).bytes) (S.present storage.now) (tested access range ∷ []) result }
+    ensures { Reaches (length (S.memory storage.now).bytes) (S.present storage.now)
+        (tested access range ∷ []) result }
 {
     match storage.check(range, access, AccessKey::ZERO) {
         Ok(()) => Ok(()),

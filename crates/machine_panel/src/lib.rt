@@ -1,10 +1,11 @@
-//! The machine with its operator's panel, but for its storage: what both a bare machine and a user of the control
-//! program have, written once.
+//! The machine with its operator's panel, but for its storage: what both a bare machine and a user
+//! of the control program have, written once.
 //!
-//! Its one theorem: what a [`Machine`] does when it is let run ([`Machine::run`]), when a line asks something of it alone
-//! ([`Machine::answer`]) and at a tick of its timer ([`Machine::tick`]) is what `specs/` defines (docs/MACHINE.md,
-//! docs/COMMANDS.md), over any storage that can bring its absent pages; and it brings only pages that these need. Where
-//! there is no room for one, a run stands after the units that it tells, and a line or a tick has done nothing.
+//! Its one theorem: what a [`Machine`] does when it is let run ([`Machine::run`]), when a line asks
+//! something of it alone ([`Machine::answer`]) and at a tick of its timer ([`Machine::tick`]) is
+//! what `specs/` defines (docs/MACHINE.md, docs/COMMANDS.md), over any storage that can bring its
+//! absent pages; and it brings only pages that these need. If there is no room for one, a run is
+//! after the units that it says, and a line or a tick has done nothing.
 //!
 //! ```
 //! use machine_panel::{Machine, Mode, PanelLine};
@@ -27,6 +28,7 @@
 mod commands;
 mod display_store;
 mod hands;
+mod laws;
 mod line;
 mod machine;
 mod ready;
@@ -35,6 +37,7 @@ mod saved;
 mod tick;
 
 pub use display_store::{change, display};
+pub use laws::printed_lines_do_not_matter;
 pub use line::{LineError, PanelLine};
 pub use machine::{Machine, Mode};
 pub use run::{MachineRan, notice_of};

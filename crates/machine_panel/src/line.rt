@@ -1,5 +1,6 @@
 //! What lines ask of a machine alone.
-ghost use Rattle.std.specs.Prelude.{◌≡◌, ◌<◌, ℕ, List, [], Some, None, IfOk, OnErr, OnOk, length, true, false};
+ghost use Rattle.std.specs.Prelude.{◌≡◌, ◌<◌, ℕ, List, [], Some, None, IfOk, OnErr, OnOk, length};
+ghost use Rattle.std.specs.Prelude.{true, false};
 ghost use Rattle.s370_store.specs.Access.{Touches};
 ghost use Rattle.s370_intr.specs.Run.{AllNeeded, IsLacking};
 ghost use Rattle.machine_panel.specs.Machine.{machine_of};
@@ -43,8 +44,12 @@ pub enum PanelLine {
 }
 
 impl Machine {
-    /// Does what a line asks of the machine alone, and tells the response, if there is one. Where it is not obeyed nothing
-    /// has happened.
+    /// Does what a line asks of the machine alone, and returns the response, if there is one. Where
+    /// it is not obeyed nothing has happened.
+    ///
+    /// # Errors
+    ///
+    /// A `LineError`: refused memory, or no room for a page that is needed.
     pub fn answer<S: Supply>(
         &mut self,
         storage: &mut S,
@@ -62,7 +67,8 @@ impl Machine {
             (S.IsShort storage.new) }
         ensures supply { (pages : List ℕ) × S.Brought storage.old pages storage.new
             × AllNeeded (Touches (line_needs asked)) pages }
-        ensures size { length (S.Storage.memory storage.new).bytes ≡ length (S.Storage.memory storage.old).bytes }
+        ensures size { length (S.Storage.memory storage.new).bytes
+            ≡ length (S.Storage.memory storage.old).bytes }
     {
         match asked {
             PanelLine::Nothing => Ok(None),

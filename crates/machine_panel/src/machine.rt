@@ -56,7 +56,7 @@ impl Model for Machine {
     ghost invariant = { λ m. m.mode ≡ Running → 1 ≤ m.output.room };
 }
 
-/// The registers and the PSW after a reset, which leaves the general registers.
+/// Returns the registers and the PSW after a reset, which leaves the general registers.
 pub(crate) fn reset_cpu(general: [u32; 16]) -> Cpu
     ensures { result ≡ reset_cpu general }
 {
@@ -70,7 +70,7 @@ pub(crate) fn reset_cpu(general: [u32; 16]) -> Cpu
 }
 
 impl Machine {
-    /// A machine with these devices that is off and was never on.
+    /// Returns a machine with these devices that is off and was never on.
     pub fn new(alloc: Global, mut subchannels: Subchannels) -> Machine
         ensures machine { (m : Memory)
             → machine_of result (cleared_memory m) ≡ unused m subchannels }
@@ -85,13 +85,15 @@ impl Machine {
         }
     }
 
-    /// LOGON: a reset machine with zeros everywhere; what was printed stays.
+    /// Does LOGON: a reset machine with zeros everywhere; what was printed stays.
     pub fn clear<S: Supply>(&mut self, storage: &mut S)
         ensures machine { machine_of self.new (S.Storage.memory storage.new)
             ≡ cleared (machine_of self.old (S.Storage.memory storage.old)) }
         ensures cleared { S.Cleared storage.old storage.new }
-        ensures size { length (S.Storage.memory storage.new).bytes ≡ length (S.Storage.memory storage.old).bytes }
-        ensures keys { length (S.Storage.memory storage.new).keys ≡ length (S.Storage.memory storage.old).keys }
+        ensures size { length (S.Storage.memory storage.new).bytes
+            ≡ length (S.Storage.memory storage.old).bytes }
+        ensures keys { length (S.Storage.memory storage.new).keys
+            ≡ length (S.Storage.memory storage.old).keys }
     {
         self.cpu = reset_cpu([0; 16]);
         self.pending = Pending::NOTHING;
@@ -100,33 +102,35 @@ impl Machine {
         storage.clear();
     }
 
-    /// LOGOFF: as after LOGON, but off.
+    /// Does LOGOFF: the machine is as after LOGON, but off.
     pub fn switch_off<S: Supply>(&mut self, storage: &mut S)
         ensures machine { machine_of self.new (S.Storage.memory storage.new)
             ≡ switched_off (machine_of self.old (S.Storage.memory storage.old)) }
         ensures cleared { S.Cleared storage.old storage.new }
-        ensures size { length (S.Storage.memory storage.new).bytes ≡ length (S.Storage.memory storage.old).bytes }
-        ensures keys { length (S.Storage.memory storage.new).keys ≡ length (S.Storage.memory storage.old).keys }
+        ensures size { length (S.Storage.memory storage.new).bytes
+            ≡ length (S.Storage.memory storage.old).bytes }
+        ensures keys { length (S.Storage.memory storage.new).keys
+            ≡ length (S.Storage.memory storage.old).keys }
     {
         self.clear(storage);
         self.mode = Mode::Off;
     }
 
-    /// The registers and the PSW.
+    /// Returns the registers and the PSW.
     pub fn cpu(&self) -> &Cpu
         ensures { result.now ≡ self.now.cpu }
     {
         &self.cpu
     }
 
-    /// The external conditions that are pending.
+    /// Returns the external conditions that are pending.
     pub fn pending(&self) -> Pending
         ensures { result ≡ self.now.pending }
     {
         self.pending
     }
 
-    /// The subchannels of the devices, in the order of their addresses.
+    /// Returns the subchannels of the devices, in the order of their addresses.
     pub fn subchannels(&self) -> &[Subchannel]
         ensures list { result.now ≡ self.now.subchannels }
         ensures order { AreAscending result.now }
@@ -134,11 +138,12 @@ impl Machine {
         self.subchannels.list()
     }
 
-    /// Whether the machine is on, and whether it runs.
+    /// Returns whether the machine is on, and whether it runs.
     pub fn mode(&self) -> Mode
         ensures { result ≡ self.now.mode }
     {
-        // All its fields: what is added to them is seen here. None has bytes of storage, which is lent to each call.
+        // Exhaustive: a new field fails to compile here. None has bytes of storage, which is
+        // lent to each call.
         let Machine {
             cpu: _,
             pending: _,
@@ -149,17 +154,25 @@ impl Machine {
         *mode
     }
 
-    /// How many lines the console has printed.
+    /// Returns how many lines the console has printed.
     pub fn printed(&self) -> usize
         ensures { result ≡ length self.now.output }
     {
         self.output.len()
     }
 
-    /// The text of a line that the console has printed.
+    /// Returns the text of a line that the console has printed.
     pub fn console_output(&self, line: usize) -> Option<&[u8]>
         ensures { option_map (λ text. text.now) result ≡ slice_get self.now.output line }
     {
         self.output.get(line)
+    }
+
+    /// Forgets the lines that the console has printed, and gives back their memory. Whatever the
+    /// machine does goes on as before ([`crate::printed_lines_do_not_matter`]).
+    pub fn forget_lines(&mut self)
+        ensures { self.new ≡ record self.old { output = [] } }
+    {
+        self.output.forget();
     }
 }

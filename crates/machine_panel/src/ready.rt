@@ -9,7 +9,7 @@ ghost use Rattle.machine_panel.specs.Ready.{does_something, has_work, is_ready};
 use crate::machine::{Machine, Mode};
 use s370_intr::{Next, Reason, look};
 
-/// Whether a machine does something that tells this.
+/// Returns whether a machine does something that says this.
 fn does_something(reason: Reason) -> bool
     ensures { result ≡ does_something reason }
 {
@@ -19,7 +19,7 @@ fn does_something(reason: Reason) -> bool
     }
 }
 
-/// Whether a running processor that does this next does something.
+/// Returns whether a running processor that does this next does something.
 fn has_work(next: Next) -> bool
     ensures { result ≡ has_work next }
 {
@@ -30,8 +30,8 @@ fn has_work(next: Next) -> bool
 }
 
 impl Machine {
-    /// Whether the machine is ready for a unit: it is, unless a run of one unit would tell that it waits for an
-    /// interruption or is stopped. Nothing is done.
+    /// Returns whether the machine is ready for a unit: it is, unless a run of one unit would say
+    /// that it waits for an interruption or is stopped. Nothing is done.
     pub fn is_ready(&self) -> bool
         ensures { (m : Memory) → result ≡ is_ready (machine_of self.now m) }
     {

@@ -11,15 +11,15 @@ use cp_console::responses::Response;
 use s370_intr::{Processor, Ran, Reason, run_units};
 use s370_store::UnitSupply;
 
-/// What a run of a machine tells: how many units it did, why it did no more, and the notice that it printed, if it
-/// stopped.
+/// What a run of a machine says: how many units it did, why it did no more, and the notice that it
+/// printed, if it stopped.
 #[derive(Clone, Copy, PartialEq, Eq)]
 pub struct MachineRan {
     pub ran: Ran,
     pub notice: Option<Response>,
 }
 
-/// The notice of a machine that stops by itself.
+/// Returns the notice of a machine that stops by itself.
 #[inline]
 pub fn notice_of(reason: Reason) -> Option<Response>
     ensures { result ≡ notice_of reason }
@@ -32,8 +32,8 @@ pub fn notice_of(reason: Reason) -> Option<Response>
 }
 
 impl MachineRan {
-    /// What a run tells, with its notice.
-    pub fn told(ran: Ran) -> MachineRan
+    /// Returns what a run says, with its notice.
+    pub fn reported(ran: Ran) -> MachineRan
         ensures ran { result.ran ≡ ran }
         ensures notice { result.notice ≡ notice_of ran.reason }
     {
@@ -45,21 +45,28 @@ impl MachineRan {
 }
 
 impl Machine {
-    /// Lets the machine run for at most so many units. This takes no memory. What it printed, if it stopped, is
-    /// [`notice_of`] the reason: a run that goes on carries no room for it.
+    /// Lets the machine run for at most so many units. This takes no memory. What it printed, if it
+    /// stopped, is [`notice_of`] the reason: a run that goes on carries no room for it.
     pub fn run<P: Processor, S: UnitSupply>(&mut self, storage: &mut S, count: u32) -> Ran
         requires large { 8192 ≤ length (S.Storage.memory storage.old).bytes }
         requires between { S.IsBetween storage.old }
-        ensures told { let before = machine_of self.old (S.Storage.memory storage.old) in
+        ensures reported { let before = machine_of self.old (S.Storage.memory storage.old) in
             let after = machine_of self.new (S.Storage.memory storage.new) in
             TellsRun count before
-            (record { machine = after; units = result.units; reason = result.reason; notice = notice_of result.reason })
+            (record {
+              machine = after;
+              units = result.units;
+              reason = result.reason;
+              notice = notice_of result.reason;
+            })
             (S.IsOut storage.new) }
         ensures supply { let before = machine_of self.old (S.Storage.memory storage.old) in
-            (units : List (List ℕ)) × S.Came storage.old units storage.new × EachBrings before.core 0 units
+            (units : List (List ℕ)) × S.Came storage.old units storage.new
+            × EachBrings before.core 0 units
             × (length units ≤ begun result.units result.reason) }
         ensures between { S.IsBetween storage.new }
-        ensures room { length self.new.output + self.new.room ≡ length self.old.output + self.old.room }
+        ensures room { length self.new.output + self.new.room
+            ≡ length self.old.output + self.old.room }
     {
         match self.mode {
             Mode::Running => {}
@@ -86,7 +93,8 @@ impl Machine {
         requires { 1 ≤ self.old.room }
         ensures machine { (m : Memory)
             → machine_of self.new m ≡ halted notice (machine_of self.old m) }
-        ensures room { length self.new.output + self.new.room ≡ length self.old.output + self.old.room }
+        ensures room { length self.new.output + self.new.room
+            ≡ length self.old.output + self.old.room }
     {
         match notice {
             Some(notice) => {

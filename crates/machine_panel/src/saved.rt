@@ -2,7 +2,9 @@
 ghost use Rattle.std.specs.Prelude.{◌≡◌, ◌++◌, OnOk};
 ghost use Rattle.saved_bytes.specs.Codes.{each, number};
 ghost use Rattle.s370_subchannels.specs.Saved.{addresses};
-ghost use Rattle.machine_panel.specs.Saved.{cpu_bytes, machine_bytes, mode_bytes, mode_number, pending_bytes, psw_bytes, psw_flags_bytes, psw_masks_bytes};
+ghost use Rattle.machine_panel.specs.Saved.{cpu_bytes, machine_bytes, mode_bytes, mode_number};
+ghost use Rattle.machine_panel.specs.Saved.{pending_bytes, psw_bytes, psw_flags_bytes};
+ghost use Rattle.machine_panel.specs.Saved.{psw_masks_bytes};
 
 use crate::machine::{Machine, Mode};
 use s370_intr::Pending;
@@ -24,7 +26,7 @@ fn put_registers(out: &mut Vec<u8>, registers: &[u32]) -> Result<(), AllocError>
     put_zero(out)
 }
 
-/// Takes the registers that come next.
+/// Takes the registers that are next.
 fn registers_of(input: &mut Input<'_>) -> Option<[u32; 16]> {
     let mut registers = [0u32; 16];
     for place in 0..16usize {
@@ -65,12 +67,12 @@ fn put_psw(out: &mut Vec<u8>, psw: &Psw) -> Result<(), AllocError>
     put_number(out, u64::from(psw.address().get()))
 }
 
-/// Takes a bit that comes next, in its place of a word.
+/// Takes a bit that is next, in its place of a word.
 fn bit_of(input: &mut Input<'_>, bit: u64) -> Option<u64> {
     if input.flag()? { Some(bit) } else { Some(0) }
 }
 
-/// Takes the PSW that comes next.
+/// Takes the PSW that is next.
 fn psw_of(input: &mut Input<'_>) -> Option<Psw> {
     let system_mask = input.small()?;
     let key = input.small()?;
@@ -131,7 +133,7 @@ fn put_mode(out: &mut Vec<u8>, mode: Mode) -> Result<(), AllocError>
     put_number(out, number_of(mode))
 }
 
-/// Takes the mode that comes next.
+/// Takes the mode that is next.
 fn mode_of(input: &mut Input<'_>) -> Option<Mode> {
     match input.number()? {
         0 => Some(Mode::Off),
@@ -143,6 +145,10 @@ fn mode_of(input: &mut Input<'_>) -> Option<Mode> {
 
 impl Machine {
     /// Appends all that is seen of a machine but its storage.
+    ///
+    /// # Errors
+    ///
+    /// `AllocError` if memory is refused; `out` may have a part of it then.
     pub fn save(&self, out: &mut Vec<u8>) -> Result<(), AllocError>
         ensures { OnOk result (out.new.items ≡ out.old.items ++ machine_bytes self.now) }
     {
@@ -161,7 +167,8 @@ impl Machine {
         output.save(out)
     }
 
-    /// Takes what comes next, for a machine that has printed nothing. Its devices stay, whatever comes.
+    /// Restores what is next in the input, in a machine that has printed nothing. Its devices stay,
+    /// whatever comes.
     pub fn restore(&mut self, input: &mut Input<'_>) -> Option<()>
         ensures { addresses self.new.subchannels ≡ addresses self.old.subchannels }
     {

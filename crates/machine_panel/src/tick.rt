@@ -10,8 +10,12 @@ use s370_intr::{Pending, tick};
 use s370_store::{FramesOut, Supply, UnitSupply};
 
 impl Machine {
-    /// A tick of the interval timer, which steps where the machine runs. Where there is no room for page 0, nothing has
+    /// Steps the interval timer of a machine that runs. If there is no room for page 0, nothing has
     /// happened. This takes no memory.
+    ///
+    /// # Errors
+    ///
+    /// `FramesOut` if there is no room for a page that is needed; no byte has changed.
     pub fn tick<S: UnitSupply>(&mut self, storage: &mut S) -> Result<(), FramesOut>
         requires large { 8192 ≤ length (S.Storage.memory storage.old).bytes }
         requires between { S.IsBetween storage.old }
@@ -25,10 +29,12 @@ impl Machine {
             OnErr result (IsLacking (TickNeeds before) (length (S.Storage.memory storage.old).bytes)
             (S.IsOut storage.new)) }
         ensures supply { let before = machine_of self.old (S.Storage.memory storage.old) in
-            (pages : List ℕ) × S.Came storage.old (pages ∷ []) storage.new × AllNeeded (TickNeeds before) pages
+            (pages : List ℕ) × S.Came storage.old (pages ∷ []) storage.new
+            × AllNeeded (TickNeeds before) pages
             × (length pages ≤ 1) }
         ensures between { S.IsBetween storage.new }
-        ensures room { length self.new.output + self.new.room ≡ length self.old.output + self.old.room }
+        ensures room { length self.new.output + self.new.room
+            ≡ length self.old.output + self.old.room }
     {
         match self.mode {
             Mode::Running => tick_supplied(&mut self.pending, storage),
@@ -37,7 +43,8 @@ impl Machine {
     }
 }
 
-/// A tick of a machine that runs, with page 0, which is held until it ends.
+/// Steps the interval timer of a machine that runs, with page 0, which is pinned until that is
+/// done.
 fn tick_supplied<S: UnitSupply>(pending: &mut Pending, storage: &mut S) -> Result<(), FramesOut>
     requires large { 8192 ≤ length (S.Storage.memory storage.old).bytes }
     requires between { S.IsBetween storage.old }
@@ -48,8 +55,10 @@ fn tick_supplied<S: UnitSupply>(pending: &mut Pending, storage: &mut S) -> Resul
         ≡ timed (S.Storage.memory storage.old).bytes pending.old) }
     ensures keys { (S.Storage.memory storage.new).keys ≡ (S.Storage.memory storage.old).keys }
     ensures frames { OnErr result
-        (IsLacking (λ page. page ≡ 0) (length (S.Storage.memory storage.old).bytes) (S.IsOut storage.new)) }
-    ensures supply { (pages : List ℕ) × S.Came storage.old (pages ∷ []) storage.new × AllNeeded (λ page. page ≡ 0) pages
+        (IsLacking (λ page. page ≡ 0) (length (S.Storage.memory storage.old).bytes)
+        (S.IsOut storage.new)) }
+    ensures supply { (pages : List ℕ) × S.Came storage.old (pages ∷ []) storage.new
+        × AllNeeded (λ page. page ≡ 0) pages
         × (length pages ≤ 1) }
     ensures between { S.IsBetween storage.new }
 {
@@ -58,7 +67,7 @@ fn tick_supplied<S: UnitSupply>(pending: &mut Pending, storage: &mut S) -> Resul
     ticked
 }
 
-/// A tick, after page 0 was brought where it was not present.
+/// Steps the interval timer, after page 0 was brought if it was not present.
 fn bring_and_tick<S: UnitSupply>(pending: &mut Pending, storage: &mut S) -> Result<(), FramesOut>
     requires { 8192 ≤ length (S.Storage.memory storage.old).bytes }
     ensures ok { OnOk result (timed (S.Storage.memory storage.new).bytes pending.new
@@ -68,10 +77,12 @@ fn bring_and_tick<S: UnitSupply>(pending: &mut Pending, storage: &mut S) -> Resu
         ≡ timed (S.Storage.memory storage.old).bytes pending.old) }
     ensures keys { (S.Storage.memory storage.new).keys ≡ (S.Storage.memory storage.old).keys }
     ensures frames { OnErr result
-        (IsLacking (λ page. page ≡ 0) (length (S.Storage.memory storage.old).bytes) (S.Supply.IsShort storage.new)) }
+        (IsLacking (λ page. page ≡ 0) (length (S.Storage.memory storage.old).bytes)
+        (S.Supply.IsShort storage.new)) }
     ensures supply { (pages : List ℕ) × S.Supply.Brought storage.old pages storage.new
         × AllNeeded (λ page. page ≡ 0) pages × (length pages ≤ 1) }
-    ensures size { length (S.Storage.memory storage.new).bytes ≡ length (S.Storage.memory storage.old).bytes }
+    ensures size { length (S.Storage.memory storage.new).bytes
+        ≡ length (S.Storage.memory storage.old).bytes }
 {
     loop {
         match tick(pending, storage) {

@@ -1,5 +1,6 @@
 -- What was asked of files, one after another.
-use Rattle.std.proofs.Common.{◌≡◌, ◌∙◌, ℕ, zero, suc, ◌+◌, List, [], ◌∷◌, ◌++◌, Option, Some, None, Result, Ok, Err, refl, sym, ap, subst, append_assoc, append-nil, length, map, take, drop, add-one}
+use Rattle.std.proofs.Common.{◌≡◌, ◌∙◌, ℕ, zero, suc, ◌+◌, List, [], ◌∷◌, ◌++◌, Option, Some, None, Result, Ok, Err}
+use Rattle.std.proofs.Common.{refl, sym, ap, subst, append_assoc, append-nil, length, map, take, drop, add-one}
 use Rattle.std.specs.Prelude.{IfErr, IsErrAnd, OnErr, OnOk, slice_get}
 use Rattle.ckd_volume.specs.Volume.{VolumeFormat}
 use Rattle.programs.specs.Opened.{Adds, AddsFirst, AddsFront, Deed, Opens, Saves, opens, saves}
@@ -30,7 +31,8 @@ take_none zero = refl
 take_none (suc n) = refl
 
 -- the first so many of the paths were opened
-pub opened_front : {P : Type 0} (f : P → List ℕ) (n : ℕ) (paths : List P) (a b : Option (List Deed)) → Adds a b (opens (map f (take n paths))) → AddsFront a b (opens (map f paths))
+pub opened_front : {P : Type 0} (f : P → List ℕ) (n : ℕ) (paths : List P) (a b : Option (List Deed))
+    → Adds a b (opens (map f (take n paths))) → AddsFront a b (opens (map f paths))
 opened_front f n paths a b h = (
   n,
   adds_same a b (opens (map f (take n paths))) (take n (opens (map f paths)))
@@ -38,22 +40,27 @@ opened_front f n paths a b h = (
 )
 
 -- all of them
-pub opened_all : {P : Type 0} (f : P → List ℕ) (n : ℕ) (paths : List P) (a b : Option (List Deed)) → take n paths ≡ paths → Adds a b (opens (map f (take n paths))) → Adds a b (opens (map f paths))
-opened_all f n paths a b e h = adds_same a b (opens (map f (take n paths))) (opens (map f paths)) (ap (λ l. opens (map f l)) e) h
+pub opened_all : {P : Type 0} (f : P → List ℕ) (n : ℕ) (paths : List P) (a b : Option (List Deed))
+    → take n paths ≡ paths → Adds a b (opens (map f (take n paths))) → Adds a b (opens (map f paths))
+opened_all f n paths a b e h =
+    adds_same a b (opens (map f (take n paths))) (opens (map f paths)) (ap (λ l. opens (map f l)) e) h
 
 map_end : {A B : Type 0} (f : A → B) (xs : List A) (x : A) → map f (xs ++ x ∷ []) ≡ map f xs ++ f x ∷ []
 map_end f [] x = refl
 map_end f (y ∷ ys) x = ap (λ l. f y ∷ l) (map_end f ys x)
 
 -- one more was opened
-pub opened_more : (done after : List (List ℕ)) (path : List ℕ) (a b c : Option (List Deed)) → after ≡ done ++ path ∷ [] → Adds a b (opens done) → Adds b c (Opens path ∷ []) → Adds a c (opens after)
+pub opened_more : (done after : List (List ℕ)) (path : List ℕ) (a b c : Option (List Deed)) → after ≡ done ++ path ∷ []
+    → Adds a b (opens done) → Adds b c (Opens path ∷ []) → Adds a c (opens after)
 opened_more done after path a b c e h k =
-    adds_same a c (opens done ++ Opens path ∷ []) (opens after) (sym (ap opens e ∙ map_end Opens done path)) (adds_more a b c (opens done) (Opens path ∷ []) h k)
+    adds_same a c (opens done ++ Opens path ∷ []) (opens after) (sym (ap opens e ∙ map_end Opens done path))
+    (adds_more a b c (opens done) (Opens path ∷ []) h k)
 
 -- ---- images
 
 -- the path at a place, and those after it
-pub drop_get : (k : ℕ) (paths rest : List (List ℕ)) (path : List ℕ) → drop k paths ≡ path ∷ rest → Some path ≡ slice_get paths k
+pub drop_get : (k : ℕ) (paths rest : List (List ℕ)) (path : List ℕ) → drop k paths ≡ path ∷ rest
+    → Some path ≡ slice_get paths k
 drop_get zero [] rest path e = cc
 drop_get zero (p ∷ ps) rest path e = cc
 drop_get (suc k) [] rest path e = cc
@@ -65,10 +72,13 @@ drop_suc zero (p ∷ ps) rest path e = cc
 drop_suc (suc k) [] rest path e = cc
 drop_suc (suc k) (p ∷ ps) rest path e = drop_suc k ps rest path e
 
-pub drop_more : (k : ℕ) (paths rest : List (List ℕ)) (path : List ℕ) → drop k paths ≡ path ∷ rest → drop (k + 1) paths ≡ rest
+pub drop_more : (k : ℕ) (paths rest : List (List ℕ)) (path : List ℕ) → drop k paths ≡ path ∷ rest
+    → drop (k + 1) paths ≡ rest
 drop_more k paths rest path e = rw add-one (drop_suc k paths rest path e)
 
-saves_suc : (k : ℕ) (paths : List (List ℕ)) (volumes : List VolumeFormat) (path : List ℕ) (volume : VolumeFormat) → Some path ≡ slice_get paths k → Some volume ≡ slice_get volumes k → take (suc k) (saves paths volumes) ≡ take k (saves paths volumes) ++ Saves path volume ∷ []
+saves_suc : (k : ℕ) (paths : List (List ℕ)) (volumes : List VolumeFormat) (path : List ℕ) (volume : VolumeFormat)
+    → Some path ≡ slice_get paths k → Some volume ≡ slice_get volumes k
+    → take (suc k) (saves paths volumes) ≡ take k (saves paths volumes) ++ Saves path volume ∷ []
 saves_suc k [] volumes path volume e f = cc
 saves_suc k (p ∷ ps) [] path volume e f = cc
 saves_suc zero (p ∷ ps) (v ∷ vs) path volume e f =
@@ -78,33 +88,41 @@ saves_suc zero (p ∷ ps) (v ∷ vs) path volume e f =
 saves_suc (suc k) (p ∷ ps) (v ∷ vs) path volume e f = ap (λ l. Saves p v ∷ l) (saves_suc k ps vs path volume e f)
 
 -- one more image was asked for
-pub saves_more : (k : ℕ) (paths : List (List ℕ)) (volumes : List VolumeFormat) (path : List ℕ) (volume : VolumeFormat) (a b c : Option (List Deed)) → Some path ≡ slice_get paths k → Some volume ≡ slice_get volumes k
-    → AddsFirst k a b (saves paths volumes) → Adds b c (Saves path volume ∷ []) → AddsFirst (k + 1) a c (saves paths volumes)
+pub saves_more : (k : ℕ) (paths : List (List ℕ)) (volumes : List VolumeFormat) (path : List ℕ) (volume : VolumeFormat)
+    (a b c : Option (List Deed)) → Some path ≡ slice_get paths k → Some volume ≡ slice_get volumes k
+    → AddsFirst k a b (saves paths volumes) → Adds b c (Saves path volume ∷ [])
+    → AddsFirst (k + 1) a c (saves paths volumes)
 saves_more k paths volumes path volume a b c e f before more =
     adds_same a c (take k (saves paths volumes) ++ Saves path volume ∷ []) (take (k + 1) (saves paths volumes))
     (sym (rw add-one (saves_suc k paths volumes path volume e f)))
     (adds_more a b c (take k (saves paths volumes)) (Saves path volume ∷ []) before more)
 
-saves_past : (k : ℕ) (paths : List (List ℕ)) (volumes : List VolumeFormat) → slice_get volumes k ≡ None → take (suc k) (saves paths volumes) ≡ take k (saves paths volumes)
+saves_past : (k : ℕ) (paths : List (List ℕ)) (volumes : List VolumeFormat) → slice_get volumes k ≡ None
+    → take (suc k) (saves paths volumes) ≡ take k (saves paths volumes)
 saves_past k [] volumes e = take_none (suc k) ∙ sym (take_none k)
 saves_past k (p ∷ ps) [] e = take_none (suc k) ∙ sym (take_none k)
 saves_past zero (p ∷ ps) (v ∷ vs) e = cc
 saves_past (suc k) (p ∷ ps) (v ∷ vs) e = ap (λ l. Saves p v ∷ l) (saves_past k ps vs e)
 
 -- there is no volume for one more
-pub saves_no_more : (k : ℕ) (paths : List (List ℕ)) (volumes : List VolumeFormat) (a b : Option (List Deed)) → slice_get volumes k ≡ None → AddsFirst k a b (saves paths volumes) → AddsFirst (k + 1) a b (saves paths volumes)
+pub saves_no_more : (k : ℕ) (paths : List (List ℕ)) (volumes : List VolumeFormat) (a b : Option (List Deed))
+    → slice_get volumes k ≡ None → AddsFirst k a b (saves paths volumes) → AddsFirst (k + 1) a b (saves paths volumes)
 saves_no_more k paths volumes a b e h =
-    adds_same a b (take k (saves paths volumes)) (take (k + 1) (saves paths volumes)) (sym (rw add-one (saves_past k paths volumes e))) h
+    adds_same a b (take k (saves paths volumes)) (take (k + 1) (saves paths volumes))
+    (sym (rw add-one (saves_past k paths volumes e))) h
 
-saves_all : (paths : List (List ℕ)) (volumes : List VolumeFormat) → take (length paths) (saves paths volumes) ≡ saves paths volumes
+saves_all : (paths : List (List ℕ)) (volumes : List VolumeFormat)
+    → take (length paths) (saves paths volumes) ≡ saves paths volumes
 saves_all [] volumes = refl
 saves_all (p ∷ ps) [] = refl
 saves_all (p ∷ ps) (v ∷ vs) = ap (λ l. Saves p v ∷ l) (saves_all ps vs)
 
 -- all were asked for
-pub saves_each : (k : ℕ) (paths : List (List ℕ)) (volumes : List VolumeFormat) (a b : Option (List Deed)) → k ≡ length paths → AddsFirst k a b (saves paths volumes) → Adds a b (saves paths volumes)
+pub saves_each : (k : ℕ) (paths : List (List ℕ)) (volumes : List VolumeFormat) (a b : Option (List Deed))
+    → k ≡ length paths → AddsFirst k a b (saves paths volumes) → Adds a b (saves paths volumes)
 saves_each k paths volumes a b e h =
-    adds_same a b (take k (saves paths volumes)) (saves paths volumes) (ap (λ (n : ℕ). take n (saves paths volumes)) e ∙ saves_all paths volumes) h
+    adds_same a b (take k (saves paths volumes)) (saves paths volumes)
+    (ap (λ (n : ℕ). take n (saves paths volumes)) e ∙ saves_all paths volumes) h
 
 -- ---- what failed
 
@@ -112,7 +130,8 @@ pub on_err : {A E : Type 0} {P : Type 0} (result : Result A E) → P → OnErr r
 on_err (Ok a) h = tt
 on_err (Err e) h = h
 
-pub if_err : {A E : Type 0} (P : E → Type 0) (result : Result A E) (error : E) → IsErrAnd result (λ e. e ≡ error) → P error → IfErr result P
+pub if_err : {A E : Type 0} (P : E → Type 0) (result : Result A E) (error : E) → IsErrAnd result (λ e. e ≡ error)
+    → P error → IfErr result P
 if_err P (Ok a) error is h = tt
 if_err P (Err e) error is h = subst P (sym is) h
 
@@ -128,7 +147,8 @@ pub on_ok : {A E : Type 0} {P : Type 0} (result : Result A E) → P → OnOk res
 on_ok (Ok a) h = h
 on_ok (Err e) h = tt
 
-pub err_and : {A E : Type 0} (P Q : E → Type 0) (result : Result A E) → ((error : E) → P error → Q error) → IfErr result P → IfErr result Q
+pub err_and : {A E : Type 0} (P Q : E → Type 0) (result : Result A E) → ((error : E) → P error → Q error)
+    → IfErr result P → IfErr result Q
 err_and P Q (Ok a) f h = tt
 err_and P Q (Err e) f h = f e h
 
@@ -143,9 +163,11 @@ pub front_all : (a b : Option (List Deed)) (deeds : List Deed) → Adds a b deed
 front_all a b deeds h = (length deeds, adds_same a b deeds (take (length deeds) deeds) (sym (take_each deeds)) h)
 
 -- the first
-pub front_one : (a b : Option (List Deed)) (deed : Deed) (deeds : List Deed) → Adds a b (deed ∷ []) → AddsFront a b (deed ∷ deeds)
+pub front_one : (a b : Option (List Deed)) (deed : Deed) (deeds : List Deed) → Adds a b (deed ∷ [])
+    → AddsFront a b (deed ∷ deeds)
 front_one a b deed deeds h = (1, h)
 
 -- the first, and a beginning of the others
-pub front_more : (a b c : Option (List Deed)) (deed : Deed) (deeds : List Deed) → Adds a b (deed ∷ []) → AddsFront b c deeds → AddsFront a c (deed ∷ deeds)
+pub front_more : (a b c : Option (List Deed)) (deed : Deed) (deeds : List Deed) → Adds a b (deed ∷ [])
+    → AddsFront b c deeds → AddsFront a c (deed ∷ deeds)
 front_more a b c deed deeds h k = (suc k.0, adds_more a b c (deed ∷ []) (take k.0 deeds) h k.1)

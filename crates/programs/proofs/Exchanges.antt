@@ -1,5 +1,6 @@
 -- Parts that are answered, one after another.
-use Rattle.std.proofs.Common.{◌≡◌, ℕ, true, inl, inr, List, [], ◌∷◌, ◌++◌, Option, Some, Result, Ok, Err, refl, sym, ap, ◌∙◌, subst, append_assoc, append-nil, length, arith}
+use Rattle.std.proofs.Common.{◌≡◌, ℕ, true, inl, inr, List, [], ◌∷◌, ◌++◌, Option, Some, Result, Ok, Err, refl, sym, ap}
+use Rattle.std.proofs.Common.{◌∙◌, subst, append_assoc, append-nil, length, arith}
 use Rattle.std.specs.Prelude.{IsErrAnd}
 use Rattle.std.specs.Io.KnownBytes.{Appends, Consumes}
 use Rattle.std.proofs.KnownBytes.{Appends-nil, Appends-trans, Consumes-nil, Consumes-trans}
@@ -8,71 +9,118 @@ use Rattle.s370_num.specs.declared.host.HostFault.TheVariants as hosts
 use Rattle.sessions.specs.Files.{closing_lines}
 use Rattle.sessions.specs.Follow.{HasWholeLines, Became, IsFollowed, part_of}
 use Rattle.sessions.specs.Installed.{Installation, names_of}
-use Rattle.sessions.specs.Schedule.{Scene}
+use Rattle.sessions.specs.Schedule.{Scene, acts}
 use Rattle.sessions.specs.News.{modes_of}
 use Rattle.sessions.specs.declared.follow.Part.{Part}
 use Rattle.sessions.specs.declared.follow.Part.TheVariants as parts
 use Rattle.machine_panel.specs.declared.machine.Mode.{Mode}
-use Rattle.sessions.specs.Session.{Accounts, at_first}
+use Rattle.sessions.specs.Session.{Accounts, IsPlayed, at_first}
 use Rattle.sessions.specs.Transcript.{ended, transcript}
 use Rattle.sessions.specs.declared.faults.PlayError.{PlayError}
 use Rattle.sessions.specs.declared.faults.PlayError.TheVariants as plays
 use Rattle.sessions.specs.declared.schedule.Detail.{Detail}
 use Rattle.sessions.proofs.Histories.{front_after}
 use Rattle.programs.specs.Faults.{play_failure}
-use Rattle.programs.specs.declared.requests.Next.{Next}
+use Rattle.programs.specs.declared.requests.NextRequest.{NextRequest}
 use Rattle.programs.specs.Requests.{GivesNext}
-use Rattle.programs.specs.Parts.{AnswersPart, AreExchanges, Exchange, IsExchange, IsPartAnsweredPartly, InputAccounts, IsBegun, IsBrokenOff, IsFollowedTo, IsSoFar, answers_of, news_lines, news_since, read_of, refused_line}
+use Rattle.programs.specs.Parts.{AnswersPart, AreExchanges, Exchange, IsExchange, IsPartAnsweredPartly, InputAccounts}
+use Rattle.programs.specs.Parts.{IsBegun, IsBrokenOff, IsFollowedTo, IsSoFar, answers_of, news_lines, news_since}
+use Rattle.programs.specs.Parts.{read_of, refused_line}
 use Rattle.programs.specs.declared.faults.Failure.{Failure}
 
 -- ---- one part
 
 -- what it has as a transcript
-alone : {W : Type 0} (i : Installation W) (old new : Scene W) (part : List ℕ) (a b : Option (List ℕ)) (f : IsFollowed i part old new a b) → IsFollowed i part old new (Some []) (Some (transcript i old.detail (names_of (i.seen old.world)) f.played.entries))
+alone : {W : Type 0} (i : Installation W) (old new : Scene W) (part : List ℕ) (a b : Option (List ℕ))
+    (f : IsFollowed i part old new a b)
+    → IsFollowed i part old new (Some [])
+    (Some (transcript i old.detail (names_of (i.seen old.world)) f.played.entries))
 alone i old new part a b f =
     let p = f.played in
-    record { script = f.script; accepted = f.accepted; played = record { entries = p.entries; done = p.done; written = refl; users = p.users; detail = p.detail; dealing = p.dealing } }
+    let played : IsPlayed i (acts f.script) old f.end (Some [])
+    (Some (transcript i old.detail (names_of (i.seen old.world)) p.entries)) =
+    record {
+      entries = p.entries;
+      done = p.done;
+      written = refl;
+      users = p.users;
+      detail = p.detail;
+      dealing = p.dealing;
+    } in
+    record { script = f.script; accepted = f.accepted; end = f.end; played = played; on = f.on }
 
--- it was done, and the news were told
-pub done : {W : Type 0} (i : Installation W) (old new : Scene W) (part : List ℕ) (a b c : Option (List ℕ)) → HasWholeLines part → IsFollowed i part old new a b → Appends b c (ended (news_lines i old new)) → (answer : List ℕ) × AnswersPart i old part answer new × Appends a c answer
+-- it was done, and the news were reported
+pub done : {W : Type 0} (i : Installation W) (old new : Scene W) (part : List ℕ) (a b c : Option (List ℕ))
+    → HasWholeLines part → IsFollowed i part old new a b → Appends b c (ended (news_lines i old new))
+    → (answer : List ℕ) × AnswersPart i old part answer new × Appends a c answer
 done i old new part a b c whole f w =
     let p = f.played in
     let text = transcript i old.detail (names_of (i.seen old.world)) p.entries in
-    let news = ended (news_lines i old new) in
-    (text ++ news, inl (record { whole = whole; text = text; followed = alone i old new part a b f; told = refl }), Appends-trans a b c text news p.written w)
+    let news = ended (news_lines i old new) in (
+      text ++ news,
+      inl (record { whole = whole; text = text; followed = alone i old new part a b f; reported = refl }),
+      Appends-trans a b c text news p.written w,
+    )
 
--- it was done, and a beginning of the news was told
-pub done_front : {W : Type 0} (i : Installation W) (old new : Scene W) (part : List ℕ) (a b c : Option (List ℕ)) → HasWholeLines part → IsFollowed i part old new a b → AppendsFront b c (ended (news_lines i old new)) → IsPartAnsweredPartly i old part a c
+-- it was done, and a beginning of the news was reported
+pub done_front : {W : Type 0} (i : Installation W) (old new : Scene W) (part : List ℕ) (a b c : Option (List ℕ))
+    → HasWholeLines part → IsFollowed i part old new a b → AppendsFront b c (ended (news_lines i old new))
+    → IsPartAnsweredPartly i old part a c
 done_front i old new part a b c whole f w =
     let p = f.played in
     let text = transcript i old.detail (names_of (i.seen old.world)) p.entries in
     let news = ended (news_lines i old new) in
-    inr (inr (text ++ news, new, inl (record { whole = whole; text = text; followed = alone i old new part a b f; told = refl }), front_after a b c text news p.written w))
+    inr (inr (
+      text ++ news,
+      new,
+      inl (record { whole = whole; text = text; followed = alone i old new part a b f; reported = refl }),
+      front_after a b c text news p.written w,
+    ))
 
 -- it was done, and there were no news
-pub done_untold : {W : Type 0} (i : Installation W) (old new : Scene W) (part : List ℕ) (a b : Option (List ℕ)) → HasWholeLines part → IsFollowed i part old new a b → IsPartAnsweredPartly i old part a b
+pub done_untold : {W : Type 0} (i : Installation W) (old new : Scene W) (part : List ℕ) (a b : Option (List ℕ))
+    → HasWholeLines part → IsFollowed i part old new a b → IsPartAnsweredPartly i old part a b
 done_untold i old new part a b whole f = done_front i old new part a b b whole f (0, omega arith, Appends-nil b)
 
--- it was refused, and that was told
-pub refused : {W : Type 0} (i : Installation W) (old new : Scene W) (part : List ℕ) (line : ℕ) (a b c : Option (List ℕ)) → part_of (i.seen old.world).users part ≡ Err line → new ≡ old → b ≡ a → Appends b c (ended (refused_line line ∷ [])) → (answer : List ℕ) × AnswersPart i old part answer new × Appends a c answer
+-- it was refused, and that was reported
+pub refused : {W : Type 0} (i : Installation W) (old new : Scene W) (part : List ℕ) (line : ℕ) (a b c : Option (List ℕ))
+    → part_of (i.seen old.world).users part ≡ Err line → new ≡ old → b ≡ a
+    → Appends b c (ended (refused_line line ∷ []))
+    → (answer : List ℕ) × AnswersPart i old part answer new × Appends a c answer
 refused i old new part line a b c e same kept w =
-    let text = ended (refused_line line ∷ []) in
-    (text, inr (record { line = line; refused = e; same = same; told = refl }), subst (λ (o : Option (List ℕ)). Appends o c text) kept w)
+    let text = ended (refused_line line ∷ []) in (
+      text,
+      inr (record { line = line; refused = e; same = same; reported = refl }),
+      subst (λ (o : Option (List ℕ)). Appends o c text) kept w,
+    )
 
-pub refused_front : {W : Type 0} (i : Installation W) (old new : Scene W) (part : List ℕ) (line : ℕ) (a b c : Option (List ℕ)) → part_of (i.seen old.world).users part ≡ Err line → new ≡ old → b ≡ a → AppendsFront b c (ended (refused_line line ∷ [])) → IsPartAnsweredPartly i old part a c
+pub refused_front : {W : Type 0} (i : Installation W) (old new : Scene W) (part : List ℕ) (line : ℕ)
+    (a b c : Option (List ℕ)) → part_of (i.seen old.world).users part ≡ Err line → new ≡ old → b ≡ a
+    → AppendsFront b c (ended (refused_line line ∷ [])) → IsPartAnsweredPartly i old part a c
 refused_front i old new part line a b c e same kept w =
     let text = ended (refused_line line ∷ []) in
-    inr (inr (text, new, inr (record { line = line; refused = e; same = same; told = refl }), subst (λ (o : Option (List ℕ)). AppendsFront o c text) kept w))
+    inr (inr (
+      text,
+      new,
+      inr (record { line = line; refused = e; same = same; reported = refl }),
+      subst (λ (o : Option (List ℕ)). AppendsFront o c text) kept w,
+    ))
 
 -- what became of it
-pub was_done : {W : Type 0} (i : Installation W) (old new : Scene W) (text : List ℕ) (part : Part W) (a b : Option (List ℕ)) → part ≡ parts.Done new → Became i text old part a b → HasWholeLines text × IsFollowed i text old new a b
+pub was_done : {W : Type 0} (i : Installation W) (old new : Scene W) (text : List ℕ) (part : Part W)
+    (a b : Option (List ℕ)) → part ≡ parts.Done new → Became i text old part a b
+    → HasWholeLines text × IsFollowed i text old new a b
 was_done {W} i old new text part a b e h = subst (λ (p : Part W). Became i text old p a b) e h
 
-pub was_refused : {W : Type 0} (i : Installation W) (old new : Scene W) (line : ℕ) (text : List ℕ) (part : Part W) (a b : Option (List ℕ)) → part ≡ parts.Refused new line → Became i text old part a b → (part_of (i.seen old.world).users text ≡ Err line) × (new ≡ old) × (b ≡ a)
+pub was_refused : {W : Type 0} (i : Installation W) (old new : Scene W) (line : ℕ) (text : List ℕ) (part : Part W)
+    (a b : Option (List ℕ)) → part ≡ parts.Refused new line → Became i text old part a b
+    → (part_of (i.seen old.world).users text ≡ Err line) × (new ≡ old) × (b ≡ a)
 was_refused {W} i old new line text part a b e h = subst (λ (p : Part W). Became i text old p a b) e h
 
 -- the news of a part
-pub news_told : {W : Type 0} (i : Installation W) (detail : Detail) (files : ℕ) (modes : List Mode) (old new : Scene W) → old.detail ≡ detail → files ≡ length (i.seen old.world).files → modes ≡ modes_of (i.seen old.world) → ended (news_since i detail files modes new) ≡ ended (news_lines i old new)
+pub news_told : {W : Type 0} (i : Installation W) (detail : Detail) (files : ℕ) (modes : List Mode) (old new : Scene W)
+    → old.detail ≡ detail → files ≡ length (i.seen old.world).files → modes ≡ modes_of (i.seen old.world)
+    → ended (news_since i detail files modes new) ≡ ended (news_lines i old new)
 news_told i detail files modes old new d f m =
     let seen = i.seen old.world in
     ap (λ (x : Detail). ended (news_since i x files modes new)) (sym d)
@@ -81,30 +129,42 @@ news_told i detail files modes old new d f m =
 
 -- ---- several parts
 
-exchanges_more : {W : Type 0} (i : Installation W) (xs : List (Exchange W)) (it : Exchange W) (first last : Scene W) → AreExchanges i first xs last → IsExchange i last it → AreExchanges i first (xs ++ it ∷ []) it.left
+exchanges_more : {W : Type 0} (i : Installation W) (xs : List (Exchange W)) (it : Exchange W) (first last : Scene W)
+    → AreExchanges i first xs last → IsExchange i last it → AreExchanges i first (xs ++ it ∷ []) it.left
 exchanges_more {W} i [] it first last h one = (subst (λ (s : Scene W). IsExchange i s it) h one, refl)
 exchanges_more i (x ∷ xs) it first last h one = (h.0, exchanges_more i xs it x.left last h.1 one)
 
 read_more : {W : Type 0} (xs : List (Exchange W)) (it : Exchange W) → read_of (xs ++ it ∷ []) ≡ read_of xs ++ it.read
 read_more [] it = append-nil it.read
-read_more (x ∷ xs) it = ap (λ (l : List ℕ). x.read ++ l) (read_more xs it) ∙ sym (append_assoc x.read (read_of xs) it.read)
+read_more (x ∷ xs) it = ap (λ (l : List ℕ). x.read ++ l) (read_more xs it) ∙ sym
+    (append_assoc x.read (read_of xs) it.read)
 
-answers_more : {W : Type 0} (xs : List (Exchange W)) (it : Exchange W) → answers_of (xs ++ it ∷ []) ≡ answers_of xs ++ it.answer
+answers_more : {W : Type 0} (xs : List (Exchange W)) (it : Exchange W)
+    → answers_of (xs ++ it ∷ []) ≡ answers_of xs ++ it.answer
 answers_more [] it = append-nil it.answer
-answers_more (x ∷ xs) it = ap (λ (l : List ℕ). x.answer ++ l) (answers_more xs it) ∙ sym (append_assoc x.answer (answers_of xs) it.answer)
+answers_more (x ∷ xs) it =
+    ap (λ (l : List ℕ). x.answer ++ l) (answers_more xs it) ∙ sym (append_assoc x.answer (answers_of xs) it.answer)
 
-pub so_far_none : {W : Type 0} (i : Installation W) (first : Scene W) (r w : Option (List ℕ)) → IsSoFar i first first r r w w
+pub so_far_none : {W : Type 0} (i : Installation W) (first : Scene W) (r w : Option (List ℕ))
+    → IsSoFar i first first r r w w
 so_far_none i first r w = record { exchanges = []; answered = refl; read = Consumes-nil r; written = Appends-nil w }
 
-pub so_far_more : {W : Type 0} (i : Installation W) (first mid : Scene W) (r s t w x y : Option (List ℕ)) (it : Exchange W) → IsSoFar i first mid r s w x → IsExchange i mid it → Consumes s t it.read → Appends x y it.answer → IsSoFar i first it.left r t w y
+pub so_far_more : {W : Type 0} (i : Installation W) (first mid : Scene W) (r s t w x y : Option (List ℕ))
+    (it : Exchange W) → IsSoFar i first mid r s w x → IsExchange i mid it → Consumes s t it.read → Appends x y it.answer
+    → IsSoFar i first it.left r t w y
 so_far_more i first mid r s t w x y it h one read written = record {
   exchanges = h.exchanges ++ it ∷ [];
   answered = exchanges_more i h.exchanges it first mid h.answered one;
-  read = subst (Consumes r t) (sym (read_more h.exchanges it)) (Consumes-trans r s t (read_of h.exchanges) it.read h.read read);
-  written = subst (Appends w y) (sym (answers_more h.exchanges it)) (Appends-trans w x y (answers_of h.exchanges) it.answer h.written written);
+  read = subst (Consumes r t) (sym (read_more h.exchanges it))
+      (Consumes-trans r s t (read_of h.exchanges) it.read h.read read);
+  written = subst (Appends w y) (sym (answers_more h.exchanges it))
+      (Appends-trans w x y (answers_of h.exchanges) it.answer h.written written);
 }
 
-pub followed_to : {W : Type 0} (i : Installation W) (detail : Detail) (old new : W) (last : Scene W) (end : List ℕ) (r s t w x y : Option (List ℕ)) → IsSoFar i (at_first i detail old) last r s w x → new ≡ last.world → Consumes s t end → Appends x y (ended (closing_lines (i.seen last.world))) → IsFollowedTo i detail old new end r t w y
+pub followed_to : {W : Type 0} (i : Installation W) (detail : Detail) (old new : W) (last : Scene W) (end : List ℕ)
+    (r s t w x y : Option (List ℕ)) → IsSoFar i (at_first i detail old) last r s w x → new ≡ last.world
+    → Consumes s t end → Appends x y (ended (closing_lines (i.seen last.world)))
+    → IsFollowedTo i detail old new end r t w y
 followed_to {W} i detail old new last end r s t w x y h left read closed =
     let lines = subst (λ (v : W). Appends x y (ended (closing_lines (i.seen v)))) (sym left) closed in
     record {
@@ -118,10 +178,13 @@ followed_to {W} i detail old new last end r s t w x y h left read closed =
 
 -- ---- an input that is not followed to its end
 
-pub is_next : (next other : Next) (a b : Option (List ℕ)) → next ≡ other → GivesNext next a b → GivesNext other a b
-is_next next other a b e h = subst (λ (n : Next). GivesNext n a b) e h
+pub is_next : (next other : NextRequest) (a b : Option (List ℕ)) → next ≡ other → GivesNext next a b
+    → GivesNext other a b
+is_next next other a b e h = subst (λ (n : NextRequest). GivesNext n a b) e h
 
-pub broken_off : {W : Type 0} (i : Installation W) (detail : Detail) (old : W) (last : Scene W) (more : List ℕ) (r s t w x y : Option (List ℕ)) → IsSoFar i (at_first i detail old) last r s w x → Consumes s t more → IsBegun i last more x y → IsBrokenOff i detail old r t w y
+pub broken_off : {W : Type 0} (i : Installation W) (detail : Detail) (old : W) (last : Scene W) (more : List ℕ)
+    (r s t w x y : Option (List ℕ)) → IsSoFar i (at_first i detail old) last r s w x → Consumes s t more
+    → IsBegun i last more x y → IsBrokenOff i detail old r t w y
 broken_off i detail old last more r s t w x y h read begun = record {
   exchanges = h.exchanges;
   last = last;
@@ -133,11 +196,13 @@ broken_off i detail old last more r s t w x y h read begun = record {
   begun = begun;
 }
 
-pub closed_why : (A : Type 0) (e : PlayError) (r s w x y : ℕ) → s ≡ r → x ≡ w → Accounts {A = A} (Err e) true true x y → InputAccounts {A = Unit {0}} (Err (play_failure e)) r s w y
+pub closed_why : (A : Type 0) (e : PlayError) (r s w x y : ℕ) → s ≡ r → x ≡ w → Accounts {A = A} (Err e) true true x y
+    → InputAccounts {A = Unit {0}} (Err (play_failure e)) r s w y
 closed_why A plays.Memory r s w x y a b h = (a, h ∙ b)
 closed_why A (plays.Device k) r s w x y a b h = inr (inl (a, subst (λ (n : ℕ). IsCounted n y (hosts.Device k)) b h))
 closed_why A plays.Spent r s w x y a b h = (a, h.0 ∙ b)
 
-pub why_of : {A : Type 0} (f : Failure) (result : Result A Failure) (r s w x : ℕ) → IsErrAnd result (λ z. z ≡ f) → InputAccounts {A = Unit {0}} (Err f) r s w x → InputAccounts result r s w x
+pub why_of : {A : Type 0} (f : Failure) (result : Result A Failure) (r s w x : ℕ) → IsErrAnd result (λ z. z ≡ f)
+    → InputAccounts {A = Unit {0}} (Err f) r s w x → InputAccounts result r s w x
 why_of f (Ok a) r s w x e h = absurd e
 why_of f (Err z) r s w x e h = subst (λ (g : Failure). InputAccounts {A = Unit {0}} (Err g) r s w x) (sym e) h

@@ -9,11 +9,17 @@ save_rule = record (new_rule (codes "save")) { long = Some (codes "save"); actio
 
 -- `--follow`
 abbrev pub follow_rule : Rule
-follow_rule = record (new_rule (codes "follow")) { long = Some (codes "follow"); action = Some SetTrue }
+follow_rule = record (new_rule (codes "follow")) {
+  long = Some (codes "follow");
+  action = Some SetTrue;
+}
 
 -- `--terminals`
 abbrev pub terminals_rule : Rule
-terminals_rule = record (new_rule (codes "terminals")) { long = Some (codes "terminals"); action = Some SetTrue }
+terminals_rule = record (new_rule (codes "terminals")) {
+  long = Some (codes "terminals");
+  action = Some SetTrue;
+}
 
 -- the word of the script
 abbrev pub script_rule : Rule

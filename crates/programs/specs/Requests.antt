@@ -1,14 +1,15 @@
 -- What an input asks for: parts of a script, states, and the end.
-use Rattle.std.specs.Prelude.{◌≡◌, ℕ, List, [], ◌∷◌, ◌++◌, ◌⊎◌, codes, length, Option, Some, None, Result, Ok, Err}
+use Rattle.std.specs.Prelude.{◌≡◌, ℕ, List, [], ◌∷◌, ◌++◌, ◌⊎◌, codes, length, Option, Some, None}
+use Rattle.std.specs.Prelude.{Result, Ok, Err}
 use Rattle.std.specs.Io.KnownBytes.{Consumes, IsAtEnd}
 use Rattle.s370_num.specs.Host.{IsCounted}
 use Rattle.s370_num.specs.declared.host.HostFault.{HostFault}
 use Rattle.s370_num.specs.declared.host.HostFault.TheVariants as hosts
 use Rattle.text_words.specs.Numbers.{decimal_of}
-use Rattle.programs.specs.declared.requests.Next.{Next}
-use Rattle.programs.specs.declared.requests.Next.TheVariants as nexts
-use Rattle.programs.specs.declared.requests.Request.{Request}
-use Rattle.programs.specs.declared.requests.Request.TheVariants as requests
+use Rattle.programs.specs.declared.requests.NextRequest.{NextRequest}
+use Rattle.programs.specs.declared.requests.NextRequest.TheVariants as nexts
+use Rattle.programs.specs.declared.requests.FollowRequest.{FollowRequest}
+use Rattle.programs.specs.declared.requests.FollowRequest.TheVariants as requests
 
 -- the most decimal digits of a size
 abbrev pub most_digits : ℕ
@@ -28,12 +29,13 @@ word_line word = word ++ 10 ∷ []
 abbrev pub end_line : List ℕ
 end_line = word_line (codes "END")
 
--- how a request is read: a part of the script with its size before it, the word that asks for the state, or the word that gives a
--- state, and then that with its size
-abbrev pub IsAsked : List ℕ → Request → Type 0
+-- how a request is read: a part of the script with its size before it, the word that asks for the
+-- state, or the word that gives a state, and then that with its size
+abbrev pub IsAsked : List ℕ → FollowRequest → Type 0
 IsAsked read (requests.Part part) = IsFramed read part.items
 IsAsked read requests.Save = read ≡ word_line (codes "SAVE")
-IsAsked read (requests.State state) = (framed : List ℕ) × IsFramed framed state.items × (read ≡ word_line (codes "STATE") ++ framed)
+IsAsked read (requests.State state) = (framed : List ℕ) × IsFramed framed state.items
+    × (read ≡ word_line (codes "STATE") ++ framed)
 
 -- the next byte, or none at the end of the input
 abbrev pub GivesByte : Option ℕ → Option (List ℕ) → Option (List ℕ) → Type 0
@@ -50,12 +52,15 @@ abbrev pub GivesSized : List ℕ → Option (List ℕ) → Option (List ℕ) →
 GivesSized bytes old new = (read : List ℕ) × IsFramed read bytes × Consumes old new read
 
 -- what the input has next
-abbrev pub GivesNext : Next → Option (List ℕ) → Option (List ℕ) → Type 0
-GivesNext (nexts.Asked request) old new = (read : List ℕ) × IsAsked read request × Consumes old new read
+abbrev pub GivesNext : NextRequest → Option (List ℕ) → Option (List ℕ) → Type 0
+GivesNext (nexts.Asked request) old new = (read : List ℕ) × IsAsked read request
+    × Consumes old new read
 GivesNext nexts.End old new = Consumes old new end_line
 GivesNext nexts.Nothing old new = Consumes old new [] × IsAtEnd new
 
--- why nothing was read: a failure of the reader is counted and tells its count; an input that has no requests tells a first failure
+-- why nothing was read: a failure of the reader is counted and reports its count; an input that has
+-- no requests says a first failure
 abbrev pub ReadAccounts : {A : Type 0} → Result A HostFault → ℕ → ℕ → Type 0
 ReadAccounts (Ok value) old new = new ≡ old
-ReadAccounts (Err fault) old new = IsCounted old new fault ⊎ ((new ≡ old) × (fault ≡ hosts.Device 1))
+ReadAccounts (Err fault) old new = IsCounted old new fault
+    ⊎ ((new ≡ old) × (fault ≡ hosts.Device 1))

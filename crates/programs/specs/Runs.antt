@@ -1,5 +1,7 @@
--- What a program does with its files once its machines are there: it plays or follows a script, and saves images.
-use Rattle.std.specs.Prelude.{◌≡◌, ◌⊎◌, ℕ, ◌+◌, ◌≤◌, Bool, if◌then◌else◌, List, [], ◌∷◌, length, slice_get, string_bytes, Option, Some, None}
+-- What a program does with its files once its machines are there: it plays or follows a script, and
+-- saves images.
+use Rattle.std.specs.Prelude.{◌≡◌, ◌⊎◌, ℕ, ◌+◌, ◌≤◌, Bool, if◌then◌else◌, List, [], ◌∷◌, length}
+use Rattle.std.specs.Prelude.{slice_get, string_bytes, Option, Some, None}
 use Rattle.ckd_volume.specs.Volume.{VolumeFormat}
 use Rattle.sessions.specs.Installed.{Installation}
 use Rattle.sessions.specs.Session.{IsCut, IsRefused, IsSession}
@@ -21,28 +23,35 @@ saved_of save paths = if save then paths else []
 
 -- ---- images that are not saved
 
--- the path that is told of an image that is not saved
+-- the path that is reported of an image that is not saved
 abbrev pub unsaved_path : Failure → Option (List ℕ)
 unsaved_path (failures.Unsaved error path) = Some (string_bytes path)
 unsaved_path _ = None
 
--- so many images were asked to be saved before; the path of the next is told, or there is no volume for that
-pub record IsUnsavedAt (paths : List (List ℕ)) (volumes : List VolumeFormat) (old new : Option (List Deed)) (failure : Failure) : Type 0 where
+-- so many images were asked to be saved before; the path of the next is reported, or there is no
+-- volume for that
+pub record IsUnsavedAt (paths : List (List ℕ)) (volumes : List VolumeFormat)
+    (old new : Option (List Deed)) (failure : Failure) : Type 0 where
   pub before : ℕ
   pub path : List ℕ
   pub place : Some path ≡ slice_get paths before
-  pub told : unsaved_path failure ≡ Some path
+  pub reported : unsaved_path failure ≡ Some path
   pub deeds : AddsFirst (before + 1) old new (saves paths volumes)
 
 -- or there was no memory for the paths, and none was asked for
-abbrev pub IsUnsaved : List (List ℕ) → List VolumeFormat → Option (List Deed) → Option (List Deed) → Failure → Type 0
+abbrev pub IsUnsaved : List (List ℕ) → List VolumeFormat → Option (List Deed) → Option (List Deed)
+    → Failure → Type 0
 IsUnsaved paths volumes old new failure =
     ((failure ≡ failures.Memory) × Adds old new []) ⊎ IsUnsavedAt paths volumes old new failure
 
 -- ---- a script that is played
 
--- the script at this path was played as a session, and then the images of the volumes were saved, as they were left
-pub record IsRun {W F : Type 0} (i : Installation W) (volumes : W → List VolumeFormat) (Gives : List ℕ → F → Type 0) (remaining : F → Option (List ℕ)) (script : List ℕ) (saved : List (List ℕ)) (first last : W) (deeds_old deeds_new : Option (List Deed)) (writer_old writer_new : Option (List ℕ)) : Type 0 where
+-- the script at this path was played as a session, and then the images of the volumes were saved,
+-- as they were left
+pub record IsRun {W F : Type 0} (i : Installation W) (volumes : W → List VolumeFormat)
+    (Gives : List ℕ → F → Type 0) (remaining : F → Option (List ℕ)) (script : List ℕ)
+    (saved : List (List ℕ)) (first last : W) (deeds_old deeds_new : Option (List Deed))
+    (writer_old writer_new : Option (List ℕ)) : Type 0 where
   pub file : F
   pub left : F
   pub opened : Gives script file
@@ -51,33 +60,44 @@ pub record IsRun {W F : Type 0} (i : Installation W) (volumes : W → List Volum
   pub deeds : Adds deeds_old deeds_new (Opens script ∷ saves saved (volumes last))
 
 -- the script could not be opened
-pub record IsUnopened {W : Type 0} (script : List ℕ) (first last : W) (deeds_old deeds_new : Option (List Deed)) (writer_old writer_new : Option (List ℕ)) (failure : Failure) : Type 0 where
-  pub told : failure ≡ failures.File 1
+pub record IsUnopened {W : Type 0} (script : List ℕ) (first last : W)
+    (deeds_old deeds_new : Option (List Deed)) (writer_old writer_new : Option (List ℕ))
+    (failure : Failure) : Type 0 where
+  pub reported : failure ≡ failures.File 1
   pub same : last ≡ first
   pub unwritten : writer_new ≡ writer_old
   pub deeds : Adds deeds_old deeds_new (Opens script ∷ [])
 
 -- a script is refused by its first wrong line
-abbrev pub IsRefusedFor : {W : Type 0} → Installation W → SessionError → W → Option (List ℕ) → Option (List ℕ) → Type 0
+abbrev pub IsRefusedFor : {W : Type 0} → Installation W → SessionError → W → Option (List ℕ)
+    → Option (List ℕ) → Type 0
 IsRefusedFor i ends.Memory first reader_old reader_new = Unit {0}
-IsRefusedFor i (ends.Line line) first reader_old reader_new = IsRefused (i.seen first).users reader_old reader_new line
+IsRefusedFor i (ends.Line line) first reader_old reader_new =
+    IsRefused (i.seen first).users reader_old reader_new line
 IsRefusedFor i (ends.Device count) first reader_old reader_new = Unit {0}
 IsRefusedFor i ends.Spent first reader_old reader_new = Unit {0}
 
--- the session failed: nothing has happened, or a beginning of it, of which a beginning was written; and no image was saved
-pub record IsCutRun {W F : Type 0} (i : Installation W) (Gives : List ℕ → F → Type 0) (remaining : F → Option (List ℕ)) (script : List ℕ) (first last : W) (deeds_old deeds_new : Option (List Deed)) (writer_old writer_new : Option (List ℕ)) (failure : Failure) : Type 0 where
+-- the session failed: nothing has happened, or a beginning of it, of which a beginning was written;
+-- and no image was saved
+pub record IsCutRun {W F : Type 0} (i : Installation W) (Gives : List ℕ → F → Type 0)
+    (remaining : F → Option (List ℕ)) (script : List ℕ) (first last : W)
+    (deeds_old deeds_new : Option (List Deed)) (writer_old writer_new : Option (List ℕ))
+    (failure : Failure) : Type 0 where
   pub file : F
   pub left : F
   pub opened : Gives script file
   pub error : SessionError
-  pub told : failure ≡ session_failure error
+  pub reported : failure ≡ session_failure error
   pub refused : IsRefusedFor i error first (remaining file) (remaining left)
   pub done : ((last ≡ first) × (writer_new ≡ writer_old))
       ⊎ IsCut i Whole first last (remaining file) (remaining left) writer_old writer_new
   pub deeds : Adds deeds_old deeds_new (Opens script ∷ [])
 
 -- the session was played to its end, and an image was not saved
-pub record IsUnsavedRun {W F : Type 0} (i : Installation W) (volumes : W → List VolumeFormat) (Gives : List ℕ → F → Type 0) (remaining : F → Option (List ℕ)) (script : List ℕ) (saved : List (List ℕ)) (first last : W) (deeds_old deeds_new : Option (List Deed)) (writer_old writer_new : Option (List ℕ)) (failure : Failure) : Type 0 where
+pub record IsUnsavedRun {W F : Type 0} (i : Installation W) (volumes : W → List VolumeFormat)
+    (Gives : List ℕ → F → Type 0) (remaining : F → Option (List ℕ)) (script : List ℕ)
+    (saved : List (List ℕ)) (first last : W) (deeds_old deeds_new : Option (List Deed))
+    (writer_old writer_new : Option (List ℕ)) (failure : Failure) : Type 0 where
   pub file : F
   pub left : F
   pub between : Option (List Deed)
@@ -87,38 +107,54 @@ pub record IsUnsavedRun {W F : Type 0} (i : Installation W) (volumes : W → Lis
   pub unsaved : IsUnsaved saved (volumes last) between deeds_new failure
 
 -- which of its three steps failed
-abbrev pub IsFailedRun : {W F : Type 0} → Installation W → (W → List VolumeFormat) → (List ℕ → F → Type 0) → (F → Option (List ℕ)) → List ℕ → List (List ℕ) → W → W → Option (List Deed) → Option (List Deed) → Option (List ℕ) → Option (List ℕ) → Failure → Type 0
-IsFailedRun i volumes Gives remaining script saved first last deeds_old deeds_new writer_old writer_new failure =
+abbrev pub IsFailedRun : {W F : Type 0} → Installation W → (W → List VolumeFormat)
+    → (List ℕ → F → Type 0) → (F → Option (List ℕ)) → List ℕ → List (List ℕ) → W → W
+    → Option (List Deed) → Option (List Deed) → Option (List ℕ) → Option (List ℕ) → Failure → Type 0
+IsFailedRun i volumes Gives remaining script saved first last deeds_old deeds_new writer_old
+    writer_new failure =
     IsUnopened script first last deeds_old deeds_new writer_old writer_new failure
     ⊎ IsCutRun i Gives remaining script first last deeds_old deeds_new writer_old writer_new failure
-    ⊎ IsUnsavedRun i volumes Gives remaining script saved first last deeds_old deeds_new writer_old writer_new failure
+    ⊎ IsUnsavedRun i volumes Gives remaining script saved first last deeds_old deeds_new writer_old
+    writer_new failure
 
 -- ---- a script that is followed
 
 -- the images that are saved: of machines whose end was asked for, and else none
 abbrev pub saved_by : {W : Type 0} → (W → List VolumeFormat) → List (List ℕ) → Left W → List Deed
-saved_by volumes saved (lefts.Ended last) = saves saved (volumes last)
+saved_by volumes saved (lefts.ProgramEnd last) = saves saved (volumes last)
 saved_by volumes saved (lefts.Cut last) = []
 
 -- the parts were followed to their end, and the images were saved
-pub record IsFollowing {W : Type 0} (i : Installation W) (volumes : W → List VolumeFormat) (detail : Detail) (saved : List (List ℕ)) (first : W) (deeds_old deeds_new : Option (List Deed)) (reader_old reader_new writer_old writer_new : Option (List ℕ)) : Type 0 where
+pub record IsFollowing {W : Type 0} (i : Installation W) (volumes : W → List VolumeFormat)
+    (detail : Detail) (saved : List (List ℕ)) (first : W) (deeds_old deeds_new : Option (List Deed))
+    (reader_old reader_new writer_old writer_new : Option (List ℕ)) : Type 0 where
   pub left : Left W
   pub followed : IsLeft i detail first left reader_old reader_new writer_old writer_new
   pub deeds : Adds deeds_old deeds_new (saved_by volumes saved left)
 
 -- they were not, and no image was saved
-pub record IsCutFollowing {W : Type 0} (i : Installation W) (detail : Detail) (first : W) (deeds_old deeds_new : Option (List Deed)) (reader_old reader_new writer_old writer_new : Option (List ℕ)) : Type 0 where
+pub record IsCutFollowing {W : Type 0} (i : Installation W) (detail : Detail) (first : W)
+    (deeds_old deeds_new : Option (List Deed))
+    (reader_old reader_new writer_old writer_new : Option (List ℕ)) : Type 0 where
   pub broken : IsBrokenOff i detail first reader_old reader_new writer_old writer_new
   pub deeds : Adds deeds_old deeds_new []
 
 -- they were, and their end was asked for; and an image was not saved
-pub record IsUnsavedFollowing {W : Type 0} (i : Installation W) (volumes : W → List VolumeFormat) (detail : Detail) (saved : List (List ℕ)) (first : W) (deeds_old deeds_new : Option (List Deed)) (reader_old reader_new writer_old writer_new : Option (List ℕ)) (failure : Failure) : Type 0 where
+pub record IsUnsavedFollowing {W : Type 0} (i : Installation W) (volumes : W → List VolumeFormat)
+    (detail : Detail) (saved : List (List ℕ)) (first : W) (deeds_old deeds_new : Option (List Deed))
+    (reader_old reader_new writer_old writer_new : Option (List ℕ))
+    (failure : Failure) : Type 0 where
   pub last : W
-  pub followed : IsLeft i detail first (lefts.Ended last) reader_old reader_new writer_old writer_new
+  pub followed : IsLeft i detail first (lefts.ProgramEnd last) reader_old reader_new writer_old
+      writer_new
   pub unsaved : IsUnsaved saved (volumes last) deeds_old deeds_new failure
 
 -- a script was not followed to its end, or an image was not saved
-abbrev pub IsFailedFollowing : {W : Type 0} → Installation W → (W → List VolumeFormat) → Detail → List (List ℕ) → W → Option (List Deed) → Option (List Deed) → Option (List ℕ) → Option (List ℕ) → Option (List ℕ) → Option (List ℕ) → Failure → Type 0
-IsFailedFollowing i volumes detail saved first deeds_old deeds_new reader_old reader_new writer_old writer_new failure =
+abbrev pub IsFailedFollowing : {W : Type 0} → Installation W → (W → List VolumeFormat) → Detail
+    → List (List ℕ) → W → Option (List Deed) → Option (List Deed) → Option (List ℕ)
+    → Option (List ℕ) → Option (List ℕ) → Option (List ℕ) → Failure → Type 0
+IsFailedFollowing i volumes detail saved first deeds_old deeds_new reader_old reader_new writer_old
+    writer_new failure =
     IsCutFollowing i detail first deeds_old deeds_new reader_old reader_new writer_old writer_new
-    ⊎ IsUnsavedFollowing i volumes detail saved first deeds_old deeds_new reader_old reader_new writer_old writer_new failure
+    ⊎ IsUnsavedFollowing i volumes detail saved first deeds_old deeds_new reader_old reader_new
+    writer_old writer_new failure

@@ -1,4 +1,4 @@
-//! Why a system is not booted, with all that is told of it.
+//! Why a system is not booted, with all that is reported of it.
 ghost use Rattle.std.specs.Prelude.{◌≡◌, IfOk, string_bytes, true};
 ghost use Rattle.std.specs.List.{list_all};
 ghost use Rattle.cp_directory.specs.Names.{is_letter_or_digit};
@@ -17,13 +17,14 @@ pub enum BootFault {
     DuplicateVolume,
     /// No volume has this serial number.
     NoVolume(Volser),
-    /// The minidisk of the user of this name, at this address, ends past the last cylinder of its volume.
+    /// The minidisk of the user of this name, at this address, ends past the last cylinder of its
+    /// volume.
     ExtentPastEnd(String, DevAddr),
     /// Two devices of a user have one address.
     DuplicateDevice,
 }
 
-/// The line for a system that is not booted.
+/// Returns the line for a system that is not booted.
 pub(crate) fn boot_line(alloc: Global, fault: &BootFault) -> Result<String, AllocError>
     ensures { IfOk result (λ line. string_bytes line ≡ boot_text fault.now) }
 {
@@ -41,7 +42,7 @@ pub(crate) fn boot_line(alloc: Global, fault: &BootFault) -> Result<String, Allo
     }
 }
 
-/// A word of letters and digits as a text.
+/// Returns a word of letters and digits as a text.
 fn word_text(alloc: Global, word: &[u8]) -> Result<String, AllocError>
     requires { list_all is_letter_or_digit word.now ≡ true }
     ensures { IfOk result (λ text. string_bytes text ≡ word.now) }

@@ -1,7 +1,8 @@
 //! What the program says of its failure, and its exit status.
 ghost use Rattle.std.specs.Prelude.{◌≡◌, IfOk, string_bytes};
 ghost use Rattle.programs.specs.declared.faults.Failure.TheVariants.{Directory, Image, Memory};
-ghost use Rattle.programs.specs.Faults.{directory_text, fault_text, file_failure, outcome_of, play_failure, session_failure, status_of};
+ghost use Rattle.programs.specs.Faults.{directory_text, fault_text, file_failure, outcome_of};
+ghost use Rattle.programs.specs.Faults.{play_failure, session_failure, status_of};
 
 use crate::boot_faults::{BootFault, boot_line};
 use ckd_image::ImageError;
@@ -95,8 +96,12 @@ impl From<AllocError> for Failure {
     }
 }
 
-/// The line that is printed for a failure, without its end: `fault:`, what failed, the name of the
-/// refusal and its numbers.
+/// Returns the line that is printed for a failure, without its end: `fault:`, what failed, the name
+/// of the refusal and its numbers.
+///
+/// # Errors
+///
+/// `AllocError` if memory is refused.
 pub fn fault_line(alloc: Global, failure: &Failure) -> Result<String, AllocError>
     ensures { IfOk result (λ line. string_bytes line ≡ fault_text failure.now) }
 {
@@ -114,7 +119,7 @@ pub fn fault_line(alloc: Global, failure: &Failure) -> Result<String, AllocError
     }
 }
 
-/// The line for a directory that was not read.
+/// Returns the line for a directory that was not read.
 fn directory_line(alloc: Global, error: DirError) -> Result<String, AllocError>
     ensures { IfOk result (λ line. string_bytes line ≡ directory_text error) }
 {
@@ -137,8 +142,8 @@ fn directory_line(alloc: Global, error: DirError) -> Result<String, AllocError>
     }
 }
 
-/// The exit status of a failure: 1 where input was refused, 2 for a wrong use, 3 where a file of the
-/// host failed, 4 where memory did.
+/// Returns the exit status of a failure: 1 where input was refused, 2 for a wrong use, 3 where a
+/// file of the host failed, 4 where memory did.
 pub fn status(failure: &Failure) -> u8
     ensures { result ≡ status_of failure.now }
 {
@@ -157,7 +162,7 @@ pub fn status(failure: &Failure) -> u8
     }
 }
 
-/// The exit status of the program: 0 where it came to its end, else that of its failure.
+/// Returns the exit status of the program: 0 where it came to its end, else that of its failure.
 pub fn outcome(ended: &Result<(), Failure>) -> u8
     ensures { result ≡ outcome_of ended.now }
 {

@@ -1,13 +1,18 @@
-//! What a program does with files: it opens them by their paths, plays or follows a script, and saves the images of its
-//! volumes.
+//! What a program does with files: it opens them by their paths, plays or follows a script, and
+//! saves the images of its volumes.
 //!
-//! All of that goes through a [`FileStore`], which opens paths and saves images, and does nothing else.
-ghost use Rattle.std.specs.Prelude.{◌≡◌, ℕ, List, [], ◌∷◌, Option, None, Some, IfErr, IfOk, OnErr, OnOk, length, map, option_copied, slice_get, string_bytes, ◌<◌, ◌≤◌};
+//! All of that goes through a [`FileStore`], which opens paths and saves images, and does nothing
+//! else.
+ghost use Rattle.std.specs.Prelude.{◌≡◌, ℕ, List, [], ◌∷◌, Option, None, Some, IfErr, IfOk, OnErr};
+ghost use Rattle.std.specs.Prelude.{OnOk, length, map, option_copied, slice_get, string_bytes, ◌<◌};
+ghost use Rattle.std.specs.Prelude.{◌≤◌};
 ghost use Rattle.s370_num.specs.Counted.{failures_of};
 ghost use Rattle.ckd_image.specs.declared.faults.ImageError.{ImageError};
 ghost use Rattle.ckd_volume.specs.Volume.{VolumeFormat};
-ghost use Rattle.programs.specs.Opened.{Adds, AddsFront, AreImagesAt, Deed, Opens, Saves, opens, saves};
-ghost use Rattle.programs.specs.Runs.{IsFailedFollowing, IsFailedRun, IsFollowing, IsRun, IsUnsaved, saved_of};
+ghost use Rattle.programs.specs.Opened.{Adds, AddsFront, AreImagesAt, Deed, Opens, Saves, opens};
+ghost use Rattle.programs.specs.Opened.{saves};
+ghost use Rattle.programs.specs.Runs.{IsFailedFollowing, IsFailedRun, IsFollowing, IsRun};
+ghost use Rattle.programs.specs.Runs.{IsUnsaved, saved_of};
 
 use crate::faults::Failure;
 use crate::images::{owned, save_volume, without_volume};
@@ -33,15 +38,25 @@ pub trait FileStore {
     ghost deeds: { Self → Option (List Deed) };
 
     /// Opens the file at a path for reading.
+    ///
+    /// # Errors
+    ///
+    /// A `Failure`: of a file, a text, an image or the boot, or refused memory.
     fn open(&mut self, path: &str) -> Result<Self::File, Failure>
         ensures ok { IfOk result (λ file. gives path.now file) }
         ensures err { IfErr result (λ failure. failure ≡ Failure.File 1) }
         ensures deeds { Adds (deeds self.old) (deeds self.new) (Opens path.now ∷ []) };
 
     /// Writes the image of a volume to a path, in place of the file that is there.
+    ///
+    /// # Errors
+    ///
+    /// A `Failure`: of a file, a text, an image or the boot, or refused memory.
     fn save(&mut self, volume: &Volume, path: String) -> Result<(), Failure>
-        ensures err { IfErr result (λ failure. (error : ImageError) × (failure ≡ Failure.Unsaved error path)) }
-        ensures deeds { Adds (deeds self.old) (deeds self.new) (Saves (string_bytes path) volume.now ∷ []) };
+        ensures err { IfErr result
+            (λ failure. (error : ImageError) × (failure ≡ Failure.Unsaved error path)) }
+        ensures deeds { Adds (deeds self.old) (deeds self.new)
+            (Saves (string_bytes path) volume.now ∷ []) };
 }
 
 /// The files of the host.
@@ -84,17 +99,23 @@ pub trait HasVolumes {
 }
 
 /// Reads the images at these paths, one after another, as volumes.
+///
+/// # Errors
+///
+/// A `Failure`: of a file, a text, an image or the boot, or refused memory.
 pub fn read_images<F: FileStore>(
     alloc: Global,
     files: &mut F,
     paths: &[&str],
 ) -> Result<Vec<Volume>, Failure>
-    ensures ok { IfOk result (λ volumes. AreImagesAt F.gives F.File.remaining (map (λ path. path.now) paths.now)
+    ensures ok { IfOk result
+        (λ volumes. AreImagesAt F.gives F.File.remaining (map (λ path. path.now) paths.now)
         volumes.items) }
     ensures deeds { OnOk result
         (Adds (F.deeds files.old) (F.deeds files.new) (opens (map (λ path. path.now) paths.now))) }
     ensures err { OnErr result
-        (AddsFront (F.deeds files.old) (F.deeds files.new) (opens (map (λ path. path.now) paths.now))) }
+        (AddsFront (F.deeds files.old) (F.deeds files.new)
+        (opens (map (λ path. path.now) paths.now))) }
 {
     let mut volumes = Vec::new(alloc);
     for place in 0..paths.len() {
@@ -107,7 +128,7 @@ pub fn read_images<F: FileStore>(
     Ok(volumes)
 }
 
-/// The path at a place.
+/// Returns the path at a place.
 fn path_at<'a>(paths: &[&'a str], place: usize) -> &'a str
     requires { place < length paths.now }
     ensures { Some result ≡ slice_get paths.now place }
@@ -115,8 +136,12 @@ fn path_at<'a>(paths: &[&'a str], place: usize) -> &'a str
     paths[place]
 }
 
-/// Plays the script at a path and writes its transcript, which holds nothing back then; and saves the images of the
-/// volumes at these paths, in their order.
+/// Plays the script at a path and writes its transcript, which holds nothing back then; and saves
+/// the images of the volumes at these paths, in their order.
+///
+/// # Errors
+///
+/// A `Failure`: of a file, a text, an image or the boot, or refused memory.
 pub fn run_script<F: FileStore, I: Installation + HasVolumes, W: HostWriter>(
     alloc: Global,
     files: &mut F,
@@ -125,11 +150,15 @@ pub fn run_script<F: FileStore, I: Installation + HasVolumes, W: HostWriter>(
     saved: &[&str],
     writer: &mut W,
 ) -> Result<(), Failure>
-    ensures ok { OnOk result (IsRun I.Installation.goes I.HasVolumes.volumes F.gives F.File.remaining script.now
-        (map (λ path. path.now) saved.now) machines.old machines.new (F.deeds files.old) (F.deeds files.new)
+    ensures ok { OnOk result
+        (IsRun I.Installation.goes I.HasVolumes.volumes F.gives F.File.remaining script.now
+        (map (λ path. path.now) saved.now) machines.old machines.new (F.deeds files.old)
+        (F.deeds files.new)
         (W.contents writer.old) (W.contents writer.new)) }
-    ensures err { IfErr result (IsFailedRun I.Installation.goes I.HasVolumes.volumes F.gives F.File.remaining script.now
-        (map (λ path. path.now) saved.now) machines.old machines.new (F.deeds files.old) (F.deeds files.new)
+    ensures err { IfErr result
+        (IsFailedRun I.Installation.goes I.HasVolumes.volumes F.gives F.File.remaining script.now
+        (map (λ path. path.now) saved.now) machines.old machines.new (F.deeds files.old)
+        (F.deeds files.new)
         (W.contents writer.old) (W.contents writer.new)) }
     ensures flushed { OnOk result (W.held writer.new ≡ []) }
 {
@@ -139,6 +168,10 @@ pub fn run_script<F: FileStore, I: Installation + HasVolumes, W: HostWriter>(
 }
 
 /// Writes the images of the volumes of machines to these paths, in their order.
+///
+/// # Errors
+///
+/// A `Failure`: of a file, a text, an image or the boot, or refused memory.
 pub fn save_images<F: FileStore, V: HasVolumes>(
     alloc: Global,
     files: &mut F,
@@ -148,7 +181,8 @@ pub fn save_images<F: FileStore, V: HasVolumes>(
     ensures ok { OnOk result (Adds (F.deeds files.old) (F.deeds files.new)
         (saves (map (λ path. path.now) paths.now) (V.volumes machines.now))) }
     ensures each { OnOk result (length paths.now ≤ length (V.volumes machines.now)) }
-    ensures err { IfErr result (IsUnsaved (map (λ path. path.now) paths.now) (V.volumes machines.now) (F.deeds files.old)
+    ensures err { IfErr result
+        (IsUnsaved (map (λ path. path.now) paths.now) (V.volumes machines.now) (F.deeds files.old)
         (F.deeds files.new)) }
 {
     let mut place = 0;
@@ -162,8 +196,12 @@ pub fn save_images<F: FileStore, V: HasVolumes>(
     Ok(())
 }
 
-/// Follows the parts of a script that an input has, and writes what comes of each; and saves the images of the volumes at
-/// these paths, in their order, if the end was asked for.
+/// Follows the parts of a script that an input has, and writes what comes of each; and saves the
+/// images of the volumes at these paths, in their order, if the end was asked for.
+///
+/// # Errors
+///
+/// A `Failure`: of a file, a text, an image or the boot, or refused memory.
 pub fn follow_files<
     F: FileStore,
     R: HostReader,
@@ -178,21 +216,25 @@ pub fn follow_files<
     reader: &mut R,
     writer: &mut W,
 ) -> Result<(), Failure>
-    ensures ok { OnOk result (IsFollowing I.Installation.goes I.HasVolumes.volumes detail (map (λ path. path.now) saved.now)
-        machines (F.deeds files.old) (F.deeds files.new) (R.remaining reader.old) (R.remaining reader.new)
+    ensures ok { OnOk result
+        (IsFollowing I.Installation.goes I.HasVolumes.volumes detail
+        (map (λ path. path.now) saved.now)
+        machines (F.deeds files.old) (F.deeds files.new) (R.remaining reader.old)
+        (R.remaining reader.new)
         (W.contents writer.old) (W.contents writer.new)) }
     ensures err { IfErr result (IsFailedFollowing I.Installation.goes I.HasVolumes.volumes detail
-        (map (λ path. path.now) saved.now) machines (F.deeds files.old) (F.deeds files.new) (R.remaining reader.old)
+        (map (λ path. path.now) saved.now) machines (F.deeds files.old) (F.deeds files.new)
+        (R.remaining reader.old)
         (R.remaining reader.new) (W.contents writer.old) (W.contents writer.new)) }
     ensures flushed { OnOk result (W.held writer.new ≡ []) }
 {
     match follow_parts(alloc, machines, detail, reader, writer)? {
-        Left::Ended(machines) => save_images(alloc, files, &machines, saved),
+        Left::ProgramEnd(machines) => save_images(alloc, files, &machines, saved),
         Left::Cut(_machines) => Ok(()),
     }
 }
 
-/// The paths of the images that are saved: all where that is asked for.
+/// Returns the paths of the images that are saved: all where that is asked for.
 pub fn saved_paths<'b, 'a>(save: bool, paths: &'b [&'a str]) -> &'b [&'a str]
     ensures { map (λ path. path.now) result.now ≡ saved_of save (map (λ path. path.now) paths.now) }
 {

@@ -12,13 +12,14 @@ use std::fs::{File, OpenFile, OpenOptions};
 use std::io::Write;
 use std::rt::Files;
 
-/// What is told where the host makes, opens or renames no file: its first failure.
+/// What is reported where the host makes, opens or renames no file: its first failure.
 const FAILED: ImageError = ImageError::Device(1);
 
-/// These paths as texts of their own. They are made before an image is written, so that one that is not saved for want
-/// of memory can be told.
+/// Returns these paths as texts of their own. They are made before an image is written, so that one
+/// that is not saved for lack of memory can be reported.
 pub(crate) fn owned(alloc: Global, paths: &[&str]) -> Result<Vec<String>, AllocError>
-    ensures { IfOk result (λ owned. map string_bytes owned.items ≡ map (λ path. path.now) paths.now) }
+    ensures { IfOk result (λ owned. map string_bytes owned.items
+        ≡ map (λ path. path.now) paths.now) }
 {
     let mut owned = Vec::new(alloc);
     for path in paths {
@@ -27,17 +28,18 @@ pub(crate) fn owned(alloc: Global, paths: &[&str]) -> Result<Vec<String>, AllocE
     Ok(owned)
 }
 
-/// Writes the image of a volume to a path, in place of the file that stands there.
+/// Writes the image of a volume to a path, in place of the file that is there.
 ///
-/// It is written to a new file beside that one, which is renamed when it is whole. So whatever fails, either image is
-/// there, and none that is half written. Where no file can be made beside it, the one that stands there is written over,
-/// and where that fails it is written back.
+/// It is written to a new file next to that one, which is renamed when it is whole. So whatever
+/// fails, either image is there, and none that is half written. If no file can be made next to it,
+/// the one that is there is written over, and where that fails it is written back.
 pub(crate) fn save_volume<R: AllocGlobal + Files>(
     rt: &R,
     volume: &Volume,
     path: String,
 ) -> Result<(), Failure>
-    ensures { IfErr result (λ failure. (error : ImageError) × (failure ≡ Failure.Unsaved error path)) }
+    ensures { IfErr result (λ failure. (error : ImageError)
+        × (failure ≡ Failure.Unsaved error path)) }
 {
     match put(rt, volume, &path) {
         Ok(()) => Ok(()),
@@ -45,8 +47,8 @@ pub(crate) fn save_volume<R: AllocGlobal + Files>(
     }
 }
 
-/// What is told of a path to which no volume of the system belongs: its image is not saved. No file has failed, but an
-/// image without a volume is not whole.
+/// Returns what is reported of a path to which no volume of the system belongs: its image is not
+/// saved. No file has failed, but an image without a volume is not whole.
 pub(crate) fn without_volume(path: String) -> Failure
     ensures { result ≡ Failure.Unsaved ImageError.Truncated path }
 {
@@ -78,7 +80,7 @@ fn put<R: AllocGlobal + Files>(rt: &R, volume: &Volume, path: &str) -> Result<()
     }
 }
 
-/// Where the file of a path stands: a link leads to it.
+/// Returns where the file of a path is: a link leads to it.
 fn place_of<R: AllocGlobal + Files>(rt: &R, path: &str) -> Result<String, ImageError> {
     match fs::canonicalize(rt, path) {
         Ok(place) => Ok(place.into_string()),
@@ -89,14 +91,15 @@ fn place_of<R: AllocGlobal + Files>(rt: &R, path: &str) -> Result<String, ImageE
     }
 }
 
-/// Who may read and write the old file may do so with the new one, where the host allows to say that.
+/// Gives the new file the permissions of the old one, if the host allows it.
 fn keep_permissions<F: OpenFile>(old: &F, new: &F) {
     if let Ok(metadata) = old.metadata() {
         let _ = new.set_permissions(metadata.permissions());
     }
 }
 
-/// Writes an image to a new file, and renames that when it is whole. It is removed where that fails.
+/// Writes an image to a new file, and renames that when it is whole. It is removed where that
+/// fails.
 fn replace<R: AllocGlobal + Files>(
     rt: &R,
     bytes: &[u8],
@@ -114,8 +117,8 @@ fn replace<R: AllocGlobal + Files>(
     replaced
 }
 
-/// Writes an image over the file that stands at a place. What stands there is read before, and written back where that
-/// fails: so a host that fails once leaves either image whole.
+/// Writes an image over the file that is at a place. What is there is read before, and written back
+/// where that fails: so a host that fails once leaves either image whole.
 fn write_over<R: AllocGlobal + Files>(rt: &R, bytes: &[u8], place: &str) -> Result<(), ImageError> {
     let Ok(file) = fs::open(rt, place) else {
         return Err(FAILED);
@@ -132,7 +135,7 @@ fn write_over<R: AllocGlobal + Files>(rt: &R, bytes: &[u8], place: &str) -> Resu
     written
 }
 
-/// Writes these bytes over the file that stands at a place, which has no others then.
+/// Writes these bytes over the file that is at a place, which has no others then.
 fn write_at<R: AllocGlobal + Files>(rt: &R, bytes: &[u8], place: &str) -> Result<(), ImageError> {
     match OpenOptions::new().write(true).open(rt, place) {
         Ok(file) => write_whole(file, bytes),
@@ -140,8 +143,8 @@ fn write_at<R: AllocGlobal + Files>(rt: &R, bytes: &[u8], place: &str) -> Result
     }
 }
 
-/// Writes these bytes from the beginning of a file, which has no others then, until the host has all of them on its
-/// disk.
+/// Writes these bytes from the beginning of a file, which has no others then, until the host has
+/// all of them on its disk.
 fn write_whole<F: Write + OpenFile + Drop>(mut file: F, bytes: &[u8]) -> Result<(), ImageError> {
     let written = match file.write_all(bytes) {
         Ok(()) => file.set_len(bytes.len() as u64),

@@ -1,13 +1,14 @@
 //! The requests of an input, and what the program writes for each.
 //!
-//! A part of a script is a line with the decimal number of its bytes, and then these, whole lines of a script. After the
-//! lines that come of a part follow lines that begin with `>`, as none of an event does: the files that it has closed for
-//! the operator, each with its entries after `> |`; who has logged on or off and whose machine was started or stopped; and
-//! that the part is done; or that a line of it is refused, and nothing of it was done.
+//! A part of a script is a line with the decimal number of its bytes, and then these, whole lines
+//! of a script. After the lines that come of a part follow lines that begin with `>`, as none of an
+//! event does: the files that it has closed for the operator, each with its entries after `> |`;
+//! who has logged on or off and whose machine was started or stopped; and that the part is done; or
+//! that a line of it is refused, and nothing of it was done.
 //!
-//! The line `END` asks for the end. The line `SAVE` asks for the state of the session: the answer is a line with its size,
-//! its bytes, and the line `> DONE`. The line `STATE`, a line with a size and these bytes let the session go on from that
-//! state.
+//! The line `END` asks for the end. The line `SAVE` asks for the state of the session: the answer
+//! is a line with its size, its bytes, and the line `> DONE`. The line `STATE`, a line with a size
+//! and these bytes let the session go on from that state.
 //!
 //! ```text
 //! 13
@@ -24,10 +25,13 @@ ghost use Rattle.std.specs.Io.KnownBytes.{Appends};
 ghost use Rattle.s370_num.specs.Host.{AppendsFront, Counts};
 ghost use Rattle.sessions.specs.Runs.{IsRestored};
 ghost use Rattle.sessions.specs.Transcript.{ended};
-ghost use Rattle.programs.specs.Parts.{Answers, AnswersPart, InputAccounts, IsAnsweredPartly, IsBrokenOff, IsLeft, IsPartAnsweredPartly, IsRestoredPartly, IsSavedAs, IsSavedPartly, PartAccounts, done_line, idle_lines, news_since};
+ghost use Rattle.programs.specs.Parts.{Answers, AnswersPart, InputAccounts, IsAnsweredPartly};
+ghost use Rattle.programs.specs.Parts.{IsBrokenOff, IsLeft, IsPartAnsweredPartly, IsRestoredPartly};
+ghost use Rattle.programs.specs.Parts.{IsSavedAs, IsSavedPartly, PartAccounts, done_line};
+ghost use Rattle.programs.specs.Parts.{idle_lines, news_since};
 
 use crate::faults::Failure;
-use crate::requests::{Next, Request, next_input};
+use crate::requests::{FollowRequest, NextRequest, next_input};
 use machine_panel::Mode;
 use s370_num::host::{HostFault, HostReader, HostWriter, write_all};
 use sessions::{Detail, Follower, Installation, Part};
@@ -36,18 +40,18 @@ use std::alloc::{AllocError, Global};
 /// What is left of an input that was followed.
 pub enum Left<I> {
     /// The end was asked for: the session is over.
-    Ended(I),
+    ProgramEnd(I),
     /// The input has ended without that.
     Cut(I),
 }
 
-/// Answers the requests of an input until it asks for the end, or has no more, and returns the installation then. Each
-/// answer is written, and not held back, before the next request is read.
+/// Answers the requests of an input until it asks for the end, or has no more, and returns the
+/// installation then. Each answer is written, and not held back, before the next request is read.
 ///
 /// # Errors
 ///
-/// A file that fails and refused memory end it, and so do an input that has no requests (`File(1)`) and a state that is
-/// not one of this installation (`State`). What was answered before is written.
+/// A file that fails and refused memory end it, and so do an input that has no requests (`File(1)`)
+/// and a state that is not one of this installation (`State`). What was answered before is written.
 pub fn follow_parts<R: HostReader, W: HostWriter, I: Installation + Drop>(
     alloc: Global,
     installation: I,
@@ -55,20 +59,26 @@ pub fn follow_parts<R: HostReader, W: HostWriter, I: Installation + Drop>(
     reader: &mut R,
     writer: &mut W,
 ) -> Result<Left<I>, Failure>
-    ensures ok { IfOk result (λ left. IsLeft I.goes detail installation left (R.remaining reader.old) (R.remaining reader.new)
+    ensures ok { IfOk result
+        (λ left. IsLeft I.goes detail installation left (R.remaining reader.old)
+        (R.remaining reader.new)
         (W.contents writer.old) (W.contents writer.new)) }
     ensures flushed { OnOk result (W.held writer.new ≡ []) }
-    ensures err { OnErr result (IsBrokenOff I.goes detail installation (R.remaining reader.old) (R.remaining reader.new)
+    ensures err { OnErr result
+        (IsBrokenOff I.goes detail installation (R.remaining reader.old) (R.remaining reader.new)
         (W.contents writer.old) (W.contents writer.new)) }
-    ensures why { InputAccounts result (R.HostFile.failures reader.old) (R.HostFile.failures reader.new)
+    ensures why { InputAccounts result (R.HostFile.failures reader.old)
+        (R.HostFile.failures reader.new)
         (W.HostFile.failures writer.old) (W.HostFile.failures writer.new) }
 {
     let mut follower = Follower::begin(alloc, installation, detail)?;
     for _ in 0..u64::MAX {
         match next_input(alloc, reader)? {
-            Next::Asked(request) => follower = answer(alloc, follower, detail, request, writer)?,
-            Next::End => return Ok(Left::Ended(follower.close(alloc, writer)?)),
-            Next::Nothing => return Ok(Left::Cut(follower.close(alloc, writer)?)),
+            NextRequest::Asked(request) => follower = answer(
+                alloc, follower, detail, request, writer,
+            )?,
+            NextRequest::End => return Ok(Left::ProgramEnd(follower.close(alloc, writer)?)),
+            NextRequest::Nothing => return Ok(Left::Cut(follower.close(alloc, writer)?)),
         }
     }
     // No input has so many parts.
@@ -80,28 +90,32 @@ fn answer<W: HostWriter, I: Installation + Drop>(
     alloc: Global,
     follower: Follower<I>,
     detail: Detail,
-    request: Request,
+    request: FollowRequest,
     writer: &mut W,
 ) -> Result<Follower<I>, Failure>
     requires { follower.detail ≡ detail }
-    ensures ok { IfOk result (λ left. (answer : List ℕ) × Answers I.goes follower request answer left
+    ensures ok { IfOk result
+        (λ left. (answer : List ℕ) × Answers I.goes follower request answer left
         × Appends (W.contents writer.old) (W.contents writer.new) answer) }
     ensures detail { IfOk result (λ left. left.detail ≡ detail) }
     ensures flushed { OnOk result (W.held writer.new ≡ []) }
-    ensures err { OnErr result (IsAnsweredPartly I.goes follower request (W.contents writer.old) (W.contents writer.new)) }
-    ensures why { PartAccounts result (W.HostFile.failures writer.old) (W.HostFile.failures writer.new) }
+    ensures err { OnErr result
+        (IsAnsweredPartly I.goes follower request (W.contents writer.old) (W.contents writer.new)) }
+    ensures why { PartAccounts result (W.HostFile.failures writer.old)
+        (W.HostFile.failures writer.new) }
 {
     match request {
-        Request::Part(part) => follow_part(alloc, follower, detail, &part, writer),
-        Request::Save => {
+        FollowRequest::Part(part) => follow_part(alloc, follower, detail, &part, writer),
+        FollowRequest::Save => {
             save(alloc, &follower, writer)?;
             Ok(follower)
         }
-        Request::State(state) => go_on(alloc, follower, &state, writer),
+        FollowRequest::State(state) => go_on(alloc, follower, &state, writer),
     }
 }
 
-/// Writes the state between the line with its size and the line that it is whole, or that there is none.
+/// Writes the state between the line with its size and the line that it is whole, or that there is
+/// none.
 fn save<W: HostWriter, I: Installation + Drop>(
     alloc: Global,
     follower: &Follower<I>,
@@ -110,8 +124,10 @@ fn save<W: HostWriter, I: Installation + Drop>(
     ensures ok { OnOk result ((answer : List ℕ) × IsSavedAs I.goes follower.now answer
         × Appends (W.contents writer.old) (W.contents writer.new) answer) }
     ensures flushed { OnOk result (W.held writer.new ≡ []) }
-    ensures err { OnErr result (IsSavedPartly I.goes follower.now (W.contents writer.old) (W.contents writer.new)) }
-    ensures why { PartAccounts result (W.HostFile.failures writer.old) (W.HostFile.failures writer.new) }
+    ensures err { OnErr result
+        (IsSavedPartly I.goes follower.now (W.contents writer.old) (W.contents writer.new)) }
+    ensures why { PartAccounts result (W.HostFile.failures writer.old)
+        (W.HostFile.failures writer.new) }
 {
     let mut state = Vec::new(alloc);
     if !follower.save(&mut state)? {
@@ -134,8 +150,11 @@ fn go_on<W: HostWriter, I: Installation + Drop>(
     ensures ok { IfOk result (λ left. IsRestored I.goes follower state.now left
         × Appends (W.contents writer.old) (W.contents writer.new) (ended (done_line ∷ []))) }
     ensures flushed { OnOk result (W.held writer.new ≡ []) }
-    ensures err { OnErr result (IsRestoredPartly I.goes follower state.now (W.contents writer.old) (W.contents writer.new)) }
-    ensures why { PartAccounts result (W.HostFile.failures writer.old) (W.HostFile.failures writer.new) }
+    ensures err { OnErr result
+        (IsRestoredPartly I.goes follower state.now (W.contents writer.old)
+        (W.contents writer.new)) }
+    ensures why { PartAccounts result (W.HostFile.failures writer.old)
+        (W.HostFile.failures writer.new) }
 {
     let Some(follower) = follower.restored(alloc, state)? else {
         return Err(Failure::State);
@@ -153,12 +172,16 @@ fn follow_part<W: HostWriter, I: Installation + Drop>(
     writer: &mut W,
 ) -> Result<Follower<I>, Failure>
     requires { follower.detail ≡ detail }
-    ensures ok { IfOk result (λ left. (answer : List ℕ) × AnswersPart I.goes follower part.now answer left
+    ensures ok { IfOk result
+        (λ left. (answer : List ℕ) × AnswersPart I.goes follower part.now answer left
         × Appends (W.contents writer.old) (W.contents writer.new) answer) }
     ensures detail { IfOk result (λ left. left.detail ≡ detail) }
     ensures flushed { OnOk result (W.held writer.new ≡ []) }
-    ensures err { OnErr result (IsPartAnsweredPartly I.goes follower part.now (W.contents writer.old) (W.contents writer.new)) }
-    ensures why { PartAccounts result (W.HostFile.failures writer.old) (W.HostFile.failures writer.new) }
+    ensures err { OnErr result
+        (IsPartAnsweredPartly I.goes follower part.now (W.contents writer.old)
+        (W.contents writer.new)) }
+    ensures why { PartAccounts result (W.HostFile.failures writer.old)
+        (W.HostFile.failures writer.new) }
 {
     // There are as many users as machines.
     let _users = follower.installation().users();
@@ -166,19 +189,20 @@ fn follow_part<W: HostWriter, I: Installation + Drop>(
     let modes = follower.modes(alloc)?;
     match follower.part(alloc, part, writer)? {
         Part::Done(follower) => {
-            let told = news(alloc, &follower, detail, closed, &modes)?;
-            tell(writer, &told)?;
+            let reported = news(alloc, &follower, detail, closed, &modes)?;
+            tell(writer, &reported)?;
             Ok(follower)
         }
         Part::Refused(follower, line) => {
-            let told = format!(in alloc; "> REFUSED {line}\n")?;
-            tell(writer, told.as_bytes())?;
+            let reported = format!(in alloc; "> REFUSED {line}\n")?;
+            tell(writer, reported.as_bytes())?;
             Ok(follower)
         }
     }
 }
 
-/// What is told of a part that was done, before which so many files were closed and machines were in these modes.
+/// Returns what a part that was done reports: the files that were closed, and who logged on or off,
+/// runs or has stopped.
 fn news<I: Installation + Drop>(
     alloc: Global,
     follower: &Follower<I>,
@@ -187,19 +211,20 @@ fn news<I: Installation + Drop>(
     modes: &[Mode],
 ) -> Result<Vec<u8>, AllocError>
     requires { length modes.now ≡ length (I.goes.seen follower.now.world).users }
-    ensures { IfOk result (λ told. told.items ≡ ended (news_since I.goes detail closed modes.now follower.now)) }
+    ensures { IfOk result (λ reported. reported.items
+        ≡ ended (news_since I.goes detail closed modes.now follower.now)) }
 {
     // There are as many users as machines.
     let _users = follower.installation().users();
-    let mut told = follower.closed_since(alloc, closed)?;
+    let mut reported = follower.closed_since(alloc, closed)?;
     let changes = follower.changes_since(alloc, modes)?;
-    told.extend_from_slice(&changes)?;
-    told.extend_from_slice(idle_line(detail, follower.is_idle()))?;
-    told.extend_from_slice(b"> DONE\n")?;
-    Ok(told)
+    reported.extend_from_slice(&changes)?;
+    reported.extend_from_slice(idle_line(detail, follower.is_idle()))?;
+    reported.extend_from_slice(b"> DONE\n")?;
+    Ok(reported)
 }
 
-/// The line that nobody is ready and no program waits, where such lines are told.
+/// Returns the line that nobody is ready and no program waits, where such lines are reported.
 fn idle_line(detail: Detail, is_idle: bool) -> &'static [u8]
     ensures { result.now ≡ ended (idle_lines detail is_idle) }
 {
@@ -210,13 +235,16 @@ fn idle_line(detail: Detail, is_idle: bool) -> &'static [u8]
 }
 
 /// Writes what became of a part, and holds nothing back.
-fn tell<W: HostWriter>(writer: &mut W, told: &[u8]) -> Result<(), HostFault>
-    ensures ok { OnOk result (Appends (W.contents writer.old) (W.contents writer.new) told.now) }
-    ensures err { OnErr result (AppendsFront (W.contents writer.old) (W.contents writer.new) told.now) }
+fn tell<W: HostWriter>(writer: &mut W, reported: &[u8]) -> Result<(), HostFault>
+    ensures ok { OnOk result
+        (Appends (W.contents writer.old) (W.contents writer.new) reported.now) }
+    ensures err { OnErr result
+        (AppendsFront (W.contents writer.old) (W.contents writer.new) reported.now) }
     ensures flushed { OnOk result (W.held writer.new ≡ []) }
-    ensures counts { Counts (W.HostFile.failures writer.old) (W.HostFile.failures writer.new) result }
+    ensures counts { Counts (W.HostFile.failures writer.old) (W.HostFile.failures writer.new)
+        result }
 {
-    write_all(writer, told)?;
+    write_all(writer, reported)?;
     writer.flush()
 }
 
@@ -232,7 +260,8 @@ fn tell_all<W: HostWriter>(
     ensures err { OnErr result (AppendsFront (W.contents writer.old) (W.contents writer.new)
         (first.now ++ second.now ++ third.now)) }
     ensures flushed { OnOk result (W.held writer.new ≡ []) }
-    ensures counts { Counts (W.HostFile.failures writer.old) (W.HostFile.failures writer.new) result }
+    ensures counts { Counts (W.HostFile.failures writer.old) (W.HostFile.failures writer.new)
+        result }
 {
     write_all(writer, first)?;
     write_all(writer, second)?;

@@ -4,7 +4,7 @@ ghost use Rattle.std.specs.List.{list_any};
 ghost use Rattle.std.specs.Str.{bytes_eq};
 ghost use Rattle.s370_num.specs.Counted.{failures_of};
 ghost use Rattle.std.specs.Process.{exit_status};
-ghost use Rattle.ckd_image.specs.Told.{IsTold};
+ghost use Rattle.ckd_image.specs.Told.{IsReported};
 ghost use Rattle.programs.specs.Faults.{outcome_of};
 
 use crate::faults::{Failure, fault_line, outcome};
@@ -15,16 +15,18 @@ use std::process::{ExitCode, Termination};
 use std::rt::{Env, Files};
 use std::{env, fs, io};
 
-/// What is told where there is no memory for the line of a failure: that of [`Failure::Memory`].
+/// What is reported where there is no memory for the line of a failure: that of
+/// [`Failure::Memory`].
 const NO_MEMORY: &str = "fault: memory Memory";
 
-/// How a program ended. Only [`finish`] makes one, so that a `main` which returns it has no other exit status to give.
+/// How a program ended. Only [`finish`] makes one, so that a `main` which returns it has no other
+/// exit status to give.
 #[derive(Drop)]
-pub struct Ended {
+pub struct ProgramEnd {
     ended: Result<(), Failure>,
 }
 
-impl Termination for Ended {
+impl Termination for ProgramEnd {
     fn report<R: Eprint>(self, _rt: &R) -> ExitCode
         ensures { exit_status result ≡ outcome_of self.ended }
     {
@@ -32,20 +34,21 @@ impl Termination for Ended {
     }
 }
 
-/// The end of a program: a failure is told on standard error, and gives the exit status. One that there is no memory to
-/// tell is want of memory.
-pub fn finish<R: AllocGlobal + Eprint>(rt: &R, ended: Result<(), Failure>) -> Ended
-    ensures { IsTold Failure.Memory Failure.Usage ended result.ended }
+/// Returns the end of a program: a failure is reported on standard error, and gives the exit
+/// status. If there is no memory for its line, the failure is lack of memory.
+pub fn finish<R: AllocGlobal + Eprint>(rt: &R, ended: Result<(), Failure>) -> ProgramEnd
+    ensures { IsReported Failure.Memory Failure.Usage ended result.ended }
 {
     match ended {
-        Ok(()) => Ended { ended: Ok(()) },
-        Err(failure) => Ended {
+        Ok(()) => ProgramEnd { ended: Ok(()) },
+        Err(failure) => ProgramEnd {
             ended: Err(tell(rt, failure)),
         },
     }
 }
 
-/// Prints the line of a failure, and gives what was told. A wrong use has been told by a longer text.
+/// Prints a failure's line and returns the failure, or `Memory` if there was no memory for the
+/// line; of a usage error it prints nothing. A wrong use has been reported by a longer text.
 fn tell<R: AllocGlobal + Eprint>(rt: &R, failure: Failure) -> Failure
     ensures { (result ≡ failure) ⊎ ((result ≡ Failure.Memory) × (failure ≡ Failure.Usage → ⊥)) }
 {
@@ -75,7 +78,11 @@ pub type Output<'a, R> = Counted<io::BufWriter<io::Printer<'a, R>, Global>>;
 /// Standard input, as the parts of a script are read from it.
 pub type PartInput<R> = Counted<io::BufReader<R, Global>>;
 
-/// Standard input for the parts of a script.
+/// Opens standard input for the parts of a script.
+///
+/// # Errors
+///
+/// A `Failure`: of a file, a text, an image or the boot, or refused memory.
 pub fn input<R: AllocGlobal + Input>(rt: &R) -> Result<PartInput<R::Reader>, Failure> {
     match io::BufReader::new(rt.alloc(), rt.reader()) {
         Ok(input) => Ok(Counted::new(input)),
@@ -83,7 +90,11 @@ pub fn input<R: AllocGlobal + Input>(rt: &R) -> Result<PartInput<R::Reader>, Fai
     }
 }
 
-/// Standard output for a transcript: where somebody looks on, nothing is held back.
+/// Opens standard output for a transcript: if somebody looks on, nothing is held back.
+///
+/// # Errors
+///
+/// A `Failure`: of a file, a text, an image or the boot, or refused memory.
 pub fn output<R: AllocGlobal + Print>(rt: &R, is_watched: bool) -> Result<Output<'_, R>, Failure> {
     let room = if is_watched { 0 } else { HELD_BACK };
     match io::BufWriter::with_capacity(rt.alloc(), room, io::writer(rt)) {
@@ -92,7 +103,8 @@ pub fn output<R: AllocGlobal + Print>(rt: &R, is_watched: bool) -> Result<Output
     }
 }
 
-/// What words that name no options are as a failure. A wrong use is told here, by its text and then this note.
+/// Returns the failure of wrong arguments. A wrong use is reported here, by its text and then this
+/// note.
 pub fn wrong_use<R: Eprint>(rt: &R, error: &UsageError, note: &str) -> Failure {
     match error {
         UsageError::Memory => Failure::Memory,
@@ -104,8 +116,12 @@ pub fn wrong_use<R: Eprint>(rt: &R, error: &UsageError, note: &str) -> Failure {
     }
 }
 
-/// The words that a program was started with, of which the first is its name. Words that are no UTF-8 are a wrong use,
-/// which is told here: no file can be opened by such a name.
+/// Returns the words that a program was started with, of which the first is its name. Words that
+/// are no UTF-8 are a wrong use, which is reported here: no file can be opened by such a name.
+///
+/// # Errors
+///
+/// A `Failure`: of a file, a text, an image or the boot, or refused memory.
 pub fn words<R: AllocGlobal + Env + Eprint>(rt: &R, program: &str) -> Result<Vec<String>, Failure> {
     match env::args(rt) {
         Ok(typed) => {
@@ -126,7 +142,11 @@ pub fn words<R: AllocGlobal + Env + Eprint>(rt: &R, program: &str) -> Result<Vec
     }
 }
 
-/// The file at a path, to be read. One that can't be opened has failed once.
+/// Returns the file at a path, to be read. One that can't be opened has failed once.
+///
+/// # Errors
+///
+/// A `Failure`: of a file, a text, an image or the boot, or refused memory.
 pub fn open<R: Files>(rt: &R, path: &str) -> Result<Counted<R::File>, Failure>
     ensures ok { IfOk result (λ file. failures_of file ≡ 0) }
     ensures err { IfErr result (λ failure. failure ≡ Failure.File 1) }
@@ -137,7 +157,7 @@ pub fn open<R: Files>(rt: &R, path: &str) -> Result<Counted<R::File>, Failure>
     }
 }
 
-/// Whether the words ask for a script to be followed: the word for that stands before any `--`.
+/// Returns whether the words ask for a script to be followed: the word for that is before any `--`.
 pub fn asks_to_follow(words: &[String]) -> bool
     ensures { result ≡ list_any (λ word. bytes_eq (string_bytes word) (codes "--follow"))
         (take_while (λ word. not (bytes_eq (string_bytes word) (codes "--"))) words.now) }

@@ -3,7 +3,8 @@ ghost use Rattle.std.specs.Prelude.{◌≡◌, IfOk, OnErr, Some, length, option
 ghost use Rattle.std.specs.Io.KnownBytes.{Consumes};
 ghost use Rattle.s370_num.specs.Host.{Counts, ReadsFront};
 ghost use Rattle.text_words.specs.Numbers.{decimal_of};
-ghost use Rattle.programs.specs.Requests.{GivesByte, GivesLine, GivesNext, GivesSized, ReadAccounts, most_digits};
+ghost use Rattle.programs.specs.Requests.{GivesByte, GivesLine, GivesNext, GivesSized};
+ghost use Rattle.programs.specs.Requests.{ReadAccounts, most_digits};
 
 use s370_num::host::{HostFault, HostReader};
 use std::alloc::Global;
@@ -12,12 +13,13 @@ use text_words::numbers::decimal_of;
 /// The most decimal digits of a size.
 const MOST_DIGITS: usize = 9;
 
-/// The fault of an input with a size that is no number, or with bytes that are cut off: it has failed once.
+/// The fault of an input with a size that is no number, or with bytes that are cut off: it has
+/// failed once.
 const BROKEN: HostFault = HostFault::Device(1);
 
 /// What an input asks for.
 #[derive(Drop)]
-pub(crate) enum Request {
+pub(crate) enum FollowRequest {
     /// That a part of the script is done.
     Part(Vec<u8>),
     /// The state.
@@ -27,9 +29,9 @@ pub(crate) enum Request {
 }
 
 /// What an input has next.
-pub(crate) enum Next {
+pub(crate) enum NextRequest {
     /// A request.
-    Asked(Request),
+    Asked(FollowRequest),
     /// The end is asked for.
     End,
     /// Nothing more.
@@ -37,31 +39,38 @@ pub(crate) enum Next {
 }
 
 /// Reads what an input has next.
-pub(crate) fn next_input<R: HostReader>(alloc: Global, reader: &mut R) -> Result<Next, HostFault>
-    ensures ok { IfOk result (λ next. GivesNext next (R.remaining reader.old) (R.remaining reader.new)) }
+pub(crate) fn next_input<R: HostReader>(
+    alloc: Global,
+    reader: &mut R,
+) -> Result<NextRequest, HostFault>
+    ensures ok { IfOk result
+        (λ next. GivesNext next (R.remaining reader.old) (R.remaining reader.new)) }
     ensures err { OnErr result (ReadsFront (R.remaining reader.old) (R.remaining reader.new)) }
-    ensures why { ReadAccounts result (R.HostFile.failures reader.old) (R.HostFile.failures reader.new) }
+    ensures why { ReadAccounts result (R.HostFile.failures reader.old)
+        (R.HostFile.failures reader.new) }
 {
     let Some(word) = next_line(alloc, reader)? else {
-        return Ok(Next::Nothing);
+        return Ok(NextRequest::Nothing);
     };
     if word.as_slice() == b"END".as_slice() {
-        return Ok(Next::End);
+        return Ok(NextRequest::End);
     }
     if word.as_slice() == b"SAVE".as_slice() {
-        return Ok(Next::Asked(Request::Save));
+        return Ok(NextRequest::Asked(FollowRequest::Save));
     }
     if word.as_slice() == b"STATE".as_slice() {
-        return Ok(Next::Asked(Request::State(next_state(alloc, reader)?)));
+        return Ok(NextRequest::Asked(FollowRequest::State(next_state(alloc, reader)?)));
     }
-    Ok(Next::Asked(Request::Part(next_sized(alloc, reader, &word)?)))
+    Ok(NextRequest::Asked(FollowRequest::Part(next_sized(alloc, reader, &word)?)))
 }
 
 /// Reads the bytes of a state, after the line with their number.
 fn next_state<R: HostReader>(alloc: Global, reader: &mut R) -> Result<Vec<u8>, HostFault>
-    ensures ok { IfOk result (λ state. GivesSized state.items (R.remaining reader.old) (R.remaining reader.new)) }
+    ensures ok { IfOk result
+        (λ state. GivesSized state.items (R.remaining reader.old) (R.remaining reader.new)) }
     ensures err { OnErr result (ReadsFront (R.remaining reader.old) (R.remaining reader.new)) }
-    ensures why { ReadAccounts result (R.HostFile.failures reader.old) (R.HostFile.failures reader.new) }
+    ensures why { ReadAccounts result (R.HostFile.failures reader.old)
+        (R.HostFile.failures reader.new) }
 {
     let Some(digits) = next_line(alloc, reader)? else {
         return Err(BROKEN);
@@ -75,10 +84,13 @@ fn next_sized<R: HostReader>(
     reader: &mut R,
     digits: &[u8],
 ) -> Result<Vec<u8>, HostFault>
-    ensures size { IfOk result (λ bytes. decimal_of most_digits digits.now ≡ Some (length bytes.items)) }
-    ensures ok { IfOk result (λ bytes. Consumes (R.remaining reader.old) (R.remaining reader.new) bytes.items) }
+    ensures size { IfOk result
+        (λ bytes. decimal_of most_digits digits.now ≡ Some (length bytes.items)) }
+    ensures ok { IfOk result
+        (λ bytes. Consumes (R.remaining reader.old) (R.remaining reader.new) bytes.items) }
     ensures err { OnErr result (ReadsFront (R.remaining reader.old) (R.remaining reader.new)) }
-    ensures why { ReadAccounts result (R.HostFile.failures reader.old) (R.HostFile.failures reader.new) }
+    ensures why { ReadAccounts result (R.HostFile.failures reader.old)
+        (R.HostFile.failures reader.new) }
 {
     match decimal_of(MOST_DIGITS, digits) {
         Some(size) => next_bytes(alloc, reader, size),
@@ -88,10 +100,12 @@ fn next_sized<R: HostReader>(
 
 /// Reads a line with a word or a size, without its end; `None` at the end of the input.
 fn next_line<R: HostReader>(alloc: Global, reader: &mut R) -> Result<Option<Vec<u8>>, HostFault>
-    ensures ok { IfOk result (λ line. GivesLine (option_map (λ line. line.items) line) (R.remaining reader.old)
+    ensures ok { IfOk result
+        (λ line. GivesLine (option_map (λ line. line.items) line) (R.remaining reader.old)
         (R.remaining reader.new)) }
     ensures err { OnErr result (ReadsFront (R.remaining reader.old) (R.remaining reader.new)) }
-    ensures why { ReadAccounts result (R.HostFile.failures reader.old) (R.HostFile.failures reader.new) }
+    ensures why { ReadAccounts result (R.HostFile.failures reader.old)
+        (R.HostFile.failures reader.new) }
 {
     let mut line = Vec::new(alloc);
     for _ in 0..=MOST_DIGITS {
@@ -111,10 +125,12 @@ fn next_bytes<R: HostReader>(
     reader: &mut R,
     count: u32,
 ) -> Result<Vec<u8>, HostFault>
-    ensures ok { IfOk result (λ bytes. Consumes (R.remaining reader.old) (R.remaining reader.new) bytes.items) }
+    ensures ok { IfOk result
+        (λ bytes. Consumes (R.remaining reader.old) (R.remaining reader.new) bytes.items) }
     ensures count { IfOk result (λ bytes. length bytes.items ≡ count) }
     ensures err { OnErr result (ReadsFront (R.remaining reader.old) (R.remaining reader.new)) }
-    ensures why { ReadAccounts result (R.HostFile.failures reader.old) (R.HostFile.failures reader.new) }
+    ensures why { ReadAccounts result (R.HostFile.failures reader.old)
+        (R.HostFile.failures reader.new) }
 {
     let mut bytes = Vec::new(alloc);
     let mut block = [0u8; 4096];
@@ -133,9 +149,11 @@ fn next_bytes<R: HostReader>(
 
 /// Reads the next byte; `None` at the end of the input.
 fn next_byte<R: HostReader>(reader: &mut R) -> Result<Option<u8>, HostFault>
-    ensures ok { IfOk result (λ byte. GivesByte byte (R.remaining reader.old) (R.remaining reader.new)) }
+    ensures ok { IfOk result
+        (λ byte. GivesByte byte (R.remaining reader.old) (R.remaining reader.new)) }
     ensures err { OnErr result (ReadsFront (R.remaining reader.old) (R.remaining reader.new)) }
-    ensures counts { Counts (R.HostFile.failures reader.old) (R.HostFile.failures reader.new) result }
+    ensures counts { Counts (R.HostFile.failures reader.old) (R.HostFile.failures reader.new)
+        result }
 {
     let mut byte = [0u8; 1];
     if reader.read(&mut byte)? == 0 {

@@ -1,9 +1,11 @@
 //! The words of a program, as `clap` reads them.
-ghost use Rattle.std.specs.Prelude.{◌≡◌, ◌⊎◌, ◌↔◌, IfOk, IfSome, None, codes, false, map, option_map};
+ghost use Rattle.std.specs.Prelude.{◌≡◌, ◌⊎◌, ◌↔◌, IfOk, IfSome, None, codes, false, map};
+ghost use Rattle.std.specs.Prelude.{option_map};
 ghost use Rattle.clap.specs.Words.{all_of, first_of, found_of, one_of, rows_of, rule_of};
 ghost use Rattle.clap.specs.Values.{kind_of};
 ghost use Rattle.clap.specs.declared.error.kind.ErrorKind.TheVariants.{OutOfMemory};
-ghost use Rattle.programs.specs.Arguments.{IsFlag, follow_rule, save_rule, script_rule, terminals_rule, texts_of, volume_rule};
+ghost use Rattle.programs.specs.Arguments.{IsFlag, follow_rule, save_rule, script_rule};
+ghost use Rattle.programs.specs.Arguments.{terminals_rule, texts_of, volume_rule};
 ghost use Rattle.programs.specs.declared.words.UsageError.TheVariants.{Memory};
 
 use clap::error::ErrorKind;
@@ -17,8 +19,8 @@ pub enum UsageError {
     /// A growth was refused.
     #[error("no memory for the words of the program")]
     Memory,
-    /// The words are not those of the program, or ask for its help: the text for the person who wrote
-    /// them, of whole lines.
+    /// The words are not those of the program, or ask for its help: the text for the person who
+    /// wrote them, of whole lines.
     #[error("{0}")]
     Usage(String),
 }
@@ -31,7 +33,7 @@ impl From<AllocError> for UsageError {
     }
 }
 
-/// A wrong use, told by this text.
+/// Returns a wrong use, reported by this text.
 pub fn usage(alloc: Global, text: &str) -> UsageError {
     match String::from_str(alloc, text) {
         Ok(text) => UsageError::Usage(text),
@@ -39,21 +41,25 @@ pub fn usage(alloc: Global, text: &str) -> UsageError {
     }
 }
 
-/// The first text that the words give for an argument.
+/// Returns the first text that the words give for an argument.
 pub fn text_of<'a>(matches: &ArgMatches<'a>, id: &str) -> Option<&'a str>
     ensures { option_map (λ s. s.now) result ≡ first_of id.now (rows_of (found_of matches.now)) }
 {
     matches.get_str(id)
 }
 
-/// Whether the words have this flag.
+/// Returns whether the words have this flag.
 pub fn is_given(matches: &ArgMatches<'_>, id: &str) -> bool
     ensures { IsFlag (one_of id.now (rows_of (found_of matches.now))) result }
 {
     matches.get_flag(id)
 }
 
-/// The texts that the words give for an argument, in order.
+/// Returns the texts that the words give for an argument, in order.
+///
+/// # Errors
+///
+/// `AllocError` if memory is refused.
 pub fn paths_of<'a>(
     alloc: Global,
     matches: &ArgMatches<'a>,
@@ -68,7 +74,7 @@ pub fn paths_of<'a>(
     }
 }
 
-/// The texts that the words give for an argument, where they give any.
+/// Returns the texts that the words give for an argument, where they give any.
 fn texts_in<'b, 'a>(matches: &'b ArgMatches<'a>, id: &str) -> Option<&'b [&'a str]>
     ensures { option_map (λ texts. map (λ text. text.now) texts.now) result
         ≡ all_of id.now (rows_of (found_of matches.now)) }
@@ -76,17 +82,20 @@ fn texts_in<'b, 'a>(matches: &'b ArgMatches<'a>, id: &str) -> Option<&'b [&'a st
     matches.get_strs(id)
 }
 
-/// The same texts, in a list of their own.
+/// Returns the same texts, in a list of their own.
 fn copied<'a>(alloc: Global, texts: &[&'a str]) -> Result<Vec<&'a str>, AllocError>
-    ensures { IfOk result (λ all. map (λ text. text.now) all.items ≡ map (λ text. text.now) texts.now) }
+    ensures { IfOk result (λ all. map (λ text. text.now) all.items
+        ≡ map (λ text. text.now) texts.now) }
 {
     texts.iter().copied().collect(alloc)
 }
 
-/// What is told of an error of `clap`, whose text is this if there was memory for it.
+/// Returns the usage error for an error of `clap`, whose text is this if there was memory for it.
 pub fn refusal(error: &ClapError, text: Option<String>) -> UsageError
-    ensures memory { (result ≡ UsageError.Memory) ↔ ((kind_of error.now ≡ OutOfMemory) ⊎ (text ≡ None)) }
-    ensures usage { IfSome text (λ told. (kind_of error.now ≡ OutOfMemory) ⊎ (result ≡ UsageError.Usage told)) }
+    ensures memory { (result ≡ UsageError.Memory) ↔
+        ((kind_of error.now ≡ OutOfMemory) ⊎ (text ≡ None)) }
+    ensures usage { IfSome text
+        (λ reported. (kind_of error.now ≡ OutOfMemory) ⊎ (result ≡ UsageError.Usage reported)) }
 {
     if error.kind() == ErrorKind::OutOfMemory {
         return UsageError::Memory;
@@ -97,7 +106,7 @@ pub fn refusal(error: &ClapError, text: Option<String>) -> UsageError
     }
 }
 
-/// `--save`
+/// Returns the argument `--save`.
 pub fn save<'a>(alloc: Global) -> Arg<'a>
     ensures rule { rule_of result ≡ save_rule }
     ensures local { result.global ≡ false }
@@ -108,7 +117,7 @@ pub fn save<'a>(alloc: Global) -> Arg<'a>
         .help("Writes the images of the volumes back at the end")
 }
 
-/// `--follow`
+/// Returns the argument `--follow`.
 pub fn follow<'a>(alloc: Global) -> Arg<'a>
     ensures rule { rule_of result ≡ follow_rule }
     ensures local { result.global ≡ false }
@@ -121,7 +130,7 @@ pub fn follow<'a>(alloc: Global) -> Arg<'a>
         )
 }
 
-/// `--terminals`
+/// Returns the argument `--terminals`.
 pub fn terminals<'a>(alloc: Global) -> Arg<'a>
     ensures rule { rule_of result ≡ terminals_rule }
     ensures local { result.global ≡ false }
@@ -132,7 +141,7 @@ pub fn terminals<'a>(alloc: Global) -> Arg<'a>
         .help("Leaves out how turns ended, unless frames were lacking")
 }
 
-/// The word that is the path of the script.
+/// Returns the word that is the path of the script.
 pub fn script<'a>(alloc: Global) -> Arg<'a>
     ensures rule { rule_of result ≡ script_rule }
     ensures local { result.global ≡ false }
@@ -142,7 +151,7 @@ pub fn script<'a>(alloc: Global) -> Arg<'a>
     )
 }
 
-/// The words after them, which are the paths of images.
+/// Returns the words after them, which are the paths of images.
 pub fn volumes<'a>(alloc: Global) -> Arg<'a>
     ensures rule { rule_of result ≡ volume_rule }
     ensures local { result.global ≡ false }

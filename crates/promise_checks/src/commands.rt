@@ -17,8 +17,8 @@ const EVENTS: u32 = 24;
 /// How many users there are.
 const USERS: u32 = 4;
 
-/// Two users with all kinds of devices, one who reads the disk of the first, and one without devices. They have 21 pages
-/// of storage.
+/// Two users with all kinds of devices, one who reads the disk of the first, and one without
+/// devices. They have 21 pages of storage.
 const DIRECTORY: &str =
     "USER A PW 24K\nCONSOLE 009 3215\nSPOOL 00C READER\nSPOOL 00D PUNCH\nSPOOL 00E PRINTER\n\
     MDISK 190 3330 0 1 SHARED R\nUSER B PW 32K\nCONSOLE 009 3215\nSPOOL 00C READER\nSPOOL 00D PUNCH\n\
@@ -28,13 +28,15 @@ const DIRECTORY: &str =
 /// The devices that are served.
 const DEVICES: [u32; 7] = [0x009, 0x00C, 0x00C, 0x00D, 0x00E, 0x190, 0x191];
 
-/// How a card for a loading begins: a PSW, and a word that reads the next card over the words behind it.
+/// How a card for a loading begins: a PSW, and a word that reads the next card over the words after
+/// it.
 const LOADER: [u8; 24] = [
     0xFF, 0, 0, 0, 0, 0, 0x02, 0, 0x02, 0, 0x02, 0, 0x60, 0, 0, 0x50, 0x02, 0, 0x08, 0, 0x20, 0, 0,
     0x50,
 ];
 
-/// What is in storage of those who are first logged on: the code starts reader and punch again and again.
+/// What is in storage of those who are first logged on: the code starts reader and punch again and
+/// again.
 const READY: [&str; 6] = [
     "LOGON",
     "STORE 48 00000800",
@@ -44,7 +46,7 @@ const READY: [&str; 6] = [
     "BEGIN 200",
 ];
 
-/// A volume whose first cylinder can be loaded from.
+/// Returns a volume whose first cylinder can be loaded from.
 fn volume(alloc: Global) -> Result<Volume> {
     let mut volume = Volume::blank(alloc, *b"SHARED", 2)?;
     for cylinder in 0..2usize {
@@ -56,7 +58,7 @@ fn volume(alloc: Global) -> Result<Volume> {
     Ok(volume)
 }
 
-/// The users, who are off.
+/// Returns the users, who are off.
 fn booted(alloc: Global) -> Result<SideBySide> {
     let Some(sizes) = Sizes::new(16, 3) else {
         bail!("too many frames");
@@ -138,7 +140,8 @@ fn type_line(
     Ok(())
 }
 
-/// Compares all views of a user but those of disks; of the lines that his console has printed, these and all later.
+/// Compares all views of a user but those of disks; of the lines that his console has printed,
+/// these and all later.
 fn look(machines: &mut SideBySide, user: UserNo, printed: usize) -> Result<(), SideError> {
     machines.compare_registers(user)?;
     machines.compare_console(user, printed)?;
@@ -157,7 +160,8 @@ fn look_at_all(machines: &mut SideBySide) -> Result<(), SideError> {
     Ok(())
 }
 
-/// Lets something happen to a user, and compares his views, and those of him to whom it delivers something.
+/// Lets something happen to a user, and compares his views, and those of him to whom it delivers
+/// something.
 fn happen(
     alloc: Global,
     sequence: &mut Sequence,
@@ -176,7 +180,8 @@ fn happen(
     }
 }
 
-/// Plays a script: after each event the views of whom it concerns are compared, and after each eighth those of all.
+/// Plays a script: after each event the views of whom it concerns are compared, and after each
+/// eighth those of all.
 fn play(
     alloc: Global,
     sequence: &mut Sequence,
@@ -193,7 +198,7 @@ fn play(
     Ok(())
 }
 
-/// Plays the script of this number, and tells what differs first.
+/// Plays the script of this number, and reports what differs first.
 fn difference(alloc: Global, script: u32) -> Result<Option<View>> {
     let mut machines = booted(alloc)?;
     match play(alloc, &mut Sequence::new(u64::from(script)), &mut machines) {

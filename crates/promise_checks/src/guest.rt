@@ -1,10 +1,11 @@
 //! What a user types to make his machine ready, and what his operator types now and then.
 //!
-//! In these texts `@` stands for the channel of the user's devices, and `_` for the two digits of his number.
+//! In these texts `@` stands for the channel of the user's devices, and `_` for the two digits of
+//! his number.
 
-/// A machine is made ready by these lines: a program that starts all four devices again and again, and interruptions
-/// that go on with it. The devices are told by their addresses on channel `@`: console 09, reader 0C, punch 0D, printer
-/// 0E.
+/// A machine is made ready by these lines: a program that starts all four devices again and again,
+/// and interruptions that go on with it. The devices are reported by their addresses on channel
+/// `@`: console 09, reader 0C, punch 0D, printer 0E.
 pub const READY: [&str; 20] = [
     "LOGON",
     // external, supervisor call, program and I/O interruptions go on with the old PSW
@@ -22,7 +23,8 @@ pub const READY: [&str; 20] = [
     "STORE 420 D2030048030C9C000@0E9D000@0C0700",
     "STORE 430 9D000@0D9D000@0E9D000@0907000700",
     "STORE 440 47F00400",
-    // a line is written and one that waits is read; two cards are read, one is punched, a line is printed
+    // a line is written and one that waits is read; two cards are read, one is punched, a line is
+    // printed
     "STORE 800 09000840600000180A00086020000028",
     "STORE 810 020008A0600000500200090020000050",
     "STORE 820 010008A0200000500900084020000018",
@@ -68,7 +70,8 @@ pub const TYPED: [&str; 56] = [
     "#CP STORE 300 00000804",
     "#CP STORE 300 00000800",
     "#CP STORE 300 00000800",
-    // the console: 132 bytes, part of a line, a read alone, sense, an unknown command, a line chained from two places
+    // the console: 132 bytes, part of a line, a read alone, sense, an unknown command, a line
+    // chained from two places
     "#CP STORE 800 0900000060000084",
     "#CP STORE 800 0100084060000005",
     "#CP STORE 800 0A00086020000050",

@@ -27,12 +27,13 @@ pub enum Happening {
     Line(String),
 }
 
-/// The channel of a user's devices: 0 or 2.
+/// Returns the channel of a user's devices: 0 or 2.
 pub fn channel_of(user: UserNo) -> u16 {
     u16::from(user.number() % 2) * 2
 }
 
-/// A text for a user, in which `@` stands for his channel, and `_` for his number in EBCDIC.
+/// Returns a text for a user, in which `@` stands for his channel, and `_` for his number in
+/// EBCDIC.
 pub fn text_for(alloc: Global, user: UserNo, text: &str) -> Result<String, AllocError> {
     let channel = channel_of(user);
     let number = user.number();
@@ -48,7 +49,7 @@ pub fn text_for(alloc: Global, user: UserNo, text: &str) -> Result<String, Alloc
     Ok(made)
 }
 
-/// The line of this place that makes a user's machine ready.
+/// Returns the line of this place that makes a user's machine ready.
 pub fn ready_line(alloc: Global, user: UserNo, place: usize) -> Result<Happening, AllocError> {
     let text = READY.get(place).copied().unwrap_or("");
     Ok(Happening::Line(text_for(alloc, user, text)?))

@@ -1,5 +1,5 @@
-//! Looks at the great promise from outside: users of the control program and bare machines are given the same events,
-//! and what they show is compared.
+//! Looks at the great promise from outside: users of the control program and bare machines are
+//! given the same events, and what they show is compared.
 //!
 //! The words of the program are its parts, each of which prints how much agrees, and what does not.
 //!

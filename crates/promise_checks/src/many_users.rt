@@ -1,10 +1,11 @@
-//! Sixty-four users, each with a program of its own, run in turns of one to seven units beside sixty-four bare
-//! machines.
+//! Sixty-four users, each with a program of its own, run in turns of one to seven units next to
+//! sixty-four bare machines.
 //!
-//! The programs are made of pieces of code, and the events come in the order of a fixed sequence of numbers: mostly a
-//! run of some user, and now and then a tick of its timer or a line that its operator types. After each event every
-//! view of every user has to be that of the bare machine that was given that user's own events. All users share 16
-//! frames, so that pages are given up and come back all the time.
+//! The programs are made of pieces of code, and the events come in the order of a fixed sequence of
+//! numbers: mostly a run of some user, and now and then a tick of its timer or a line that its
+//! operator types. After each event every view of every user has to be that of the bare machine
+//! that was given that user's own events. All users share 16 frames, so that pages are given up and
+//! come back all the time.
 use crate::program::{DATA, PIECES, TYPED};
 use anyhow::{Context, Result, bail};
 use cp_core::Sizes;
@@ -52,7 +53,7 @@ fn next_user(sequence: &mut Sequence) -> UserNo {
     UserNo::new((sequence.next_number() % 64) as u8)
 }
 
-/// The directory of all users, who have 8 KiB each.
+/// Returns the directory of all users, who have 8 KiB each.
 fn directory(alloc: Global) -> Result<String, AllocError> {
     let mut text = String::new(alloc);
     for number in 0..USERS {
@@ -102,7 +103,7 @@ fn begin(
     Ok(())
 }
 
-/// All users, who are off.
+/// Returns all users, who are off.
 fn all_users(alloc: Global) -> Result<SideBySide> {
     let Some(sizes) = Sizes::new(FRAMES, SLOTS) else {
         bail!("{FRAMES} frames or {SLOTS} slots are too many");
@@ -111,7 +112,8 @@ fn all_users(alloc: Global) -> Result<SideBySide> {
     Ok(SideBySide::boot(alloc, directory.as_bytes(), sizes)?)
 }
 
-/// Compares all views of all users but for the lines that their consoles have printed, of which it looks at the number.
+/// Compares all views of all users but for the lines that their consoles have printed, of which it
+/// looks at the number.
 fn compare_all(machines: &SideBySide) -> Result<(), SideError> {
     for number in 0..64u8 {
         let user = UserNo::new(number);
@@ -165,7 +167,8 @@ fn play_all(alloc: Global) -> Result<()> {
     play_on(alloc, &mut machines)
 }
 
-/// Plays it, and prints how many events there were, or fails at the first after which a view differs.
+/// Plays it, and prints how many events there were, or fails at the first after which a view
+/// differs.
 pub fn play<R: AllocGlobal + Print>(rt: &R) -> Result<()> {
     play_all(rt.alloc())?;
     println!(rt; "{EVENTS} events: all views of {USERS} users agree after each")?;

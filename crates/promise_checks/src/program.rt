@@ -1,7 +1,7 @@
 //! What the users' programs are made of, and what their operators type.
 
-/// What stands in every user's storage: the PSWs of interruptions, the instructions that go on after one, operands, and
-/// the timer.
+/// What is in every user's storage: the PSWs of interruptions, the instructions that go on after
+/// one, operands, and the timer.
 pub const DATA: [&str; 19] = [
     // a supervisor call and a program interruption each go on with the next instruction
     "STORE 60 00000000000003000000000000000310",
@@ -11,7 +11,8 @@ pub const DATA: [&str; 19] = [
     "STORE 58 0000000000000320",
     "STORE 320 82000018",
     "STORE 50 00000300",
-    // control register 0 with the timer and the interrupt key, with the timer alone, and with the key alone
+    // control register 0 with the timer and the interrupt key, with the timer alone, and with the
+    // key alone
     "STORE 9A0 000000C00000008000000040",
     "STORE 800 0000004100000FFF7FFFFFFF80000000",
     "STORE 810 000000000012345DC1C2C3C4C5C6C7C8",
@@ -19,7 +20,8 @@ pub const DATA: [&str; 19] = [
     "STORE 860 00000001AABBCCDD1122334455667788",
     // the targets of EX
     "STORE 880 D2000890089800001A1218340A110000",
-    // PSWs: with a key and the problem state, waiting for any interruption, with masks, and waiting for none
+    // PSWs: with a key and the problem state, waiting for any interruption, with masks, and waiting
+    // for none
     "STORE 8D0 00000000000004000021000000000400",
     "STORE 8E0 0011000005000400FF02000000000404",
     "STORE 8F0 FE0000000F0004000002000000000400",
@@ -30,7 +32,7 @@ pub const DATA: [&str; 19] = [
     "STORE B00 C1C2C3C4C5C6C7C8C9D1D2D3D4D5D6D8",
 ];
 
-/// Pieces of code, each a few instructions that can stand one after the other.
+/// Pieces of code, each a few instructions that can be one after the other.
 pub const PIECES: [&str; 34] = [
     // A, ST, SR, ALR, SLR
     "5A100800501008041B121E341F56",

@@ -2,7 +2,7 @@
 use side_by_side::Sequence;
 use std::alloc::{AllocError, Global};
 
-/// Commands, between vertical bars. `@` and the letter behind it stand for an operand.
+/// Commands, between vertical bars. `@` and the letter after it stand for an operand.
 const COMMANDS: &str =
     "LOGON|LOGON|LOGON @u|LOGOFF|LOGOFF @u|SYSTEM RESET|SYSTEM|SYSTEM @t|SYSTEM RESET @n|BEGIN|BEGIN|BEGIN @a|\
     BEGIN @a @a|EXTERNAL|EXTERNAL @n|DISPLAY|DISPLAY PSW|DISPLAY PSW @n|DISPLAY G@n|DISPLAY X@n|DISPLAY K@a|\
@@ -11,7 +11,8 @@ const COMMANDS: &str =
     SPOOL @d @u|SPOOL @d TO @u @u|CLOSE @d|CLOSE 00D|CLOSE 00E|CLOSE @d @d|PURGE @i|PURGE @i @i|QUERY FILES|\
     QUERY USERS|QUERY @t|MSG @u @t|MSG @u @t|@t";
 
-/// Operands, good and bad: addresses, bytes to be stored, devices, files, registers, users, texts and words.
+/// Operands, good and bad: addresses, bytes to be stored, devices, files, registers, users, texts
+/// and words.
 const ADDRESSES: &str =
     "0|40|48|50|100|200|7FF|FFE|1000|1FF0|1FFF|2000|2FFF|3000|FFFFFF|000200|0000200|1g|10H|-1";
 
@@ -37,7 +38,7 @@ const WORDS: &str =
     "00000000|00000200|FF000000|00020000|FF020000|01000000|00080000|00010200|0000020|000002000|0000020G|ffffffff|\
     FFFFFFFF|";
 
-/// What stands before a command: most often what makes it one whether the machine runs or not.
+/// What is before a command: most often what makes it one whether the machine runs or not.
 const BEFORE: &str = "#CP |#CP |#CP |#CP |#CP |||#CP   |  #CP | |#cp |#CP";
 
 /// The next of the texts of a list.
@@ -47,7 +48,7 @@ fn pick(sequence: &mut Sequence, list: &'static str) -> &'static str {
     list.split('|').nth(place).unwrap_or("")
 }
 
-/// The next of the operands for which a letter stands.
+/// The next of the operands for which a letter is.
 fn next_operand(sequence: &mut Sequence, letter: char) -> &'static str {
     let list = match letter {
         'a' => ADDRESSES,

@@ -1,11 +1,13 @@
-//! Sixteen users who talk, punch cards for each other, log off and on, beside sixteen bare machines.
+//! Sixteen users who talk, punch cards for each other, log off and on, next to sixteen bare
+//! machines.
 //!
-//! The events come in the order of a fixed sequence of numbers: runs, serves of all devices, ticks, decks of the
-//! operator, and lines by which users change their channel programs, send messages and cards, and work with their
-//! files. After each event every view of the user whom it names, and of him to whom it delivers something, has to be
-//! that of the bare machine that was given his own events and what was delivered to him; after each hundred events, and
-//! at the end, those of all users. All of it happens twice: with room for all pages, and with so few frames and slots
-//! that events are out of frames.
+//! The events come in the order of a fixed sequence of numbers: runs, serves of all devices, ticks,
+//! decks of the operator, and lines by which users change their channel programs, send messages and
+//! cards, and work with their files. After each event every view of the user whom it names, and of
+//! him to whom it delivers something, has to be that of the bare machine that was given his own
+//! events and what was delivered to him; after each hundred events, and at the end, those of all
+//! users. All of it happens twice: with room for all pages, and with so few frames and slots that
+//! events are out of frames.
 use crate::guest::READY;
 use crate::happening::{Happening, USERS, channel_of, next_happening, ready_line};
 use anyhow::{Context, Result, bail};
@@ -43,7 +45,7 @@ struct Talkers {
     counts: Counts,
 }
 
-/// The directory of all users, each with console, reader, punch and printer.
+/// Returns the directory of all users, each with console, reader, punch and printer.
 fn directory(alloc: Global) -> Result<String, AllocError> {
     let mut text = String::new(alloc);
     for number in 0..USERS {
@@ -60,7 +62,7 @@ fn directory(alloc: Global) -> Result<String, AllocError> {
 }
 
 impl Talkers {
-    /// All users, off, on so many frames and slots.
+    /// Returns all users, off, on so many frames and slots.
     fn boot(alloc: Global, frames: u32, slots: u32) -> Result<Talkers> {
         let Some(sizes) = Sizes::new(frames, slots) else {
             bail!("{frames} frames or {slots} slots are too many");
@@ -77,7 +79,8 @@ impl Talkers {
         })
     }
 
-    /// The next event happens to some user, and his views are compared, and those of him to whom it delivers something.
+    /// The next event happens to some user, and his views are compared, and those of him to whom it
+    /// delivers something.
     fn next_event(&mut self, alloc: Global) -> Result<()> {
         let user = UserNo::new((self.sequence.next_number() % u32::from(USERS)) as u8);
         let printed = self.machines.bare(user)?.printed();
@@ -95,7 +98,8 @@ impl Talkers {
         Ok(())
     }
 
-    /// Compares the views of a user; of the lines that his console has printed, these and all later.
+    /// Compares the views of a user; of the lines that his console has printed, these and all
+    /// later.
     fn compare_after(&self, user: UserNo, printed: usize) -> Result<(), SideError> {
         self.machines.compare_registers(user)?;
         self.machines.compare_console(user, printed)?;

@@ -1,6 +1,8 @@
--- Strings that are changed from left to right, byte by byte, by bytes that may have been changed before: GA22-7000, "Move",
--- "Move Numerics", "Move Zones", "AND", "OR" and "Exclusive OR".
-use Rattle.std.specs.Prelude.{ℕ, zero, suc, ◌+◌, ◌-◌, ◌*◌, ◌/◌, ◌%◌, nat_lt, ◌&&◌, if◌then◌else◌, bit_and, bit_or, bit_xor, List, [], ◌∷◌, slice_index, slice_set, slice_range, None}
+-- Strings that are changed from left to right, byte by byte, by bytes that may have been changed
+-- before: GA22-7000, "Move", "Move Numerics", "Move Zones", "AND", "OR" and "Exclusive OR".
+use Rattle.std.specs.Prelude.{ℕ, zero, suc, ◌+◌, ◌-◌, ◌*◌, ◌/◌, ◌%◌, nat_lt, ◌&&◌, if◌then◌else◌}
+use Rattle.std.specs.Prelude.{bit_and, bit_or, bit_xor, List, [], ◌∷◌, slice_index, slice_set}
+use Rattle.std.specs.Prelude.{slice_range, None}
 use Rattle.s370_rows.specs.declared.cpu.Cpu.{Cpu}
 use Rattle.s370_rows.specs.declared.instruction.Instruction.{Instruction}
 use Rattle.s370_rows.specs.declared.ending.Ending.TheVariants.{Done}
@@ -10,7 +12,8 @@ use Rattle.s370_rows.specs.Registers.{with_condition}
 use Rattle.s370_rows.specs.State.{State}
 use Rattle.s370_rows.specs.Rows.{Row, checked, fetch_test, store_test}
 use Rattle.s370_bytes.specs.declared.combine.Combine.{Combine}
-use Rattle.s370_bytes.specs.declared.combine.Combine.TheVariants.{Move, MoveNumerics, MoveZones, And, Or, ExclusiveOr}
+use Rattle.s370_bytes.specs.declared.combine.Combine.TheVariants.{Move, MoveNumerics, MoveZones}
+use Rattle.s370_bytes.specs.declared.combine.Combine.TheVariants.{And, Or, ExclusiveOr}
 use Rattle.s370_bytes.specs.Strings.{number}
 
 -- a byte x of the first operand and a byte y of the second
@@ -48,7 +51,12 @@ string_combined op m i =
     let b = based_address m.cpu i.third_half in
     let made = made_of op m.bytes a b n in
     checked (store_test a n ∷ fetch_test b n ∷ [])
-    (record { ending = Done; cpu = combined_condition op m.cpu made; stores = record { start = a; written = made } ∷ []; keyed = None })
+    (record {
+      ending = Done;
+      cpu = combined_condition op m.cpu made;
+      stores = record { start = a; written = made } ∷ [];
+      keyed = None;
+    })
 
 -- how far after its source a byte is made, where that is less than n
 abbrev pub lag_of : ℕ → ℕ → ℕ → ℕ

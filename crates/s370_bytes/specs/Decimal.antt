@@ -1,5 +1,7 @@
 -- CVB and CVD: GA22-7000, "Convert to Binary" and "Convert to Decimal".
-use Rattle.std.specs.Prelude.{◌≡◌, ℕ, zero, suc, ◌+◌, ◌*◌, ◌/◌, ◌%◌, ◌^◌, ◌==◌, nat_lt, if◌then◌else◌, ◌&&◌, ◌||◌, Bool, true, [], ◌∷◌, slice_index, Option, Some, None, Result, Ok, Err, ℤ, pos, neg_ℤ, unsigned_abs, int_lt}
+use Rattle.std.specs.Prelude.{◌≡◌, ℕ, zero, suc, ◌+◌, ◌*◌, ◌/◌, ◌%◌, ◌^◌, ◌==◌, nat_lt}
+use Rattle.std.specs.Prelude.{if◌then◌else◌, ◌&&◌, ◌||◌, Bool, true, [], ◌∷◌, slice_index, Option}
+use Rattle.std.specs.Prelude.{Some, None, Result, Ok, Err, ℤ, pos, neg_ℤ, unsigned_abs, int_lt}
 use Rattle.std.specs.Int.{w64, cast_unsigned, to_be_bytes}
 use Rattle.s370_psw.specs.declared.program.ProgramCode.{ProgramCode}
 use Rattle.s370_psw.specs.declared.program.ProgramCode.TheVariants.{Data, FixedPointDivide}
@@ -11,7 +13,8 @@ use Rattle.s370_rows.specs.Arithmetic.{signed, fits_word}
 use Rattle.s370_rows.specs.Formats.{r1_of, r2_of, indexed_address}
 use Rattle.s370_rows.specs.Registers.{Ended, with_register}
 use Rattle.s370_rows.specs.State.{State}
-use Rattle.s370_rows.specs.Rows.{Row, Left, checked, fetch_test, store_test, doubleword_at, writes, over}
+use Rattle.s370_rows.specs.Rows.{Row, Left, checked, fetch_test, store_test, doubleword_at, writes}
+use Rattle.s370_rows.specs.Rows.{over}
 
 -- the n low digits of x in the base `from`, as digits in the base `to`
 unfoldable pub rebased : ℕ → ℕ → ℕ → ℕ → ℕ
@@ -31,6 +34,7 @@ decimal_value x = if is_decimal 15 x then Some (rebased 10 16 15 x) else None
 abbrev pub with_sign : ℕ → ℕ → ℤ
 with_sign sign n = if (sign == 11) || (sign == 13) then neg_ℤ (pos n) else pos n
 
+-- the number with the sign of a decimal sign digit
 abbrev pub signed_by : ℕ → Option ℕ → Option ℤ
 signed_by sign None = None
 signed_by sign (Some n) = Some (with_sign sign n)
@@ -43,13 +47,18 @@ signed_value d = if nat_lt (d % 16) 10 then None else signed_by (d % 16) (decima
 abbrev pub binary_left : Cpu → ℕ → Option ℤ → Result Ended ProgramCode
 binary_left cpu r None = Err Data
 binary_left cpu r (Some z) =
-    Ok (record { ending = if fits_word z then Done else Interrupted FixedPointDivide; cpu = with_register cpu r (cast_unsigned w64 z % 2 ^ 32) })
+    Ok (record {
+      ending = if fits_word z then Done else Interrupted FixedPointDivide;
+      cpu = with_register cpu r (cast_unsigned w64 z % 2 ^ 32);
+    })
 
+-- how an instruction over registers ends that may be refused
 abbrev pub over_result : Result Ended ProgramCode → Result Left ProgramCode
 over_result (Ok e) = Ok (over e)
 over_result (Err code) = Err code
 
--- what code over registers may answer that may be refused: what is left; or the code, with nothing changed
+-- what code over registers may answer that may be refused: what is left; or the code, with nothing
+-- changed
 abbrev pub MeetsEnded : Result Ended ProgramCode → Cpu → Result Ending ProgramCode → Cpu → Type 0
 MeetsEnded e old (Ok ending) new = e ≡ Ok (record { ending = ending; cpu = new })
 MeetsEnded e old (Err code) new = (e ≡ Err code) × (new ≡ old)
@@ -63,10 +72,12 @@ binary_loaded m i =
 
 -- 15 decimal digits of the number that a word is, and a sign: C plus, D minus
 unfoldable pub decimal_of : ℕ → ℕ
-decimal_of a = rebased 16 10 15 (unsigned_abs (signed a)) * 16 + (if int_lt (signed a) (pos 0) then 13 else 12)
+decimal_of a = rebased 16 10 15 (unsigned_abs (signed a)) * 16 +
+    (if int_lt (signed a) (pos 0) then 13 else 12)
 
 -- CVD
 abbrev pub decimal_stored : State → Instruction → Row
 decimal_stored m i =
     let a = indexed_address m.cpu (r2_of i) i.second_half in
-    checked (store_test a 8 ∷ []) (writes m a (to_be_bytes w64 (decimal_of (slice_index m.cpu.general (r1_of i)))))
+    checked (store_test a 8 ∷ [])
+    (writes m a (to_be_bytes w64 (decimal_of (slice_index m.cpu.general (r1_of i)))))

@@ -1,6 +1,7 @@
--- Strings of decimal digits: one digit in a byte with a zone, or two in a byte and a sign at the right. GA22-7000, "Move with
--- Offset", "Pack" and "Unpack".
-use Rattle.std.specs.Prelude.{ℕ, zero, suc, ◌+◌, ◌-◌, ◌*◌, ◌/◌, ◌%◌, ◌==◌, nat_lt, if◌then◌else◌, List, [], ◌∷◌, length, slice_index, slice_range}
+-- Strings of decimal digits: one digit in a byte with a zone, or two in a byte and a sign at the
+-- right. GA22-7000, "Move with Offset", "Pack" and "Unpack".
+use Rattle.std.specs.Prelude.{ℕ, zero, suc, ◌+◌, ◌-◌, ◌*◌, ◌/◌, ◌%◌, ◌==◌, nat_lt, if◌then◌else◌}
+use Rattle.std.specs.Prelude.{List, [], ◌∷◌, length, slice_index, slice_range}
 use Rattle.s370_rows.specs.declared.instruction.Instruction.{Instruction}
 use Rattle.s370_rows.specs.Formats.{based_address}
 use Rattle.s370_rows.specs.State.{State}
@@ -16,6 +17,7 @@ from_right xs k = if nat_lt k (length xs) then slice_index xs (length xs - 1 - k
 abbrev pub digit : List ℕ → ℕ → ℕ
 digit xs k = if k % 2 == 0 then from_right xs (k / 2) % 16 else from_right xs (k / 2) / 16
 
+-- a byte with its two digits exchanged
 abbrev pub exchanged : ℕ → ℕ
 exchanged x = x % 16 * 16 + x / 16
 
@@ -24,7 +26,8 @@ abbrev pub laid_out : Layout → List ℕ → List ℕ → ℕ → ℕ
 laid_out MoveWithOffset xs ys k =
     digit ys (2 * k) * 16 + (if k == 0 then from_right xs 0 % 16 else digit ys (2 * k - 1))
 laid_out Pack xs ys k =
-    if k == 0 then exchanged (from_right ys 0) else from_right ys (2 * k) % 16 * 16 + from_right ys (2 * k - 1) % 16
+    if k == 0 then exchanged (from_right ys 0)
+    else from_right ys (2 * k) % 16 * 16 + from_right ys (2 * k - 1) % 16
 laid_out Unpack xs ys k =
     if k == 0 then exchanged (from_right ys 0) else 240 + digit ys (k + 1)
 

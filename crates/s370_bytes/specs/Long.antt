@@ -1,5 +1,8 @@
--- MVCL and CLCL, a part of at most 256 bytes at a time: GA22-7000, "Move Long" and "Compare Logical Long".
-use Rattle.std.specs.Prelude.{◌≡◌, ◌≢◌, ℕ, zero, suc, ◌+◌, ◌-◌, ◌*◌, ◌/◌, ◌%◌, ◌^◌, ◌≤◌, ◌==◌, nat_lt, if◌then◌else◌, ◌&&◌, Bool, List, [], ◌∷◌, length, slice_index, slice_range, min, max, None, Ok}
+-- MVCL and CLCL, a part of at most 256 bytes at a time: GA22-7000, "Move Long" and "Compare Logical
+-- Long".
+use Rattle.std.specs.Prelude.{◌≡◌, ◌≢◌, ℕ, zero, suc, ◌+◌, ◌-◌, ◌*◌, ◌/◌, ◌%◌, ◌^◌, ◌≤◌, ◌==◌}
+use Rattle.std.specs.Prelude.{nat_lt, if◌then◌else◌, ◌&&◌, Bool, List, [], ◌∷◌, length, slice_index}
+use Rattle.std.specs.Prelude.{slice_range, min, max, None, Ok}
 use Rattle.s370_psw.specs.declared.program.ProgramCode.TheVariants.{Specification}
 use Rattle.s370_rows.specs.declared.cpu.Cpu.{Cpu}
 use Rattle.s370_rows.specs.declared.instruction.Instruction.{Instruction}
@@ -8,7 +11,8 @@ use Rattle.s370_rows.specs.Arithmetic.{order_code}
 use Rattle.s370_rows.specs.Formats.{r1_of, r2_of}
 use Rattle.s370_rows.specs.Registers.{Ended, with_register, with_condition, done}
 use Rattle.s370_rows.specs.State.{State}
-use Rattle.s370_rows.specs.Rows.{Row, MeetsRow, checked, unchecked, suppressed, over, fetch_test, store_test}
+use Rattle.s370_rows.specs.Rows.{Row, MeetsRow, checked, unchecked, suppressed, over, fetch_test}
+use Rattle.s370_rows.specs.Rows.{store_test}
 use Rattle.s370_bytes.specs.declared.long.Operand.{Operand}
 use Rattle.s370_bytes.specs.Strings.{padded}
 use Rattle.s370_bytes.specs.Compare.{equal_pairs}
@@ -21,8 +25,10 @@ operand_of cpu r = record {
   pad = slice_index cpu.general (r + 1) / 2 ^ 24;
 }
 
+-- the registers with another operand in a pair
 abbrev pub with_operand : Cpu → ℕ → Operand → Cpu
-with_operand cpu r o = with_register (with_register cpu r o.address) (r + 1) (o.pad * 2 ^ 24 + o.count)
+with_operand cpu r o = with_register (with_register cpu r o.address) (r + 1)
+    (o.pad * 2 ^ 24 + o.count)
 
 -- registers that begin two pairs, of which none is in both
 pub record ArePairs (r1 r2 : ℕ) : Type 0 where
@@ -34,6 +40,7 @@ pub record ArePairs (r1 r2 : ℕ) : Type 0 where
 abbrev pub past : Operand → ℕ → Operand
 past o n = record { address = (o.address + n) % 2 ^ 24; count = o.count - n; pad = o.pad }
 
+-- the condition code of two lengths: 0 equal, 1 the first is lower, 2 it is higher
 abbrev pub counts_code : Operand → Operand → ℕ
 counts_code o1 o2 = order_code o1.count o2.count
 
@@ -45,14 +52,17 @@ destroys o1 o2 =
 
 -- ---- MVCL
 
--- the registers after a part of k bytes, j of them from the second operand, and whether it was the last
+-- the registers after a part of k bytes, j of them from the second operand, and whether it was the
+-- last
 abbrev pub part_ended : Cpu → ℕ → ℕ → ℕ → ℕ → Ended
 part_ended cpu r1 r2 k j =
     let o1 = operand_of cpu r1 in
     let o2 = operand_of cpu r2 in
     let after = with_operand (with_operand cpu r1 (past o1 k)) r2 (past o2 j) in
-    if o1.count - k == 0 then done (with_condition after (counts_code o1 o2)) else record { ending = Again; cpu = after }
+    if o1.count - k == 0 then done (with_condition after (counts_code o1 o2))
+    else record { ending = Again; cpu = after }
 
+-- one part of the long move
 abbrev pub part_moved : State → ℕ → ℕ → Row
 part_moved m r1 r2 =
     let o1 = operand_of m.cpu r1 in
@@ -62,7 +72,12 @@ part_moved m r1 r2 =
     let e = part_ended m.cpu r1 r2 k j in
     let made = padded (slice_range m.bytes o2.address (o2.address + j)) o2.pad k in
     checked (store_test o1.address k ∷ fetch_test o2.address j ∷ [])
-    (record { ending = e.ending; cpu = e.cpu; stores = record { start = o1.address; written = made } ∷ []; keyed = None })
+    (record {
+      ending = e.ending;
+      cpu = e.cpu;
+      stores = record { start = o1.address; written = made } ∷ [];
+      keyed = None;
+    })
 
 -- MVCL
 abbrev pub long_moved : State → Instruction → Row
@@ -74,10 +89,12 @@ long_moved m i =
     if (r1 % 2 == 0) && (r2 % 2 == 0)
     then (if o1.count == 0
     then unchecked (over (done (with_condition m.cpu (counts_code o1 o2))))
-    else (if destroys o1 o2 then unchecked (over (done (with_condition m.cpu 3))) else part_moved m r1 r2))
+    else (if destroys o1 o2 then unchecked (over (done (with_condition m.cpu 3)))
+    else part_moved m r1 r2))
     else suppressed Specification
 
--- a part of an MVCL after which another follows, and which leaves the PSW and the two bytes at an address as they were
+-- a part of an MVCL after which another follows, and which leaves the PSW and the two bytes at an
+-- address as they were
 pub record IsPart (start : ℕ) (present : ℕ → Bool) (i : Instruction) (m m' : State) : Type 0 where
   pub row : MeetsRow (long_moved m i) present m (Ok Again) m'
   pub kept : (k : ℕ) → k ≤ 1 → slice_index m'.bytes (start + k) ≡ slice_index m.bytes (start + k)
@@ -87,14 +104,17 @@ pub record IsPart (start : ℕ) (present : ℕ → Bool) (i : Instruction) (m m'
 -- so many of them, one after another
 abbrev pub AreParts : ℕ → ℕ → (ℕ → Bool) → Instruction → State → State → Type 0
 AreParts zero start present i m m' = m' ≡ m
-AreParts (suc n) start present i m m' = (part : State) × IsPart start present i m part × AreParts n start present i part m'
+AreParts (suc n) start present i m m' = (part : State) × IsPart start present i m part
+    × AreParts n start present i part m'
 
 -- ---- CLCL
 
--- the registers after n pairs that are equal: past both operands by n, or by all bytes of one that is shorter
+-- the registers after n pairs that are equal: past both operands by n, or by all bytes of one that
+-- is shorter
 abbrev pub compared_to : Cpu → ℕ → ℕ → ℕ → ℕ → ℕ → Cpu
 compared_to cpu r1 r2 j1 j2 n =
-    with_operand (with_operand cpu r1 (past (operand_of cpu r1) (min n j1))) r2 (past (operand_of cpu r2) (min n j2))
+    with_operand (with_operand cpu r1 (past (operand_of cpu r1) (min n j1))) r2
+    (past (operand_of cpu r2) (min n j2))
 
 -- what a part of k pairs leaves, with j1 and j2 bytes from the operands and then pads
 abbrev pub part_ordered : Cpu → ℕ → ℕ → ℕ → ℕ → ℕ → List ℕ → List ℕ → Ended
@@ -121,6 +141,7 @@ pairs_ordered bytes cpu r1 r2 k =
     let ys = padded (slice_range bytes o2.address (o2.address + j2)) o2.pad k in
     part_ordered cpu r1 r2 k j1 j2 xs ys
 
+-- one part of the long comparison
 abbrev pub part_compared : State → ℕ → ℕ → Row
 part_compared m r1 r2 =
     let o1 = operand_of m.cpu r1 in
@@ -128,7 +149,8 @@ part_compared m r1 r2 =
     let k = longest o1 o2 in
     let j1 = min k o1.count in
     let j2 = min k o2.count in
-    checked (fetch_test o1.address j1 ∷ fetch_test o2.address j2 ∷ []) (over (pairs_ordered m.bytes m.cpu r1 r2 k))
+    checked (fetch_test o1.address j1 ∷ fetch_test o2.address j2 ∷ [])
+    (over (pairs_ordered m.bytes m.cpu r1 r2 k))
 
 -- CLCL
 abbrev pub long_compared : State → Instruction → Row

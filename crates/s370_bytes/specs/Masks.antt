@@ -1,6 +1,7 @@
--- ICM, STCM and CLM: GA22-7000, "Insert Characters under Mask", "Store Characters under Mask" and "Compare Logical
--- Characters under Mask".
-use Rattle.std.specs.Prelude.{ℕ, zero, suc, ◌+◌, ◌-◌, ◌/◌, ◌%◌, ◌^◌, ◌==◌, nat_le, if◌then◌else◌, Bool, List, [], ◌∷◌, ◌++◌, slice_index, slice_range, max}
+-- ICM, STCM and CLM: GA22-7000, "Insert Characters under Mask", "Store Characters under Mask" and
+-- "Compare Logical Characters under Mask".
+use Rattle.std.specs.Prelude.{ℕ, zero, suc, ◌+◌, ◌-◌, ◌/◌, ◌%◌, ◌^◌, ◌==◌, nat_le, if◌then◌else◌}
+use Rattle.std.specs.Prelude.{Bool, List, [], ◌∷◌, ◌++◌, slice_index, slice_range, max}
 use Rattle.std.specs.Int.{w32, from_be_bytes, to_be_bytes}
 use Rattle.s370_rows.specs.declared.cpu.Cpu.{Cpu}
 use Rattle.s370_rows.specs.declared.instruction.Instruction.{Instruction}
@@ -23,11 +24,13 @@ chosen_before mask (suc k) = chosen_before mask k + (if is_chosen mask k then 1 
 -- those of the first k bytes that a mask chooses
 abbrev pub chosen_from : ℕ → List ℕ → ℕ → List ℕ
 chosen_from mask xs zero = []
-chosen_from mask xs (suc k) = chosen_from mask xs k ++ (if is_chosen mask k then slice_index xs k ∷ [] else [])
+chosen_from mask xs (suc k) = chosen_from mask xs k
+    ++ (if is_chosen mask k then slice_index xs k ∷ [] else [])
 
 -- byte k of four, into those of which a mask chooses that other bytes are put in order
 abbrev pub byte_inserted : ℕ → List ℕ → List ℕ → ℕ → ℕ
-byte_inserted mask xs ys k = if is_chosen mask k then slice_index ys (chosen_before mask k) else slice_index xs k
+byte_inserted mask xs ys k = if is_chosen mask k then slice_index ys (chosen_before mask k)
+    else slice_index xs k
 
 -- the same of all four bytes
 unfoldable pub chosen_count : ℕ → ℕ
@@ -38,7 +41,8 @@ chosen mask xs = chosen_from mask xs 4
 
 unfoldable pub inserted : ℕ → List ℕ → List ℕ → List ℕ
 inserted mask xs ys =
-    byte_inserted mask xs ys 0 ∷ byte_inserted mask xs ys 1 ∷ byte_inserted mask xs ys 2 ∷ byte_inserted mask xs ys 3 ∷ []
+    byte_inserted mask xs ys 0 ∷ byte_inserted mask xs ys 1 ∷ byte_inserted mask xs ys 2 ∷
+    byte_inserted mask xs ys 3 ∷ []
 
 -- the bytes of a register
 abbrev pub bytes_of : Cpu → ℕ → List ℕ
@@ -52,9 +56,11 @@ tested_count k = max 1 k
 abbrev pub inserted_code : List ℕ → ℕ
 inserted_code ys = if number ys == 0 then 0 else (if nat_le 128 (slice_index ys 0) then 1 else 2)
 
+-- the register with the bytes inserted, and the condition code
 abbrev pub with_inserted : Cpu → ℕ → ℕ → List ℕ → Cpu
 with_inserted cpu r mask ys =
-    with_condition (with_register cpu r (from_be_bytes w32 (inserted mask (bytes_of cpu r) ys))) (inserted_code ys)
+    with_condition (with_register cpu r (from_be_bytes w32 (inserted mask (bytes_of cpu r) ys)))
+    (inserted_code ys)
 
 -- ICM
 abbrev pub characters_inserted : State → Instruction → Row
@@ -69,12 +75,14 @@ abbrev pub characters_stored : State → Instruction → Row
 characters_stored m i =
     let a = based_address m.cpu i.second_half in
     let k = chosen_count (r2_of i) in
-    checked (store_test a (tested_count k) ∷ []) (writes m a (chosen (r2_of i) (bytes_of m.cpu (r1_of i))))
+    checked (store_test a (tested_count k) ∷ [])
+    (writes m a (chosen (r2_of i) (bytes_of m.cpu (r1_of i))))
 
 -- CLM
 abbrev pub characters_compared : State → Instruction → Row
 characters_compared m i =
     let a = based_address m.cpu i.second_half in
     let k = chosen_count (r2_of i) in
-    let code = string_order (chosen (r2_of i) (bytes_of m.cpu (r1_of i))) (slice_range m.bytes a (a + k)) in
+    let code = string_order (chosen (r2_of i) (bytes_of m.cpu (r1_of i)))
+    (slice_range m.bytes a (a + k)) in
     checked (fetch_test a (tested_count k) ∷ []) (over (done (with_condition m.cpu code)))

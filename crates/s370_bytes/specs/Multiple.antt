@@ -1,5 +1,6 @@
 -- Several registers in words of storage: GA22-7000, "Load Multiple" and "Store Multiple".
-use Rattle.std.specs.Prelude.{ℕ, zero, suc, ◌+◌, ◌-◌, ◌*◌, ◌%◌, List, [], ◌∷◌, ◌++◌, slice_index, slice_set}
+use Rattle.std.specs.Prelude.{ℕ, zero, suc, ◌+◌, ◌-◌, ◌*◌, ◌%◌, List, [], ◌∷◌, ◌++◌, slice_index}
+use Rattle.std.specs.Prelude.{slice_set}
 use Rattle.std.specs.Int.{w32, to_be_bytes}
 use Rattle.s370_rows.specs.declared.instruction.Instruction.{Instruction}
 use Rattle.s370_rows.specs.Formats.{r1_of, r2_of, based_address}
@@ -14,7 +15,8 @@ register_count r1 r3 = (r3 + 16 - r1) % 16 + 1
 -- the words of n registers from r on, in order
 abbrev pub words_from : List ℕ → ℕ → ℕ → List ℕ
 words_from registers r zero = []
-words_from registers r (suc n) = words_from registers r n ++ to_be_bytes w32 (slice_index registers ((r + n) % 16))
+words_from registers r (suc n) = words_from registers r n
+    ++ to_be_bytes w32 (slice_index registers ((r + n) % 16))
 
 -- the registers, of which n from r on are loaded with the words from a on
 abbrev pub loaded_from : List ℕ → List ℕ → ℕ → ℕ → ℕ → List ℕ
@@ -34,4 +36,5 @@ abbrev pub multiple_loaded : State → Instruction → Row
 multiple_loaded m i =
     let a = based_address m.cpu i.second_half in
     let k = register_count (r1_of i) (r2_of i) in
-    checked (fetch_test a (4 * k) ∷ []) (over (done (record m.cpu { general = loaded_from m.bytes m.cpu.general a (r1_of i) k })))
+    checked (fetch_test a (4 * k) ∷ [])
+    (over (done (record m.cpu { general = loaded_from m.bytes m.cpu.general a (r1_of i) k })))

@@ -1,5 +1,6 @@
 -- TR and TRT: GA22-7000, "Translate" and "Translate and Test".
-use Rattle.std.specs.Prelude.{ℕ, zero, suc, ◌+◌, ◌*◌, ◌/◌, ◌^◌, ◌==◌, nat_lt, nat_le, ◌||◌, Bool, if◌then◌else◌, List, [], ◌∷◌, slice_index, slice_set, slice_range}
+use Rattle.std.specs.Prelude.{ℕ, zero, suc, ◌+◌, ◌*◌, ◌/◌, ◌^◌, ◌==◌, nat_lt, nat_le, ◌||◌, Bool}
+use Rattle.std.specs.Prelude.{if◌then◌else◌, List, [], ◌∷◌, slice_index, slice_set, slice_range}
 use Rattle.s370_num.specs.Address.{storage_address}
 use Rattle.s370_rows.specs.declared.cpu.Cpu.{Cpu}
 use Rattle.s370_rows.specs.declared.instruction.Instruction.{Instruction}
@@ -36,15 +37,16 @@ abbrev pub zeros : List ℕ → List ℕ → ℕ
 zeros table [] = 0
 zeros table (x ∷ xs) = if slice_index table x == 0 then suc (zeros table xs) else 0
 
--- the registers after the n bytes xs from a on were tested: register 1 takes an address in its right 24 bits, and register 2 a
--- function byte in its right eight
+-- the registers after the n bytes xs from a on were tested: register 1 takes an address in its
+-- right 24 bits, and register 2 a function byte in its right eight
 abbrev pub scanned : Cpu → ℕ → ℕ → List ℕ → List ℕ → Cpu
 scanned cpu a n xs table =
     let k = zeros table xs in
     let address = slice_index cpu.general 1 / 2 ^ 24 * 2 ^ 24 + storage_address (a + k) in
     let byte = slice_index cpu.general 2 / 256 * 256 + slice_index table (slice_index xs k) in
     if nat_lt k n
-    then with_condition (with_register (with_register cpu 1 address) 2 byte) (if k + 1 == n then 2 else 1)
+    then with_condition (with_register (with_register cpu 1 address) 2 byte)
+    (if k + 1 == n then 2 else 1)
     else with_condition cpu 0
 
 -- TRT
@@ -54,4 +56,5 @@ string_scanned m i =
     let a = based_address m.cpu i.second_half in
     let t = based_address m.cpu i.third_half in
     checked (fetch_test a n ∷ fetch_test t 256 ∷ [])
-    (over (done (scanned m.cpu a n (slice_range m.bytes a (a + n)) (slice_range m.bytes t (t + 256)))))
+    (over (done (scanned m.cpu a n (slice_range m.bytes a (a + n))
+    (slice_range m.bytes t (t + 256)))))

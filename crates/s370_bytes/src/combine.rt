@@ -6,7 +6,8 @@ ghost use Rattle.s370_rows.specs.Arithmetic.{zero_code};
 ghost use Rattle.s370_rows.specs.State.{state_of};
 ghost use Rattle.s370_rows.specs.Rows.{MeetsRow};
 ghost use Rattle.s370_bytes.specs.declared.combine.Combine.{Combine};
-ghost use Rattle.s370_bytes.specs.Combine.{combined, combined_condition, string_combined, made_of, lag_of, lagged};
+ghost use Rattle.s370_bytes.specs.Combine.{combined, combined_condition, string_combined, made_of};
+ghost use Rattle.s370_bytes.specs.Combine.{lag_of, lagged};
 ghost use Rattle.s370_bytes.specs.Strings.{number};
 
 use s370_num::ConditionCode;
@@ -25,7 +26,7 @@ pub enum Combine {
 }
 
 impl Combine {
-    /// The byte that is made of a byte of each operand.
+    /// Returns the byte that is made of a byte of each operand.
     #[inline(always)]
     fn byte(self, x: u8, y: u8) -> u8
         ensures { result ≡ combined self x y }
@@ -41,7 +42,7 @@ impl Combine {
     }
 }
 
-/// How many bytes are read before one that was made is read.
+/// Returns how many bytes are read before one that was made is read.
 #[inline(always)]
 pub fn lag_of(to: u32, from: u32, count: u32) -> u32
     requires { 0 < count }
@@ -81,14 +82,15 @@ fn repeat(bytes: &mut [u8], lag: usize)
     requires some { 0 < lag }
     requires within { lag ≤ length bytes.old }
     ensures size { length bytes.new ≡ length bytes.old }
-    ensures each { (k : ℕ) → k < length bytes.old → slice_index bytes.new k ≡ lagged bytes.old bytes.new lag k }
+    ensures each { (k : ℕ) → k < length bytes.old
+        → slice_index bytes.new k ≡ lagged bytes.old bytes.new lag k }
 {
     for k in lag..bytes.len() {
         bytes[k] = bytes[k - lag];
     }
 }
 
-/// Whether all bytes are zero.
+/// Returns whether all bytes are zero.
 #[inline]
 pub fn is_zero(bytes: &[u8]) -> bool
     ensures { result ≡ (number bytes.now == 0) }
@@ -101,7 +103,7 @@ pub fn is_zero(bytes: &[u8]) -> bool
     true
 }
 
-/// The condition code of bytes: whether one is not zero.
+/// Returns the condition code of bytes: whether one is not zero.
 #[inline(always)]
 fn condition_of(bytes: &[u8]) -> ConditionCode
     ensures { result ≡ zero_code (number bytes.now) }
@@ -139,12 +141,15 @@ fn combine_at<S: Storage>(
     requires some { 0 < length made.old }
     requires short { length made.old ≤ 256 }
     requires same { length made.old ≡ length source.old }
-    requires target { IsGranted (length (S.memory storage.old).bytes) (S.present storage.old) to (length made.old) }
-    requires source { IsGranted (length (S.memory storage.old).bytes) (S.present storage.old) from (length made.old) }
+    requires target { IsGranted (length (S.memory storage.old).bytes) (S.present storage.old) to
+        (length made.old) }
+    requires source { IsGranted (length (S.memory storage.old).bytes) (S.present storage.old) from
+        (length made.old) }
     ensures stored { S.memory storage.new
         ≡ with_stored (S.memory storage.old) to
         (made_of operation (S.memory storage.old).bytes to from (length made.old)) }
-    ensures made { made.new ≡ made_of operation (S.memory storage.old).bytes to from (length made.old) }
+    ensures made { made.new ≡ made_of operation (S.memory storage.old).bytes to from
+        (length made.old) }
     ensures rest { S.Keeps storage.old storage.new }
 {
     storage.load(to, made);
@@ -180,7 +185,8 @@ fn combine_in<S: Storage>(
     ensures stored { S.memory storage.new
         ≡ with_stored (S.memory storage.old) to
         (made_of operation (S.memory storage.old).bytes to from (length made.old)) }
-    ensures made { made.new ≡ made_of operation (S.memory storage.old).bytes to from (length made.old) }
+    ensures made { made.new ≡ made_of operation (S.memory storage.old).bytes to from
+        (length made.old) }
     ensures rest { S.Keeps storage.old storage.new }
 {
     storage.load_in(target, to, made);
@@ -215,9 +221,11 @@ pub fn combine_straight<S: Storage>(
     requires target_begins { target.first ≤ to }
     requires target_ends { to + count ≤ target.first + 2048 }
     ensures stored { S.memory storage.new
-        ≡ with_stored (S.memory storage.old) to (made_of operation (S.memory storage.old).bytes to from count) }
+        ≡ with_stored (S.memory storage.old) to
+        (made_of operation (S.memory storage.old).bytes to from count) }
     ensures condition { cpu.new
-        ≡ combined_condition operation cpu.old (made_of operation (S.memory storage.old).bytes to from count) }
+        ≡ combined_condition operation cpu.old
+        (made_of operation (S.memory storage.old).bytes to from count) }
     ensures rest { S.Keeps storage.old storage.new }
 {
     let count = count as usize;
@@ -255,6 +263,11 @@ pub fn combine_straight<S: Storage>(
 }
 
 /// D1 MVN, D3 MVZ, D4 NC, D6 OC, D7 XC: combine a string with another; left to right.
+///
+/// # Errors
+///
+/// A `Refusal`: the program interruption, or an absent page that has to be brought first. Nothing
+/// has changed.
 pub fn combine_row<S: Storage>(
     operation: Combine,
     cpu: &mut Cpu,
@@ -292,8 +305,10 @@ pub fn combine_row<S: Storage>(
 fn move_through<S: Storage>(storage: &mut S, to: u32, from: u32, bytes: &mut [u8])
     requires some { 0 < length bytes.old }
     requires short { length bytes.old ≤ 256 }
-    requires target { IsGranted (length (S.memory storage.old).bytes) (S.present storage.old) to (length bytes.old) }
-    requires source { IsGranted (length (S.memory storage.old).bytes) (S.present storage.old) from (length bytes.old) }
+    requires target { IsGranted (length (S.memory storage.old).bytes) (S.present storage.old) to
+        (length bytes.old) }
+    requires source { IsGranted (length (S.memory storage.old).bytes) (S.present storage.old) from
+        (length bytes.old) }
     ensures stored { S.memory storage.new
         ≡ with_stored (S.memory storage.old) to
         (made_of Combine.Move (S.memory storage.old).bytes to from (length bytes.old)) }
@@ -310,10 +325,13 @@ fn move_through<S: Storage>(storage: &mut S, to: u32, from: u32, bytes: &mut [u8
 fn move_near<S: Storage>(storage: &mut S, to: u32, from: u32, count: u32)
     requires some { 0 < count }
     requires short { count ≤ 256 }
-    requires target { IsGranted (length (S.memory storage.old).bytes) (S.present storage.old) to count }
-    requires source { IsGranted (length (S.memory storage.old).bytes) (S.present storage.old) from count }
+    requires target { IsGranted (length (S.memory storage.old).bytes) (S.present storage.old) to
+        count }
+    requires source { IsGranted (length (S.memory storage.old).bytes) (S.present storage.old) from
+        count }
     ensures stored { S.memory storage.new
-        ≡ with_stored (S.memory storage.old) to (made_of Combine.Move (S.memory storage.old).bytes to from count) }
+        ≡ with_stored (S.memory storage.old) to
+        (made_of Combine.Move (S.memory storage.old).bytes to from count) }
     ensures rest { S.Keeps storage.old storage.new }
 {
     let mut bytes = [0u8; 256];
@@ -325,10 +343,13 @@ fn move_near<S: Storage>(storage: &mut S, to: u32, from: u32, count: u32)
 fn move_at<S: Storage>(storage: &mut S, to: u32, from: u32, count: u32)
     requires some { 0 < count }
     requires short { count ≤ 256 }
-    requires target { IsGranted (length (S.memory storage.old).bytes) (S.present storage.old) to count }
-    requires source { IsGranted (length (S.memory storage.old).bytes) (S.present storage.old) from count }
+    requires target { IsGranted (length (S.memory storage.old).bytes) (S.present storage.old) to
+        count }
+    requires source { IsGranted (length (S.memory storage.old).bytes) (S.present storage.old) from
+        count }
     ensures stored { S.memory storage.new
-        ≡ with_stored (S.memory storage.old) to (made_of Combine.Move (S.memory storage.old).bytes to from count) }
+        ≡ with_stored (S.memory storage.old) to
+        (made_of Combine.Move (S.memory storage.old).bytes to from count) }
     ensures rest { S.Keeps storage.old storage.new }
 {
     if lag_of(to, from, count) < count {
@@ -341,6 +362,11 @@ fn move_at<S: Storage>(storage: &mut S, to: u32, from: u32, count: u32)
 /// D2 MVC: move characters; left to right.
 ///
 /// It is [`combine_row`] of [`Combine::Move`], mostly by one copy.
+///
+/// # Errors
+///
+/// A `Refusal`: the program interruption, or an absent page that has to be brought first. Nothing
+/// has changed.
 pub fn move_row<S: Storage>(
     cpu: &mut Cpu,
     storage: &mut S,
@@ -348,7 +374,8 @@ pub fn move_row<S: Storage>(
 ) -> Result<Ending, Refusal>
     ensures row { let before = state_of cpu.old (S.memory storage.old) in
         let after = state_of cpu.new (S.memory storage.new) in
-        MeetsRow (string_combined Combine.Move before i) (S.present storage.old) before result after }
+        MeetsRow (string_combined Combine.Move before i) (S.present storage.old) before result
+        after }
     ensures rest { S.Keeps storage.old storage.new }
 {
     let to = cpu.based(i.second_half).get();

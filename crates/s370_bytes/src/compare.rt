@@ -1,5 +1,6 @@
 //! Strings of bytes against each other.
-ghost use Rattle.std.specs.Prelude.{◌≡◌, ◌≢◌, ℕ, ◌+◌, ◌<◌, ◌≤◌, true, length, slice_index, slice_range};
+ghost use Rattle.std.specs.Prelude.{◌≡◌, ◌≢◌, ℕ, ◌+◌, ◌<◌, ◌≤◌, true, length, slice_index};
+ghost use Rattle.std.specs.Prelude.{slice_range};
 ghost use Rattle.s370_rows.specs.State.{state_of};
 ghost use Rattle.s370_rows.specs.Rows.{MeetsRow};
 ghost use Rattle.s370_bytes.specs.Compare.{equal_pairs, string_order, strings_compared};
@@ -8,7 +9,7 @@ use s370_num::ConditionCode;
 use s370_rows::{Cpu, Ending, Instruction, Refusal, grant_two, order_of};
 use s370_store::{Access, Block, Range, Storage};
 
-/// Whether eight bytes from a place on are equal in both.
+/// Returns whether eight bytes from a place on are equal in both.
 #[inline(always)]
 fn is_equal_group(xs: &[u8], ys: &[u8], start: usize) -> bool
     requires same { length xs.now ≡ length ys.now }
@@ -19,7 +20,7 @@ fn is_equal_group(xs: &[u8], ys: &[u8], start: usize) -> bool
     xs[start..start + 8] == ys[start..start + 8]
 }
 
-/// How many bytes are equal in both before a group of eight that is not.
+/// Returns how many bytes are equal in both before a group of eight that is not.
 #[inline]
 fn equal_groups(xs: &[u8], ys: &[u8]) -> usize
     requires { length xs.now ≡ length ys.now }
@@ -35,7 +36,7 @@ fn equal_groups(xs: &[u8], ys: &[u8]) -> usize
     xs.len() / 8 * 8
 }
 
-/// How many bytes from the first on are equal in both.
+/// Returns how many bytes from the first on are equal in both.
 #[inline]
 pub fn equal_front(xs: &[u8], ys: &[u8]) -> usize
     requires { length xs.now ≡ length ys.now }
@@ -52,7 +53,7 @@ pub fn equal_front(xs: &[u8], ys: &[u8]) -> usize
     xs.len()
 }
 
-/// The condition code of two strings of one length, as numbers.
+/// Returns the condition code of two strings of one length, as numbers.
 #[inline]
 pub fn string_order(xs: &[u8], ys: &[u8]) -> ConditionCode
     requires { length xs.now ≡ length ys.now }
@@ -66,6 +67,11 @@ pub fn string_order(xs: &[u8], ys: &[u8]) -> ConditionCode
 }
 
 /// D5 CLC: compare logical characters.
+///
+/// # Errors
+///
+/// A `Refusal`: the program interruption, or an absent page that has to be brought first. Nothing
+/// has changed.
 pub fn compare_row<S: Storage>(
     cpu: &mut Cpu,
     storage: &S,
@@ -97,7 +103,8 @@ pub fn compare_row<S: Storage>(
     Ok(Ending::Done)
 }
 
-/// The order of two strings of one length that each lie in a block that was found, through buffers of that length.
+/// The order of two strings of one length that each lie in a block that was found, through buffers
+/// of that length.
 #[inline(always)]
 fn order_in<S: Storage>(
     storage: &S,
@@ -118,7 +125,8 @@ fn order_in<S: Storage>(
     requires right_inside { second + length xs.old ≤ length (S.memory storage.now).bytes }
     requires right_begins { right.first ≤ second }
     requires right_ends { second + length xs.old ≤ right.first + 2048 }
-    ensures { result ≡ string_order (slice_range (S.memory storage.now).bytes first (first + length xs.old))
+    ensures { result ≡ string_order
+        (slice_range (S.memory storage.now).bytes first (first + length xs.old))
         (slice_range (S.memory storage.now).bytes second (second + length xs.old)) }
 {
     storage.load_in(left, first, xs);

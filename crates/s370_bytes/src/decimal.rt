@@ -2,14 +2,15 @@
 ghost use Rattle.std.specs.Prelude.{◌≡◌, ℕ, ◌^◌, ◌<◌, length, IfSome};
 ghost use Rattle.s370_rows.specs.State.{state_of};
 ghost use Rattle.s370_rows.specs.Rows.{MeetsRow};
-ghost use Rattle.s370_bytes.specs.Decimal.{MeetsEnded, rebased, decimal_value, signed_value, binary_left, binary_loaded, decimal_of, decimal_stored};
+ghost use Rattle.s370_bytes.specs.Decimal.{MeetsEnded, rebased, decimal_value, signed_value};
+ghost use Rattle.s370_bytes.specs.Decimal.{binary_left, binary_loaded, decimal_of, decimal_stored};
 
 use s370_num::Register;
 use s370_psw::ProgramCode;
 use s370_rows::{Cpu, Ending, Instruction, Refusal, grant};
 use s370_store::{Access, Range, Storage, load_doubleword, store_doubleword};
 
-/// The number that 15 decimal digits are, if each is one.
+/// Returns the number that 15 decimal digits are, if each is one.
 fn decimal_value(digits: u64) -> Option<u64>
     ensures value { result ≡ decimal_value digits }
     ensures below { IfSome result (λ n. n < 10 ^ 15) }
@@ -29,7 +30,7 @@ fn decimal_value(digits: u64) -> Option<u64>
     Some(value)
 }
 
-/// The number that 15 decimal digits and a sign are, if they are one.
+/// Returns the number that 15 decimal digits and a sign are, if they are one.
 #[inline]
 fn signed_value(doubleword: u64) -> Option<i64>
     ensures { result ≡ signed_value doubleword }
@@ -49,7 +50,8 @@ fn signed_value(doubleword: u64) -> Option<i64>
 /// The low bits of a number in a register.
 #[inline]
 fn load_binary(cpu: &mut Cpu, register: Register, doubleword: u64) -> Result<Ending, ProgramCode>
-    ensures { MeetsEnded (binary_left cpu.old register (signed_value doubleword)) cpu.old result cpu.new }
+    ensures { MeetsEnded (binary_left cpu.old register (signed_value doubleword)) cpu.old result
+        cpu.new }
 {
     match signed_value(doubleword) {
         None => Err(ProgramCode::Data),
@@ -65,6 +67,11 @@ fn load_binary(cpu: &mut Cpu, register: Register, doubleword: u64) -> Result<End
 }
 
 /// 4F CVB: convert 15 decimal digits and a sign to binary.
+///
+/// # Errors
+///
+/// A `Refusal`: the program interruption, or an absent page that has to be brought first. Nothing
+/// has changed.
 pub fn binary_row<S: Storage>(cpu: &mut Cpu, storage: &S, i: Instruction) -> Result<Ending, Refusal>
     ensures { let before = state_of cpu.old (S.memory storage.now) in
         let after = state_of cpu.new (S.memory storage.now) in
@@ -87,7 +94,7 @@ pub fn binary_row<S: Storage>(cpu: &mut Cpu, storage: &S, i: Instruction) -> Res
     }
 }
 
-/// The decimal digits of a number below ten to the fifteenth, four bits each.
+/// Returns the decimal digits of a number below ten to the fifteenth, four bits each.
 fn decimal_digits(number: u64) -> u64
     ensures value { result ≡ rebased 16 10 15 number }
     ensures below { result < 2 ^ 60 }
@@ -103,7 +110,7 @@ fn decimal_digits(number: u64) -> u64
     value
 }
 
-/// The decimal digits and the sign of the signed number that a word is.
+/// Returns the decimal digits and the sign of the signed number that a word is.
 #[inline]
 #[tactic(auto, unfolding(crate::specs::Decimal::decimal_of))]
 fn decimal_of(word: u32) -> u64
@@ -115,6 +122,11 @@ fn decimal_of(word: u32) -> u64
 }
 
 /// 4E CVD: convert to 15 decimal digits and a sign.
+///
+/// # Errors
+///
+/// A `Refusal`: the program interruption, or an absent page that has to be brought first. Nothing
+/// has changed.
 pub fn decimal_row<S: Storage>(
     cpu: &Cpu,
     storage: &mut S,

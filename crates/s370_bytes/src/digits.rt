@@ -4,7 +4,8 @@ ghost use Rattle.s370_store.specs.Access.{IsGranted};
 ghost use Rattle.s370_store.specs.Memory.{with_stored};
 ghost use Rattle.s370_rows.specs.State.{state_of};
 ghost use Rattle.s370_rows.specs.Rows.{MeetsRow};
-ghost use Rattle.s370_bytes.specs.Digits.{from_right, digit, exchanged, laid_out, string_of, digits_laid_out};
+ghost use Rattle.s370_bytes.specs.Digits.{from_right, digit, exchanged, laid_out, string_of};
+ghost use Rattle.s370_bytes.specs.Digits.{digits_laid_out};
 
 use s370_rows::{Cpu, Ending, Instruction, Refusal, grant_two};
 use s370_store::{Access, Range, Storage};
@@ -17,7 +18,7 @@ pub enum Layout {
     Unpack,
 }
 
-/// A byte counted from the right.
+/// Returns a byte counted from the right.
 #[inline(always)]
 fn from_right(bytes: &[u8], place: usize) -> u8
     ensures { result ≡ from_right bytes.now place }
@@ -29,7 +30,7 @@ fn from_right(bytes: &[u8], place: usize) -> u8
     }
 }
 
-/// A digit counted from the right, two in a byte.
+/// Returns a digit counted from the right, two in a byte.
 #[inline(always)]
 fn digit(bytes: &[u8], place: usize) -> u8
     ensures value { result ≡ digit bytes.now place }
@@ -39,7 +40,7 @@ fn digit(bytes: &[u8], place: usize) -> u8
     if place % 2 == 0 { byte % 16 } else { byte / 16 }
 }
 
-/// A byte with its digits exchanged.
+/// Returns a byte with its digits exchanged.
 #[inline(always)]
 fn exchanged(byte: u8) -> u8
     ensures { result ≡ exchanged byte }
@@ -47,7 +48,7 @@ fn exchanged(byte: u8) -> u8
     byte % 16 * 16 + byte / 16
 }
 
-/// A byte of the result, counted from the right.
+/// Returns a byte of the result, counted from the right.
 #[inline(always)]
 fn laid_out(layout: Layout, target: &[u8], source: &[u8], place: usize) -> u8
     requires { place < 16 }
@@ -105,8 +106,10 @@ fn lay_out_at<S: Storage>(
     requires same { length made.old ≡ length target.old }
     requires short { length target.old ≤ 16 }
     requires source_short { length source.old ≤ 16 }
-    requires target { IsGranted (length (S.memory storage.old).bytes) (S.present storage.old) to (length target.old) }
-    requires source { IsGranted (length (S.memory storage.old).bytes) (S.present storage.old) from (length source.old) }
+    requires target { IsGranted (length (S.memory storage.old).bytes) (S.present storage.old) to
+        (length target.old) }
+    requires source { IsGranted (length (S.memory storage.old).bytes) (S.present storage.old) from
+        (length source.old) }
     ensures stored { S.memory storage.new ≡ with_stored (S.memory storage.old) to
         (string_of (length target.old)
         (laid_out layout (slice_range (S.memory storage.old).bytes to (to + length target.old))
@@ -120,6 +123,11 @@ fn lay_out_at<S: Storage>(
 }
 
 /// F1 MVO, F2 PACK, F3 UNPK: move with offset, pack, unpack; from right to left.
+///
+/// # Errors
+///
+/// A `Refusal`: the program interruption, or an absent page that has to be brought first. Nothing
+/// has changed.
 pub fn layout_row<S: Storage>(
     layout: Layout,
     cpu: &Cpu,

@@ -1,8 +1,9 @@
 //! The instructions that work on strings of bytes in a storage.
 //!
-//! Its one theorem: each function here answers and leaves what its row of the instruction table in `specs/` does (IBM
-//! System/370 Principles of Operation, GA22-7000, "General Instructions"), over any storage; or it answers that a page
-//! is not present, which the row has to access, and has changed nothing.
+//! Its one theorem: each function here answers and leaves what its row of the instruction table in
+//! `specs/` does (IBM System/370 Principles of Operation, GA22-7000, "General Instructions"), over
+//! any storage; or it answers that a page is not present, which the row has to access, and has
+//! changed nothing.
 //!
 //! ```
 //! use s370_bytes::{Combine, combine_row};

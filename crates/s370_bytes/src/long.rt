@@ -1,12 +1,15 @@
 //! The long move and the long comparison, a part of at most 256 bytes at a time.
-ghost use Rattle.std.specs.Prelude.{◌≡◌, ℕ, ◌+◌, ◌*◌, ◌%◌, ◌^◌, ◌<◌, ◌≤◌, ◌⊎◌, true, false, length, min, slice_range, replicate};
+ghost use Rattle.std.specs.Prelude.{◌≡◌, ℕ, ◌+◌, ◌*◌, ◌%◌, ◌^◌, ◌<◌, ◌≤◌, ◌⊎◌, true, false, length};
+ghost use Rattle.std.specs.Prelude.{min, slice_range, replicate};
 ghost use Rattle.s370_rows.specs.declared.instruction.Instruction.{Instruction};
 ghost use Rattle.s370_store.specs.Access.{IsGranted};
 ghost use Rattle.s370_store.specs.Memory.{with_stored};
 ghost use Rattle.s370_rows.specs.Formats.{r1_of, r2_of};
 ghost use Rattle.s370_rows.specs.State.{state_of};
 ghost use Rattle.s370_rows.specs.Rows.{MeetsRow};
-ghost use Rattle.s370_bytes.specs.Long.{ArePairs, AreParts, operand_of, with_operand, past, counts_code, destroys, part_moved, long_moved, longest, part_ordered, pairs_ordered, part_compared, long_compared};
+ghost use Rattle.s370_bytes.specs.Long.{ArePairs, AreParts, operand_of, with_operand, past};
+ghost use Rattle.s370_bytes.specs.Long.{counts_code, destroys, part_moved, long_moved, longest};
+ghost use Rattle.s370_bytes.specs.Long.{part_ordered, pairs_ordered, part_compared, long_compared};
 ghost use Rattle.s370_bytes.specs.Strings.{padded};
 
 use crate::compare::equal_front;
@@ -27,7 +30,7 @@ pub struct Operand {
 }
 
 impl Operand {
-    /// The operand that a pair of registers names.
+    /// Returns the operand that a pair of registers names.
     #[inline(always)]
     fn of(cpu: &Cpu, register: Register) -> Operand
         requires { register < 15 }
@@ -44,7 +47,7 @@ impl Operand {
         }
     }
 
-    /// What is left after some bytes.
+    /// Returns what is left after some bytes.
     #[inline(always)]
     fn past(&self, count: u32) -> Operand
         requires enough { count ≤ self.now.count }
@@ -59,8 +62,8 @@ impl Operand {
         }
     }
 
-    /// Sets the pair that names an operand to this, which is what is left of it after some bytes: no more are taken
-    /// than its count has, so the byte above the count stays as it is.
+    /// Sets the pair that names an operand to this, which is what is left of it after some bytes:
+    /// no more are taken than its count has, so the byte above the count stays as it is.
     #[inline(always)]
     fn set_left(self, cpu: &mut Cpu, register: Register, count: u32)
         requires register { register < 15 }
@@ -84,7 +87,7 @@ impl Operand {
     }
 }
 
-/// The condition code of two lengths.
+/// Returns the condition code of two lengths.
 #[inline(always)]
 fn counts_code(first: Operand, second: Operand) -> ConditionCode
     ensures { result ≡ counts_code first second }
@@ -92,7 +95,7 @@ fn counts_code(first: Operand, second: Operand) -> ConditionCode
     order_of(first.count, second.count)
 }
 
-/// Whether a byte of the second operand would be moved after it was changed.
+/// Returns whether a byte of the second operand would be moved after it was changed.
 #[inline(always)]
 fn destroys(first: Operand, second: Operand) -> bool
     ensures { result ≡ destroys first second }
@@ -116,8 +119,10 @@ pub fn set_all(bytes: &mut [u8], pad: u8)
 fn load_padded<S: Storage>(storage: &S, from: u32, pad: u8, into: &mut [u8], count: u32)
     requires within { count ≤ length into.old }
     requires short { length into.old ≤ 256 }
-    requires source { 0 < count → IsGranted (length (S.memory storage.now).bytes) (S.present storage.now) from count }
-    ensures { into.new ≡ padded (slice_range (S.memory storage.now).bytes from (from + count)) pad (length into.old) }
+    requires source { 0 < count
+        → IsGranted (length (S.memory storage.now).bytes) (S.present storage.now) from count }
+    ensures { into.new ≡ padded (slice_range (S.memory storage.now).bytes from (from + count)) pad
+        (length into.old) }
 {
     set_all(into, pad);
     if count > 0 {
@@ -137,10 +142,13 @@ fn move_through<S: Storage>(
 )
     requires within { count ≤ length made.old }
     requires short { length made.old ≤ 256 }
-    requires target { IsGranted (length (S.memory storage.old).bytes) (S.present storage.old) to (length made.old) }
-    requires source { 0 < count → IsGranted (length (S.memory storage.old).bytes) (S.present storage.old) from count }
+    requires target { IsGranted (length (S.memory storage.old).bytes) (S.present storage.old) to
+        (length made.old) }
+    requires source { 0 < count
+        → IsGranted (length (S.memory storage.old).bytes) (S.present storage.old) from count }
     ensures stored { S.memory storage.new ≡ with_stored (S.memory storage.old) to
-        (padded (slice_range (S.memory storage.old).bytes from (from + count)) pad (length made.old)) }
+        (padded (slice_range (S.memory storage.old).bytes from (from + count)) pad
+        (length made.old)) }
     ensures rest { S.Keeps storage.old storage.new }
 {
     load_padded(storage, from, pad, made, count);
@@ -152,8 +160,10 @@ fn move_through<S: Storage>(
 fn move_pads<S: Storage>(storage: &mut S, to: u32, from: u32, pad: u8, count: u32, moved: u32)
     requires within { moved ≤ count }
     requires short { count ≤ 256 }
-    requires target { IsGranted (length (S.memory storage.old).bytes) (S.present storage.old) to count }
-    requires source { 0 < moved → IsGranted (length (S.memory storage.old).bytes) (S.present storage.old) from moved }
+    requires target { IsGranted (length (S.memory storage.old).bytes) (S.present storage.old) to
+        count }
+    requires source { 0 < moved
+        → IsGranted (length (S.memory storage.old).bytes) (S.present storage.old) from moved }
     ensures stored { S.memory storage.new
         ≡ with_stored (S.memory storage.old) to
         (padded (slice_range (S.memory storage.old).bytes from (from + moved)) pad count) }
@@ -169,8 +179,10 @@ fn move_padded<S: Storage>(storage: &mut S, to: u32, from: u32, pad: u8, count: 
     requires some { 0 < count }
     requires within { moved ≤ count }
     requires short { count ≤ 256 }
-    requires target { IsGranted (length (S.memory storage.old).bytes) (S.present storage.old) to count }
-    requires source { 0 < moved → IsGranted (length (S.memory storage.old).bytes) (S.present storage.old) from moved }
+    requires target { IsGranted (length (S.memory storage.old).bytes) (S.present storage.old) to
+        count }
+    requires source { 0 < moved
+        → IsGranted (length (S.memory storage.old).bytes) (S.present storage.old) from moved }
     ensures stored { S.memory storage.new
         ≡ with_stored (S.memory storage.old) to
         (padded (slice_range (S.memory storage.old).bytes from (from + moved)) pad count) }
@@ -222,6 +234,11 @@ fn move_part<S: Storage>(
 }
 
 /// 0E MVCL: move long; a part of at most 256 bytes.
+///
+/// # Errors
+///
+/// A `Refusal`: the program interruption, or an absent page that has to be brought first. Nothing
+/// has changed.
 pub fn move_long_row<S: Storage>(
     cpu: &mut Cpu,
     storage: &mut S,
@@ -253,7 +270,8 @@ pub fn move_long_row<S: Storage>(
     move_part(cpu, storage, r1, r2)
 }
 
-/// Whether so many bytes that are moved to an address have none of the two bytes at another.
+/// Returns whether so many bytes that are moved to an address have none of the two bytes at
+/// another.
 #[inline(always)]
 fn is_apart(to: u32, count: u32, start: u32) -> bool
     requires to { to < 2 ^ 24 }
@@ -264,8 +282,8 @@ fn is_apart(to: u32, count: u32, start: u32) -> bool
     start + 1 < to || to + count <= start
 }
 
-/// How many whole parts, at most so many and none of them the last, can be one copy: as many as lie in one block at
-/// each place, or one.
+/// Returns how many whole parts, at most so many and none of them the last, can be one copy: as
+/// many as lie in one block at each place, or one.
 #[inline(always)]
 fn parts_at_once(first: &Operand, second: &Operand, limit: u32) -> u32
     ensures within { result ≤ limit }
@@ -293,8 +311,8 @@ fn parts_at_once(first: &Operand, second: &Operand, limit: u32) -> u32
     at_most(parts, room / 256)
 }
 
-/// Parts of the long move that have all their bytes, as one copy that changes none of the two bytes at an address: so
-/// many, or none where they can't be moved, and then nothing changes.
+/// Parts of the long move that have all their bytes, as one copy that changes none of the two bytes
+/// at an address: so many, or none where they can't be moved, and then nothing changes.
 #[inline(always)]
 fn move_whole_parts<S: Storage>(
     cpu: &mut Cpu,
@@ -316,7 +334,8 @@ fn move_whole_parts<S: Storage>(
     requires intact { destroys (operand_of cpu.old r1) (operand_of cpu.old r2) ≡ false }
     ensures parts { let before = state_of cpu.old (S.memory storage.old) in
         let after = state_of cpu.new (S.memory storage.new) in
-        (i : Instruction) → r1_of i ≡ r1 → r2_of i ≡ r2 → AreParts result start (S.present storage.old) i before after }
+        (i : Instruction) → r1_of i ≡ r1 → r2_of i ≡ r2
+        → AreParts result start (S.present storage.old) i before after }
     ensures within { result ≤ parts }
     ensures rest { S.Keeps storage.old storage.new }
 {
@@ -336,8 +355,10 @@ fn move_whole_parts<S: Storage>(
     parts
 }
 
-/// 0E MVCL with this second byte: parts of 256 bytes that have none of the two bytes at an address, one after another
-/// and at most so many, after each of which more are left. How many there were; where there is none, nothing changes.
+/// 0E MVCL with this second byte: parts of 256 bytes that have none of the two bytes at an address,
+/// one after another
+/// and at most so many, after each of which more are left. How many there were; where there is
+/// none, nothing changes.
 ///
 /// Those that lie in one block are one copy.
 #[inline(always)]
@@ -383,7 +404,7 @@ pub fn move_long_quickly<S: Storage>(
     move_whole_parts(cpu, storage, start, r1, r2, parts)
 }
 
-/// The lesser of two counts.
+/// Returns the lesser of two counts.
 #[inline(always)]
 fn at_most(a: u32, b: u32) -> u32
     ensures value { result ≡ min a b }
@@ -393,7 +414,7 @@ fn at_most(a: u32, b: u32) -> u32
     if a < b { a } else { b }
 }
 
-/// How many pairs a part of a comparison has.
+/// Returns how many pairs a part of a comparison has.
 #[inline(always)]
 fn longest(first: &Operand, second: &Operand) -> u32
     ensures value { result ≡ longest first.now second.now }
@@ -463,10 +484,12 @@ fn compare_at<S: Storage>(
     requires left { length left.old ≡ count }
     requires right { length right.old ≡ count }
     requires source { 0 < min count (operand_of cpu.old r1).count
-        → IsGranted (length (S.memory storage.now).bytes) (S.present storage.now) (operand_of cpu.old r1).address
+        → IsGranted (length (S.memory storage.now).bytes) (S.present storage.now)
+        (operand_of cpu.old r1).address
         (min count (operand_of cpu.old r1).count) }
     requires source_2 { 0 < min count (operand_of cpu.old r2).count
-        → IsGranted (length (S.memory storage.now).bytes) (S.present storage.now) (operand_of cpu.old r2).address
+        → IsGranted (length (S.memory storage.now).bytes) (S.present storage.now)
+        (operand_of cpu.old r2).address
         (min count (operand_of cpu.old r2).count) }
     ensures { pairs_ordered (S.memory storage.now).bytes cpu.old r1 r2 count
         ≡ record { ending = result; cpu = cpu.new } }
@@ -519,6 +542,11 @@ fn compare_part<S: Storage>(
 }
 
 /// 0F CLCL: compare logical long; a part of at most 256 pairs.
+///
+/// # Errors
+///
+/// A `Refusal`: the program interruption, or an absent page that has to be brought first. Nothing
+/// has changed.
 pub fn compare_long_row<S: Storage>(
     cpu: &mut Cpu,
     storage: &S,

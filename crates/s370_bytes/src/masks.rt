@@ -4,7 +4,10 @@ ghost use Rattle.s370_store.specs.Access.{IsGranted};
 ghost use Rattle.s370_rows.specs.State.{state_of};
 ghost use Rattle.s370_rows.specs.Rows.{MeetsRow};
 ghost use Rattle.s370_bytes.specs.Compare.{string_order};
-ghost use Rattle.s370_bytes.specs.Masks.{is_chosen, chosen_count, chosen, inserted, bytes_of, tested_count, inserted_code, with_inserted, characters_inserted, characters_stored, characters_compared};
+ghost use Rattle.s370_bytes.specs.Masks.{is_chosen, chosen_count, chosen, inserted, bytes_of};
+ghost use Rattle.s370_bytes.specs.Masks.{tested_count, inserted_code, with_inserted};
+ghost use Rattle.s370_bytes.specs.Masks.{characters_inserted, characters_stored};
+ghost use Rattle.s370_bytes.specs.Masks.{characters_compared};
 
 use crate::combine::is_zero;
 use crate::compare::string_order;
@@ -12,7 +15,7 @@ use s370_num::{ConditionCode, Register};
 use s370_rows::{Cpu, Ending, Instruction, Refusal, grant};
 use s370_store::{Access, Range, Storage};
 
-/// Whether a mask has the bit that stands for a byte of a register, from the left.
+/// Returns whether a mask has the bit that stands for a byte of a register, from the left.
 #[inline(always)]
 fn is_chosen(mask: u8, place: u32) -> bool
     requires { place < 4 }
@@ -21,7 +24,7 @@ fn is_chosen(mask: u8, place: u32) -> bool
     mask >> (3 - place) & 1 == 1
 }
 
-/// How many bytes a mask chooses.
+/// Returns how many bytes a mask chooses.
 #[tactic(auto, unfolding(crate::specs::Masks::chosen_count))]
 fn chosen_count(mask: u8) -> u32
     ensures value { result ≡ chosen_count mask }
@@ -36,7 +39,7 @@ fn chosen_count(mask: u8) -> u32
     count
 }
 
-/// How many bytes are tested, of which a mask chooses so many.
+/// Returns how many bytes are tested, of which a mask chooses so many.
 #[inline(always)]
 fn tested_count(count: u32) -> u32
     ensures { result ≡ tested_count count }
@@ -73,7 +76,7 @@ fn insert(mask: u8, bytes: &mut [u8; 4], from: &[u8])
     }
 }
 
-/// The condition code of bytes that were inserted.
+/// Returns the condition code of bytes that were inserted.
 #[inline]
 fn inserted_code(bytes: &[u8]) -> ConditionCode
     ensures { result ≡ inserted_code bytes.now }
@@ -88,7 +91,8 @@ fn inserted_code(bytes: &[u8]) -> ConditionCode
     }
 }
 
-/// Loads the bytes of a range into those of a register that a mask chooses, through a buffer of their number.
+/// Loads the bytes of a range into those of a register that a mask chooses, through a buffer of
+/// their number.
 #[inline]
 fn insert_at<S: Storage>(
     cpu: &mut Cpu,
@@ -100,7 +104,8 @@ fn insert_at<S: Storage>(
 )
     requires count { length from.old ≡ chosen_count mask }
     requires short { length from.old ≤ 4 }
-    requires granted { IsGranted (length (S.memory storage.now).bytes) (S.present storage.now) start (length from.old) }
+    requires granted { IsGranted (length (S.memory storage.now).bytes) (S.present storage.now) start
+        (length from.old) }
     ensures { cpu.new ≡ with_inserted cpu.old register mask
         (slice_range (S.memory storage.now).bytes start (start + length from.old)) }
 {
@@ -112,6 +117,11 @@ fn insert_at<S: Storage>(
 }
 
 /// BF ICM: insert characters under mask.
+///
+/// # Errors
+///
+/// A `Refusal`: the program interruption, or an absent page that has to be brought first. Nothing
+/// has changed.
 pub fn insert_characters_row<S: Storage>(
     cpu: &mut Cpu,
     storage: &S,
@@ -142,6 +152,11 @@ pub fn insert_characters_row<S: Storage>(
 }
 
 /// BE STCM: store characters under mask.
+///
+/// # Errors
+///
+/// A `Refusal`: the program interruption, or an absent page that has to be brought first. Nothing
+/// has changed.
 pub fn store_characters_row<S: Storage>(
     cpu: &Cpu,
     storage: &mut S,
@@ -166,7 +181,8 @@ pub fn store_characters_row<S: Storage>(
     Ok(Ending::Done)
 }
 
-/// The condition code of the bytes of a register that a mask chooses against those of a range, through a buffer.
+/// The condition code of the bytes of a register that a mask chooses against those of a range,
+/// through a buffer.
 #[inline]
 fn order_at<S: Storage>(
     cpu: &Cpu,
@@ -194,6 +210,11 @@ fn order_at<S: Storage>(
 }
 
 /// BD CLM: compare logical characters under mask.
+///
+/// # Errors
+///
+/// A `Refusal`: the program interruption, or an absent page that has to be brought first. Nothing
+/// has changed.
 pub fn compare_characters_row<S: Storage>(
     cpu: &mut Cpu,
     storage: &S,

@@ -5,13 +5,14 @@ ghost use Rattle.s370_store.specs.Memory.{with_stored};
 ghost use Rattle.s370_rows.specs.Formats.{r1_of, r2_of};
 ghost use Rattle.s370_rows.specs.State.{state_of};
 ghost use Rattle.s370_rows.specs.Rows.{MeetsRow};
-ghost use Rattle.s370_bytes.specs.Multiple.{loaded_from, multiple_loaded, multiple_stored, register_count, words_from};
+ghost use Rattle.s370_bytes.specs.Multiple.{loaded_from, multiple_loaded, multiple_stored};
+ghost use Rattle.s370_bytes.specs.Multiple.{register_count, words_from};
 
 use s370_num::{Addr24, Register};
 use s370_rows::{Cpu, Ending, Instruction, Refusal, grant};
 use s370_store::{Access, Block, Range, Storage, load_word, load_word_in};
 
-/// How many registers there are from one to another, where 0 follows 15.
+/// Returns how many registers there are from one to another, where 0 follows 15.
 #[inline(always)]
 fn count_of(first: Register, last: Register) -> u32
     ensures value { result ≡ register_count first last }
@@ -33,7 +34,7 @@ fn fill(words: &mut [u8; 64], registers: &[u32; 16], first: Register, count: u32
     }
 }
 
-/// The words from an address on that registers R1 to R3 have, one for each.
+/// Returns the words from an address on that registers R1 to R3 have, one for each.
 #[inline(always)]
 pub fn words_range(address: Addr24, i: Instruction) -> Range
     ensures start { result.start ≡ address }
@@ -100,7 +101,8 @@ pub fn load_registers<S: Storage>(
 )
     requires { IsGranted (length (S.memory storage.now).bytes) (S.present storage.now) address
         (4 * register_count (r1_of i) (r2_of i)) }
-    ensures { registers.new ≡ loaded_from (S.memory storage.now).bytes registers.old address (r1_of i)
+    ensures { registers.new ≡ loaded_from (S.memory storage.now).bytes registers.old address
+        (r1_of i)
         (register_count (r1_of i) (r2_of i)) }
 {
     let start = address.get();
@@ -123,7 +125,8 @@ pub fn load_registers_in<S: Storage>(
     requires placed { S.IsPlaced storage.now block }
     requires begins { block.first ≤ address }
     requires ends { address + 4 * register_count (r1_of i) (r2_of i) ≤ block.first + 2048 }
-    ensures { registers.new ≡ loaded_from (S.memory storage.now).bytes registers.old address (r1_of i)
+    ensures { registers.new ≡ loaded_from (S.memory storage.now).bytes registers.old address
+        (r1_of i)
         (register_count (r1_of i) (r2_of i)) }
 {
     let start = address.get();
@@ -135,6 +138,11 @@ pub fn load_registers_in<S: Storage>(
 }
 
 /// 90 STM: store registers R1 to R3; 0 follows 15.
+///
+/// # Errors
+///
+/// A `Refusal`: the program interruption, or an absent page that has to be brought first. Nothing
+/// has changed.
 pub fn store_multiple_row<S: Storage>(
     cpu: &Cpu,
     storage: &mut S,
@@ -152,6 +160,11 @@ pub fn store_multiple_row<S: Storage>(
 }
 
 /// 98 LM: load registers R1 to R3; 0 follows 15.
+///
+/// # Errors
+///
+/// A `Refusal`: the program interruption, or an absent page that has to be brought first. Nothing
+/// has changed.
 pub fn load_multiple_row<S: Storage>(
     cpu: &mut Cpu,
     storage: &S,

@@ -8,7 +8,8 @@ use crate::combine::lag_of;
 use crate::long::set_all;
 use s370_store::{Block, Storage, load_byte_in};
 
-/// What MVC makes of a string in one block and one in another or the same, where it is one copy. Else nothing changes.
+/// What MVC makes of a string in one block and one in another or the same, where it is one copy.
+/// Else nothing changes.
 #[inline(always)]
 pub fn move_straight<S: Storage>(
     storage: &mut S,
@@ -30,7 +31,8 @@ pub fn move_straight<S: Storage>(
     requires target_ends { to + count ≤ target.first + 2048 }
     ensures moved { result ≡ true
         → S.memory storage.new
-        ≡ with_stored (S.memory storage.old) to (made_of combines.Move (S.memory storage.old).bytes to from count) }
+        ≡ with_stored (S.memory storage.old) to
+        (made_of combines.Move (S.memory storage.old).bytes to from count) }
     ensures still { result ≡ false → S.memory storage.new ≡ S.memory storage.old }
     ensures rest { S.Keeps storage.old storage.new }
 {
@@ -41,8 +43,8 @@ pub fn move_straight<S: Storage>(
     true
 }
 
-/// What MVC makes of a string that is read one byte before where it is written: its first byte goes to all of them. Else
-/// nothing changes. Both lie in blocks that were found.
+/// What MVC makes of a string that is read one byte before where it is written: its first byte goes
+/// to all of them. Else nothing changes. Both lie in blocks that were found.
 #[inline(always)]
 pub fn fill_straight<S: Storage>(
     storage: &mut S,
@@ -64,7 +66,8 @@ pub fn fill_straight<S: Storage>(
     requires target_ends { to + count ≤ target.first + 2048 }
     ensures moved { result ≡ true
         → S.memory storage.new
-        ≡ with_stored (S.memory storage.old) to (made_of combines.Move (S.memory storage.old).bytes to from count) }
+        ≡ with_stored (S.memory storage.old) to
+        (made_of combines.Move (S.memory storage.old).bytes to from count) }
     ensures still { result ≡ false → S.memory storage.new ≡ S.memory storage.old }
     ensures rest { S.Keeps storage.old storage.new }
 {

@@ -1,16 +1,18 @@
 //! Strings that are translated or tested by a table.
-ghost use Rattle.std.specs.Prelude.{◌≡◌, ◌≢◌, ℕ, ◌+◌, ◌^◌, ◌<◌, ◌≤◌, true, false, length, slice_index, slice_range};
+ghost use Rattle.std.specs.Prelude.{◌≡◌, ◌≢◌, ℕ, ◌+◌, ◌^◌, ◌<◌, ◌≤◌, true, false, length};
+ghost use Rattle.std.specs.Prelude.{slice_index, slice_range};
 ghost use Rattle.s370_store.specs.Access.{IsGranted};
 ghost use Rattle.s370_store.specs.Memory.{with_stored};
 ghost use Rattle.s370_rows.specs.State.{state_of};
 ghost use Rattle.s370_rows.specs.Rows.{MeetsRow};
-ghost use Rattle.s370_bytes.specs.Translate.{is_apart, translation, string_translated, zeros, scanned, string_scanned};
+ghost use Rattle.s370_bytes.specs.Translate.{is_apart, translation, string_translated, zeros};
+ghost use Rattle.s370_bytes.specs.Translate.{scanned, string_scanned};
 
 use s370_num::{Addr24, ConditionCode};
 use s370_rows::{Cpu, Ending, Instruction, Refusal, grant_two};
 use s370_store::{Access, Block, Range, Storage, load_byte, store_byte};
 
-/// All bytes of a table: an access to it is tested whole, whichever of them are named.
+/// Returns all bytes of a table: an access to it is tested whole, whichever of them are named.
 #[inline(always)]
 fn whole_table(start: u32) -> Range
     ensures { result ≡ record { start = start; count = 256 } }
@@ -18,7 +20,7 @@ fn whole_table(start: u32) -> Range
     Range { start, count: 256 }
 }
 
-/// Whether no byte of a string is one of a table.
+/// Returns whether no byte of a string is one of a table.
 #[inline(always)]
 fn is_apart(to: u32, count: u32, table: u32) -> bool
     requires to { to < 2 ^ 24 }
@@ -54,10 +56,13 @@ fn translate_apart<S: Storage>(
     requires short { length bytes.old ≤ 256 }
     requires whole { length table.old ≡ 256 }
     requires apart { is_apart to (length bytes.old) from ≡ true }
-    requires target { IsGranted (length (S.memory storage.old).bytes) (S.present storage.old) to (length bytes.old) }
-    requires table { IsGranted (length (S.memory storage.old).bytes) (S.present storage.old) from 256 }
+    requires target { IsGranted (length (S.memory storage.old).bytes) (S.present storage.old) to
+        (length bytes.old) }
+    requires table { IsGranted (length (S.memory storage.old).bytes) (S.present storage.old) from
+        256 }
     ensures stored { S.memory storage.new
-        ≡ with_stored (S.memory storage.old) to (translation (S.memory storage.old).bytes to from (length bytes.old)) }
+        ≡ with_stored (S.memory storage.old) to
+        (translation (S.memory storage.old).bytes to from (length bytes.old)) }
     ensures rest { S.Keeps storage.old storage.new }
 {
     storage.load(to, bytes);
@@ -89,7 +94,8 @@ fn translate_in<S: Storage>(
     requires target_begins { target.first ≤ to }
     requires target_ends { to + length bytes.old ≤ target.first + 2048 }
     ensures stored { S.memory storage.new
-        ≡ with_stored (S.memory storage.old) to (translation (S.memory storage.old).bytes to from (length bytes.old)) }
+        ≡ with_stored (S.memory storage.old) to
+        (translation (S.memory storage.old).bytes to from (length bytes.old)) }
     ensures rest { S.Keeps storage.old storage.new }
 {
     storage.load_in(target, to, bytes);
@@ -98,8 +104,8 @@ fn translate_in<S: Storage>(
     storage.store_in(target, to, bytes);
 }
 
-/// What TR makes of a string and a table that each lie in a block that was found, if they have no byte in common. Else
-/// nothing changes.
+/// What TR makes of a string and a table that each lie in a block that was found, if they have no
+/// byte in common. Else nothing changes.
 #[inline(always)]
 pub fn translate_straight<S: Storage>(
     storage: &mut S,
@@ -122,7 +128,8 @@ pub fn translate_straight<S: Storage>(
     requires target_ends { to + count ≤ target.first + 2048 }
     ensures translated { result ≡ true
         → S.memory storage.new
-        ≡ with_stored (S.memory storage.old) to (translation (S.memory storage.old).bytes to from count) }
+        ≡ with_stored (S.memory storage.old) to
+        (translation (S.memory storage.old).bytes to from count) }
     ensures still { result ≡ false → S.memory storage.new ≡ S.memory storage.old }
     ensures rest { S.Keeps storage.old storage.new }
 {
@@ -161,10 +168,13 @@ fn translate_each<S: Storage>(storage: &mut S, to: u32, table: u32, count: u32)
     requires to { to < 2 ^ 24 }
     requires from { table < 2 ^ 24 }
     requires short { count ≤ 256 }
-    requires target { IsGranted (length (S.memory storage.old).bytes) (S.present storage.old) to count }
-    requires table { IsGranted (length (S.memory storage.old).bytes) (S.present storage.old) table 256 }
+    requires target { IsGranted (length (S.memory storage.old).bytes) (S.present storage.old) to
+        count }
+    requires table { IsGranted (length (S.memory storage.old).bytes) (S.present storage.old) table
+        256 }
     ensures stored { S.memory storage.new
-        ≡ with_stored (S.memory storage.old) to (translation (S.memory storage.old).bytes to table count) }
+        ≡ with_stored (S.memory storage.old) to
+        (translation (S.memory storage.old).bytes to table count) }
     ensures rest { S.Keeps storage.old storage.new }
 {
     for k in 0..count {
@@ -175,6 +185,11 @@ fn translate_each<S: Storage>(storage: &mut S, to: u32, table: u32, count: u32)
 }
 
 /// DC TR: translate; left to right, each byte becomes the byte of the table that it names.
+///
+/// # Errors
+///
+/// A `Refusal`: the program interruption, or an absent page that has to be brought first. Nothing
+/// has changed.
 pub fn translate_row<S: Storage>(
     cpu: &Cpu,
     storage: &mut S,
@@ -201,7 +216,7 @@ pub fn translate_row<S: Storage>(
     Ok(Ending::Done)
 }
 
-/// How many bytes have a function byte of zero before the first that has not.
+/// Returns how many bytes have a function byte of zero before the first that has not.
 #[inline]
 fn zeros(table: &[u8], names: &[u8]) -> usize
     requires { length table.now ≡ 256 }
@@ -240,6 +255,11 @@ fn scan(cpu: &mut Cpu, first: Addr24, names: &[u8], table: &[u8])
 }
 
 /// DD TRT: translate and test; the first byte whose function byte is not zero, left to right.
+///
+/// # Errors
+///
+/// A `Refusal`: the program interruption, or an absent page that has to be brought first. Nothing
+/// has changed.
 pub fn translate_test_row<S: Storage>(
     cpu: &mut Cpu,
     storage: &S,

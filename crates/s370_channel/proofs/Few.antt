@@ -45,7 +45,7 @@ pub such_more : (is_such : ℕ → Type 0) (pages : List ℕ) (page : ℕ) → A
 such_more is_such [] page all one = (one, tt)
 such_more is_such (p ∷ pages) page all one = (all.0, such_more is_such pages page all.1 one)
 
--- ---- a list without what stands at one place
+-- ---- a list without what is at one place
 
 abbrev dropped : ℕ → List ℕ → List ℕ
 dropped k [] = []

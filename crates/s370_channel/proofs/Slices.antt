@@ -176,7 +176,7 @@ takes_piece w h {n = n} {a = a} {last = last} {p = p} {m = m} {d = d} some count
     reach_to w h (Moving p m d) _ _ (takes_slice w h n p m d a count left takes on (λ _. at) inside low granted.inside fine)
     (rw (last_is p.before a n last some e, moved_on) refl)
 
--- what a part of a transfer tells, of the position that it came to
+-- what a part of a transfer says, of the position that it came to
 pub further_done : {old new : Position} {r : Moved} → r ≡ Done new → IsFurther old r → HasMoved old new
 further_done {old = old} e a = subst (λ x. IsFurther old x) e a
 

@@ -4,8 +4,8 @@ use Rattle.std.proofs.lemmas.Bool.{lt-ltb}
 use Rattle.s370_store.specs.declared.Access.{Access}
 use Rattle.s370_store.specs.Access.{Test, IsAway, Touches, IsVerdict}
 use Rattle.s370_walk.specs.declared.parts.Position.{Position}
-use Rattle.s370_walk.specs.declared.parts.Spot.{Spot}
-use Rattle.s370_walk.specs.declared.parts.Word.{Word}
+use Rattle.s370_walk.specs.declared.parts.NextCcw.{NextCcw}
+use Rattle.s370_walk.specs.declared.parts.Ccw.{Ccw}
 use Rattle.s370_walk.specs.declared.parts.Transfer.{Transfer}
 use Rattle.s370_walk.specs.declared.parts.Kind.{Kind}
 use Rattle.s370_walk.specs.declared.parts.Kind.TheVariants.{Gives, Takes, TakesUpTo}
@@ -70,6 +70,6 @@ pub reach_moved : {D : Type 0} {form : Form} {h : Setting D} {s t : State D} {mo
 reach_moved {form = form} {h = h} {s = s} m d is a e = reach_then (let P : Moved → Type 0 = λ x. Reaches form h s (moved_state x m d) in subst P is a) e
 
 -- A good continuation is obeyed.
-pub next_continued : {D : Type 0} (form : Form) (h : Setting D) (spot : Spot) (w : Word) (t : Transfer) (m : Memory) (d : D) → form.text m spot.at ≡ Some w → judged h.limit spot w ≡ Good → spot.role ≡ Some t
+pub next_continued : {D : Type 0} (form : Form) (h : Setting D) (spot : NextCcw) (w : Ccw) (t : Transfer) (m : Memory) (d : D) → form.text m spot.at ≡ Some w → judged h.limit spot w ≡ Good → spot.role ≡ Some t
     → next form h (Fetching spot m d) ≡ Moving (moving spot spot.started w t) m d
 next_continued form h spot w t m d text good role = rw (text, good, role) refl

@@ -13,9 +13,9 @@ use Rattle.s370_channel.specs.declared.running.ChannelError.{ChannelError}
 use Rattle.s370_channel.specs.declared.running.ChannelError.TheVariants as errors
 use Rattle.s370_channel.specs.declared.running.Place.{Place}
 use Rattle.s370_channel.specs.declared.running.Place.TheVariants.{Next, Within}
-use Rattle.s370_channel.specs.declared.supplied.Gone.{Gone}
-use Rattle.s370_channel.specs.declared.supplied.Gone.TheVariants as gones
-use Rattle.s370_channel.specs.declared.supplied.Lack.{Lack}
+use Rattle.s370_channel.specs.declared.supplied.Advance.{Advance}
+use Rattle.s370_channel.specs.declared.supplied.Advance.TheVariants as gones
+use Rattle.s370_channel.specs.declared.supplied.Shortage.{Shortage}
 use Rattle.s370_channel.specs.Halts.{HaltsAt, HasGone, IsReady, place_weight, stands}
 use Rattle.s370_channel.specs.Loading.{loading, loading_limits}
 use Rattle.s370_channel.specs.Progress.{setting}
@@ -29,8 +29,8 @@ size_stands (Within p) m d = refl
 pub away_at : {D : Type 0} {w : Written} {h : Setting D} {present : ℕ → Bool} {from : State D} {m : Memory} {d : D} {page : ℕ} {place : Place} → HaltsAt w h present from m d page place → IsAway (length m.bytes) present page
 away_at {present = present} {m = m} {d = d} {page = page} {place = place} a = subst (λ (n : ℕ). IsAway n present page) (size_stands place m d) a.lacks.away
 
--- Where a run halts at a place no lighter than that at which it began, it is that place, nothing has changed, and the page is
--- asked for there.
+-- If a run halts at a place no lighter than that at which it began, it is that place, nothing has changed, and the page
+-- is asked for there.
 pub halts_still : {D : Type 0} {w : Written} {h : Setting D} {present : ℕ → Bool} {from : State D} {m' : Memory} {d' : D} {page : ℕ} {place : Place} (limit : ℕ) (begun : Place) (m m0 : Memory) (d d0 : D) → HaltsAt w h present from m' d' page place → HasGone limit begun m d place m' d' → (place_weight limit place < place_weight limit begun → ⊥) → m ≡ m0 → d ≡ d0
     → (m' ≡ m0) × (d' ≡ d0) × IsAsked w h.machine (stands begun m0 d0) page
 halts_still {D = D} {w = w} {h = h} {m' = m'} {d' = d'} {page = page} {place = place} limit begun m m0 d d0 a (inl same) not_less em ed =
@@ -41,8 +41,8 @@ halts_still {D = D} {w = w} {h = h} {m' = m'} {d' = d'} {page = page} {place = p
     (eqm, eqd, subst (λ (x : D). IsAsked w h.machine (stands begun m0 x) page) eqd two)
 halts_still limit begun m m0 d d0 a (inr less) not_less em ed = absurd (not_less less)
 
-pub lack_is : {A : Type 0} (P : Lack → Type 0) (r : Result A Lack) (l k : Lack) → r ≡ Err l → l ≡ k → IfErr r P → P k
-lack_is {A = A} P r l k e is h = let Q : Result A Lack → Type 0 = λ x. IfErr x P in subst P is (subst Q e h)
+pub lack_is : {A : Type 0} (P : Shortage → Type 0) (r : Result A Shortage) (l k : Shortage) → r ≡ Err l → l ≡ k → IfErr r P → P k
+lack_is {A = A} P r l k e is h = let Q : Result A Shortage → Type 0 = λ x. IfErr x P in subst P is (subst Q e h)
 
 -- ---- one unit after another
 
@@ -68,13 +68,13 @@ pub memory_on : {D : Type 0} (w : Written) (h : Setting D) (needs : D → Order 
 memory_on w h needs r s errors.Memory a b = short_on a b
 memory_on w h needs r s (errors.Absent page) a b = b
 
-pub reach_finished : {D : Type 0} (w : Written) (h : Setting D) (s : State D) (m : Memory) (d : D) (gone : Gone) (ending : Ending) → gone ≡ gones.Finished ending → Reaches (live w) h s (gone_state gone m d) → Reaches (live w) h s (Over ending m d)
-reach_finished w h s m d gone ending e a = subst (λ (x : Gone). Reaches (live w) h s (gone_state x m d)) e a
+pub reach_finished : {D : Type 0} (w : Written) (h : Setting D) (s : State D) (m : Memory) (d : D) (gone : Advance) (ending : Ending) → gone ≡ gones.Finished ending → Reaches (live w) h s (gone_state gone m d) → Reaches (live w) h s (Over ending m d)
+reach_finished w h s m d gone ending e a = subst (λ (x : Advance). Reaches (live w) h s (gone_state x m d)) e a
 
-pub reach_further : {D : Type 0} (w : Written) (h : Setting D) (s : State D) (m : Memory) (d : D) (gone : Gone) (place : Place) → gone ≡ gones.Further place → Reaches (live w) h s (gone_state gone m d) → Reaches (live w) h s (stands place m d)
-reach_further w h s m d gone place e a = subst (λ (x : Gone). Reaches (live w) h s (gone_state x m d)) e a
+pub reach_further : {D : Type 0} (w : Written) (h : Setting D) (s : State D) (m : Memory) (d : D) (gone : Advance) (place : Place) → gone ≡ gones.Further place → Reaches (live w) h s (gone_state gone m d) → Reaches (live w) h s (stands place m d)
+reach_further w h s m d gone place e a = subst (λ (x : Advance). Reaches (live w) h s (gone_state x m d)) e a
 
-pub is_further : (limit : ℕ) (old : Place) (gone : Gone) (place : Place) → gone ≡ gones.Further place → IsFarther limit old gone → IsReady place × (place_weight limit place < place_weight limit old)
+pub is_further : (limit : ℕ) (old : Place) (gone : Advance) (place : Place) → gone ≡ gones.Further place → IsFarther limit old gone → IsReady place × (place_weight limit place < place_weight limit old)
 is_further limit old gone place e a = subst (IsFarther limit old) e a
 
 pub loading_out : {D : Type 0} (w : Written) (machine : Machine D) (needs : D → Order → Bool) (m : Memory) (d : D) (s : State D) (result : Result Ending ChannelError) → Reaches (live w) (setting machine loading_limits) (loading machine m d) s → IfErr result (IsOutOfMemory w (setting machine loading_limits) needs s) → IfErr result (IsLoadingOut w machine needs m d)

@@ -1,4 +1,5 @@
--- How a guest's channel program is read: each word when it is reached, or as it stood when the program began.
+-- How a guest's channel program is read: each word when it is reached, or as it was when the
+-- program began.
 use Rattle.s370_walk.specs.Frozen.{IsSteady, frozen}
 use Rattle.s370_store.specs.Memory.{Memory}
 use Rattle.s370_walk.specs.Walk.{Form, Setting, State, live}
@@ -12,7 +13,7 @@ Reading = Memory → Form
 abbrev pub as_reached : Reading
 as_reached began = live guest_written
 
--- each word, list word and seek argument as it stood when the program began
+-- each word, list word and seek argument as it was when the program began
 abbrev pub as_begun : Reading
 as_begun began = frozen (live guest_written) began
 

@@ -15,24 +15,32 @@ use Rattle.s370_channel.specs.Start.{most_commands}
 
 -- a device as a machine with the key of a program, which may start so many commands
 abbrev pub limited : {D : Type 0} → Machine D → Caw → Setting D
-limited machine start = record { machine = machine; key = start.key; limit = most_commands; prefix = 0 }
+limited machine start = record {
+  machine = machine;
+  key = start.key;
+  limit = most_commands;
+  prefix = 0;
+}
 
 -- where a program begins
 abbrev pub begun : {D : Type 0} → Caw → Memory → D → State D
 begun start m part = Fetching (start_spot start.address) m part
 
--- the program with this start, read so, comes to an ending, with the storage and the device as they then are
-abbrev pub Walks : Reading → {D : Type 0} → Machine D → Caw → Memory → D → Ending → Memory → D → Type 0
+-- the program with this start, read so, comes to an ending, with the storage and the device as they
+-- then are
+abbrev pub Walks : Reading → {D : Type 0} → Machine D → Caw → Memory → D → Ending → Memory → D
+    → Type 0
 Walks reads machine start old part ending new part' =
     Reaches (reads old) (limited machine start) (begun start old part) (Over ending new part')
 
--- a page that is told as absent is not present
+-- a page that is reported as absent is not present
 abbrev pub TellsAway : (ℕ → Bool) → ChannelError → Type 0
 TellsAway present errors.Memory = Unit {0}
 TellsAway present (errors.Absent page) = present page.0 ≡ false
 
--- why a program is not run whose words are read as they are reached: its walk comes to a step that needs a page which is not
--- present, or to a command that needs memory
-abbrev pub IsStopped : {D : Type 0} → Machine D → (D → Order → Bool) → (ℕ → Bool) → Caw → Memory → D → ChannelError → Type 0
+-- why a program is not run whose words are read as they are reached: its walk comes to a step that
+-- needs a page which is not present, or to a command that needs memory
+abbrev pub IsStopped : {D : Type 0} → Machine D → (D → Order → Bool) → (ℕ → Bool) → Caw → Memory → D
+    → ChannelError → Type 0
 IsStopped machine needs present start m part error =
     MatchStuck guest_written (limited machine start) needs present (begun start m part) error

@@ -1,16 +1,17 @@
 //! How a word ends: what it leads to, or with which status the program is over.
 ghost use Rattle.std.specs.Prelude.{◌≡◌, ◌<◌, ◌⊎◌};
 ghost use Rattle.s370_store.specs.Memory.{Memory};
-ghost use Rattle.s370_walk.specs.Walk.{Form, Moving, next, closed, failure, failed, state_of, ending, rest, tells_length};
+ghost use Rattle.s370_walk.specs.Walk.{Form, Moving, next, closed, failure, failed, state_of};
+ghost use Rattle.s370_walk.specs.Walk.{ending, rest, tells_length};
 ghost use Rattle.s370_channel.specs.Progress.{setting, IsBehind};
 
 use crate::limits::Limits;
 use s370_walk::{
-    ChannelStatus, Device, Ending, Flags, Kind, Position, Progress, Spot, Transfer, UnitStatus,
-    Word,
+    Ccw, ChannelStatus, Device, Ending, Flags, Kind, NextCcw, Position, Progress, Transfer,
+    UnitStatus,
 };
 
-/// The end of a program at a word, which has channel end and device end.
+/// Returns the end of a program at a word, which has channel end and device end.
 pub(crate) fn end_at(at: u32, status: UnitStatus, channel: ChannelStatus, count: u16) -> Ending
     ensures { result ≡ ending at status channel count }
 {
@@ -41,14 +42,14 @@ pub(crate) fn fail<D: Device>(device: &mut D, role: Option<Transfer>, at: u32) -
     }
 }
 
-/// What a command leads to that is over: the next command, or the end of the program.
+/// Returns what a command leads to that is over: the next command, or the end of the program.
 pub(crate) fn close(
     prefix: u32,
     wrong: bool,
     status: UnitStatus,
     at: u32,
     started: u32,
-    word: &Word,
+    word: &Ccw,
     count: u16,
 ) -> Progress
     ensures { result ≡ closed prefix wrong status at started word.now count }
@@ -58,7 +59,7 @@ pub(crate) fn close(
     }
     let chains = word.flags.has(Flags::CHAIN_COMMAND) && !word.flags.has(Flags::CHAIN_DATA);
     if chains && !status.has(UnitStatus::UNUSUAL) {
-        Progress::At(Spot {
+        Progress::At(NextCcw {
             at: if status.has(UnitStatus::STATUS_MODIFIER) {
                 word.skipped
             } else {
@@ -73,7 +74,7 @@ pub(crate) fn close(
     }
 }
 
-/// Whether an incorrect length is told at this word.
+/// Returns whether an incorrect length is reported at this word.
 fn minds_length(p: &Position) -> bool
     ensures { result ≡ tells_length p.now }
 {
@@ -86,7 +87,7 @@ fn minds_length(p: &Position) -> bool
     exact && (flags.has(Flags::CHAIN_DATA) || !flags.has(Flags::SUPPRESS_LENGTH))
 }
 
-/// The bytes that the device has left or wants.
+/// Returns the bytes that the device has left or wants.
 pub(crate) fn left_of<D: Device>(device: &D, p: &Position) -> u32
     ensures { result ≡ rest D.machine p.now device.now }
 {
@@ -98,13 +99,14 @@ pub(crate) fn left_of<D: Device>(device: &D, p: &Position) -> u32
 pub(crate) fn finish<D: Device>(device: &mut D, limits: &Limits, p: &Position) -> Progress
     requires { (p.now.count ≡ 0) ⊎ (rest D.machine p.now device.old ≡ 0) }
     ensures next { (form : Form) (m : Memory)
-        → next form (setting D.machine limits.now) (Moving p.now m device.old) ≡ state_of result m device.new }
+        → next form (setting D.machine limits.now) (Moving p.now m device.old)
+        ≡ state_of result m device.new }
     ensures lighter { IsBehind limits.now.commands p.now result }
 {
     let wrong = minds_length(p);
     if p.count == 0 {
         if p.word.flags.has(Flags::CHAIN_DATA) {
-            return Progress::At(Spot {
+            return Progress::At(NextCcw {
                 at: p.word.next,
                 role: Some(p.transfer),
                 jumped: false,

@@ -1,22 +1,25 @@
-//! How a guest writes its channel programs: eight bytes a word, and with indirect data addressing (GA22-7000, "Channel
-//! Indirect Data Addressing") a list of words of four bytes that say where the data lie.
-ghost use Rattle.std.specs.Prelude.{IfOk, IfSome, [], ◌∷◌, ◌≡◌, ◌≤◌, ◌+◌, ◌*◌, true, false, Bool, Option, length, ℕ, ◌<◌, ◌^◌};
+//! How a guest writes its channel programs: eight bytes a word, and with indirect data addressing
+//! (GA22-7000, "Channel Indirect Data Addressing") a list of words of four bytes that say where the
+//! data lie.
+ghost use Rattle.std.specs.Prelude.{IfOk, IfSome, [], ◌∷◌, ◌≡◌, ◌≤◌, ◌+◌, ◌*◌, true, false, Bool};
+ghost use Rattle.std.specs.Prelude.{Option, length, ℕ, ◌<◌, ◌^◌};
 ghost use Rattle.s370_walk.specs.Hardware.{FetchTells, area};
 ghost use Rattle.s370_walk.specs.Blocks.{straight};
 ghost use Rattle.s370_walk.specs.Walk.{is_indirect, is_jump, chains_data, chains_command};
 ghost use Rattle.s370_store.specs.declared.Access.TheVariants as access;
-ghost use Rattle.s370_channel.specs.Guest.{guest_text, word_at, later, list_of, list_word, said, block_asks, area_block};
+ghost use Rattle.s370_channel.specs.Guest.{guest_text, word_at, later, list_of, list_word, said};
+ghost use Rattle.s370_channel.specs.Guest.{block_asks, area_block};
 
-use crate::words::Ccw;
+use crate::words::StoredCcw;
 use s370_num::AccessKey;
 use s370_store::{Access, Fault, Page, Range, Storage, load_word};
-use s370_walk::{Flags, Position, Word, WordForm};
+use s370_walk::{Ccw, Flags, Position, WordForm};
 
 /// The words of a guest.
 #[derive(Clone, Copy, PartialEq, Eq)]
 pub struct Guest;
 
-/// An address of 24 bits, so many bytes further on.
+/// Returns an address of 24 bits, so many bytes further on.
 fn further(at: u32, bytes: u32) -> u32
     ensures value { result ≡ later at bytes }
     ensures below { result < 2 ^ 24 }
@@ -24,13 +27,13 @@ fn further(at: u32, bytes: u32) -> u32
     ((at as u64 + bytes as u64) % 0x100_0000) as u32
 }
 
-/// A command word with the places of the words after it.
-fn linked(at: u32, ccw: Ccw) -> Word
+/// Returns a command word with the places of the words after it.
+fn linked(at: u32, ccw: StoredCcw) -> Ccw
     ensures word { result ≡ word_at at ccw }
     ensures next { result.next < 2 ^ 24 }
     ensures skipped { result.skipped < 2 ^ 24 }
 {
-    let Ccw {
+    let StoredCcw {
         command,
         address,
         flags,
@@ -38,7 +41,7 @@ fn linked(at: u32, ccw: Ccw) -> Word
     } = ccw;
     let address = address.get();
     if command.is_transfer_in_channel() {
-        return Word {
+        return Ccw {
             command,
             address,
             flags: Flags::NONE,
@@ -48,7 +51,7 @@ fn linked(at: u32, ccw: Ccw) -> Word
         };
     }
     if flags.has(Flags::CHAIN_COMMAND) {
-        return Word {
+        return Ccw {
             command,
             address,
             flags,
@@ -62,7 +65,7 @@ fn linked(at: u32, ccw: Ccw) -> Word
     } else {
         0
     };
-    Word {
+    Ccw {
         command,
         address,
         flags,
@@ -72,9 +75,10 @@ fn linked(at: u32, ccw: Ccw) -> Word
     }
 }
 
-/// A word of a list of addresses, or None past storage.
+/// Returns a word of a list of addresses, or None past storage.
 fn fetch_list_word<S: Storage>(storage: &S, at: u32) -> Result<Option<u32>, Page>
-    ensures { FetchTells (length (S.memory storage.now).bytes) (S.present storage.now) (area access.Fetch at 4 ∷ [])
+    ensures { FetchTells (length (S.memory storage.now).bytes) (S.present storage.now)
+        (area access.Fetch at 4 ∷ [])
         (list_word (S.memory storage.now) at) result }
 {
     match storage.check(
@@ -92,7 +96,7 @@ fn fetch_list_word<S: Storage>(storage: &S, at: u32) -> Result<Option<u32>, Page
     }
 }
 
-/// The address that a word of a list says, or None where it says none.
+/// Returns the address that a word of a list says, or None where it says none.
 fn address_said(number: u32, value: u32) -> Option<u32>
     ensures { result ≡ said number value }
 {
@@ -118,8 +122,13 @@ fn block_start(address: u32, number: u32) -> Option<u32>
     }
 }
 
-/// The guest's word at an address, or None past storage. The places of the words after it have 24 bits.
-pub fn fetch_word<S: Storage>(storage: &S, at: u32) -> Result<Option<Word>, Page>
+/// Returns the guest's word at an address, or None past storage. The places of the words after it
+/// have 24 bits.
+///
+/// # Errors
+///
+/// A page that is needed and absent.
+pub fn fetch_word<S: Storage>(storage: &S, at: u32) -> Result<Option<Ccw>, Page>
     ensures word { FetchTells (length (S.memory storage.now).bytes) (S.present storage.now)
         (area access.Fetch at 8 ∷ []) (guest_text (S.memory storage.now) at) result }
     ensures next { IfOk result (λ found. IfSome found (λ word. word.next < 2 ^ 24)) }
@@ -136,7 +145,7 @@ pub fn fetch_word<S: Storage>(storage: &S, at: u32) -> Result<Option<Word>, Page
         Ok(()) => {
             let mut bytes = [0u8; 8];
             storage.load(at, &mut bytes);
-            Ok(Some(linked(at, Ccw::from_bytes(&bytes))))
+            Ok(Some(linked(at, StoredCcw::from_bytes(&bytes))))
         }
         Err(Fault::Absent(page)) => Err(page),
         Err(Fault::Addressing) => Ok(None),
@@ -144,10 +153,16 @@ pub fn fetch_word<S: Storage>(storage: &S, at: u32) -> Result<Option<Word>, Page
     }
 }
 
-/// Where the block of a number begins of the area of a guest's word, or None where that cannot be found out.
-pub fn fetch_block<S: Storage>(storage: &S, word: &Word, number: u32) -> Result<Option<u32>, Page>
+/// Returns where the block of a number begins of the area of a guest's word, or None where that
+/// cannot be found out.
+///
+/// # Errors
+///
+/// A page that is needed and absent.
+pub fn fetch_block<S: Storage>(storage: &S, word: &Ccw, number: u32) -> Result<Option<u32>, Page>
     requires { number ≤ 64 }
-    ensures { FetchTells (length (S.memory storage.now).bytes) (S.present storage.now) (block_asks word.now number)
+    ensures { FetchTells (length (S.memory storage.now).bytes) (S.present storage.now)
+        (block_asks word.now number)
         (area_block (S.memory storage.now) word.now number) result }
 {
     if !word.flags.has(Flags::INDIRECT) {
@@ -165,7 +180,7 @@ impl WordForm for Guest {
 
     ghost written = { λ _. guest_written };
 
-    fn fetch<S: Storage>(&self, storage: &S, at: u32) -> Result<Option<Word>, Page> {
+    fn fetch<S: Storage>(&self, storage: &S, at: u32) -> Result<Option<Ccw>, Page> {
         fetch_word(storage, at)
     }
 

@@ -1,11 +1,11 @@
-//! How a word is judged where it stands.
+//! How a word is judged where it is.
 ghost use Rattle.std.specs.Prelude.{◌≡◌};
 ghost use Rattle.s370_walk.specs.Walk.{judged, is_bad_word};
 ghost use Rattle.s370_channel.specs.Verdicts.{verdict_of};
 
-use s370_walk::{Flags, Spot, Word};
+use s370_walk::{Ccw, Flags, NextCcw};
 
-/// What a word is where it stands.
+/// What a word is where it is.
 #[derive(Clone, Copy, PartialEq, Eq)]
 pub enum Verdict {
     /// A program check.
@@ -16,8 +16,8 @@ pub enum Verdict {
     Good,
 }
 
-/// Whether a word that is no transfer in channel is bad, whatever its role.
-fn is_bad(word: &Word) -> bool
+/// Returns whether a word that is no transfer in channel is bad, whatever its role.
+fn is_bad(word: &Ccw) -> bool
     ensures { result ≡ is_bad_word word.now }
 {
     word.count == 0
@@ -26,7 +26,7 @@ fn is_bad(word: &Word) -> bool
 }
 
 /// Judges a word, where so many commands may be started.
-pub fn judge(commands: u32, spot: &Spot, word: &Word) -> Verdict
+pub fn judge(commands: u32, spot: &NextCcw, word: &Ccw) -> Verdict
     ensures { verdict_of result ≡ judged commands spot.now word.now }
 {
     if word.command.is_transfer_in_channel() {

@@ -1,10 +1,12 @@
-//! Channel programs: their words, the test of a start, and their run over any storage, device and form of words.
+//! Channel programs: their words, the test of a start, and their run over any storage, device and
+//! form of words.
 //!
-//! Its one theorem: what [`run`] leaves of storage and device, and the ending that it answers, are those of the walk of
-//! `s370_walk`, step by step; and where it stops for a page that is not present, the walk comes to a step which needs
-//! that page, and where it stops for want of memory, to a command that needs memory (GA22-7000, "Execution of
-//! Input/Output Operations"). [`run_ipl`] does the same for the program of an initial program loading, whose first
-//! command stands in no storage.
+//! Its one theorem: what [`run`] leaves of storage and device, and the ending that it answers, are
+//! those of the walk of `s370_walk`, step by step; and where it stops for a page that is not
+//! present, the walk comes to a step which needs that page, and where it stops for lack of memory,
+//! to a command that needs memory (GA22-7000, "Execution of Input/Output Operations"). [`run_ipl`]
+//! does the same for the program of an initial program loading, whose first command is in no
+//! storage.
 //!
 //! ```
 //! use s370_channel::{Csw, Guest, Limits, MOST_COMMANDS, check_start, run};
@@ -44,4 +46,4 @@ pub use room::AmpleSupply;
 pub use running::{ChannelError, run};
 pub use starting::{MOST_COMMANDS, check_start};
 pub use supplied::{load_supplied, run_supplied};
-pub use words::{Caw, Ccw, Csw};
+pub use words::{Caw, Csw, StoredCcw};

@@ -9,6 +9,6 @@ pub struct Limits {
     pub key: AccessKey,
     /// How many commands may be started, those before the program's own included.
     pub commands: u32,
-    /// How many commands stand before the program's own.
+    /// How many commands are before the program's own.
     pub prefix: u32,
 }

@@ -6,15 +6,16 @@ ghost use Rattle.s370_channel.specs.Halts.{MatchHaltLoading};
 ghost use Rattle.s370_channel.specs.Progress.{setting};
 
 use crate::limits::Limits;
-use crate::running::{ChannelError, Halt, begin, go_on};
+use crate::running::{ChannelError, RunStop, begin, go_on};
 use crate::starting::{MOST_COMMANDS, first_spot};
 use s370_num::AccessKey;
 use s370_store::Storage;
-use s370_walk::{Command, Device, Ending, Flags, Progress, Word, WordForm};
+use s370_walk::{Ccw, CommandCode, Device, Ending, Flags, Progress, WordForm};
 
-/// Its first command, which stands in no storage: to read 24 bytes to location 0, and then to go on with the word at 8.
-const IMPLIED: Word = Word {
-    command: Command { code: 0x02 },
+/// Its first command, which is in no storage: to read 24 bytes to location 0, and then to go on
+/// with the word at 8.
+const IMPLIED: Ccw = Ccw {
+    command: CommandCode { code: 0x02 },
     address: 0,
     flags: Flags { bits: 0x60 },
     count: 24,
@@ -34,7 +35,7 @@ pub(crate) fn load<F: WordForm, S: Storage, D: Device>(
     program: &F,
     storage: &mut S,
     device: &mut D,
-) -> Result<Ending, Halt>
+) -> Result<Ending, RunStop>
     ensures reaches { IfOk result
         (λ ending. Reaches (live (F.written program.now)) (setting D.machine loading_limits)
         (loading D.machine (S.memory storage.old) device.old)
@@ -51,8 +52,12 @@ pub(crate) fn load<F: WordForm, S: Storage, D: Device>(
     }
 }
 
-/// Runs the program of an initial program loading. It has gone well where its ending has the unit status
-/// [`UnitStatus::ENDED`](s370_walk::UnitStatus::ENDED) and no channel status.
+/// Runs the program of an initial program loading. It has gone well where its ending has the unit
+/// status [`UnitStatus::ENDED`](s370_walk::UnitStatus::ENDED) and no channel status.
+///
+/// # Errors
+///
+/// A `ChannelError`: refused memory that a command or the analysis needs, or an absent page.
 pub fn run_ipl<F: WordForm, S: Storage, D: Device>(
     program: &F,
     storage: &mut S,

@@ -23,16 +23,16 @@ pub(crate) enum Moved {
     Stopped(Ending),
 }
 
-/// Where a transfer lacks a page.
+/// Where a transfer needs an absent page.
 #[derive(Clone, Copy)]
-pub(crate) struct Lacking {
+pub(crate) struct MissingPage {
     /// The page.
     pub(crate) page: Page,
     /// The next byte.
     pub(crate) position: Position,
 }
 
-/// Whether the next byte begins a block.
+/// Returns whether the next byte begins a block.
 fn is_first_of_block(before: Option<u32>) -> bool
     ensures { result ≡ begins_block before }
 {
@@ -42,7 +42,7 @@ fn is_first_of_block(before: Option<u32>) -> bool
     }
 }
 
-/// The place after a place.
+/// Returns the place after a place.
 fn one_further(before: Option<u32>) -> Option<u32>
     ensures { result ≡ after before }
 {
@@ -52,7 +52,7 @@ fn one_further(before: Option<u32>) -> Option<u32>
     }
 }
 
-/// Where the next byte lies, or None where that cannot be found out.
+/// Returns where the next byte lies, or None where that cannot be found out.
 pub(crate) fn place<F: WordForm, S: Storage>(
     program: &F,
     storage: &S,
@@ -239,7 +239,7 @@ fn move_on<F: WordForm, S: Storage, D: Device>(
     device: &mut D,
     limits: &Limits,
     p: &Position,
-) -> Result<Moved, Lacking>
+) -> Result<Moved, MissingPage>
     requires count { 0 < p.now.count }
     requires left { 0 < rest D.machine p.now device.old }
     requires within { p.now.count ≤ p.now.word.count }
@@ -260,12 +260,13 @@ fn move_on<F: WordForm, S: Storage, D: Device>(
         Some(then) => Ok(Moved::Done(then)),
         None => match move_byte(program, storage, device, limits, p) {
             Ok(moved) => Ok(moved),
-            Err(page) => Err(Lacking { page, position: *p }),
+            Err(page) => Err(MissingPage { page, position: *p }),
         },
     }
 }
 
-/// Moves bytes until the count or the device has run out, or to a check, or as far as pages are present.
+/// Moves bytes until the count or the device has run out, or to a check, or as far as pages are
+/// present.
 #[tactic(auto, using(s370_walk::proofs::Reaching::reach_on))]
 pub(crate) fn transfer<F: WordForm, S: Storage, D: Device>(
     program: &F,
@@ -273,7 +274,7 @@ pub(crate) fn transfer<F: WordForm, S: Storage, D: Device>(
     device: &mut D,
     limits: &Limits,
     position: Position,
-) -> Result<Moved, Lacking>
+) -> Result<Moved, MissingPage>
     requires { position.count ≤ position.word.count }
     ensures reaches { IfOk result
         (λ r. Reaches (live (F.written program.now)) (setting D.machine limits.now)
@@ -282,7 +283,8 @@ pub(crate) fn transfer<F: WordForm, S: Storage, D: Device>(
     ensures out { IfOk result (IsOut D.machine position device.new) }
     ensures rest { S.Keeps storage.old storage.new }
     ensures halts { IfErr result
-        (λ lacking. HaltsIn (F.written program.now) (setting D.machine limits.now) (S.present storage.old)
+        (λ lacking. HaltsIn (F.written program.now) (setting D.machine limits.now)
+        (S.present storage.old)
         (Moving position (S.memory storage.old) device.old)
         (S.memory storage.new) device.new lacking) }
     ensures moved { IfErr result

@@ -1,5 +1,6 @@
 //! Bytes that move in one piece, as they would move one by one.
-ghost use Rattle.std.specs.Prelude.{◌≡◌, ◌≢◌, ℕ, ◌+◌, ◌%◌, ◌<◌, ◌≤◌, List, Some, false, length, IfSome, IfNone};
+ghost use Rattle.std.specs.Prelude.{◌≡◌, ◌≢◌, ℕ, ◌+◌, ◌%◌, ◌<◌, ◌≤◌, List, Some, false, length};
+ghost use Rattle.std.specs.Prelude.{IfSome, IfNone};
 ghost use Rattle.std.specs.List.{slice_range};
 ghost use Rattle.s370_store.specs.Access.{IsGranted};
 ghost use Rattle.s370_store.specs.Memory.{with_stored};
@@ -13,15 +14,16 @@ use crate::moving::place;
 use s370_store::{Access, Range, Storage};
 use s370_walk::{Device, Flags, Kind, Position, Transfer, WordForm};
 
-/// How many bytes from an address on can move in one piece: of the same block, counted, and wanted or had by the
-/// device.
+/// Returns how many bytes from an address on can move in one piece: of the same block, counted, and
+/// wanted or had by the device.
 fn piece<D: Device>(device: &D, p: &Position, address: u32) -> u32
     requires going { D.machine.done device.now ≡ false }
     ensures short { result ≤ 256 }
     ensures count { result ≤ p.now.count }
     ensures left { result ≤ p.now.transfer.left }
     ensures block { address % 2048 + result ≤ 2048 }
-    ensures giving { (n : ℕ) → n < result → D.machine.done (after_giving D.machine device.now n) ≡ false }
+    ensures giving { (n : ℕ) → n < result
+        → D.machine.done (after_giving D.machine device.now n) ≡ false }
     ensures taking { (bytes : List ℕ) → length bytes < result
         → D.machine.done (after_taking D.machine device.now bytes) ≡ false }
 {
@@ -30,7 +32,7 @@ fn piece<D: Device>(device: &D, p: &Position, address: u32) -> u32
     least(least(counted, inside), device.ready())
 }
 
-/// The smaller of two numbers.
+/// Returns the smaller of two numbers.
 fn least(one: u32, other: u32) -> u32
     ensures one { result ≤ one }
     ensures other { result ≤ other }
@@ -60,7 +62,8 @@ fn many_on(p: &Position, n: u32, last: u32) -> Position
 
 /// Takes bytes from the device, and stores them from an address on.
 fn give_piece<S: Storage, D: Device>(storage: &mut S, device: &mut D, address: u32, n: u32)
-    requires granted { IsGranted (length (S.memory storage.old).bytes) (S.present storage.old) address n }
+    requires granted { IsGranted (length (S.memory storage.old).bytes) (S.present storage.old)
+        address n }
     requires short { n ≤ 256 }
     ensures stored { S.memory storage.new
         ≡ with_stored (S.memory storage.old) address (given D.machine device.old n) }
@@ -75,10 +78,12 @@ fn give_piece<S: Storage, D: Device>(storage: &mut S, device: &mut D, address: u
 
 /// Loads bytes from an address on, and hands them to the device.
 fn take_piece<S: Storage, D: Device>(storage: &S, device: &mut D, address: u32, n: u32)
-    requires granted { IsGranted (length (S.memory storage.now).bytes) (S.present storage.now) address n }
+    requires granted { IsGranted (length (S.memory storage.now).bytes) (S.present storage.now)
+        address n }
     requires short { n ≤ 256 }
     ensures { device.new
-        ≡ after_taking D.machine device.old (slice_range (S.memory storage.now).bytes address (address + n)) }
+        ≡ after_taking D.machine device.old
+        (slice_range (S.memory storage.now).bytes address (address + n)) }
 {
     let mut buffer = [0u8; 256];
     let bytes = &mut buffer[..n as usize];

@@ -1,16 +1,17 @@
-//! A storage that tells whether there is room for every page of it.
+//! A storage that says whether there is room for every page of it.
 ghost use Rattle.std.specs.Prelude.{◌≡◌, ◌<◌, ◌*◌, ℕ, List, length, Contains};
 
 use s370_store::{PlainStorage, UnitSupply};
 
-/// A storage whose absent pages can be brought, and that tells where none is refused, as long as what was brought is
-/// let go in time.
+/// A storage whose absent pages can be brought, and that says where none is refused, as long as
+/// what was brought is let go in time.
 pub trait AmpleSupply: UnitSupply {
-    /// There is room for every page: for as many as stand nowhere, whatever is held.
+    /// There is room for every page: for as many as are nowhere, whatever is held.
     ghost IsAmple: { Self → Type 0 };
 
-    /// Where there is room for every page, there is room for each.
-    ghost ample_out: { (s : Self) (page : ℕ) → IsAmple s → page * 4096 < length (Self.memory s).bytes
+    /// If there is room for every page, there is room for each.
+    ghost ample_out: { (s : Self) (page : ℕ) → IsAmple s
+        → page * 4096 < length (Self.memory s).bytes
         → Self.IsOut s page → ⊥ };
 
     /// An access takes no room.
@@ -19,10 +20,12 @@ pub trait AmpleSupply: UnitSupply {
     /// What is brought takes the room that was left for it.
     ghost ample_brought: { (s t : Self) (pages : List ℕ) → Self.Brought s pages t
         → length (Self.memory t).bytes ≡ length (Self.memory s).bytes
-        → ((page : ℕ) → Contains pages page → page * 4096 < length (Self.memory s).bytes) → IsAmple s → IsAmple t };
+        → ((page : ℕ) → Contains pages page → page * 4096 < length (Self.memory s).bytes)
+        → IsAmple s → IsAmple t };
 
     /// Letting go takes no room.
-    ghost ample_let_go: { (s t : Self) → Self.LetsGo s t → length (Self.memory t).bytes ≡ length (Self.memory s).bytes
+    ghost ample_let_go: { (s t : Self) → Self.LetsGo s t
+        → length (Self.memory t).bytes ≡ length (Self.memory s).bytes
         → IsAmple s → IsAmple t };
 }
 

@@ -1,19 +1,21 @@
 //! The run of a channel program over any form of words, storage and device.
 ghost use Rattle.std.specs.Prelude.{◌≡◌, ℕ, ◌+◌, ◌<◌, ◌≤◌, IfOk, IfErr, None, Some, length};
-ghost use Rattle.s370_walk.specs.Walk.{Moving, Fetching, Over, next, judged, moving, Good, state_of, entered, Reaches, start_spot, live};
+ghost use Rattle.s370_walk.specs.Walk.{Moving, Fetching, Over, next, judged, moving, Good};
+ghost use Rattle.s370_walk.specs.Walk.{state_of, entered, Reaches, start_spot, live};
 ghost use Rattle.s370_channel.specs.Progress.{setting, IsLighter, IsFollowed, MatchStuck};
-ghost use Rattle.s370_channel.specs.Halts.{HaltsBeyond, HaltsIn, HaltsOn, HasMovedTo, IsReady, MatchHalt, MatchHaltBegun, stands};
+ghost use Rattle.s370_channel.specs.Halts.{HaltsBeyond, HaltsIn, HaltsOn, HasMovedTo, IsReady};
+ghost use Rattle.s370_channel.specs.Halts.{MatchHalt, MatchHaltBegun, stands};
 ghost use Rattle.s370_channel.specs.declared.running.Place.TheVariants.{Next};
 
 use crate::endings::{close, end_at, fail, finish};
 use crate::judging::{Verdict, judge};
 use crate::limits::Limits;
-use crate::moving::{Lacking, Moved, transfer};
+use crate::moving::{MissingPage, Moved, transfer};
 use crate::starting::first_spot;
 use s370_store::{Page, Storage};
 use s370_walk::{
-    Answer, ChannelStatus, Device, Ending, Kind, Order, Position, Progress, Spot, Transfer,
-    UnitStatus, Word, WordForm,
+    Answer, Ccw, ChannelStatus, Device, Ending, Kind, NextCcw, Order, Position, Progress, Transfer,
+    UnitStatus, WordForm,
 };
 use thiserror::Error;
 
@@ -24,7 +26,7 @@ fn obey<F: WordForm, S: Storage, D: Device>(
     device: &mut D,
     limits: &Limits,
     position: Position,
-) -> Result<Progress, Lacking>
+) -> Result<Progress, MissingPage>
     requires count { 0 < position.count }
     requires within { position.count ≤ position.word.count }
     ensures reaches { IfOk result
@@ -34,7 +36,8 @@ fn obey<F: WordForm, S: Storage, D: Device>(
     ensures followed { IfOk result (IsFollowed limits.now.commands position) }
     ensures rest { S.Keeps storage.old storage.new }
     ensures halts { IfErr result
-        (λ lacking. HaltsIn (F.written program.now) (setting D.machine limits.now) (S.present storage.old)
+        (λ lacking. HaltsIn (F.written program.now) (setting D.machine limits.now)
+        (S.present storage.old)
         (Moving position (S.memory storage.old) device.old)
         (S.memory storage.new) device.new lacking) }
     ensures moved { IfErr result
@@ -47,8 +50,8 @@ fn obey<F: WordForm, S: Storage, D: Device>(
     }
 }
 
-/// A word before its first byte.
-fn position(spot: &Spot, started: u32, word: Word, transfer: Transfer) -> Position
+/// Returns a word before its first byte.
+fn position(spot: &NextCcw, started: u32, word: Ccw, transfer: Transfer) -> Position
     ensures { result ≡ moving spot.now started word transfer }
 {
     Position {
@@ -61,18 +64,18 @@ fn position(spot: &Spot, started: u32, word: Word, transfer: Transfer) -> Positi
     }
 }
 
-/// Where a run stands.
+/// Where a run is.
 #[derive(Clone, Copy)]
 pub(crate) enum Place {
     /// Before a word.
-    Next(Spot),
+    Next(NextCcw),
     /// Within a word, before one of its bytes.
     Within(Position),
 }
 
 /// Why a run halts.
 #[derive(Clone, Copy)]
-pub(crate) enum Halt {
+pub(crate) enum RunStop {
     /// A device was refused the memory that a command needs.
     Memory,
     /// A page is not present that the step needs at this place; all before it was done.
@@ -86,9 +89,9 @@ pub(crate) fn begin<F: WordForm, S: Storage, D: Device>(
     storage: &mut S,
     device: &mut D,
     limits: &Limits,
-    spot: &Spot,
-    word: Word,
-) -> Result<Progress, Halt>
+    spot: &NextCcw,
+    word: Ccw,
+) -> Result<Progress, RunStop>
     requires started { spot.now.started < limits.now.commands }
     requires role { spot.now.role ≡ None }
     requires count { 0 < word.count }
@@ -113,7 +116,7 @@ pub(crate) fn begin<F: WordForm, S: Storage, D: Device>(
     let started = spot.started + 1;
     let answer = match device.command(order) {
         Ok(answer) => answer,
-        Err(_) => return Err(Halt::Memory),
+        Err(_) => return Err(RunStop::Memory),
     };
     let wanted = match answer {
         Answer::Refused(status) => {
@@ -152,7 +155,7 @@ pub(crate) fn begin<F: WordForm, S: Storage, D: Device>(
         position(spot, started, word, wanted),
     ) {
         Ok(then) => Ok(then),
-        Err(lacking) => Err(Halt::Absent(lacking.page, Place::Within(lacking.position))),
+        Err(lacking) => Err(RunStop::Absent(lacking.page, Place::Within(lacking.position))),
     }
 }
 
@@ -163,10 +166,10 @@ fn resume<F: WordForm, S: Storage, D: Device>(
     storage: &mut S,
     device: &mut D,
     limits: &Limits,
-    spot: &Spot,
-    word: Word,
+    spot: &NextCcw,
+    word: Ccw,
     wanted: Transfer,
-) -> Result<Progress, Halt>
+) -> Result<Progress, RunStop>
     requires good { judged limits.now.commands spot.now word ≡ Good }
     requires role { spot.now.role ≡ Some wanted }
     requires text { (F.written program.now).text (S.memory storage.old) spot.now.at
@@ -178,7 +181,8 @@ fn resume<F: WordForm, S: Storage, D: Device>(
     ensures lighter { IfOk result (IsLighter limits.now.commands spot.now) }
     ensures rest { S.Keeps storage.old storage.new }
     ensures halts { IfErr result
-        (MatchHalt (F.written program.now) (setting D.machine limits.now) D.needs_memory (S.present storage.old)
+        (MatchHalt (F.written program.now) (setting D.machine limits.now) D.needs_memory
+        (S.present storage.old)
         (Fetching spot.now (S.memory storage.old) device.old)
         (S.memory storage.new) device.new) }
     ensures beyond { IfErr result (HaltsBeyond limits.now.commands spot.now) }
@@ -191,7 +195,7 @@ fn resume<F: WordForm, S: Storage, D: Device>(
         position(spot, spot.started, word, wanted),
     ) {
         Ok(then) => Ok(then),
-        Err(lacking) => Err(Halt::Absent(lacking.page, Place::Within(lacking.position))),
+        Err(lacking) => Err(RunStop::Absent(lacking.page, Place::Within(lacking.position))),
     }
 }
 
@@ -202,8 +206,8 @@ fn one_word<F: WordForm, S: Storage, D: Device>(
     storage: &mut S,
     device: &mut D,
     limits: &Limits,
-    spot: &Spot,
-) -> Result<Progress, Halt>
+    spot: &NextCcw,
+) -> Result<Progress, RunStop>
     ensures reaches { IfOk result
         (λ r. Reaches (live (F.written program.now)) (setting D.machine limits.now)
         (Fetching spot.now (S.memory storage.old) device.old)
@@ -211,7 +215,8 @@ fn one_word<F: WordForm, S: Storage, D: Device>(
     ensures lighter { IfOk result (IsLighter limits.now.commands spot.now) }
     ensures rest { S.Keeps storage.old storage.new }
     ensures halts { IfErr result
-        (MatchHalt (F.written program.now) (setting D.machine limits.now) D.needs_memory (S.present storage.old)
+        (MatchHalt (F.written program.now) (setting D.machine limits.now) D.needs_memory
+        (S.present storage.old)
         (Fetching spot.now (S.memory storage.old) device.old)
         (S.memory storage.new) device.new) }
     ensures on { IfErr result
@@ -220,14 +225,14 @@ fn one_word<F: WordForm, S: Storage, D: Device>(
 {
     let found = match program.fetch(storage, spot.at) {
         Ok(found) => found,
-        Err(page) => return Err(Halt::Absent(page, Place::Next(*spot))),
+        Err(page) => return Err(RunStop::Absent(page, Place::Next(*spot))),
     };
     let Some(word) = found else {
         return Ok(Progress::Ended(fail(device, spot.role, spot.at)));
     };
     match judge(limits.commands, spot, &word) {
         Verdict::Bad => Ok(Progress::Ended(fail(device, spot.role, spot.at))),
-        Verdict::Jump => Ok(Progress::At(Spot {
+        Verdict::Jump => Ok(Progress::At(NextCcw {
             at: word.next,
             role: spot.role,
             jumped: true,
@@ -251,16 +256,16 @@ pub enum ChannelError {
     Absent(Page),
 }
 
-impl Halt {
+impl RunStop {
     ghost use Rattle.s370_channel.specs.Halts.{error_of};
 
-    /// What is told of it.
+    /// Returns what is reported of it.
     pub(crate) fn error(self) -> ChannelError
         ensures { result ≡ error_of self }
     {
         match self {
-            Halt::Memory => ChannelError::Memory,
-            Halt::Absent(page, _) => ChannelError::Absent(page),
+            RunStop::Memory => ChannelError::Memory,
+            RunStop::Absent(page, _) => ChannelError::Absent(page),
         }
     }
 }
@@ -272,15 +277,16 @@ pub(crate) fn go_on<F: WordForm, S: Storage, D: Device>(
     storage: &mut S,
     device: &mut D,
     limits: &Limits,
-    from: Spot,
-) -> Result<Ending, Halt>
+    from: NextCcw,
+) -> Result<Ending, RunStop>
     ensures reaches { IfOk result
         (λ ending. Reaches (live (F.written program.now)) (setting D.machine limits.now)
         (Fetching from (S.memory storage.old) device.old)
         (Over ending (S.memory storage.new) device.new)) }
     ensures rest { S.Keeps storage.old storage.new }
     ensures halts { IfErr result
-        (MatchHalt (F.written program.now) (setting D.machine limits.now) D.needs_memory (S.present storage.old)
+        (MatchHalt (F.written program.now) (setting D.machine limits.now) D.needs_memory
+        (S.present storage.old)
         (Fetching from (S.memory storage.old) device.old)
         (S.memory storage.new) device.new) }
     ensures on { IfErr result
@@ -304,7 +310,7 @@ pub(crate) fn go_from<F: WordForm, S: Storage, D: Device>(
     device: &mut D,
     limits: &Limits,
     from: Place,
-) -> Result<Ending, Halt>
+) -> Result<Ending, RunStop>
     requires { IsReady from }
     ensures reaches { IfOk result
         (λ ending. Reaches (live (F.written program.now)) (setting D.machine limits.now)
@@ -312,7 +318,8 @@ pub(crate) fn go_from<F: WordForm, S: Storage, D: Device>(
         (Over ending (S.memory storage.new) device.new)) }
     ensures rest { S.Keeps storage.old storage.new }
     ensures halts { IfErr result
-        (MatchHalt (F.written program.now) (setting D.machine limits.now) D.needs_memory (S.present storage.old)
+        (MatchHalt (F.written program.now) (setting D.machine limits.now) D.needs_memory
+        (S.present storage.old)
         (stands from (S.memory storage.old) device.old)
         (S.memory storage.new) device.new) }
     ensures on { IfErr result
@@ -325,13 +332,17 @@ pub(crate) fn go_from<F: WordForm, S: Storage, D: Device>(
             match obey(program, storage, device, limits, position) {
                 Ok(Progress::At(spot)) => go_on(program, storage, device, limits, spot),
                 Ok(Progress::Ended(ending)) => Ok(ending),
-                Err(lacking) => Err(Halt::Absent(lacking.page, Place::Within(lacking.position))),
+                Err(lacking) => Err(RunStop::Absent(lacking.page, Place::Within(lacking.position))),
             }
         }
     }
 }
 
 /// Runs the program that starts at an address.
+///
+/// # Errors
+///
+/// A `ChannelError`: refused memory that a command or the analysis needs, or an absent page.
 pub fn run<F: WordForm, S: Storage, D: Device>(
     program: &F,
     storage: &mut S,
@@ -345,7 +356,8 @@ pub fn run<F: WordForm, S: Storage, D: Device>(
         (Over ending (S.memory storage.new) device.new)) }
     ensures rest { S.Keeps storage.old storage.new }
     ensures stuck { IfErr result
-        (MatchStuck (F.written program.now) (setting D.machine limits.now) D.needs_memory (S.present storage.old)
+        (MatchStuck (F.written program.now) (setting D.machine limits.now) D.needs_memory
+        (S.present storage.old)
         (Fetching (start_spot start) (S.memory storage.old) device.old)) }
 {
     match go_on(program, storage, device, limits, first_spot(start)) {

@@ -8,16 +8,16 @@ ghost use Rattle.s370_channel.specs.Start.{start_of};
 use crate::judging::{Verdict, judge};
 use crate::words::Caw;
 use s370_store::{Page, Storage};
-use s370_walk::{Spot, WordForm};
+use s370_walk::{NextCcw, WordForm};
 
 /// How many commands one program may start: the start of one more is a program check.
 pub const MOST_COMMANDS: u32 = 65535;
 
 /// Where a program starts that begins at an address.
-pub(crate) fn first_spot(at: u32) -> Spot
+pub(crate) fn first_spot(at: u32) -> NextCcw
     ensures { result ≡ start_spot at }
 {
-    Spot {
+    NextCcw {
         at,
         role: None,
         jumped: true,
@@ -25,10 +25,14 @@ pub(crate) fn first_spot(at: u32) -> Spot
     }
 }
 
-/// The start that the channel address word asks for, or None where that word or the first command word is bad. An error
-/// is a page of the first word that is not present.
+/// Returns the start that the channel address word asks for, or None where that word or the first
+/// command word is bad. An error is a page of the first word that is not present.
 ///
 /// `check_start(&Guest, &storage, load_word(&storage, 72))` is what SIO tests.
+///
+/// # Errors
+///
+/// A page that is needed and absent.
 pub fn check_start<F: WordForm, S: Storage>(
     program: &F,
     storage: &S,

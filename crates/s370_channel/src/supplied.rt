@@ -1,43 +1,45 @@
 //! The run of a channel program whose absent pages are brought when it comes to them.
 //!
-//! It goes on at the very word or byte at which a page was absent: so its walk is that of a storage which is all there,
-//! and what is brought is what it touches.
-ghost use Rattle.std.specs.Prelude.{◌≡◌, ◌+◌, ◌-◌, ◌*◌, ◌^◌, ◌<◌, ◌≤◌, ℕ, List, [], ◌∷◌, IfErr, IfOk, length};
+//! It goes on at the very word or byte at which a page was absent: so its walk is that of a storage
+//! which is all there, and what is brought is what it touches.
+ghost use Rattle.std.specs.Prelude.{◌≡◌, ◌+◌, ◌-◌, ◌*◌, ◌^◌, ◌<◌, ◌≤◌, ℕ, List, [], ◌∷◌, IfErr};
+ghost use Rattle.std.specs.Prelude.{IfOk, length};
 ghost use Rattle.s370_walk.specs.Stuck.{IsAsked};
 ghost use Rattle.s370_walk.specs.Walk.{Fetching, Over, Reaches, live, start_spot};
 ghost use Rattle.s370_channel.specs.Guest.{guest_written};
 ghost use Rattle.s370_channel.specs.Halts.{IsReady, place_weight, stands};
 ghost use Rattle.s370_channel.specs.Loading.{loading, loading_limits};
 ghost use Rattle.s370_channel.specs.Progress.{rest_of, setting};
-ghost use Rattle.s370_channel.specs.Supplied.{AllSuch, EachSuch, IsAskedFor, IsFarther, IsLack, IsLoadingOut, IsOutOfMemory, IsTouched, gone_state};
+ghost use Rattle.s370_channel.specs.Supplied.{AllSuch, EachSuch, IsAskedFor, IsFarther, IsLack};
+ghost use Rattle.s370_channel.specs.Supplied.{IsLoadingOut, IsOutOfMemory, IsTouched, gone_state};
 
 use crate::guest::Guest;
 use crate::limits::Limits;
 use crate::loading::{LIMITS, load};
 use crate::room::AmpleSupply;
-use crate::running::{ChannelError, Halt, Place, go_from};
+use crate::running::{ChannelError, Place, RunStop, go_from};
 use crate::starting::first_spot;
 use s370_store::FramesOut;
 use s370_walk::{Device, Ending, Transfer};
 
 /// What a step leads to, with all that follows it for which no page is lacking.
-enum Gone {
+enum Advance {
     /// The end of the program.
     Finished(Ending),
-    /// A later step that lacks a page.
+    /// A later step that needs an absent page.
     Further(Place),
 }
 
 /// Why a step is not done.
 #[derive(Clone, Copy)]
-enum Lack {
+enum Shortage {
     /// A device was refused the memory that a command needs.
     Memory,
     /// There is no room for a page.
     Room,
 }
 
-/// How much a transfer may still move, as it counts in the weight of a place.
+/// Returns how much a transfer may still move, as it counts in the weight of a place.
 fn rest_in(role: Option<Transfer>) -> u128
     ensures rest { result ≡ rest_of role }
     ensures small { result < 2 ^ 34 }
@@ -48,7 +50,7 @@ fn rest_in(role: Option<Transfer>) -> u128
     }
 }
 
-/// The commands that may still be started, as they count in the weight of a place.
+/// Returns the commands that may still be started, as they count in the weight of a place.
 fn commands_left(commands: u32, started: u32) -> u128
     ensures value { result ≡ (commands - started) * 2 ^ 34 }
     ensures small { result < 2 ^ 66 }
@@ -56,7 +58,7 @@ fn commands_left(commands: u32, started: u32) -> u128
     u128::from(commands.saturating_sub(started)) * 0x4_0000_0000
 }
 
-/// How much may still be done from a place, where so many commands may be started.
+/// Returns how much may still be done from a place, where so many commands may be started.
 #[tactic(auto, unfolding(crate::specs::Progress::weight))]
 fn weight_of(commands: u32, place: &Place) -> u128
     ensures { result ≡ place_weight commands place.now }
@@ -74,14 +76,14 @@ fn weight_of(commands: u32, place: &Place) -> u128
     }
 }
 
-/// Goes on from a place to another at which a page is absent, after each page was brought that the step needs, each of
-/// them once.
+/// Goes on from a place to another at which a page is absent, after each page was brought that the
+/// step needs, each of them once.
 fn supply_step<S: AmpleSupply, D: Device>(
     storage: &mut S,
     device: &mut D,
     limits: &Limits,
     from: Place,
-) -> Result<Gone, Lack>
+) -> Result<Advance, Shortage>
     requires { IsReady from }
     ensures reaches { IfOk result
         (λ gone. Reaches (live guest_written) (setting D.machine limits.now)
@@ -98,19 +100,20 @@ fn supply_step<S: AmpleSupply, D: Device>(
         (length (S.Storage.memory storage.old).bytes) pages
         × (length pages ≤ 9) }
     ensures keys { (S.Storage.memory storage.new).keys ≡ (S.Storage.memory storage.old).keys }
-    ensures size { length (S.Storage.memory storage.new).bytes ≡ length (S.Storage.memory storage.old).bytes }
+    ensures size { length (S.Storage.memory storage.new).bytes
+        ≡ length (S.Storage.memory storage.old).bytes }
 {
     'page: loop {
         match go_from(&Guest, storage, device, limits, from) {
-            Ok(ending) => return Ok(Gone::Finished(ending)),
-            Err(Halt::Memory) => return Err(Lack::Memory),
-            Err(Halt::Absent(page, place)) => {
+            Ok(ending) => return Ok(Advance::Finished(ending)),
+            Err(RunStop::Memory) => return Err(Shortage::Memory),
+            Err(RunStop::Absent(page, place)) => {
                 if weight_of(limits.commands, &place) < weight_of(limits.commands, &from) {
-                    return Ok(Gone::Further(place));
+                    return Ok(Advance::Further(place));
                 }
                 match storage.bring(page) {
                     Ok(()) => {}
-                    Err(FramesOut) => return Err(Lack::Room),
+                    Err(FramesOut) => return Err(Shortage::Room),
                 }
             }
         }
@@ -123,7 +126,7 @@ fn supply_unit<S: AmpleSupply, D: Device>(
     device: &mut D,
     limits: &Limits,
     from: Place,
-) -> Result<Gone, ChannelError>
+) -> Result<Advance, ChannelError>
     requires ready { IsReady from }
     requires between { S.UnitSupply.IsBetween storage.old }
     requires ample { S.IsAmple storage.old }
@@ -135,7 +138,7 @@ fn supply_unit<S: AmpleSupply, D: Device>(
     ensures memory { IfErr result
         (IsOutOfMemory guest_written (setting D.machine limits.now) D.needs_memory
         (stands from (S.Storage.memory storage.old) device.old)) }
-    ensures came { (pages : List ℕ) × S.UnitSupply.Came storage.old (pages ∷ []) storage.new
+    ensures paged_in { (pages : List ℕ) × S.UnitSupply.Came storage.old (pages ∷ []) storage.new
         × AllSuch (IsAsked guest_written D.machine
         (stands from (S.Storage.memory storage.old) device.old)) pages }
     ensures between { S.UnitSupply.IsBetween storage.new }
@@ -147,9 +150,9 @@ fn supply_unit<S: AmpleSupply, D: Device>(
     match gone {
         Ok(gone) => Ok(gone),
         Err(lack) => match lack {
-            Lack::Memory => Err(ChannelError::Memory),
+            Shortage::Memory => Err(ChannelError::Memory),
             // There is room for every page.
-            Lack::Room => unreachable!(),
+            Shortage::Room => unreachable!(),
         },
     }
 }
@@ -171,7 +174,7 @@ fn go_supplied<S: AmpleSupply, D: Device>(
     ensures memory { IfErr result
         (IsOutOfMemory guest_written (setting D.machine limits.now) D.needs_memory
         (stands from (S.Storage.memory storage.old) device.old)) }
-    ensures came { (units : List (List ℕ)) × S.UnitSupply.Came storage.old units storage.new
+    ensures paged_in { (units : List (List ℕ)) × S.UnitSupply.Came storage.old units storage.new
         × EachSuch (IsTouched guest_written (setting D.machine limits.now)
         (stands from (S.Storage.memory storage.old) device.old)) units }
     ensures between { S.UnitSupply.IsBetween storage.new }
@@ -185,14 +188,18 @@ fn go_supplied<S: AmpleSupply, D: Device>(
             Err(error) => return Err(error),
         };
         match gone {
-            Gone::Finished(ending) => return Ok(ending),
-            Gone::Further(then) => place = then,
+            Advance::Finished(ending) => return Ok(ending),
+            Advance::Further(then) => place = then,
         }
     }
 }
 
-/// Runs the program that starts at an address over a storage that has room for every page; those that it touches are
-/// brought when it comes to them.
+/// Runs the program that starts at an address over a storage that has room for every page; those
+/// that it touches are brought when it comes to them.
+///
+/// # Errors
+///
+/// A `ChannelError`: refused memory that a command or the analysis needs, or an absent page.
 pub fn run_supplied<S: AmpleSupply, D: Device>(
     storage: &mut S,
     start: u32,
@@ -208,7 +215,7 @@ pub fn run_supplied<S: AmpleSupply, D: Device>(
     ensures memory { IfErr result
         (IsOutOfMemory guest_written (setting D.machine limits.now) D.needs_memory
         (Fetching (start_spot start) (S.Storage.memory storage.old) device.old)) }
-    ensures came { (units : List (List ℕ)) × S.UnitSupply.Came storage.old units storage.new
+    ensures paged_in { (units : List (List ℕ)) × S.UnitSupply.Came storage.old units storage.new
         × EachSuch (IsTouched guest_written (setting D.machine limits.now)
         (Fetching (start_spot start) (S.Storage.memory storage.old) device.old))
         units }
@@ -220,6 +227,10 @@ pub fn run_supplied<S: AmpleSupply, D: Device>(
 }
 
 /// The same for the program of an initial program loading.
+///
+/// # Errors
+///
+/// A `ChannelError`: refused memory that a command or the analysis needs, or an absent page.
 pub fn load_supplied<S: AmpleSupply, D: Device>(
     storage: &mut S,
     device: &mut D,
@@ -233,7 +244,7 @@ pub fn load_supplied<S: AmpleSupply, D: Device>(
     ensures memory { IfErr result
         (IsLoadingOut guest_written D.machine D.needs_memory
         (S.Storage.memory storage.old) device.old) }
-    ensures came { (units : List (List ℕ)) × S.UnitSupply.Came storage.old units storage.new
+    ensures paged_in { (units : List (List ℕ)) × S.UnitSupply.Came storage.old units storage.new
         × EachSuch (IsTouched guest_written (setting D.machine loading_limits)
         (loading D.machine (S.Storage.memory storage.old) device.old)) units }
     ensures between { S.UnitSupply.IsBetween storage.new }
@@ -242,7 +253,7 @@ pub fn load_supplied<S: AmpleSupply, D: Device>(
 {
     match load(&Guest, storage, device) {
         Ok(ending) => Ok(ending),
-        Err(Halt::Memory) => Err(ChannelError::Memory),
-        Err(Halt::Absent(_, place)) => go_supplied(storage, device, &LIMITS, place),
+        Err(RunStop::Memory) => Err(ChannelError::Memory),
+        Err(RunStop::Absent(_, place)) => go_supplied(storage, device, &LIMITS, place),
     }
 }

@@ -1,18 +1,20 @@
-//! The words of a channel: command word, status word and address word (GA22-7000, "Channel-Command Word",
-//! "Channel-Status Word" and "Channel-Address Word").
+//! The words of a channel: command word, status word and address word (GA22-7000, "Channel-Command
+//! Word", "Channel-Status Word" and "Channel-Address Word").
 ghost use Rattle.std.specs.Prelude.{◌≡◌};
-ghost use Rattle.s370_channel.specs.Words.{ccw_of, ccw_bytes, csw_of, csw_bytes, ending_word, caw_of};
+ghost use Rattle.s370_channel.specs.Words.{ccw_of, ccw_bytes, csw_of, csw_bytes, ending_word};
+ghost use Rattle.s370_channel.specs.Words.{caw_of};
 
 use byteorder::{BigEndian, ByteOrder};
 use s370_num::{AccessKey, Addr24};
-use s370_walk::{ChannelStatus, Command, Ending, Flags, UnitStatus};
+use s370_walk::{ChannelStatus, CommandCode, Ending, Flags, UnitStatus};
 
 /// A channel command word: what a device is to do, and with which bytes of storage.
 #[derive(Clone, Copy, PartialEq, Eq)]
-pub struct Ccw {
+pub struct StoredCcw {
     /// What is to be done.
-    pub command: Command,
-    /// Where the data lie, or the list of their addresses; of a transfer in channel, where it leads.
+    pub command: CommandCode,
+    /// Where the data lie, or the list of their addresses; of a transfer in channel, where it
+    /// leads.
     pub address: Addr24,
     /// How.
     pub flags: Flags,
@@ -20,20 +22,20 @@ pub struct Ccw {
     pub count: u16,
 }
 
-impl Ccw {
-    /// The word that eight bytes of storage hold. Bits 40 to 47 are ignored.
-    pub fn from_bytes(bytes: &[u8; 8]) -> Ccw
+impl StoredCcw {
+    /// Returns the word that eight bytes of storage hold. Bits 40 to 47 are ignored.
+    pub fn from_bytes(bytes: &[u8; 8]) -> StoredCcw
         ensures { result ≡ ccw_of bytes.now }
     {
-        Ccw {
-            command: Command { code: bytes[0] },
+        StoredCcw {
+            command: CommandCode { code: bytes[0] },
             address: Addr24::wrapping(BigEndian::read_u24(&bytes[1..])),
             flags: Flags { bits: bytes[4] },
             count: BigEndian::read_u16(&bytes[6..]),
         }
     }
 
-    /// The eight bytes of the word, with zeros in bits 40 to 47.
+    /// Returns the eight bytes of the word, with zeros in bits 40 to 47.
     pub fn to_bytes(self) -> [u8; 8]
         ensures { result ≡ ccw_bytes self }
     {
@@ -51,8 +53,8 @@ impl Ccw {
 pub struct Csw {
     /// The key of the program.
     pub key: AccessKey,
-    /// Eight bytes past the last word that was used, or the one that failed. A program over real storage has words past
-    /// 24 bits; of this address the low 24 are stored.
+    /// Eight bytes past the last word that was used, or the one that failed. A program over real
+    /// storage has words past 24 bits; of this address the low 24 are stored.
     pub address: u32,
     /// The status of the device.
     pub unit: UnitStatus,
@@ -63,7 +65,7 @@ pub struct Csw {
 }
 
 impl Csw {
-    /// The word that tells how a program with this key ended.
+    /// Returns the word that says how a program with this key ended.
     pub fn of_ending(key: AccessKey, ending: Ending) -> Csw
         ensures { result ≡ ending_word key ending }
     {
@@ -76,7 +78,7 @@ impl Csw {
         }
     }
 
-    /// The word that eight bytes of storage hold. Bits 4 to 7 are ignored.
+    /// Returns the word that eight bytes of storage hold. Bits 4 to 7 are ignored.
     pub fn from_bytes(bytes: &[u8; 8]) -> Csw
         ensures { result ≡ csw_of bytes.now }
     {
@@ -89,7 +91,7 @@ impl Csw {
         }
     }
 
-    /// The eight bytes of the word, as they are stored at location 64.
+    /// Returns the eight bytes of the word, as they are stored at location 64.
     pub fn to_bytes(self) -> [u8; 8]
         ensures { result ≡ csw_bytes self }
     {
@@ -108,12 +110,13 @@ impl Csw {
 pub struct Caw {
     /// The key that the accesses of the program to its data are tested with.
     pub key: AccessKey,
-    /// Where its first word stands.
+    /// Where its first word is.
     pub address: Addr24,
 }
 
 impl Caw {
-    /// The word that 32 bits spell, or None where bits 4 to 7 are not zero or the address is not on a doubleword.
+    /// Returns the word that 32 bits spell, or None where bits 4 to 7 are not zero or the address
+    /// is not on a doubleword.
     pub fn from_word(word: u32) -> Option<Caw>
         ensures { result ≡ caw_of word }
     {

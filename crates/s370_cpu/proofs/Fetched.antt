@@ -34,7 +34,7 @@ fetch_finds m a even e =
     let rest : fault_of m (rest_tests a (halfwords_of (half_at m.bytes a / 256))) ≡ None = rest_fine m a (halfwords_of (half_at m.bytes a / 256)) (short (half_at m.bytes a / 256)) e in
     rw even (ap (λ o. (fetched_after m a o).result) first ∙ ap (rest_fetched m a) rest)
 
--- what is fetched in two parts: the first halfword, which tells how many there are, and then the others
+-- what is fetched in two parts: the first halfword, which says how many there are, and then the others
 pub parts_found : (m : State) (a n : ℕ) (i : Instruction) → a % 2 ≡ 0 → fault_of m (fetch_test a 2 ∷ []) ≡ None → n ≡ halfwords_of (half_at m.bytes a / 256) → 1 < n → fault_of m (fetch_test (a + 2) (2 * (n - 1)) ∷ []) ≡ None → i ≡ instruction_at m.bytes a → (fetched m a).result ≡ Ok i
 parts_found m a n i even first is more rest same =
     let here : nat_lt 1 n ≡ true = grind (arith, nat_tests) in

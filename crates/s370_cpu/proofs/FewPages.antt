@@ -173,7 +173,8 @@ execute_byte m i h =
 
 -- ---- the operands of a row
 
--- how many pages the operands have, by how the unit stops: four, but two where it is interrupted, and none where it asks a device
+-- how many pages the operands have, by how the unit stops: four, but two where it is interrupted, and none where it
+-- asks a device
 abbrev pub operand_pages : Stop → ℕ
 operand_pages DoneStop = 4
 operand_pages (Program code ilc) = 2

@@ -1,4 +1,5 @@
--- Each row of the table tests at most two ranges, each of at most 256 bytes; and one range at most where it may interrupt.
+-- Each row of the table tests at most two ranges, each of at most 256 bytes; and one range at most where it may
+-- interrupt.
 use Rattle.std.proofs.Common.{◌≡◌, ℕ, zero, suc, ◌+◌, ◌*◌, ◌/◌, ◌%◌, ◌^◌, ◌<◌, ◌≤◌, Bool, true, false, [], ◌∷◌, length, Option, Some, None, Result, Ok, Err, refl, arith}
 use Rattle.std.specs.Prelude.{◌==◌, ◌&&◌, if◌then◌else◌, All, min}
 use Rattle.std.proofs.lemmas.List.Elements.{All-nil, All-cons}

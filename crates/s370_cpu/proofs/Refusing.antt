@@ -1,4 +1,5 @@
--- What an instruction for the supervisor state that interrupts, or asks a device, has changed: the instruction address alone.
+-- What an instruction for the supervisor state that interrupts, or asks a device, has changed: the instruction address
+-- alone.
 use Rattle.std.proofs.Common.{◌≡◌, ℕ, Bool, true, false, Option, Some, None, Result, Ok, Err, refl, subst}
 use Rattle.std.specs.Prelude.{if◌then◌else◌}
 use Rattle.s370_psw.specs.declared.ProgramCode.{ProgramCode}

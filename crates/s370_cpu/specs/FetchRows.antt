@@ -1,5 +1,6 @@
 -- The rows that fetch their operands, and change registers alone.
-use Rattle.std.specs.Prelude.{◌≡◌, ℕ, ◌%◌, ◌==◌, Bool, if◌then◌else◌, [], ◌∷◌, slice_index, None, Result, Ok, Err}
+use Rattle.std.specs.Prelude.{◌≡◌, ℕ, ◌%◌, ◌==◌, Bool, if◌then◌else◌, [], ◌∷◌, slice_index, None}
+use Rattle.std.specs.Prelude.{Result, Ok, Err}
 use Rattle.s370_psw.specs.declared.ProgramCode.TheVariants.{Specification}
 use Rattle.s370_store.specs.Access.{Test}
 use Rattle.s370_rows.specs.declared.arithmetic.Arithmetic.{Arithmetic}
@@ -14,7 +15,8 @@ use Rattle.s370_rows.specs.Product.{multiplied, multiplied_halfword, quotient_le
 use Rattle.s370_rows.specs.Registers.{arithmetic, done, with_condition}
 use Rattle.s370_rows.specs.Results.{over_result}
 use Rattle.s370_rows.specs.State.{State}
-use Rattle.s370_rows.specs.Rows.{Row, checked, suppressed, over, fetch_test, half_at, word_at, fault_of, Grants}
+use Rattle.s370_rows.specs.Rows.{Row, checked, suppressed, over, fetch_test, half_at, word_at}
+use Rattle.s370_rows.specs.Rows.{fault_of, Grants}
 use Rattle.s370_bytes.specs.Compare.{strings_compared}
 use Rattle.s370_bytes.specs.Decimal.{binary_loaded}
 use Rattle.s370_bytes.specs.Long.{long_compared}
@@ -22,7 +24,13 @@ use Rattle.s370_bytes.specs.Masks.{characters_inserted, characters_compared}
 use Rattle.s370_bytes.specs.Multiple.{multiple_loaded}
 use Rattle.s370_bytes.specs.Translate.{string_scanned}
 use Rattle.s370_cpu.specs.declared.opcodes.FetchRow.{FetchRow}
-use Rattle.s370_cpu.specs.declared.opcodes.FetchRow.TheVariants.{Word, Halfword, MultiplyWord, MultiplyHalfword, DivideWord, ConvertToBinary, InsertCharacter, InsertCharacters, CompareCharacters, LoadMultiple, TestByte, CompareStrings, ScanString, CompareLong}
+use Rattle.s370_cpu.specs.declared.opcodes.FetchRow.TheVariants.{Word, Halfword, MultiplyWord}
+use Rattle.s370_cpu.specs.declared.opcodes.FetchRow.TheVariants.{MultiplyHalfword, DivideWord}
+use Rattle.s370_cpu.specs.declared.opcodes.FetchRow.TheVariants.{ConvertToBinary, InsertCharacter}
+use Rattle.s370_cpu.specs.declared.opcodes.FetchRow.TheVariants.{InsertCharacters}
+use Rattle.s370_cpu.specs.declared.opcodes.FetchRow.TheVariants.{CompareCharacters, LoadMultiple}
+use Rattle.s370_cpu.specs.declared.opcodes.FetchRow.TheVariants.{TestByte, CompareStrings}
+use Rattle.s370_cpu.specs.declared.opcodes.FetchRow.TheVariants.{ScanString, CompareLong}
 
 -- a row is carried out only where this holds: GA22-7000, "Specification Exception"
 abbrev pub only_where : Bool → Row → Row
@@ -30,32 +38,40 @@ only_where b r = if b then r else suppressed Specification
 
 -- ---- an operand with an index
 
+-- the address of the second operand
 abbrev pub operand_of : State → Instruction → ℕ
 operand_of m i = indexed_address m.cpu (r2_of i) i.second_half
 
+-- the word of the second operand
 abbrev pub word_of : State → Instruction → ℕ
 word_of m i = word_at m.bytes (operand_of m i)
 
+-- the halfword of the second operand, with its sign extended
 abbrev pub half_of : State → Instruction → ℕ
 half_of m i = halfword_operand (half_at m.bytes (operand_of m i))
 
--- what code may answer that fetches an operand: the operand, where the test passes; or what leave to access it may answer
+-- what code may answer that fetches an operand: the operand, where the test passes; or what leave
+-- to access it may answer
 abbrev pub MeetsOperand : State → (ℕ → Bool) → Test → ℕ → Result ℕ Refusal → Type 0
 MeetsOperand m present t operand (Ok b) = (fault_of m (t ∷ []) ≡ None) × (b ≡ operand)
 MeetsOperand m present t operand (Err refusal) = Grants m present (t ∷ []) (Err refusal)
 
 -- N, CL, O, X, L, C, A, S, AL, SL
 abbrev pub word_operation : Arithmetic → State → Instruction → Row
-word_operation op m i = checked (fetch_test (operand_of m i) 4 ∷ []) (over (arithmetic op m.cpu (r1_of i) (word_of m i)))
+word_operation op m i = checked (fetch_test (operand_of m i) 4 ∷ [])
+    (over (arithmetic op m.cpu (r1_of i) (word_of m i)))
 
 -- LH, CH, AH, SH
 abbrev pub halfword_operation : Arithmetic → State → Instruction → Row
-halfword_operation op m i = checked (fetch_test (operand_of m i) 2 ∷ []) (over (arithmetic op m.cpu (r1_of i) (half_of m i)))
+halfword_operation op m i =
+    checked (fetch_test (operand_of m i) 2 ∷ [])
+    (over (arithmetic op m.cpu (r1_of i) (half_of m i)))
 
 -- MH
 abbrev pub halfword_multiplied : State → Instruction → Row
 halfword_multiplied m i =
-    checked (fetch_test (operand_of m i) 2 ∷ []) (over (multiplied_halfword m.cpu (r1_of i) (half_of m i)))
+    checked (fetch_test (operand_of m i) 2 ∷ [])
+    (over (multiplied_halfword m.cpu (r1_of i) (half_of m i)))
 
 -- M, whose pair is named by its even register
 abbrev pub word_multiplied : State → Instruction → Row
@@ -90,6 +106,7 @@ byte_tested test m i =
 
 -- ---- one line for each family
 
+-- the row of each family that fetches its operands
 abbrev pub fetch_row : FetchRow → State → Instruction → Row
 fetch_row (Word op) m i = word_operation op m i
 fetch_row (Halfword op) m i = halfword_operation op m i

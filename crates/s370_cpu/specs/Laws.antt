@@ -1,5 +1,7 @@
--- Laws of the whole table, over all states, instructions and outcomes: GA22-7000, "Protection" and "Problem State".
-use Rattle.std.specs.Prelude.{◌≡◌, ◌≢◌, ℕ, ◌+◌, ◌/◌, ◌^◌, ◌<◌, ◌≤◌, ◌⊎◌, Bool, true, List, [], ◌∷◌, length, slice_index, All, Contains, Ok}
+-- Laws of the whole table, over all states, instructions and outcomes: GA22-7000, "Protection" and
+-- "Problem State".
+use Rattle.std.specs.Prelude.{◌≡◌, ◌≢◌, ℕ, ◌+◌, ◌/◌, ◌^◌, ◌<◌, ◌≤◌, ◌⊎◌, Bool, true, List, [], ◌∷◌}
+use Rattle.std.specs.Prelude.{length, slice_index, All, Contains, Ok}
 use Rattle.s370_store.specs.Access.{Test}
 use Rattle.s370_store.specs.declared.Access.TheVariants.{Store}
 use Rattle.s370_rows.specs.declared.instruction.Instruction.{Instruction}
@@ -33,20 +35,24 @@ abbrev pub StorageKeepsItsSize : Type 0
 StorageKeepsItsSize = (m : State) (place : Place) (i : Instruction) (o : Outcome)
     → Does m place i o → length o.state.bytes ≡ length m.bytes
 
--- with a protection key other than zero a byte changes only in a block whose key in storage has this access control
+-- with a protection key other than zero a byte changes only in a block whose key in storage has
+-- this access control
 abbrev pub IsProtected : State → State → ℕ → Type 0
 IsProtected old new a =
-    old.cpu.psw.key ≢ 0 → HasChanged old new a → slice_index old.keys (a / 2048) / 2 ≡ old.cpu.psw.key
+    old.cpu.psw.key ≢ 0 → HasChanged old new a
+    → slice_index old.keys (a / 2048) / 2 ≡ old.cpu.psw.key
 
+-- no instruction changes a byte that its key does not permit
 abbrev pub ProtectionHolds : Type 0
-ProtectionHolds = (m : State) (place : Place) (i : Instruction) (o : Outcome) (a : ℕ) → Does m place i o → IsProtected m o.state a
+ProtectionHolds = (m : State) (place : Place) (i : Instruction) (o : Outcome) (a : ℕ)
+    → Does m place i o → IsProtected m o.state a
 
 -- the same over a unit, whatever it ends by
 abbrev pub UnitsAreProtected : Type 0
 UnitsAreProtected = (m : State) (a : ℕ) → IsProtected m (unit m).ran.state a
 
--- what only the supervisor state gives: the keys in storage, the control registers, the system mask, the key and the bits 12
--- to 15 of the PSW
+-- what only the supervisor state gives: the keys in storage, the control registers, the system
+-- mask, the key and the bits 12 to 15 of the PSW
 pub record Rights : Type 0 where
   pub keys : List ℕ
   pub control : List ℕ
@@ -57,6 +63,7 @@ pub record Rights : Type 0 where
   pub wait : Bool
   pub problem : Bool
 
+-- the rights of a processor: all that only the supervisor state may change
 abbrev pub rights_of : State → Rights
 rights_of m = record {
   keys = m.keys;
@@ -73,8 +80,10 @@ rights_of m = record {
 abbrev pub StaysInItsRights : State → State → Type 0
 StaysInItsRights old new = old.cpu.psw.problem ≡ true → rights_of new ≡ rights_of old
 
+-- no instruction in problem state changes the rights
 abbrev pub ProblemStateHolds : Type 0
-ProblemStateHolds = (m : State) (place : Place) (i : Instruction) (o : Outcome) → Does m place i o → StaysInItsRights m o.state
+ProblemStateHolds = (m : State) (place : Place) (i : Instruction) (o : Outcome) → Does m place i o
+    → StaysInItsRights m o.state
 
 -- the same over a unit
 abbrev pub UnitsStayInTheirRights : Type 0
@@ -86,7 +95,8 @@ AreFew ts = (length ts ≤ 2) × All (λ t. t.count ≤ 256) ts
 
 -- the row of an instruction, whose second byte is a byte, tests no more
 abbrev pub FewTests : Type 0
-FewTests = (m : State) (place : Place) (i : Instruction) → i.second_byte < 2 ^ 8 → AreFew (row_of m place i).tests
+FewTests = (m : State) (place : Place) (i : Instruction) → i.second_byte < 2 ^ 8
+    → AreFew (row_of m place i).tests
 
 -- the pages of which this holds are all in one list of at most n
 pub record AreAtMost (n : ℕ) (holds : ℕ → Type 0) : Type 0 where
@@ -94,6 +104,7 @@ pub record AreAtMost (n : ℕ) (holds : ℕ → Type 0) : Type 0 where
   pub few : length pages ≤ n
   pub all : (page : ℕ) → holds page → Contains pages page
 
--- the stages of a unit ask for at most eight pages: two for the instruction, two for the target of EX and four for the operands
+-- the stages of a unit ask for at most eight pages: two for the instruction, two for the target of
+-- EX and four for the operands
 abbrev pub UnitsAskForFewPages : Type 0
 UnitsAskForFewPages = (m : State) → AreAtMost 8 (Asks m (unit m).stages)

@@ -1,20 +1,53 @@
 -- The operation codes of the instructions: GA22-7000, "Instructions Arranged by Operation Code".
 use Rattle.std.specs.Prelude.{ℕ, List, [], ◌∷◌, ◌==◌, if◌then◌else◌}
-use Rattle.s370_rows.specs.declared.arithmetic.Arithmetic.TheVariants.{Load, LoadAndTest, LoadPositive, LoadNegative, LoadComplement, Compare, CompareLogical, Add, Subtract, AddLogical, SubtractLogical, And, Or, ExclusiveOr}
+use Rattle.s370_rows.specs.declared.arithmetic.Arithmetic.TheVariants.{Load, LoadAndTest}
+use Rattle.s370_rows.specs.declared.arithmetic.Arithmetic.TheVariants.{LoadPositive, LoadNegative}
+use Rattle.s370_rows.specs.declared.arithmetic.Arithmetic.TheVariants.{LoadComplement, Compare}
+use Rattle.s370_rows.specs.declared.arithmetic.Arithmetic.TheVariants.{CompareLogical, Add}
+use Rattle.s370_rows.specs.declared.arithmetic.Arithmetic.TheVariants.{Subtract, AddLogical}
+use Rattle.s370_rows.specs.declared.arithmetic.Arithmetic.TheVariants.{SubtractLogical, And, Or}
+use Rattle.s370_rows.specs.declared.arithmetic.Arithmetic.TheVariants.{ExclusiveOr}
 use Rattle.s370_rows.specs.declared.branches.IndexBranch.TheVariants.{High, LowOrEqual}
 use Rattle.s370_rows.specs.declared.ending.IoOperation.TheVariants.{Start, Test, Halt, TestChannel}
-use Rattle.s370_rows.specs.declared.immediate.ByteChange.TheVariants.{TestAndSet, Move as MoveByte, And as AndByte, Or as OrByte, ExclusiveOr as ExclusiveOrByte}
-use Rattle.s370_rows.specs.declared.immediate.ByteTest.TheVariants.{UnderMask, CompareLogical as CompareByte}
+use Rattle.s370_rows.specs.declared.immediate.ByteChange.TheVariants.{TestAndSet, Move as MoveByte}
+use Rattle.s370_rows.specs.declared.immediate.ByteChange.TheVariants.{And as AndByte, Or as OrByte}
+use Rattle.s370_rows.specs.declared.immediate.ByteChange.TheVariants.{ExclusiveOr as ExclusiveOrByte}
+use Rattle.s370_rows.specs.declared.immediate.ByteTest.TheVariants.{UnderMask}
+use Rattle.s370_rows.specs.declared.immediate.ByteTest.TheVariants.{CompareLogical as CompareByte}
 use Rattle.s370_rows.specs.declared.shift.Shift.TheVariants.{Right, Left, RightLogical, LeftLogical}
-use Rattle.s370_bytes.specs.declared.combine.Combine.TheVariants.{MoveNumerics, MoveZones, Move as MoveStrings, And as AndStrings, Or as OrStrings, ExclusiveOr as ExclusiveOrStrings}
+use Rattle.s370_bytes.specs.declared.combine.Combine.TheVariants.{MoveNumerics, MoveZones}
+use Rattle.s370_bytes.specs.declared.combine.Combine.TheVariants.{Move as MoveStrings}
+use Rattle.s370_bytes.specs.declared.combine.Combine.TheVariants.{And as AndStrings}
+use Rattle.s370_bytes.specs.declared.combine.Combine.TheVariants.{Or as OrStrings}
+use Rattle.s370_bytes.specs.declared.combine.Combine.TheVariants.{ExclusiveOr as ExclusiveOrStrings}
 use Rattle.s370_bytes.specs.declared.digits.Layout.TheVariants.{MoveWithOffset, Pack, Unpack}
 use Rattle.s370_cpu.specs.declared.opcodes.Branching.TheVariants.{Count, Condition, Link}
-use Rattle.s370_cpu.specs.declared.opcodes.Control.TheVariants.{SetStorageKey, InsertStorageKey, SetSystemMask, LoadPsw, StoreThenAnd, StoreThenOr, StoreControl, LoadControl, InputOutput}
-use Rattle.s370_cpu.specs.declared.opcodes.RegisterRow.TheVariants.{SetProgramMask, Register, Multiply, Divide, LoadAddress, ShiftWord, ShiftPair, BranchRegister, BranchTo, BranchOnIndex}
-use Rattle.s370_cpu.specs.declared.opcodes.FetchRow.TheVariants.{Word, Halfword, MultiplyWord, MultiplyHalfword, DivideWord, ConvertToBinary, InsertCharacter, InsertCharacters, CompareCharacters, LoadMultiple, TestByte, CompareStrings, ScanString, CompareLong}
-use Rattle.s370_cpu.specs.declared.opcodes.StoreRow.TheVariants.{StoreWord, StoreHalfword, StoreCharacter, StoreCharacters, StoreMultiple, ConvertToDecimal, ChangeByte, SwapWord, SwapDoubleword, CombineStrings, Translate, LayOut, MoveLong}
+use Rattle.s370_cpu.specs.declared.opcodes.Control.TheVariants.{SetStorageKey, InsertStorageKey}
+use Rattle.s370_cpu.specs.declared.opcodes.Control.TheVariants.{SetSystemMask, LoadPsw}
+use Rattle.s370_cpu.specs.declared.opcodes.Control.TheVariants.{StoreThenAnd, StoreThenOr}
+use Rattle.s370_cpu.specs.declared.opcodes.Control.TheVariants.{StoreControl, LoadControl}
+use Rattle.s370_cpu.specs.declared.opcodes.Control.TheVariants.{InputOutput}
+use Rattle.s370_cpu.specs.declared.opcodes.RegisterRow.TheVariants.{SetProgramMask, Register}
+use Rattle.s370_cpu.specs.declared.opcodes.RegisterRow.TheVariants.{Multiply, Divide, LoadAddress}
+use Rattle.s370_cpu.specs.declared.opcodes.RegisterRow.TheVariants.{ShiftWord, ShiftPair}
+use Rattle.s370_cpu.specs.declared.opcodes.RegisterRow.TheVariants.{BranchRegister, BranchTo}
+use Rattle.s370_cpu.specs.declared.opcodes.RegisterRow.TheVariants.{BranchOnIndex}
+use Rattle.s370_cpu.specs.declared.opcodes.FetchRow.TheVariants.{Word, Halfword, MultiplyWord}
+use Rattle.s370_cpu.specs.declared.opcodes.FetchRow.TheVariants.{MultiplyHalfword, DivideWord}
+use Rattle.s370_cpu.specs.declared.opcodes.FetchRow.TheVariants.{ConvertToBinary, InsertCharacter}
+use Rattle.s370_cpu.specs.declared.opcodes.FetchRow.TheVariants.{InsertCharacters}
+use Rattle.s370_cpu.specs.declared.opcodes.FetchRow.TheVariants.{CompareCharacters, LoadMultiple}
+use Rattle.s370_cpu.specs.declared.opcodes.FetchRow.TheVariants.{TestByte, CompareStrings}
+use Rattle.s370_cpu.specs.declared.opcodes.FetchRow.TheVariants.{ScanString, CompareLong}
+use Rattle.s370_cpu.specs.declared.opcodes.StoreRow.TheVariants.{StoreWord, StoreHalfword}
+use Rattle.s370_cpu.specs.declared.opcodes.StoreRow.TheVariants.{StoreCharacter, StoreCharacters}
+use Rattle.s370_cpu.specs.declared.opcodes.StoreRow.TheVariants.{StoreMultiple, ConvertToDecimal}
+use Rattle.s370_cpu.specs.declared.opcodes.StoreRow.TheVariants.{ChangeByte, SwapWord}
+use Rattle.s370_cpu.specs.declared.opcodes.StoreRow.TheVariants.{SwapDoubleword, CombineStrings}
+use Rattle.s370_cpu.specs.declared.opcodes.StoreRow.TheVariants.{Translate, LayOut, MoveLong}
 use Rattle.s370_cpu.specs.declared.opcodes.Opcode.{Opcode}
-use Rattle.s370_cpu.specs.declared.opcodes.Opcode.TheVariants.{Invalid, Supervised, SupervisorCall, Execute, Computes, Fetches, Stores}
+use Rattle.s370_cpu.specs.declared.opcodes.Opcode.TheVariants.{Invalid, Supervised, SupervisorCall}
+use Rattle.s370_cpu.specs.declared.opcodes.Opcode.TheVariants.{Execute, Computes, Fetches, Stores}
 
 -- the first byte of an instruction, and the row of the table that it names
 abbrev pub codes : List (ℕ × Opcode)

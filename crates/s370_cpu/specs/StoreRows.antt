@@ -1,5 +1,6 @@
 -- The rows that store an operand.
-use Rattle.std.specs.Prelude.{ℕ, ◌%◌, ◌^◌, ◌==◌, ◌&&◌, List, [], ◌∷◌, slice_index, Option, Some, None}
+use Rattle.std.specs.Prelude.{ℕ, ◌%◌, ◌^◌, ◌==◌, ◌&&◌, List, [], ◌∷◌, slice_index, Option, Some}
+use Rattle.std.specs.Prelude.{None}
 use Rattle.std.specs.Int.{w16, w32, w64, to_be_bytes}
 use Rattle.s370_rows.specs.declared.ending.Ending.TheVariants.{Done}
 use Rattle.s370_rows.specs.declared.immediate.ByteChange.{ByteChange}
@@ -18,20 +19,27 @@ use Rattle.s370_bytes.specs.Masks.{characters_stored}
 use Rattle.s370_bytes.specs.Multiple.{multiple_stored}
 use Rattle.s370_bytes.specs.Translate.{string_translated}
 use Rattle.s370_cpu.specs.declared.opcodes.StoreRow.{StoreRow}
-use Rattle.s370_cpu.specs.declared.opcodes.StoreRow.TheVariants.{StoreWord, StoreHalfword, StoreCharacter, StoreCharacters, StoreMultiple, ConvertToDecimal, ChangeByte, SwapWord, SwapDoubleword, CombineStrings, Translate, LayOut, MoveLong}
+use Rattle.s370_cpu.specs.declared.opcodes.StoreRow.TheVariants.{StoreWord, StoreHalfword}
+use Rattle.s370_cpu.specs.declared.opcodes.StoreRow.TheVariants.{StoreCharacter, StoreCharacters}
+use Rattle.s370_cpu.specs.declared.opcodes.StoreRow.TheVariants.{StoreMultiple, ConvertToDecimal}
+use Rattle.s370_cpu.specs.declared.opcodes.StoreRow.TheVariants.{ChangeByte, SwapWord}
+use Rattle.s370_cpu.specs.declared.opcodes.StoreRow.TheVariants.{SwapDoubleword, CombineStrings}
+use Rattle.s370_cpu.specs.declared.opcodes.StoreRow.TheVariants.{Translate, LayOut, MoveLong}
 use Rattle.s370_cpu.specs.FetchRows.{only_where, operand_of}
 
 -- ST: register R1 goes to the word at the second operand's address
 abbrev pub word_stored : State → Instruction → Row
 word_stored m i =
     let a = operand_of m i in
-    checked (store_test a 4 ∷ []) (writes m a (to_be_bytes w32 (slice_index m.cpu.general (r1_of i))))
+    checked (store_test a 4 ∷ [])
+    (writes m a (to_be_bytes w32 (slice_index m.cpu.general (r1_of i))))
 
 -- STH: its two rightmost bytes
 abbrev pub halfword_stored : State → Instruction → Row
 halfword_stored m i =
     let a = operand_of m i in
-    checked (store_test a 2 ∷ []) (writes m a (to_be_bytes w16 (slice_index m.cpu.general (r1_of i) % 2 ^ 16)))
+    checked (store_test a 2 ∷ [])
+    (writes m a (to_be_bytes w16 (slice_index m.cpu.general (r1_of i) % 2 ^ 16)))
 
 -- STC: its rightmost byte
 abbrev pub character_stored : State → Instruction → Row
@@ -54,10 +62,12 @@ byte_changed change m i =
 
 -- ---- compare and swap
 
+-- the word that storage takes in a swap, if it takes one
 abbrev pub word_taken : ℕ → Option ℕ → List Stored
 word_taken a None = []
 word_taken a (Some n) = record { start = a; written = to_be_bytes w32 n } ∷ []
 
+-- the doubleword that storage takes in a swap, if it takes one
 abbrev pub doubleword_taken : ℕ → Option ℕ → List Stored
 doubleword_taken a None = []
 doubleword_taken a (Some n) = record { start = a; written = to_be_bytes w64 n } ∷ []
@@ -68,7 +78,8 @@ word_swapped m i =
     let a = based_address m.cpu i.second_half in
     let s = compared_swap m.cpu (r1_of i) (r2_of i) (word_at m.bytes a) in
     only_where (a % 4 == 0)
-    (checked (store_test a 4 ∷ []) (record { ending = Done; cpu = s.cpu; stores = word_taken a s.stored; keyed = None }))
+    (checked (store_test a 4 ∷ [])
+    (record { ending = Done; cpu = s.cpu; stores = word_taken a s.stored; keyed = None }))
 
 -- CDS, whose operand is on a doubleword, and whose pairs are named by their even registers
 abbrev pub doubleword_swapped : State → Instruction → Row
@@ -76,10 +87,12 @@ doubleword_swapped m i =
     let a = based_address m.cpu i.second_half in
     let s = compared_swap_pair m.cpu (r1_of i) (r2_of i) (doubleword_at m.bytes a) in
     only_where ((r1_of i % 2 == 0) && ((r2_of i % 2 == 0) && (a % 8 == 0)))
-    (checked (store_test a 8 ∷ []) (record { ending = Done; cpu = s.cpu; stores = doubleword_taken a s.stored; keyed = None }))
+    (checked (store_test a 8 ∷ [])
+    (record { ending = Done; cpu = s.cpu; stores = doubleword_taken a s.stored; keyed = None }))
 
 -- ---- one line for each family
 
+-- the row of each family that stores an operand
 abbrev pub store_row : StoreRow → State → Instruction → Row
 store_row StoreWord m i = word_stored m i
 store_row StoreHalfword m i = halfword_stored m i

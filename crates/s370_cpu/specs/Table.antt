@@ -12,11 +12,14 @@ use Rattle.s370_rows.specs.Rows.{Row, unchecked, suppressed, unchanged}
 use Rattle.s370_cpu.specs.declared.conclude.Stop.{Stop}
 use Rattle.s370_cpu.specs.declared.conclude.Stop.TheVariants.{InputOutput, Privileged}
 use Rattle.s370_cpu.specs.declared.opcodes.Opcode.{Opcode}
-use Rattle.s370_cpu.specs.declared.opcodes.Opcode.TheVariants.{Invalid, Supervised, SupervisorCall, Execute, Computes, Fetches, Stores}
+use Rattle.s370_cpu.specs.declared.opcodes.Opcode.TheVariants.{Invalid, Supervised, SupervisorCall}
+use Rattle.s370_cpu.specs.declared.opcodes.Opcode.TheVariants.{Execute, Computes, Fetches, Stores}
 use Rattle.s370_cpu.specs.declared.opcodes.RegisterRow.TheVariants.{Register, ShiftPair, ShiftWord}
 use Rattle.s370_cpu.specs.declared.opcodes.FetchRow.TheVariants.{ConvertToBinary, Halfword, Word}
 use Rattle.s370_rows.specs.declared.arithmetic.Arithmetic.{Arithmetic}
-use Rattle.s370_rows.specs.declared.arithmetic.Arithmetic.TheVariants.{LoadPositive, LoadNegative, LoadComplement, Add, Subtract}
+use Rattle.s370_rows.specs.declared.arithmetic.Arithmetic.TheVariants.{LoadPositive, LoadNegative}
+use Rattle.s370_rows.specs.declared.arithmetic.Arithmetic.TheVariants.{LoadComplement, Add}
+use Rattle.s370_rows.specs.declared.arithmetic.Arithmetic.TheVariants.{Subtract}
 use Rattle.s370_rows.specs.declared.shift.Shift.TheVariants.{Left}
 use Rattle.s370_cpu.specs.Opcodes.{opcode_at}
 use Rattle.s370_cpu.specs.RegisterRows.{register_row}
@@ -29,7 +32,8 @@ use Rattle.s370_cpu.specs.Unit.{Unit, Carries, MeetsUnit, place_at, carried, uni
 abbrev pub untested : Result Ended ProgramCode → Row
 untested left = record { refused = None; tests = []; leaves = over_result left }
 
--- the row of each family, at a state and for an instruction at its place; EX has a row only as the target of another
+-- the row of each family, at a state and for an instruction at its place; EX has a row only as the
+-- target of another
 abbrev pub row_named : Opcode → State → Place → Instruction → Row
 row_named Invalid m place i = suppressed Operation
 row_named (Supervised c) m place i = control_row c m i
@@ -43,7 +47,8 @@ row_named (Stores row) m place i = store_row row m i
 abbrev pub row_of : State → Place → Instruction → Row
 row_of m place i = row_named (opcode_at i.opcode) m place i
 
--- the unit at a state that is one instruction of this table, or the program interruption that comes in its place
+-- the unit at a state that is one instruction of this table, or the program interruption that comes
+-- in its place
 abbrev pub unit : State → Unit
 unit m = unit_over row_of m
 
@@ -52,15 +57,16 @@ abbrev pub is_supervised : Opcode → Bool
 is_supervised (Supervised c) = true
 is_supervised _ = false
 
--- whether the processor goes on after each instruction of an operation code that is carried out, unless it overflows:
--- those for the supervisor state, SVC and CVB are left out
+-- whether the processor goes on after each instruction of an operation code that is carried out,
+-- unless it overflows: those for the supervisor state, SVC and CVB are left out
 abbrev pub is_steady : Opcode → Bool
 is_steady (Supervised c) = false
 is_steady SupervisorCall = false
 is_steady (Fetches ConvertToBinary) = false
 is_steady _ = true
 
--- whether an operation makes a signed number, which may not fit its register (the negative of LNR always does)
+-- whether an operation makes a signed number, which may not fit its register (the negative of LNR
+-- always does)
 abbrev pub is_signed : Arithmetic → Bool
 is_signed LoadPositive = true
 is_signed LoadNegative = true
@@ -69,7 +75,8 @@ is_signed Add = true
 is_signed Subtract = true
 is_signed _ = false
 
--- whether an instruction of an operation code can overflow: GA22-7000, "Fixed-Point-Overflow Exception"
+-- whether an instruction of an operation code can overflow: GA22-7000, "Fixed-Point-Overflow
+-- Exception"
 abbrev pub may_overflow : Opcode → Bool
 may_overflow (Computes (Register op)) = is_signed op
 may_overflow (Computes (ShiftWord Left)) = true
@@ -78,8 +85,8 @@ may_overflow (Fetches (Word op)) = is_signed op
 may_overflow (Fetches (Halfword op)) = is_signed op
 may_overflow _ = false
 
--- what `step` may answer: an instruction for the supervisor state is handed back after its fetch, with nothing changed, so
--- that no device is asked; every other instruction is the unit
+-- what `step` may answer: an instruction for the supervisor state is handed back after its fetch,
+-- with nothing changed, so that no device is asked; every other instruction is the unit
 abbrev pub MeetsStep : (ℕ → Bool) → State → Stop → State → Type 0
 MeetsStep present old (Privileged i ilc) new =
     (new ≡ old) × (is_supervised (opcode_at i.opcode) ≡ true) × Carries old ilc i

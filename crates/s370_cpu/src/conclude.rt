@@ -10,29 +10,32 @@ use s370_store::Page;
 /// How a unit ends.
 #[derive(Clone, Copy, PartialEq, Eq)]
 pub enum Stop {
-    /// The instruction is done, or a part of it; the program status word has the address of the next one.
+    /// The instruction is done, or a part of it; the program status word has the address of the
+    /// next one.
     Done,
-    /// The program is interrupted with this code and instruction length. The program status word has the address that
-    /// the interruption stores.
+    /// The program is interrupted with this code and instruction length. The program status word
+    /// has the address that the interruption stores.
     Program(ProgramCode, Ilc),
-    /// The program called the supervisor with this number. The program status word has the next address.
+    /// The program called the supervisor with this number. The program status word has the next
+    /// address.
     Svc(u8, Ilc),
-    /// The device of this address, or its channel, is asked: the machine that has the devices answers by the condition
-    /// code. The program status word has the next address.
+    /// The device of this address, or its channel, is asked: the machine that has the devices
+    /// answers by the condition code. The program status word has the next address.
     InputOutput(IoOperation, u16),
-    /// An instruction for the supervisor state only: the one that is carried out, so under EX the target. It was
-    /// fetched, and nothing is changed, the address neither.
+    /// An instruction for the supervisor state only: the one that is carried out, so under EX the
+    /// target. It was fetched, and nothing is changed, the address neither.
     Privileged(Instruction, Ilc),
     /// The unit has to access this page, which is not present. Nothing is changed.
     Absent(Page),
 }
 
-/// Sets the address that an instruction leaves, and tells how the unit ends.
+/// Sets the address that an instruction leaves, and says how the unit ends.
 #[inline(always)]
 pub fn conclude(cpu: &mut Cpu, place: Place, outcome: Result<Ending, Refusal>) -> Stop
     ensures { stopped outcome place cpu.old ≡ record { stop = result; cpu = cpu.new } }
 {
-    // Nearly every instruction ends in one of these two: a test of its own is cheaper than one jump more.
+    // Nearly every instruction ends in one of these two: a test of its own is cheaper than one jump
+    // more.
     if let Ok(Ending::Done) = outcome {
         cpu.psw.set_address(place.next);
         return Stop::Done;

@@ -11,7 +11,7 @@ use s370_store::Storage;
 /// The operation code of EX.
 pub const EXECUTE: u8 = 0x44;
 
-/// The target of EX, as EX changes it.
+/// Returns the target of EX, as EX changes it.
 #[inline(always)]
 fn join(cpu: &Cpu, i: Instruction, target: Instruction) -> Instruction
     ensures { result ≡ joined cpu.now i target }
@@ -27,6 +27,11 @@ fn join(cpu: &Cpu, i: Instruction, target: Instruction) -> Instruction
 }
 
 /// 44 EX: the target, which is fetched; any other instruction is carried out itself.
+///
+/// # Errors
+///
+/// A `Refusal`: the program interruption, or an absent page that has to be brought first. Nothing
+/// has changed.
 #[inline(always)]
 pub fn target_of<S: Storage>(cpu: &Cpu, storage: &S, i: Instruction) -> Result<Instruction, Refusal>
     ensures { let m = state_of cpu.now (S.memory storage.now) in

@@ -3,7 +3,10 @@ ghost use Rattle.std.specs.Prelude.{◌≡◌, ℕ, slice_index};
 ghost use Rattle.s370_rows.specs.Formats.{indexed_address, r2_of};
 ghost use Rattle.s370_rows.specs.State.{state_of};
 ghost use Rattle.s370_rows.specs.Rows.{MeetsRow, fetch_test};
-ghost use Rattle.s370_cpu.specs.FetchRows.{MeetsOperand, byte_tested, character_inserted, fetch_row, half_of, halfword_multiplied, halfword_operation, operand_of, word_divided, word_multiplied, word_of, word_operation};
+ghost use Rattle.s370_cpu.specs.FetchRows.{MeetsOperand, byte_tested, character_inserted};
+ghost use Rattle.s370_cpu.specs.FetchRows.{fetch_row, half_of, halfword_multiplied};
+ghost use Rattle.s370_cpu.specs.FetchRows.{halfword_operation, operand_of, word_divided};
+ghost use Rattle.s370_cpu.specs.FetchRows.{word_multiplied, word_of, word_operation};
 
 use crate::opcodes::FetchRow;
 use s370_bytes::{
@@ -18,40 +21,49 @@ use s370_rows::{
 };
 use s370_store::{Access, Range, Storage, load_byte, load_halfword, load_word};
 
-/// The word at the address of a second operand with an index.
+/// Returns the word at the address of a second operand with an index.
 #[inline(always)]
 fn fetched_word<S: Storage>(cpu: &Cpu, storage: &S, i: Instruction) -> Result<u32, Refusal>
     ensures { let m = state_of cpu.now (S.memory storage.now) in
-        MeetsOperand m (S.present storage.now) (fetch_test (operand_of m i) 4) (word_of m i) result }
+        MeetsOperand m (S.present storage.now) (fetch_test (operand_of m i) 4) (word_of m i)
+        result }
 {
     let start = cpu.indexed(i.r2(), i.second_half).get();
     grant(cpu, storage, Range { start, count: 4 }, Access::Fetch)?;
     Ok(load_word(storage, start))
 }
 
-/// The signed halfword at the address of a second operand with an index.
+/// Returns the signed halfword at the address of a second operand with an index.
 #[inline(always)]
 fn fetched_halfword<S: Storage>(cpu: &Cpu, storage: &S, i: Instruction) -> Result<u32, Refusal>
     ensures { let m = state_of cpu.now (S.memory storage.now) in
-        MeetsOperand m (S.present storage.now) (fetch_test (operand_of m i) 2) (half_of m i) result }
+        MeetsOperand m (S.present storage.now) (fetch_test (operand_of m i) 2) (half_of m i)
+        result }
 {
     let start = cpu.indexed(i.r2(), i.second_half).get();
     grant(cpu, storage, Range { start, count: 2 }, Access::Fetch)?;
     Ok(halfword_operand(load_halfword(storage, start)))
 }
 
-/// The byte at an address.
+/// Returns the byte at an address.
 #[inline(always)]
 fn fetched_byte<S: Storage>(cpu: &Cpu, storage: &S, address: Addr24) -> Result<u8, Refusal>
     ensures { let m = state_of cpu.now (S.memory storage.now) in
-        MeetsOperand m (S.present storage.now) (fetch_test address 1) (slice_index m.bytes address) result }
+        MeetsOperand m (S.present storage.now) (fetch_test address 1) (slice_index m.bytes address)
+        result }
 {
     let start = address.get();
     grant(cpu, storage, Range { start, count: 1 }, Access::Fetch)?;
     Ok(load_byte(storage, start))
 }
 
-/// 54 N, 55 CL, 56 O, 57 X, 58 L, 59 C, 5A A, 5B S, 5E AL, 5F SL: an operation on a register and a word of storage.
+/// 54 N, 55 CL, 56 O, 57 X, 58 L, 59 C, 5A A, 5B S, 5E AL, 5F SL: an operation on a register and a
+/// word of storage.
+///
+/// # Errors
+///
+/// A `Refusal`: the program interruption, or an absent page that has to be brought first. Nothing
+/// has changed.
 #[inline(always)]
 pub fn word_row<S: Storage>(
     operation: Arithmetic,
@@ -67,7 +79,12 @@ pub fn word_row<S: Storage>(
     word_row_at(operation, cpu, storage, i, start)
 }
 
-/// As [`word_row`], whose word stands at this address.
+/// As [`word_row`], whose word is at this address.
+///
+/// # Errors
+///
+/// A `Refusal`: the program interruption, or an absent page that has to be brought first. Nothing
+/// has changed.
 #[inline(always)]
 pub fn word_row_at<S: Storage>(
     operation: Arithmetic,
@@ -96,7 +113,8 @@ fn halfword_row<S: Storage>(
 ) -> Result<Ending, Refusal>
     ensures { let before = state_of cpu.old (S.memory storage.now) in
         let after = state_of cpu.new (S.memory storage.now) in
-        MeetsRow (halfword_operation operation before i) (S.present storage.now) before result after }
+        MeetsRow (halfword_operation operation before i) (S.present storage.now) before result
+        after }
 {
     let b = fetched_halfword(cpu, storage, i)?;
     Ok(arithmetic_row(operation, cpu, i.r1(), b))
@@ -164,6 +182,11 @@ fn insert_character<S: Storage>(
 }
 
 /// 91 TM, 95 CLI: a test of a byte of storage by the immediate one.
+///
+/// # Errors
+///
+/// A `Refusal`: the program interruption, or an absent page that has to be brought first. Nothing
+/// has changed.
 #[inline(always)]
 pub fn test_byte_row<S: Storage>(
     test: ByteTest,
@@ -181,6 +204,11 @@ pub fn test_byte_row<S: Storage>(
 }
 
 /// Carries out a row that fetches its operands, but for the address.
+///
+/// # Errors
+///
+/// A `Refusal`: the program interruption, or an absent page that has to be brought first. Nothing
+/// has changed.
 #[inline(always)]
 pub fn fetch_row<S: Storage, const CODE: u8>(
     row: FetchRow,

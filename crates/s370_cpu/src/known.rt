@@ -1,5 +1,7 @@
-//! An instruction that may be fetched, whose operation code is known: GA22-7000, "Instruction Formats".
-ghost use Rattle.std.specs.Prelude.{◌≡◌, ℕ, ◌+◌, ◌≤◌, List, length, slice_index, slice_range, if◌then◌else◌};
+//! An instruction that may be fetched, whose operation code is known: GA22-7000, "Instruction
+//! Formats".
+ghost use Rattle.std.specs.Prelude.{◌≡◌, ℕ, ◌+◌, ◌≤◌, List, length, slice_index, slice_range};
+ghost use Rattle.std.specs.Prelude.{if◌then◌else◌};
 ghost use Rattle.std.specs.Int.{w16, from_be_bytes};
 ghost use Rattle.s370_store.specs.Access.{IsGranted};
 ghost use Rattle.s370_cpu.specs.Fetch.{instruction_at};
@@ -7,7 +9,7 @@ ghost use Rattle.s370_cpu.specs.Fetch.{instruction_at};
 use s370_rows::Instruction;
 use s370_store::{Block, Storage};
 
-/// A halfword of an instruction, or zero where it lies past the instruction's length.
+/// Returns a halfword of an instruction, or zero where it lies past the instruction's length.
 #[inline(always)]
 fn half(past: bool, bytes: [u8; 2]) -> u16
     ensures { result ≡ (if past then 0 else from_be_bytes w16 bytes) }
@@ -15,10 +17,12 @@ fn half(past: bool, bytes: [u8; 2]) -> u16
     if past { 0 } else { u16::from_be_bytes(bytes) }
 }
 
-/// The instruction whose bytes these are, as many as the longest has, of which the first, the operation code, is known.
+/// Returns the instruction whose bytes these are, as many as the longest has, of which the first,
+/// the operation code, is known.
 #[inline(always)]
 fn instruction_in(bytes: &[u8; 6], opcode: u8) -> Instruction
-    ensures instruction { (storage : List ℕ) → (start : ℕ) → bytes.now ≡ slice_range storage start (start + 6)
+    ensures instruction { (storage : List ℕ) → (start : ℕ)
+        → bytes.now ≡ slice_range storage start (start + 6)
         → opcode ≡ slice_index storage start → result ≡ instruction_at storage start }
     ensures same { result.opcode ≡ opcode }
 {
@@ -30,10 +34,12 @@ fn instruction_in(bytes: &[u8; 6], opcode: u8) -> Instruction
     }
 }
 
-/// The instruction at an address from which six bytes may be loaded, of which the first, its operation code, is known.
+/// Returns the instruction at an address from which six bytes may be loaded, of which the first,
+/// its operation code, is known.
 #[inline(always)]
 pub fn load_known<S: Storage>(storage: &S, start: u32, opcode: u8) -> Instruction
-    requires granted { IsGranted (length (S.memory storage.now).bytes) (S.present storage.now) start 6 }
+    requires granted { IsGranted (length (S.memory storage.now).bytes) (S.present storage.now) start
+        6 }
     requires known { opcode ≡ slice_index (S.memory storage.now).bytes start }
     ensures instruction { result ≡ instruction_at (S.memory storage.now).bytes start }
     ensures same { result.opcode ≡ opcode }
@@ -43,7 +49,8 @@ pub fn load_known<S: Storage>(storage: &S, start: u32, opcode: u8) -> Instructio
     instruction_in(&bytes, opcode)
 }
 
-/// The instruction at an address in a block that was found, whose first byte, the operation code, is known.
+/// Returns the instruction at an address in a block that was found, whose first byte, the operation
+/// code, is known.
 #[inline(always)]
 pub fn load_known_in<S: Storage>(storage: &S, block: Block, start: u32, opcode: u8) -> Instruction
     requires placed { S.IsPlaced storage.now block }

@@ -17,7 +17,8 @@ use s370_rows::{
     multiply_row, set_program_mask_row, shift_pair_row, shift_row,
 };
 
-/// 05 BALR, 45 BAL; 06 BCTR, 46 BCT; 07 BCR, 47 BC. `may` says whether there is an address to branch to.
+/// 05 BALR, 45 BAL; 06 BCTR, 46 BCT; 07 BCR, 47 BC. `may` says whether there is an address to
+/// branch to.
 #[inline(always)]
 fn branch_row(
     kind: Branching,
@@ -48,7 +49,8 @@ fn shift_count(cpu: &Cpu, i: Instruction) -> u8
 /// 1C MR: a product of two registers.
 #[inline(always)]
 fn multiply(cpu: &mut Cpu, i: Instruction, b: u32) -> Result<Ending, ProgramCode>
-    ensures { MeetsEnded (with_even (r1_of i) (Ok (multiplied cpu.old (r1_of i) b))) cpu.old result cpu.new }
+    ensures { MeetsEnded (with_even (r1_of i) (Ok (multiplied cpu.old (r1_of i) b))) cpu.old result
+        cpu.new }
 {
     if i.r1().number() % 2 != 0 {
         return Err(ProgramCode::Specification);
@@ -59,7 +61,8 @@ fn multiply(cpu: &mut Cpu, i: Instruction, b: u32) -> Result<Ending, ProgramCode
 /// 1D DR: a quotient of a pair and a register.
 #[inline(always)]
 fn divide(cpu: &mut Cpu, i: Instruction, b: u32) -> Result<Ending, ProgramCode>
-    ensures { MeetsEnded (with_even (r1_of i) (quotient_left cpu.old (r1_of i) b)) cpu.old result cpu.new }
+    ensures { MeetsEnded (with_even (r1_of i) (quotient_left cpu.old (r1_of i) b)) cpu.old result
+        cpu.new }
 {
     if i.r1().number() % 2 != 0 {
         return Err(ProgramCode::Specification);
@@ -71,7 +74,8 @@ fn divide(cpu: &mut Cpu, i: Instruction, b: u32) -> Result<Ending, ProgramCode>
 #[inline(always)]
 fn shift_pair(shift: Shift, cpu: &mut Cpu, i: Instruction) -> Result<Ending, ProgramCode>
     ensures { MeetsEnded (with_even (r1_of i)
-        (Ok (pair_shifted shift cpu.old (r1_of i) (shift_count cpu.old i)))) cpu.old result cpu.new }
+        (Ok (pair_shifted shift cpu.old (r1_of i) (shift_count cpu.old i)))) cpu.old result
+        cpu.new }
 {
     if i.r1().number() % 2 != 0 {
         return Err(ProgramCode::Specification);
@@ -80,7 +84,7 @@ fn shift_pair(shift: Shift, cpu: &mut Cpu, i: Instruction) -> Result<Ending, Pro
     Ok(shift_pair_row(shift, cpu, i.r1(), count))
 }
 
-/// Whether a branch is taken where there is an address to branch to.
+/// Returns whether a branch is taken where there is an address to branch to.
 #[inline(always)]
 fn is_taken(kind: Branching, cpu: &Cpu, i: Instruction) -> bool
     ensures { result ≡ false → (place : Place) → (target : ℕ)
@@ -95,8 +99,9 @@ fn is_taken(kind: Branching, cpu: &Cpu, i: Instruction) -> bool
 
 /// 45 BAL, 46 BCT, 47 BC: a branch to the second operand's address.
 ///
-/// The address is made up only for a branch that is taken. So the real processor foretells which instruction comes
-/// next, and does not wait for the count or the condition to choose between two addresses.
+/// The address is made up only for a branch that is taken. So the real processor foretells which
+/// instruction comes next, and does not wait for the count or the condition to choose between two
+/// addresses.
 #[inline(always)]
 pub fn branch_to(kind: Branching, cpu: &mut Cpu, place: Place, i: Instruction) -> Ending
     ensures { branched kind cpu.old place i true (indexed_address cpu.old (r2_of i) i.second_half)
@@ -109,10 +114,12 @@ pub fn branch_to(kind: Branching, cpu: &mut Cpu, place: Place, i: Instruction) -
     branch_row(kind, cpu, place, i, true, target)
 }
 
-/// 05 BALR, 06 BCTR, 07 BCR: a branch to the address in a register, but none where the field is zero.
+/// 05 BALR, 06 BCTR, 07 BCR: a branch to the address in a register, but none where the field is
+/// zero.
 #[inline(always)]
 pub fn branch_register(kind: Branching, cpu: &mut Cpu, place: Place, i: Instruction) -> Ending
-    ensures { branched kind cpu.old place i (not (r2_of i == 0)) (slice_index cpu.old.general (r2_of i))
+    ensures { branched kind cpu.old place i (not (r2_of i == 0))
+        (slice_index cpu.old.general (r2_of i))
         ≡ record { ending = result; cpu = cpu.new } }
 {
     let target = cpu.general[i.r2().index()];
@@ -140,6 +147,10 @@ pub fn load_address(cpu: &mut Cpu, i: Instruction) -> Ending
 }
 
 /// Carries out a row that accesses no storage, but for the address.
+///
+/// # Errors
+///
+/// The code of the program interruption; nothing has changed.
 #[inline(always)]
 pub fn register_row(
     row: RegisterRow,

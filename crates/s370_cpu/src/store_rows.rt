@@ -3,7 +3,8 @@ ghost use Rattle.std.specs.Prelude.{◌≡◌, ℕ, length};
 ghost use Rattle.s370_rows.specs.Formats.{indexed_address, r2_of};
 ghost use Rattle.s370_rows.specs.State.{state_of};
 ghost use Rattle.s370_rows.specs.Rows.{MeetsRow};
-ghost use Rattle.s370_cpu.specs.StoreRows.{byte_changed, character_stored, doubleword_swapped, halfword_stored, store_row, word_stored, word_swapped};
+ghost use Rattle.s370_cpu.specs.StoreRows.{byte_changed, character_stored, doubleword_swapped};
+ghost use Rattle.s370_cpu.specs.StoreRows.{halfword_stored, store_row, word_stored, word_swapped};
 
 use crate::opcodes::StoreRow;
 use s370_bytes::{
@@ -21,6 +22,11 @@ use s370_store::{
 };
 
 /// 50 ST: the store of a register.
+///
+/// # Errors
+///
+/// A `Refusal`: the program interruption, or an absent page that has to be brought first. Nothing
+/// has changed.
 #[inline(always)]
 pub fn store_word_row<S: Storage>(
     cpu: &Cpu,
@@ -36,7 +42,12 @@ pub fn store_word_row<S: Storage>(
     store_word_row_at(cpu, storage, i, start)
 }
 
-/// As [`store_word_row`], whose word stands at this address.
+/// As [`store_word_row`], whose word is at this address.
+///
+/// # Errors
+///
+/// A `Refusal`: the program interruption, or an absent page that has to be brought first. Nothing
+/// has changed.
 #[inline(always)]
 pub fn store_word_row_at<S: Storage>(
     cpu: &Cpu,
@@ -168,6 +179,11 @@ fn swap_doubleword_row<S: Storage>(
 }
 
 /// Carries out a row that stores an operand, but for the address.
+///
+/// # Errors
+///
+/// A `Refusal`: the program interruption, or an absent page that has to be brought first. Nothing
+/// has changed.
 #[inline(always)]
 pub fn store_row<S: Storage, const CODE: u8>(
     row: StoreRow,

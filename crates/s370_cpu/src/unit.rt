@@ -1,12 +1,14 @@
 //! One unit of a processor: an instruction, or the program interruption that comes in its place.
-ghost use Rattle.std.specs.Prelude.{◌≡◌, ℕ, ◌+◌, ◌%◌, ◌≤◌, Bool, Ok, false, length, slice_index, true};
+ghost use Rattle.std.specs.Prelude.{◌≡◌, ℕ, ◌+◌, ◌%◌, ◌≤◌, Bool, Ok, false, length, slice_index};
+ghost use Rattle.std.specs.Prelude.{true};
 ghost use Rattle.s370_store.specs.Access.{IsGranted};
 ghost use Rattle.s370_store.specs.Blocks.{MayFetch};
 ghost use Rattle.s370_rows.specs.State.{state_of};
 ghost use Rattle.s370_rows.specs.Rows.{MeetsRow};
 ghost use Rattle.s370_cpu.specs.Fetch.{fetched, halfwords_of, instruction_at};
 ghost use Rattle.s370_cpu.specs.Opcodes.{opcode_at};
-ghost use Rattle.s370_cpu.specs.Table.{MeetsStep, is_signed, is_steady, is_supervised, may_overflow, row_of};
+ghost use Rattle.s370_cpu.specs.Table.{MeetsStep, is_signed, is_steady, is_supervised};
+ghost use Rattle.s370_cpu.specs.Table.{may_overflow, row_of};
 ghost use Rattle.s370_cpu.specs.Unit.{Carries, place_at};
 
 use crate::conclude::{Stop, conclude};
@@ -22,8 +24,9 @@ use s370_psw::{Ilc, ProgramCode};
 use s370_rows::{Arithmetic, Cpu, Ending, Instruction, Place, Refusal, Shift};
 use s370_store::{Block, Storage, load_byte, load_byte_in};
 
-/// Carries out an instruction of any state that was fetched, but for its address. The operation code is passed beside
-/// the instruction, so that where it is a constant all but that instruction's row is left out of the code.
+/// Carries out an instruction of any state that was fetched, but for its address. The operation
+/// code is passed next to the instruction, so that where it is a constant all but that
+/// instruction's row is left out of the code.
 #[inline(always)]
 fn perform<S: Storage>(
     cpu: &mut Cpu,
@@ -53,8 +56,9 @@ fn perform<S: Storage>(
     }
 }
 
-/// Does one instruction of a running processor, or the program interruption that comes in its place, up to the swap of
-/// program status words. An instruction for the supervisor state is handed back, after its fetch, with nothing done.
+/// Does one instruction of a running processor, or the program interruption that comes in its
+/// place, up to the swap of program status words. An instruction for the supervisor state is handed
+/// back, after its fetch, with nothing done.
 #[inline]
 pub fn step<S: Storage>(cpu: &mut Cpu, storage: &mut S) -> Stop
     ensures unit { let before = state_of cpu.old (S.memory storage.old) in
@@ -70,8 +74,8 @@ pub fn step<S: Storage>(cpu: &mut Cpu, storage: &mut S) -> Stop
     carry_known(cpu, storage, start, opcode)
 }
 
-/// As [`step`], for an instruction in a block that was found for fetches with the processor's key. It stands at an even
-/// address there, with room for the longest instruction.
+/// As [`step`], for an instruction in a block that was found for fetches with the processor's key.
+/// It is at an even address there, with room for the longest instruction.
 #[inline(always)]
 pub fn step_in<S: Storage>(cpu: &mut Cpu, storage: &mut S, start: Addr24, block: Block) -> Stop
     requires here { start ≡ cpu.old.psw.address }
@@ -123,14 +127,15 @@ fn step_apart<S: Storage>(cpu: &mut Cpu, storage: &mut S) -> Stop
     }
 }
 
-/// Goes on with the instruction of this operation code, which stands at the instruction address, once one look was
-/// enough for its fetch.
+/// Goes on with the instruction of this operation code, which is at the instruction address, once
+/// one look was enough for its fetch.
 #[inline(always)]
 fn carry_known<S: Storage>(cpu: &mut Cpu, storage: &mut S, start: u32, opcode: u8) -> Stop
     requires here { start ≡ cpu.old.psw.address }
     requires found { let m = state_of cpu.old (S.memory storage.old) in
         (fetched m start).result ≡ Ok (instruction_at (S.memory storage.old).bytes start) }
-    requires granted { IsGranted (length (S.memory storage.old).bytes) (S.present storage.old) start 6 }
+    requires granted { IsGranted (length (S.memory storage.old).bytes) (S.present storage.old) start
+        6 }
     requires known { opcode ≡ slice_index (S.memory storage.old).bytes start }
     ensures unit { let before = state_of cpu.old (S.memory storage.old) in
         let after = state_of cpu.new (S.memory storage.new) in
@@ -210,7 +215,7 @@ fn finish<S: Storage>(
     conclude(cpu, Place { next, ilc }, outcome)
 }
 
-/// Whether an operation code is for the supervisor state only.
+/// Returns whether an operation code is for the supervisor state only.
 #[inline(always)]
 fn is_supervised(code: u8) -> bool
     ensures { result ≡ is_supervised (opcode_at code) }
@@ -221,8 +226,8 @@ fn is_supervised(code: u8) -> bool
     }
 }
 
-/// Whether the processor goes on after each instruction of an operation code that is carried out, unless it overflows,
-/// and changes nobody's rights.
+/// Returns whether the processor goes on after each instruction of an operation code that is
+/// carried out, unless it overflows, and changes nobody's rights.
 #[inline(always)]
 pub fn is_steady(code: u8) -> bool
     ensures steady { result ≡ is_steady (opcode_at code) }
@@ -235,7 +240,8 @@ pub fn is_steady(code: u8) -> bool
     }
 }
 
-/// Whether an instruction of an operation code can overflow, which interrupts where the program mask has its bit.
+/// Returns whether an instruction of an operation code can overflow, which interrupts where the
+/// program mask has its bit.
 #[inline(always)]
 pub fn may_overflow(code: u8) -> bool
     ensures { result ≡ may_overflow (opcode_at code) }
@@ -250,7 +256,7 @@ pub fn may_overflow(code: u8) -> bool
     }
 }
 
-/// Whether an operation makes a signed number, which may not fit its register.
+/// Returns whether an operation makes a signed number, which may not fit its register.
 #[inline(always)]
 fn is_signed(operation: Arithmetic) -> bool
     ensures { result ≡ is_signed operation }

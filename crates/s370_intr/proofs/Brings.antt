@@ -40,7 +40,7 @@ distinct_more (p ∷ pages) page d new =
     ] in
     (apart, distinct_more pages page d.1 (λ at. new (later p pages page at)))
 
--- ---- a list without what stands at one place
+-- ---- a list without what is at one place
 
 abbrev dropped : ℕ → List ℕ → List ℕ
 dropped k [] = []
@@ -52,7 +52,7 @@ length-dropped k [] less = absurd (omega arith)
 length-dropped zero (y ∷ ys) less = omega arith
 length-dropped (suc k) (y ∷ ys) less = let rest = length-dropped k ys (omega arith) in omega arith
 
--- what is not what stood there is still in the list
+-- what is not what was there is still in the list
 kept : (k : ℕ) (ys : List ℕ) (x page : ℕ) → get_or ys k x ≡ x → (page ≡ x → ⊥) → Contains ys page → Contains (dropped k ys) page
 kept k [] x page e other at = absurd (omega (arith, at.1))
 kept zero (y ∷ ys) x page e other (zero, less, same) = absurd (other (sym same ∙ e))

@@ -1,5 +1,5 @@
--- The pages that a unit needs are in one list: by the table of today eight at most, since no instruction of two ranges is
--- ever interrupted.
+-- The pages that a unit needs are in one list: by the table of today eight at most, since no instruction of two ranges
+-- is ever interrupted.
 use Rattle.std.proofs.Common.{◌≡◌, ℕ, zero, suc, ◌+◌, ◌*◌, ◌<◌, ◌≤◌, ◌⊎◌, [], ◌∷◌, Option, Some, None, sym, subst, arith, inl, inr}
 use Rattle.std.proofs.lemmas.Bool.{cases_eq}
 use Rattle.std.proofs.lemmas.List.Elements.{All-nil, All-cons}

@@ -16,7 +16,7 @@ use Rattle.s370_store.specs.Blocks.{MayAccess}
 use Rattle.s370_store.specs.Memory.{Memory}
 use Rattle.s370_store.specs.declared.Access.{Access}
 use Rattle.s370_store.specs.declared.block.Block.{Block}
-use Rattle.s370_quick.specs.declared.held.Held.{Held}
+use Rattle.s370_quick.specs.declared.held.HeldBlock.{HeldBlock}
 use Rattle.s370_quick.specs.Quick.{AreHeld, IsHeld}
 use Rattle.s370_cpu.specs.declared.conclude.Stop.TheVariants.{Done}
 use Rattle.s370_cpu.specs.Laws.{Rights, rights_of}
@@ -124,7 +124,7 @@ each_more old c k units pages e each many needed few =
     let needs : AllNeeded (Needs (run k old).core) pages = subst (λ (r : Run). AllNeeded (Needs r.core) pages) (sym e) needed in
     each_on old 0 units (pages ∷ []) each (subst (λ (n : ℕ). EachBrings old n (pages ∷ [])) (sym here) (needs, few, tt))
 
--- ---- what a run tells
+-- ---- what a run says
 
 -- what is not a stop is a unit
 pub not_stopped : (l : Next) → ((reason : Reason) → l ≡ Stops reason → ⊥) → Goes l
@@ -142,7 +142,7 @@ offered_for_frames : (o : Option Status) (psw : Fields) → offered o psw ≡ St
 offered_for_frames None psw e = waits_for_frames psw.wait (psw.system_mask == 0) e
 offered_for_frames (Some status) psw e = cc
 
--- no look stops for want of frames
+-- no look stops for lack of frames
 looks_for_frames : (extended any : Bool) (taken : Pending) (other : Next) → (other ≡ Stops FramesOut → ⊥) → (if extended then Stops EcMode else (if any then Accepts taken else other)) ≡ Stops FramesOut → ⊥
 looks_for_frames true any taken other n e = cc
 looks_for_frames false true taken other n e = cc
@@ -160,7 +160,7 @@ tells_stop k n c c' FramesOut is_short e l h =
     let enabled = enabled_of c'.processor.cpu c'.pending in
     absurd (looks_for_frames psw.extended (is_any enabled) enabled (offered (first_status psw c'.subchannels) psw) (offered_for_frames (first_status psw c'.subchannels) psw) h)
 
--- a run that lacks a page
+-- a run that needs an absent page
 pub tells_cut : (k n : ℕ) (first c new : Core) (l : Next) (is_short : ℕ → Type 0) → run k first ≡ all_done k c → k < n → l ≡ look c → new ≡ c → IsLacking (NeedsAt l c) (length c.processor.bytes) is_short → TellsRun n first (record { core = new; units = k; reason = FramesOut }) is_short
 tells_cut k n first c new l is_short e less same kept h =
     let lacking : IsLacking (Needs c) (length c.processor.bytes) is_short = subst (λ (x : Next). IsLacking (NeedsAt x c) (length c.processor.bytes) is_short) same h in
@@ -240,7 +240,7 @@ held_still key block moves s k p h = record {
 }
 
 -- what is held for operands stays so, where no block moves and no key changes
-pub still_held : {is_placed is_placed' : Block → Type 0} {m m' : Memory} {present present' : ℕ → Bool} (key : ℕ) (held : Held) → ((b : Block) → is_placed b → is_placed' b) → length m'.bytes ≡ length m.bytes → m'.keys ≡ m.keys → present' ≡ present → AreHeld is_placed m present key held → AreHeld is_placed' m' present' key held
+pub still_held : {is_placed is_placed' : Block → Type 0} {m m' : Memory} {present present' : ℕ → Bool} (key : ℕ) (held : HeldBlock) → ((b : Block) → is_placed b → is_placed' b) → length m'.bytes ≡ length m.bytes → m'.keys ≡ m.keys → present' ≡ present → AreHeld is_placed m present key held → AreHeld is_placed' m' present' key held
 still_held key held moves s k p h = record {
   fetched = held_still key held.fetched moves s k p h.fetched;
   stored = held_still key held.stored moves s k p h.stored;

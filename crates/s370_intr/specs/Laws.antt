@@ -17,4 +17,5 @@ begun units _ = units
 
 -- all pages that a run needs are in one list of at most nine for each of them
 abbrev pub NinePagesEach : Type 0
-NinePagesEach = (c : Core) (units : ℕ) (reason : Reason) → AreAtMost (9 * begun units reason) (RunNeeds c units reason)
+NinePagesEach = (c : Core) (units : ℕ) (reason : Reason)
+    → AreAtMost (9 * begun units reason) (RunNeeds c units reason)

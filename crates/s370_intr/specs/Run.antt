@@ -1,6 +1,7 @@
--- What a running processor does in at most n units of operation (docs/MACHINE.md, "Units, states and runs"), and what code
--- may tell of it whose storage has to bring its pages.
-use Rattle.std.specs.Prelude.{◌≡◌, ℕ, ◌+◌, ◌*◌, ◌<◌, ◌≤◌, ◌⊎◌, zero, suc, List, [], ◌∷◌, length, Result, Ok, Err, ⊤}
+-- What a running processor does in at most n units of operation (docs/MACHINE.md, "Units, states
+-- and runs"), and what code may say of it whose storage has to bring its pages.
+use Rattle.std.specs.Prelude.{◌≡◌, ℕ, ◌+◌, ◌*◌, ◌<◌, ◌≤◌, ◌⊎◌, zero, suc, List, [], ◌∷◌, length}
+use Rattle.std.specs.Prelude.{Result, Ok, Err, ⊤}
 use Rattle.s370_store.specs.declared.supply.FramesOut.{FramesOut as Lack}
 use Rattle.s370_intr.specs.declared.next.Next.{Next}
 use Rattle.s370_intr.specs.declared.next.Next.TheVariants.{Stops, Accepts, AcceptsStatus, Instructs}
@@ -33,12 +34,14 @@ abbrev pub run : ℕ → Core → Run
 run zero c = record { core = c; units = 0; reason = Count }
 run (suc n) c = looked (look c) c (run n (unit_at (look c) c))
 
--- n units of a processor that has an instruction next, which leave it with an instruction next, whatever is pending
+-- n units of a processor that has an instruction next, which leave it with an instruction next,
+-- whatever is pending
 abbrev pub DoesInstructions : ℕ → State → State → Type 0
 DoesInstructions n m m' = (pending : Pending) → (list : List Subchannel) →
     let before = core_of m pending list in
     let after = core_of m' pending list in
-    look before ≡ Instructs → (run n before ≡ record { core = after; units = n; reason = Count }) × (look after ≡ Instructs)
+    look before ≡ Instructs → (run n before ≡ record { core = after; units = n; reason = Count })
+    × (look after ≡ Instructs)
 
 -- ---- pages that are brought
 
@@ -54,26 +57,29 @@ abbrev pub AllNeeded : (ℕ → Type 0) → List ℕ → Type 0
 AllNeeded needs [] = Unit {0}
 AllNeeded needs (page ∷ pages) = needs page × AllNeeded needs pages
 
--- what a unit may answer over a storage that brings its pages: the unit; or nothing changed, and a page is lacking
+-- what a unit may answer over a storage that brings its pages: the unit; or nothing changed, and a
+-- page is lacking
 abbrev pub SuppliesUnit : Next → Core → Result ⊤ Lack → Core → (ℕ → Type 0) → Type 0
 SuppliesUnit l old (Ok _) new is_short = new ≡ unit_at l old
-SuppliesUnit l old (Err _) new is_short = (new ≡ old) × IsLacking (NeedsAt l old) (length old.processor.bytes) is_short
+SuppliesUnit l old (Err _) new is_short = (new ≡ old)
+    × IsLacking (NeedsAt l old) (length old.processor.bytes) is_short
 
--- ---- what is told of a run
+-- ---- what is reported of a run
 
 -- of n units so many were done, and the next one needs a page for which there is no room
-pub record IsCut (n : ℕ) (old : Core) (told : Run) (is_short : ℕ → Type 0) : Type 0 where
-  pub done : run told.units old ≡ record told { reason = Count }
-  pub fewer : told.units < n
-  pub lacking : IsLacking (Needs told.core) (length told.core.processor.bytes) is_short
+pub record IsCut (n : ℕ) (old : Core) (reported : Run) (is_short : ℕ → Type 0) : Type 0 where
+  pub done : run reported.units old ≡ record reported { reason = Count }
+  pub fewer : reported.units < n
+  pub lacking : IsLacking (Needs reported.core) (length reported.core.processor.bytes) is_short
 
+-- what a run reports for each reason of its end
 abbrev pub TellsFor : Reason → ℕ → Core → Run → (ℕ → Type 0) → Type 0
-TellsFor FramesOut n old told is_short = IsCut n old told is_short
-TellsFor _ n old told is_short = run n old ≡ told
+TellsFor FramesOut n old reported is_short = IsCut n old reported is_short
+TellsFor _ n old reported is_short = run n old ≡ reported
 
 -- a run of at most n units, or so much of it as there was room for
 abbrev pub TellsRun : ℕ → Core → Run → (ℕ → Type 0) → Type 0
-TellsRun n old told is_short = TellsFor told.reason n old told is_short
+TellsRun n old reported is_short = TellsFor reported.reason n old reported is_short
 
 -- a page that a run needed: one of its units did, or the one for which there was no room
 abbrev pub RunNeeds : Core → ℕ → Reason → ℕ → Type 0
@@ -83,4 +89,5 @@ RunNeeds old units reason page =
 -- what each unit of a run brings, from this one on: at most nine pages, and the unit needs them
 abbrev pub EachBrings : Core → ℕ → List (List ℕ) → Type 0
 EachBrings old unit [] = Unit {0}
-EachBrings old unit (pages ∷ units) = AllNeeded (Needs (run unit old).core) pages × (length pages ≤ 9) × EachBrings old (suc unit) units
+EachBrings old unit (pages ∷ units) = AllNeeded (Needs (run unit old).core) pages
+    × (length pages ≤ 9) × EachBrings old (suc unit) units

@@ -1,5 +1,6 @@
 -- The interval timer: GA22-7000, "Interval Timer" and "External Interruption".
-use Rattle.std.specs.Prelude.{◌≡◌, ℕ, ◌+◌, ◌-◌, ◌%◌, ◌^◌, Bool, not, ◌&&◌, ◌||◌, nat_le, List, length, Result, Ok, Err, ⊤}
+use Rattle.std.specs.Prelude.{◌≡◌, ℕ, ◌+◌, ◌-◌, ◌%◌, ◌^◌, Bool, not, ◌&&◌, ◌||◌, nat_le, List}
+use Rattle.std.specs.Prelude.{length, Result, Ok, Err, ⊤}
 use Rattle.std.specs.Int.{w32, to_be_bytes}
 use Rattle.s370_store.specs.Access.{IsAway, put}
 use Rattle.s370_store.specs.declared.Page.{Page}
@@ -12,6 +13,7 @@ pub record Timed : Type 0 where
   pub bytes : List ℕ
   pub pending : Pending
 
+-- what a tick leaves of storage and pending conditions
 abbrev pub timed : List ℕ → Pending → Timed
 timed bytes pending = record { bytes = bytes; pending = pending }
 
@@ -27,8 +29,8 @@ is_negative word = nat_le (2 ^ 31) word
 abbrev pub goes_below : ℕ → Bool
 goes_below word = not (is_negative word) && is_negative (stepped word)
 
--- a tick: the word at location 80 is stepped, and where it goes from zero or positive to negative the timer condition is
--- pending from then on
+-- a tick: the word at location 80 is stepped, and where it goes from zero or positive to negative
+-- the timer condition is pending from then on
 abbrev pub tick : Timed → Timed
 tick t =
     let word = word_at t.bytes 80 in
@@ -43,7 +45,9 @@ ticked c =
     let t = tick (timed c.processor.bytes c.pending) in
     record c { processor = record c.processor { bytes = t.bytes }; pending = t.pending }
 
--- what the code may answer, and leave: the tick; or that page 0 is not present, with nothing changed
+-- what the code may answer, and leave: the tick; or that page 0 is not present, with nothing
+-- changed
 abbrev pub MeetsTick : (ℕ → Bool) → Timed → Result ⊤ Page → Timed → Type 0
 MeetsTick present old (Ok _) new = new ≡ tick old
-MeetsTick present old (Err page) new = (new ≡ old) × (page.0 ≡ 0) × IsAway (length old.bytes) present page.0
+MeetsTick present old (Err page) new = (new ≡ old) × (page.0 ≡ 0)
+    × IsAway (length old.bytes) present page.0

@@ -1,5 +1,5 @@
-//! Instructions that the loop leaves out, from the block in which they stand: what changes rights, interrupts, or asks a
-//! device, and what has operands in two blocks.
+//! Instructions that the loop leaves out, from the block in which they are: what changes rights,
+//! interrupts, or asks a device, and what has operands in two blocks.
 ghost use Rattle.std.specs.Prelude.{◌≡◌, ◌+◌, ◌%◌, ◌≤◌, Bool, Ok, false, length, true};
 ghost use Rattle.s370_store.specs.Blocks.{MayFetch};
 ghost use Rattle.s370_rows.specs.State.{state_of};
@@ -19,7 +19,7 @@ use s370_subchannels::Subchannels;
 /// 0A SVC.
 const SUPERVISOR_CALL: u8 = 0x0A;
 
-/// Whether page 0 is present, in which interruptions store and load the PSW.
+/// Returns whether page 0 is present, in which interruptions store and load the PSW.
 #[inline(always)]
 fn has_first_page<S: Storage>(storage: &S) -> bool
     requires { 8192 ≤ length (S.memory storage.now).bytes }
@@ -32,8 +32,8 @@ fn has_first_page<S: Storage>(storage: &S) -> bool
     }
 }
 
-/// Carries out SVC, which was fetched, and interrupts the program. Where page 0 is not present, that is the error, and
-/// nothing has changed.
+/// Carries out SVC, which was fetched, and interrupts the program. Where page 0 is not present,
+/// that is the error, and nothing has changed.
 #[inline(always)]
 fn call_supervisor<P: Processor, S: Keyed>(
     cpu: &mut Cpu,
@@ -65,8 +65,8 @@ fn call_supervisor<P: Processor, S: Keyed>(
     }
 }
 
-/// Carries out an instruction in a block, with the interruption or the answer that it ends in. Returns whether that was
-/// done: it may not be if a page is missing, and then nothing has changed.
+/// Carries out an instruction in a block, with the interruption or the answer that it ends in.
+/// Returns whether that was done: it may not be if a page is missing, and then nothing has changed.
 #[inline(always)]
 fn step_and_follow<P: Processor, S: Keyed>(
     cpu: &mut Cpu,
@@ -77,7 +77,8 @@ fn step_and_follow<P: Processor, S: Keyed>(
 ) -> bool
     requires size { 8192 ≤ length (S.Storage.memory storage.old).bytes }
     requires here { start ≡ cpu.old.psw.address }
-    requires may_fetch { MayFetch (length (S.Storage.memory storage.old).bytes) (S.Storage.memory storage.old).keys
+    requires may_fetch { MayFetch (length (S.Storage.memory storage.old).bytes)
+        (S.Storage.memory storage.old).keys
         (S.Storage.present storage.old) cpu.old.psw.key block.first }
     requires placed { S.Storage.IsPlaced storage.old block }
     requires begins { block.first ≤ start }
@@ -112,8 +113,9 @@ fn step_and_follow<P: Processor, S: Keyed>(
     }
 }
 
-/// Carries out the next instruction, which stands in this block, with the interruption or the answer that it ends in.
-/// Returns whether that was done: it may not be if a page is missing, and then nothing has changed.
+/// Carries out the next instruction, which is in this block, with the interruption or the answer
+/// that it ends in. Returns whether that was done: it may not be if a page is missing, and then
+/// nothing has changed.
 #[inline(always)]
 pub fn instruct_in<P: Processor, S: Keyed>(
     cpu: &mut Cpu,
@@ -124,7 +126,8 @@ pub fn instruct_in<P: Processor, S: Keyed>(
 ) -> bool
     requires size { 8192 ≤ length (S.Storage.memory storage.old).bytes }
     requires here { start ≡ cpu.old.psw.address }
-    requires may_fetch { MayFetch (length (S.Storage.memory storage.old).bytes) (S.Storage.memory storage.old).keys
+    requires may_fetch { MayFetch (length (S.Storage.memory storage.old).bytes)
+        (S.Storage.memory storage.old).keys
         (S.Storage.present storage.old) cpu.old.psw.key block.first }
     requires placed { S.Storage.IsPlaced storage.old block }
     requires begins { block.first ≤ start }

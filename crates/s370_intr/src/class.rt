@@ -2,8 +2,8 @@
 ghost use Rattle.std.specs.Prelude.{◌≡◌};
 ghost use Rattle.s370_intr.specs.Swap.{old_psw_of, new_psw_of};
 
-/// A class of interruptions: each has a place for the program status word that it stores, and one for the word that it
-/// loads (GA22-7000, "Assigned Storage Locations").
+/// A class of interruptions: each has a place for the program status word that it stores, and one
+/// for the word that it loads (GA22-7000, "Assigned Storage Locations").
 #[derive(Clone, Copy, PartialEq, Eq)]
 pub enum Class {
     External,
@@ -14,7 +14,7 @@ pub enum Class {
 }
 
 impl Class {
-    /// The address of the old program status word.
+    /// Returns the address of the old program status word.
     #[inline]
     pub fn old_psw(self) -> u32
         ensures { result ≡ old_psw_of self }
@@ -28,7 +28,7 @@ impl Class {
         }
     }
 
-    /// The address of the new program status word.
+    /// Returns the address of the new program status word.
     #[inline]
     pub fn new_psw(self) -> u32
         ensures { result ≡ new_psw_of self }

@@ -8,8 +8,12 @@ use s370_rows::{Cpu, IoOperation};
 use s370_store::{Page, Storage};
 use s370_subchannels::{Subchannels, answer};
 
-/// Answers an input/output instruction, which asks the device of this address. Where a page is not present that is
-/// needed, it is the error, and nothing is changed.
+/// Answers an input/output instruction, which asks the device of this address. If a page is not
+/// present that is needed, it is the error, and nothing is changed.
+///
+/// # Errors
+///
+/// A page that is needed and absent; nothing has changed.
 #[inline(never)]
 pub fn answer_asked<S: Storage>(
     cpu: &mut Cpu,

@@ -40,8 +40,8 @@ pub enum Next {
     Instructs,
 }
 
-/// Whether a running processor does an instruction next, where nothing is pending. Where it says no, [`look`] tells
-/// what comes next, which can be an instruction still.
+/// Returns whether a running processor does an instruction next, where nothing is pending. If it
+/// says no, [`look`] says what comes next, which can be an instruction still.
 #[inline(always)]
 pub fn is_plain(cpu: &Cpu, pending: Pending, subchannels: &Subchannels) -> bool
     ensures { (m : Memory) → result ≡ true
@@ -59,7 +59,8 @@ pub fn is_plain(cpu: &Cpu, pending: Pending, subchannels: &Subchannels) -> bool
     subchannels.is_quiet(&cpu.psw)
 }
 
-/// What a running processor does next, of which it is known already whether it is an instruction with nothing pending.
+/// Returns what a running processor does next, of which it is known already whether it is an
+/// instruction with nothing pending.
 #[inline(always)]
 pub fn next_of(is_plain: bool, cpu: &Cpu, pending: Pending, subchannels: &Subchannels) -> Next
     requires { (m : Memory) → is_plain ≡ true
@@ -73,7 +74,7 @@ pub fn next_of(is_plain: bool, cpu: &Cpu, pending: Pending, subchannels: &Subcha
     }
 }
 
-/// What a running processor does next.
+/// Returns what a running processor does next.
 #[inline(always)]
 pub fn look(cpu: &Cpu, pending: Pending, subchannels: &Subchannels) -> Next
     ensures { (m : Memory) → result ≡ look (core_of (state_of cpu.now m) pending subchannels.now) }
@@ -81,7 +82,7 @@ pub fn look(cpu: &Cpu, pending: Pending, subchannels: &Subchannels) -> Next
     if cpu.psw.is_ec() {
         return Next::Stops(Reason::EcMode);
     }
-    // Before nearly every unit nothing is pending, which two tests tell.
+    // Before nearly every unit nothing is pending, which two tests say.
     if pending.is_any() {
         let enabled = pending.enabled(cpu);
         if enabled.is_any() {
@@ -105,7 +106,7 @@ fn offered(status: Option<Status>, psw: &Psw) -> Next
     }
 }
 
-/// Whether the processor waits.
+/// Returns whether the processor waits.
 #[inline(always)]
 fn waits(psw: &Psw) -> Next
     ensures { result ≡ waits psw.now }

@@ -31,7 +31,7 @@ impl Pending {
         }
     }
 
-    /// Whether there is one.
+    /// Returns whether there is one.
     #[inline(always)]
     pub fn is_any(self) -> bool
         ensures { result ≡ is_any self }
@@ -39,7 +39,7 @@ impl Pending {
         self.timer || self.key
     }
 
-    /// The interruption code of all of them together.
+    /// Returns the interruption code of all of them together.
     #[inline]
     pub fn code(self) -> u16
         ensures { result ≡ external_code self }

@@ -15,9 +15,13 @@ const PSWS: Range = Range {
     count: 104,
 };
 
-/// Interrupts a processor: stores its program status word with this code and instruction length, and loads the new one.
-/// Keys are not tested. All the locations lie in page 0; where that is not present it is the error, and nothing is
-/// changed.
+/// Interrupts a processor: stores its program status word with this code and instruction length,
+/// and loads the new one. Keys are not tested. All the locations lie in page 0; where that is not
+/// present it is the error, and nothing is changed.
+///
+/// # Errors
+///
+/// A page that is needed and absent; nothing has changed.
 pub fn swap<S: Storage>(
     cpu: &mut Cpu,
     storage: &mut S,

@@ -1,5 +1,6 @@
 //! Units, one after another.
-ghost use Rattle.std.specs.Prelude.{◌≡◌, ℕ, ◌+◌, ◌*◌, ◌/◌, ◌%◌, ◌<◌, ◌≤◌, List, [], ◌∷◌, IfSome, IsSome, length, Result, true};
+ghost use Rattle.std.specs.Prelude.{◌≡◌, ℕ, ◌+◌, ◌*◌, ◌/◌, ◌%◌, ◌<◌, ◌≤◌, List, [], ◌∷◌, IfSome};
+ghost use Rattle.std.specs.Prelude.{IsSome, length, Result, true};
 ghost use Rattle.s370_store.specs.Blocks.{MayFetch};
 ghost use Rattle.s370_store.specs.Memory.{Memory};
 ghost use Rattle.s370_rows.specs.State.{state_of};
@@ -7,7 +8,8 @@ ghost use Rattle.s370_quick.specs.Quick.{IsLongMoveAt};
 ghost use Rattle.s370_intr.specs.Laws.{begun};
 ghost use Rattle.s370_intr.specs.Units.{MeetsUnitAt, NeedsAt, core_of, look};
 ghost use Rattle.s370_intr.specs.declared.next.Next.TheVariants as next;
-ghost use Rattle.s370_intr.specs.Run.{AllNeeded, DoesInstructions, EachBrings, SuppliesUnit, TellsRun, run};
+ghost use Rattle.s370_intr.specs.Run.{AllNeeded, DoesInstructions, EachBrings, SuppliesUnit};
+ghost use Rattle.s370_intr.specs.Run.{TellsRun, run};
 ghost use Rattle.s370_intr.specs.declared.next.Reason.TheVariants as reasons;
 
 use crate::apart::instruct_in;
@@ -16,7 +18,7 @@ use crate::pending::Pending;
 use crate::unit::{Processor, accept, accept_status, instruct_saving};
 use s370_num::{AccessKey, Addr24};
 use s370_psw::Psw;
-use s370_quick::{Held, move_parts_quickly, step_quickly};
+use s370_quick::{HeldBlock, move_parts_quickly, step_quickly};
 use s370_rows::Cpu;
 use s370_store::{Access, Block, FramesOut, Keyed, Page, Storage, UnitSupply, load_byte_in};
 use s370_subchannels::Subchannels;
@@ -44,7 +46,8 @@ fn try_unit<P: Processor, S: Keyed>(
     requires { 8192 ≤ length (S.Storage.memory storage.old).bytes }
     ensures unit { let before = core_of
         (state_of cpu.old (S.Storage.memory storage.old)) pending.old subchannels.old in
-        let after = core_of (state_of cpu.new (S.Storage.memory storage.new)) pending.new subchannels.new in
+        let after = core_of (state_of cpu.new (S.Storage.memory storage.new)) pending.new
+        subchannels.new in
         MeetsUnitAt said (S.Storage.present storage.old) before result after }
     ensures rest { S.KeepsRest storage.old storage.new }
 {
@@ -56,8 +59,8 @@ fn try_unit<P: Processor, S: Keyed>(
     }
 }
 
-/// The unit that a look says, after each page was brought that it needs, each of them once. Where there is no room for
-/// one of them, nothing has changed.
+/// The unit that a look says, after each page was brought that it needs, each of them once. If
+/// there is no room for one of them, nothing has changed.
 fn bring_pages<P: Processor, S: UnitSupply>(
     said: Next,
     cpu: &mut Cpu,
@@ -69,13 +72,16 @@ fn bring_pages<P: Processor, S: UnitSupply>(
     requires { 8192 ≤ length (S.Storage.memory storage.old).bytes }
     ensures unit { let before = core_of
         (state_of cpu.old (S.Storage.memory storage.old)) pending.old subchannels.old in
-        let after = core_of (state_of cpu.new (S.Storage.memory storage.new)) pending.new subchannels.new in
+        let after = core_of (state_of cpu.new (S.Storage.memory storage.new)) pending.new
+        subchannels.new in
         SuppliesUnit said before result after (S.Supply.IsShort storage.new) }
     ensures supply { let before = core_of
         (state_of cpu.old (S.Storage.memory storage.old)) pending.old subchannels.old in
-        (pages : List ℕ) × S.Supply.Brought storage.old pages storage.new × AllNeeded (NeedsAt said before) pages
+        (pages : List ℕ) × S.Supply.Brought storage.old pages storage.new
+        × AllNeeded (NeedsAt said before) pages
         × (length pages ≤ 9) }
-    ensures size { length (S.Storage.memory storage.new).bytes ≡ length (S.Storage.memory storage.old).bytes }
+    ensures size { length (S.Storage.memory storage.new).bytes
+        ≡ length (S.Storage.memory storage.old).bytes }
 {
     loop {
         match try_unit::<P, S>(said, cpu, spare, pending, subchannels, storage) {
@@ -87,8 +93,8 @@ fn bring_pages<P: Processor, S: UnitSupply>(
     }
 }
 
-/// The unit that a look says, for which pages have to be brought: they are held until it ends, and no longer. It is out
-/// of line, so that a unit that brings nothing pays nothing for it.
+/// The unit that a look says, for which pages have to be brought: they are held until it ends, and
+/// no longer. It is out of line, so that a unit that brings nothing pays nothing for it.
 #[inline(never)]
 fn bring_for_unit<P: Processor, S: UnitSupply>(
     said: Next,
@@ -102,11 +108,13 @@ fn bring_for_unit<P: Processor, S: UnitSupply>(
     requires between { S.IsBetween storage.old }
     ensures unit { let before = core_of
         (state_of cpu.old (S.Storage.memory storage.old)) pending.old subchannels.old in
-        let after = core_of (state_of cpu.new (S.Storage.memory storage.new)) pending.new subchannels.new in
+        let after = core_of (state_of cpu.new (S.Storage.memory storage.new)) pending.new
+        subchannels.new in
         SuppliesUnit said before result after (S.IsOut storage.new) }
     ensures supply { let before = core_of
         (state_of cpu.old (S.Storage.memory storage.old)) pending.old subchannels.old in
-        (pages : List ℕ) × S.Came storage.old (pages ∷ []) storage.new × AllNeeded (NeedsAt said before) pages
+        (pages : List ℕ) × S.Came storage.old (pages ∷ []) storage.new
+        × AllNeeded (NeedsAt said before) pages
         × (length pages ≤ 9) }
     ensures between { S.IsBetween storage.new }
 {
@@ -115,8 +123,9 @@ fn bring_for_unit<P: Processor, S: UnitSupply>(
     done
 }
 
-/// The unit that a look says, tried once, and where it lacks a page with all pages that it needs; none where it stops.
-/// Where there is no room for one of them, nothing has changed; the pages that were brought for it stay.
+/// The unit that a look says, tried once, and where it needs an absent page with all pages that it
+/// needs; none where it stops. If there is no room for one of them, nothing has changed; the pages
+/// that were brought for it stay.
 #[inline(always)]
 fn try_or_bring<P: Processor, S: UnitSupply>(
     said: Next,
@@ -130,11 +139,13 @@ fn try_or_bring<P: Processor, S: UnitSupply>(
     requires between { S.IsBetween storage.old }
     ensures unit { let before = core_of
         (state_of cpu.old (S.Storage.memory storage.old)) pending.old subchannels.old in
-        let after = core_of (state_of cpu.new (S.Storage.memory storage.new)) pending.new subchannels.new in
+        let after = core_of (state_of cpu.new (S.Storage.memory storage.new)) pending.new
+        subchannels.new in
         SuppliesUnit said before result after (S.IsOut storage.new) }
     ensures supply { let before = core_of
         (state_of cpu.old (S.Storage.memory storage.old)) pending.old subchannels.old in
-        (pages : List ℕ) × S.Came storage.old (pages ∷ []) storage.new × AllNeeded (NeedsAt said before) pages
+        (pages : List ℕ) × S.Came storage.old (pages ∷ []) storage.new
+        × AllNeeded (NeedsAt said before) pages
         × (length pages ≤ 9) }
     ensures between { S.IsBetween storage.new }
 {
@@ -158,19 +169,21 @@ fn accept_supplied<P: Processor, S: UnitSupply>(
     requires between { S.IsBetween storage.old }
     ensures unit { let before = core_of
         (state_of cpu.old (S.Storage.memory storage.old)) pending.old subchannels.old in
-        let after = core_of (state_of cpu.new (S.Storage.memory storage.new)) pending.new subchannels.new in
+        let after = core_of (state_of cpu.new (S.Storage.memory storage.new)) pending.new
+        subchannels.new in
         SuppliesUnit said before result after (S.IsOut storage.new) }
     ensures supply { let before = core_of
         (state_of cpu.old (S.Storage.memory storage.old)) pending.old subchannels.old in
-        (pages : List ℕ) × S.Came storage.old (pages ∷ []) storage.new × AllNeeded (NeedsAt said before) pages
+        (pages : List ℕ) × S.Came storage.old (pages ∷ []) storage.new
+        × AllNeeded (NeedsAt said before) pages
         × (length pages ≤ 9) }
     ensures between { S.IsBetween storage.new }
 {
     try_or_bring::<P, S>(said, cpu, spare, pending, subchannels, storage)
 }
 
-/// The same. An instruction is named here, and all else is out of line, so that nothing of other units is carried
-/// through it.
+/// The same. An instruction is named here, and all else is out of line, so that nothing of other
+/// units is carried through it.
 #[inline(always)]
 fn supplied<P: Processor, S: UnitSupply>(
     said: Next,
@@ -184,11 +197,13 @@ fn supplied<P: Processor, S: UnitSupply>(
     requires between { S.IsBetween storage.old }
     ensures unit { let before = core_of
         (state_of cpu.old (S.Storage.memory storage.old)) pending.old subchannels.old in
-        let after = core_of (state_of cpu.new (S.Storage.memory storage.new)) pending.new subchannels.new in
+        let after = core_of (state_of cpu.new (S.Storage.memory storage.new)) pending.new
+        subchannels.new in
         SuppliesUnit said before result after (S.IsOut storage.new) }
     ensures supply { let before = core_of
         (state_of cpu.old (S.Storage.memory storage.old)) pending.old subchannels.old in
-        (pages : List ℕ) × S.Came storage.old (pages ∷ []) storage.new × AllNeeded (NeedsAt said before) pages
+        (pages : List ℕ) × S.Came storage.old (pages ∷ []) storage.new
+        × AllNeeded (NeedsAt said before) pages
         × (length pages ≤ 9) }
     ensures between { S.IsBetween storage.new }
 {
@@ -200,8 +215,8 @@ fn supplied<P: Processor, S: UnitSupply>(
     }
 }
 
-/// The block of an address, where the one that was found for the last instruction ends. It is out of line, so that the
-/// loop over instructions has no more in it than a call.
+/// Returns the block of an address, where the one that was found for the last instruction ends. It
+/// is out of line, so that the loop over instructions has no more in it than a call.
 #[inline(never)]
 fn find_again<S: Storage>(storage: &S, next: Addr24, key: AccessKey) -> Option<Block>
     ensures first { IfSome result (λ found. found.first ≡ next / 2048 * 2048) }
@@ -213,8 +228,8 @@ fn find_again<S: Storage>(storage: &S, next: Addr24, key: AccessKey) -> Option<B
     storage.find_block(next.get(), Access::Fetch, key)
 }
 
-/// The block in which the next instruction lies, at an even address and with room for the longest: the one that was
-/// found for the last, or another.
+/// Returns the block in which the next instruction lies, at an even address and with room for the
+/// longest: the one that was found for the last, or another.
 #[inline(always)]
 fn block_of<S: Storage>(storage: &S, block: Block, next: Addr24, key: AccessKey) -> Option<Block>
     requires low { block.first < 16777216 }
@@ -243,8 +258,9 @@ fn block_of<S: Storage>(storage: &S, block: Block, next: Addr24, key: AccessKey)
     }
 }
 
-/// Parts of an MVCL that stands at the instruction address, one after another and at most so many: how many were done.
-/// They have a loop of their own, since each of them moves so much that what is done once for all of them counts.
+/// Parts of an MVCL that is at the instruction address, one after another and at most so many: how
+/// many were done. They have a loop of their own, since each of them moves so much that what is
+/// done once for all of them counts.
 #[inline(never)]
 fn move_parts<S: Storage>(
     cpu: &mut Cpu,
@@ -254,7 +270,8 @@ fn move_parts<S: Storage>(
     limit: u32,
 ) -> u32
     requires here { start ≡ cpu.old.psw.address }
-    requires stands { IsLongMoveAt (state_of cpu.old (S.memory storage.old)) (S.present storage.old) start second_byte }
+    requires stands { IsLongMoveAt (state_of cpu.old (S.memory storage.old)) (S.present storage.old)
+        start second_byte }
     ensures done { let before = state_of cpu.old (S.memory storage.old) in
         let after = state_of cpu.new (S.memory storage.new) in
         DoesInstructions result before after }
@@ -280,15 +297,17 @@ struct Steady {
     block: Option<Block>,
 }
 
-/// What a processor did that began with an instruction and nothing pending, and whether that is so again.
+/// What a processor did that began with an instruction and nothing pending, and whether that is so
+/// again.
 #[derive(Clone, Copy)]
-struct Went {
+struct UnitsDone {
     units: u32,
     is_plain: bool,
 }
 
-/// Instructions that are done in one go, one after another and at most so many. After each of them a look would say what
-/// it said before: so the block from which they are fetched is looked up once, as long as they stay in it.
+/// Instructions that are done in one go, one after another and at most so many. After each of them
+/// a look would say what it said before: so the block from which they are fetched is looked up
+/// once, as long as they stay in it.
 #[inline(always)]
 fn instruct_steadily<S: Storage>(cpu: &mut Cpu, storage: &mut S, limit: u32) -> Steady
     ensures done { let before = state_of cpu.old (S.memory storage.old) in
@@ -314,8 +333,9 @@ fn instruct_steadily<S: Storage>(cpu: &mut Cpu, storage: &mut S, limit: u32) -> 
             block: None,
         },
     };
-    // The blocks of operands: at first they are fetched from that of the instructions, and there is none for stores.
-    let mut held = Held {
+    // The blocks of operands: at first they are fetched from that of the instructions, and there is
+    // none for stores.
+    let mut held = HeldBlock {
         fetched: block,
         stored: Block::NOWHERE,
     };
@@ -340,8 +360,8 @@ fn instruct_steadily<S: Storage>(cpu: &mut Cpu, storage: &mut S, limit: u32) -> 
     }
 }
 
-/// Goes on with an instruction that the loop left out, from the block in which it stands: with parts of an MVCL, or with
-/// all of any other. None are done if a page is missing.
+/// Goes on with an instruction that the loop left out, from the block in which it is: with parts of
+/// an MVCL, or with all of any other. None are done if a page is missing.
 #[inline(never)]
 fn instruct_apart<P: Processor, S: Keyed>(
     cpu: &mut Cpu,
@@ -350,11 +370,13 @@ fn instruct_apart<P: Processor, S: Keyed>(
     storage: &mut S,
     block: Block,
     limit: u32,
-) -> Went
+) -> UnitsDone
     requires size { 8192 ≤ length (S.Storage.memory storage.old).bytes }
-    requires plain { (m : Memory) → look (core_of (state_of cpu.old m) pending subchannels.old) ≡ next.Instructs }
+    requires plain { (m : Memory)
+        → look (core_of (state_of cpu.old m) pending subchannels.old) ≡ next.Instructs }
     requires some { 0 < limit }
-    requires may_fetch { MayFetch (length (S.Storage.memory storage.old).bytes) (S.Storage.memory storage.old).keys
+    requires may_fetch { MayFetch (length (S.Storage.memory storage.old).bytes)
+        (S.Storage.memory storage.old).keys
         (S.Storage.present storage.old) cpu.old.psw.key block.first }
     requires placed { S.Storage.IsPlaced storage.old block }
     requires begins { block.first ≤ cpu.old.psw.address }
@@ -362,8 +384,10 @@ fn instruct_apart<P: Processor, S: Keyed>(
     requires even { cpu.old.psw.address % 2 ≡ 0 }
     ensures done { let before = core_of
         (state_of cpu.old (S.Storage.memory storage.old)) pending subchannels.old in
-        let after = core_of (state_of cpu.new (S.Storage.memory storage.new)) pending subchannels.new in
-        run result.units before ≡ record { core = after; units = result.units; reason = reasons.Count } }
+        let after = core_of (state_of cpu.new (S.Storage.memory storage.new)) pending
+        subchannels.new in
+        run result.units before ≡
+        record { core = after; units = result.units; reason = reasons.Count } }
     ensures plain { (m : Memory) → result.is_plain ≡ true
         → look (core_of (state_of cpu.new m) pending subchannels.new) ≡ next.Instructs }
     ensures within { result.units ≤ limit }
@@ -373,25 +397,26 @@ fn instruct_apart<P: Processor, S: Keyed>(
     if load_byte_in(storage, block, start.get()) == LONG_MOVE {
         let second_byte = load_byte_in(storage, block, start.get() + 1);
         let units = move_parts(cpu, storage, start, second_byte, limit);
-        return Went {
+        return UnitsDone {
             units,
             is_plain: true,
         };
     }
     if !instruct_in::<P, S>(cpu, subchannels, storage, start, block) {
-        return Went {
+        return UnitsDone {
             units: 0,
             is_plain: true,
         };
     }
-    Went {
+    UnitsDone {
         units: 1,
         is_plain: is_plain(cpu, pending, subchannels),
     }
 }
 
-/// Instructions one after another, at most so many, as long as each of them can be done at once and nothing is pending
-/// then. This has no other unit in it, so that registers are left for what it needs.
+/// Instructions one after another, at most so many, as long as each of them can be done at once and
+/// nothing is pending then. This has no other unit in it, so that registers are left for what it
+/// needs.
 #[inline(never)]
 fn instruct_quickly<P: Processor, S: Keyed>(
     cpu: &mut Cpu,
@@ -399,13 +424,16 @@ fn instruct_quickly<P: Processor, S: Keyed>(
     subchannels: &mut Subchannels,
     storage: &mut S,
     limit: u32,
-) -> Went
+) -> UnitsDone
     requires size { 8192 ≤ length (S.Storage.memory storage.old).bytes }
-    requires plain { (m : Memory) → look (core_of (state_of cpu.old m) pending subchannels.old) ≡ next.Instructs }
+    requires plain { (m : Memory)
+        → look (core_of (state_of cpu.old m) pending subchannels.old) ≡ next.Instructs }
     ensures done { let before = core_of
         (state_of cpu.old (S.Storage.memory storage.old)) pending subchannels.old in
-        let after = core_of (state_of cpu.new (S.Storage.memory storage.new)) pending subchannels.new in
-        run result.units before ≡ record { core = after; units = result.units; reason = reasons.Count } }
+        let after = core_of (state_of cpu.new (S.Storage.memory storage.new)) pending
+        subchannels.new in
+        run result.units before ≡
+        record { core = after; units = result.units; reason = reasons.Count } }
     ensures plain { (m : Memory) → result.is_plain ≡ true
         → look (core_of (state_of cpu.new m) pending subchannels.new) ≡ next.Instructs }
     ensures within { result.units ≤ limit }
@@ -418,7 +446,7 @@ fn instruct_quickly<P: Processor, S: Keyed>(
         let block = match steady.block {
             Some(block) => block,
             None => {
-                return Went {
+                return UnitsDone {
                     units,
                     is_plain: true,
                 };
@@ -427,13 +455,13 @@ fn instruct_quickly<P: Processor, S: Keyed>(
         let went = instruct_apart::<P, S>(cpu, pending, subchannels, storage, block, limit - units);
         units += went.units;
         if went.units == 0 || !went.is_plain {
-            return Went {
+            return UnitsDone {
                 units,
                 is_plain: went.is_plain,
             };
         }
     }
-    Went {
+    UnitsDone {
         units,
         is_plain: true,
     }
@@ -448,14 +476,16 @@ fn go_quickly<P: Processor, S: Keyed>(
     subchannels: &mut Subchannels,
     storage: &mut S,
     limit: u32,
-) -> Went
+) -> UnitsDone
     requires size { 8192 ≤ length (S.Storage.memory storage.old).bytes }
     requires plain { (m : Memory) → is_plain ≡ true
         → look (core_of (state_of cpu.old m) pending subchannels.old) ≡ next.Instructs }
     ensures done { let before = core_of
         (state_of cpu.old (S.Storage.memory storage.old)) pending subchannels.old in
-        let after = core_of (state_of cpu.new (S.Storage.memory storage.new)) pending subchannels.new in
-        run result.units before ≡ record { core = after; units = result.units; reason = reasons.Count } }
+        let after = core_of (state_of cpu.new (S.Storage.memory storage.new)) pending
+        subchannels.new in
+        run result.units before ≡
+        record { core = after; units = result.units; reason = reasons.Count } }
     ensures plain { (m : Memory) → result.is_plain ≡ true
         → look (core_of (state_of cpu.new m) pending subchannels.new) ≡ next.Instructs }
     ensures within { result.units ≤ limit }
@@ -464,7 +494,7 @@ fn go_quickly<P: Processor, S: Keyed>(
     if is_plain {
         instruct_quickly::<P, S>(cpu, pending, subchannels, storage, limit)
     } else {
-        Went {
+        UnitsDone {
             units: 0,
             is_plain: false,
         }
@@ -480,8 +510,8 @@ fn blank_cpu() -> Cpu {
     }
 }
 
-/// At most so many units of a running processor. Each brings the pages that it needs, nine at most, and what is brought
-/// for one stays until it ends. This takes no memory.
+/// At most so many units of a running processor. Each brings the pages that it needs, nine at most,
+/// and what is brought for one stays until it ends. This takes no memory.
 pub fn run_units<P: Processor, S: UnitSupply>(
     cpu: &mut Cpu,
     pending: &mut Pending,
@@ -491,11 +521,13 @@ pub fn run_units<P: Processor, S: UnitSupply>(
 ) -> Ran
     requires large { 8192 ≤ length (S.Storage.memory storage.old).bytes }
     requires between { S.IsBetween storage.old }
-    ensures told { let before = core_of
+    ensures reported { let before = core_of
         (state_of cpu.old (S.Storage.memory storage.old)) pending.old subchannels.old in
-        let after = core_of (state_of cpu.new (S.Storage.memory storage.new)) pending.new subchannels.new in
+        let after = core_of (state_of cpu.new (S.Storage.memory storage.new)) pending.new
+        subchannels.new in
         TellsRun count before
-        (record { core = after; units = result.units; reason = result.reason }) (S.IsOut storage.new) }
+        (record { core = after; units = result.units; reason = result.reason })
+        (S.IsOut storage.new) }
     ensures supply { let before = core_of
         (state_of cpu.old (S.Storage.memory storage.old)) pending.old subchannels.old in
         (units : List (List ℕ)) × S.Came storage.old units storage.new × EachBrings before 0 units

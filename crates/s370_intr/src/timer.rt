@@ -15,12 +15,17 @@ const TIMER: Range = Range {
 /// What a tick takes from the interval timer.
 const STEP: u32 = 256;
 
-/// A tick of the interval timer, the word at location 80, which makes the timer condition pending where it takes the
-/// word from zero or positive to negative (GA22-7000, "Interval Timer"). Keys are not tested. Where page 0 is not
-/// present it is the error, and nothing is changed.
+/// A tick of the interval timer, the word at location 80, which makes the timer condition pending
+/// where it takes the word from zero or positive to negative (GA22-7000, "Interval Timer"). Keys
+/// are not tested. Where page 0 is not present it is the error, and nothing is changed.
+///
+/// # Errors
+///
+/// A page that is needed and absent; nothing has changed.
 pub fn tick<S: Storage>(pending: &mut Pending, storage: &mut S) -> Result<(), Page>
     requires { 8192 ≤ length (S.memory storage.old).bytes }
-    ensures tick { MeetsTick (S.present storage.old) (timed (S.memory storage.old).bytes pending.old) result
+    ensures tick { MeetsTick (S.present storage.old)
+        (timed (S.memory storage.old).bytes pending.old) result
         (timed (S.memory storage.new).bytes pending.new) }
     ensures rest { S.Keeps storage.old storage.new }
 {
@@ -38,7 +43,7 @@ pub fn tick<S: Storage>(pending: &mut Pending, storage: &mut S) -> Result<(), Pa
     Ok(())
 }
 
-/// Whether the sign bit of a word is one.
+/// Returns whether the sign bit of a word is one.
 fn is_negative(word: u32) -> bool
     ensures { result ≡ is_negative word }
 {

@@ -6,7 +6,8 @@ ghost use Rattle.s370_cpu.specs.Table.{MeetsStep, is_supervised, supervised};
 ghost use Rattle.s370_cpu.specs.Unit.{MeetsUnit};
 ghost use Rattle.s370_intr.specs.Swap.{MeetsSwap, swapped};
 ghost use Rattle.s370_intr.specs.InputOutput.{configuration_of};
-ghost use Rattle.s370_intr.specs.Units.{MeetsFollowed, MeetsInstruction, MeetsPresented, MeetsUnitAt, core_of};
+ghost use Rattle.s370_intr.specs.Units.{MeetsFollowed, MeetsInstruction, MeetsPresented};
+ghost use Rattle.s370_intr.specs.Units.{MeetsUnitAt, core_of};
 ghost use Rattle.s370_intr.specs.declared.next.Next.TheVariants as next;
 ghost use Rattle.s370_cpu.specs.declared.conclude.Stop.TheVariants as stops;
 
@@ -21,19 +22,25 @@ use s370_rows::{Cpu, Instruction};
 use s370_store::{Access, Keyed, Page, Range, Storage};
 use s370_subchannels::{DeviceState, Status, Subchannels, store_csw};
 
-/// How the instructions for the supervisor state and the interruptions of a processor are carried out: by the processor
-/// itself, or for a guest by the control program.
+/// How the instructions for the supervisor state and the interruptions of a processor are carried
+/// out: by the processor itself, or for a guest by the control program.
 pub trait Processor {
-    /// Goes on with an instruction for the supervisor state that was handed back with this length code.
+    /// Goes on with an instruction for the supervisor state that was handed back with this length
+    /// code.
     fn control<S: Keyed>(cpu: &mut Cpu, storage: &mut S, i: Instruction, ilc: Ilc) -> Stop
         requires { is_supervised (opcode_at i.opcode) ≡ true }
         ensures unit { let before = state_of cpu.old (S.Storage.memory storage.old) in
             let after = state_of cpu.new (S.Storage.memory storage.new) in
-            MeetsUnit (supervised before i ilc) (S.Storage.present storage.old) before result after }
+            MeetsUnit (supervised before i ilc) (S.Storage.present storage.old) before result
+            after }
         ensures rest { S.KeepsRest storage.old storage.new };
 
-    /// Interrupts the processor, with this interruption code and length code. Page 0 is the error where it is not
-    /// present; nothing is then changed.
+    /// Interrupts the processor, with this interruption code and length code. Page 0 is the error
+    /// where it is not present; nothing is then changed.
+    ///
+    /// # Errors
+    ///
+    /// A page that is needed and absent; nothing has changed.
     fn interrupt<S: Keyed>(
         cpu: &mut Cpu,
         storage: &mut S,
@@ -44,7 +51,8 @@ pub trait Processor {
         requires { 8192 ≤ length (S.Storage.memory storage.old).bytes }
         ensures swap { let before = state_of cpu.old (S.Storage.memory storage.old) in
             let after = state_of cpu.new (S.Storage.memory storage.new) in
-            MeetsSwap (swapped before class code ilc) (S.Storage.present storage.old) before result after }
+            MeetsSwap (swapped before class code ilc) (S.Storage.present storage.old) before result
+            after }
         ensures rest { S.Storage.Keeps storage.old storage.new };
 }
 
@@ -69,8 +77,8 @@ impl Processor for RealCpu {
     }
 }
 
-/// Goes on with an instruction for the supervisor state that was handed back, and with what follows it. It is out of
-/// line, so that the loop over units is for the others.
+/// Goes on with an instruction for the supervisor state that was handed back, and with what follows
+/// it. It is out of line, so that the loop over units is for the others.
 #[inline(never)]
 pub(crate) fn instruct_control<P: Processor, S: Keyed>(
     cpu: &mut Cpu,
@@ -105,8 +113,12 @@ pub(crate) fn instruct_control<P: Processor, S: Keyed>(
     }
 }
 
-/// One instruction, and the interruption or the answer that it ends in. Where they need a page that is not present,
-/// that is the error, and all is as it was.
+/// One instruction, and the interruption or the answer that it ends in. If they need a page that is
+/// not present, that is the error, and all is as it was.
+///
+/// # Errors
+///
+/// A page that is needed and absent; nothing has changed.
 pub fn instruct<P: Processor, S: Keyed>(
     cpu: &mut Cpu,
     subchannels: &mut Subchannels,
@@ -124,7 +136,8 @@ pub fn instruct<P: Processor, S: Keyed>(
     instruct_saving::<P, S>(cpu, &mut spare, subchannels, storage)
 }
 
-/// As [`instruct`], with a place for a copy of the registers, of which one is made only where it may be wanted.
+/// As [`instruct`], with a place for a copy of the registers, of which one is made only where it
+/// may be wanted.
 #[inline(always)]
 pub(crate) fn instruct_saving<P: Processor, S: Keyed>(
     cpu: &mut Cpu,
@@ -160,8 +173,8 @@ pub(crate) fn instruct_saving<P: Processor, S: Keyed>(
     }
 }
 
-/// Copies the registers where an interruption may have to be undone: page 0, in which it stores and loads, is not
-/// present.
+/// Copies the registers where an interruption may have to be undone: page 0, in which it stores and
+/// loads, is not present.
 #[inline(always)]
 fn save<S: Storage>(cpu: &Cpu, spare: &mut Cpu, storage: &S)
     requires { 8192 ≤ length (S.memory storage.now).bytes }
@@ -174,8 +187,8 @@ fn save<S: Storage>(cpu: &Cpu, spare: &mut Cpu, storage: &S)
     }
 }
 
-/// Carries out what the stop of an instruction is followed by: its interruption, or the answer of the device that it
-/// asks.
+/// Carries out what the stop of an instruction is followed by: its interruption, or the answer of
+/// the device that it asks.
 #[inline(always)]
 pub(crate) fn follow<P: Processor, S: Keyed>(
     cpu: &mut Cpu,
@@ -203,8 +216,12 @@ pub(crate) fn follow<P: Processor, S: Keyed>(
     }
 }
 
-/// Accepts external conditions together. Where page 0 is not present, that is the error, and all is as it was.
-/// No device takes part.
+/// Accepts external conditions together. Where page 0 is not present, that is the error, and all is
+/// as it was. No device takes part.
+///
+/// # Errors
+///
+/// A page that is needed and absent; nothing has changed.
 #[inline(never)]
 pub fn accept<P: Processor, S: Keyed>(
     taken: Pending,
@@ -216,7 +233,8 @@ pub fn accept<P: Processor, S: Keyed>(
     requires { 8192 ≤ length (S.Storage.memory storage.old).bytes }
     ensures unit { let before = core_of
         (state_of cpu.old (S.Storage.memory storage.old)) pending.old _subchannels.now in
-        let after = core_of (state_of cpu.new (S.Storage.memory storage.new)) pending.new _subchannels.now in
+        let after = core_of (state_of cpu.new (S.Storage.memory storage.new)) pending.new
+        _subchannels.now in
         MeetsUnitAt (next.Accepts taken) (S.Storage.present storage.old) before result after }
     ensures rest { S.Storage.Keeps storage.old storage.new }
 {
@@ -225,8 +243,12 @@ pub fn accept<P: Processor, S: Keyed>(
     Ok(())
 }
 
-/// Accepts the status of a device: stores its channel status word and interrupts the processor; the device is idle.
-/// Where page 0 is not present, that is the error, and all is as it was.
+/// Accepts the status of a device: stores its channel status word and interrupts the processor; the
+/// device is idle. Where page 0 is not present, that is the error, and all is as it was.
+///
+/// # Errors
+///
+/// A page that is needed and absent; nothing has changed.
 #[inline(never)]
 pub fn accept_status<P: Processor, S: Keyed>(
     status: Status,

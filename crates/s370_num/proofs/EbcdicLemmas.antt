@@ -33,7 +33,7 @@ both : (a b : Bool) → (a && b) ≡ true → (a ≡ true) × (b ≡ true)
 both true b h = (refl, h)
 both false b h = cc
 
--- a graphic that stands in the alphabet is found by its byte and by its character
+-- a graphic that is in the alphabet is found by its byte and by its character
 found_by_both : (graphic : Graphic) → is_alone graphic ≡ true → (character_of graphic.byte ≡ Some graphic.character) × (byte_of graphic.character ≡ Some graphic.byte)
 found_by_both graphic alone =
     let parts = both (option_eq nat_eq (character_of graphic.byte) (Some graphic.character)) (option_eq nat_eq (byte_of graphic.character) (Some graphic.byte)) alone in

@@ -1,4 +1,5 @@
--- EBCDIC: the graphics that consoles, printers and cards share, and what is printed for the other bytes.
+-- EBCDIC: the graphics that consoles, printers and cards share, and what is printed for the other
+-- bytes.
 use Rattle.std.specs.Prelude.{ℕ, ◌+◌, ◌==◌, List, [], ◌∷◌, ◌++◌, Option, find, unwrap_or, codes}
 use Rattle.std.specs.Option.{option_map}
 
@@ -10,7 +11,8 @@ pub record Graphic : Type 0 where
 -- these characters, in their order, from this byte on
 abbrev pub graphics_from : ℕ → List ℕ → List Graphic
 graphics_from byte [] = []
-graphics_from byte (character ∷ characters) = record { byte = byte; character = character } ∷ graphics_from (byte + 1) characters
+graphics_from byte (character ∷ characters) =
+    record { byte = byte; character = character } ∷ graphics_from (byte + 1) characters
 
 -- the whole alphabet: letters, digits, the blank and the signs
 unfoldable pub alphabet : List Graphic
@@ -32,11 +34,13 @@ alphabet =
 
 -- the character that a byte stands for, where it has one
 abbrev pub character_of : ℕ → Option ℕ
-character_of byte = option_map (λ graphic. graphic.character) (find (λ graphic. graphic.byte == byte) alphabet)
+character_of byte = option_map (λ graphic. graphic.character)
+    (find (λ graphic. graphic.byte == byte) alphabet)
 
 -- the byte of a character, where it has one
 abbrev pub byte_of : ℕ → Option ℕ
-byte_of character = option_map (λ graphic. graphic.byte) (find (λ graphic. graphic.character == character) alphabet)
+byte_of character = option_map (λ graphic. graphic.byte)
+    (find (λ graphic. graphic.character == character) alphabet)
 
 -- a full stop
 abbrev pub full_stop : ℕ

@@ -1,5 +1,6 @@
 -- Files of the host: what a call leaves of the count of failures, and of the bytes.
-use Rattle.std.specs.Prelude.{◌≡◌, ℕ, ◌+◌, ◌-◌, ◌^◌, ◌≤◌, min, List, length, take, Option, Result, Ok, Err}
+use Rattle.std.specs.Prelude.{◌≡◌, ℕ, ◌+◌, ◌-◌, ◌^◌, ◌≤◌, min, List, length, take, Option, Result}
+use Rattle.std.specs.Prelude.{Ok, Err}
 use Rattle.std.specs.Io.KnownBytes.{Appends, Consumes}
 use Rattle.s370_num.specs.declared.host.HostFault.{HostFault}
 use Rattle.s370_num.specs.declared.host.HostFault.TheVariants.{Memory, Device}
@@ -8,7 +9,7 @@ use Rattle.s370_num.specs.declared.host.HostFault.TheVariants.{Memory, Device}
 abbrev pub one_more : ℕ → ℕ
 one_more n = min (n + 1) (2 ^ 64 - 1)
 
--- a failure of the device is counted, and tells the count; want of memory is not
+-- a failure of the device is counted, and reports the count; lack of memory is not
 abbrev pub IsCounted : ℕ → ℕ → HostFault → Type 0
 IsCounted old new Memory = new ≡ old
 IsCounted old new (Device k) = (new ≡ one_more old) × (k ≡ new)

@@ -1,8 +1,10 @@
 //! Storage addresses, words and device addresses.
 
-ghost use Rattle.std.specs.Prelude.{◌≡◌, ℕ, ◌+◌, ◌*◌, ◌/◌, ◌%◌, ◌^◌, ◌<◌, ◌↔◌, IsSome, IfSome, Some};
+ghost use Rattle.std.specs.Prelude.{◌≡◌, ℕ, ◌+◌, ◌*◌, ◌/◌, ◌%◌, ◌^◌, ◌<◌, ◌↔◌, IsSome, IfSome};
+ghost use Rattle.std.specs.Prelude.{Some};
 ghost use Rattle.std.specs.Int.{w32, cast_signed, cast_unsigned, from_be_bytes, to_be_bytes};
-ghost use Rattle.s370_num.specs.Address.{storage_address, channel_of, address_text, word_text, device_text};
+ghost use Rattle.s370_num.specs.Address.{storage_address, channel_of, address_text, word_text};
+ghost use Rattle.s370_num.specs.Address.{device_text};
 
 use byteorder::{BigEndian, ByteOrder};
 use std::fmt;
@@ -27,7 +29,7 @@ impl Model for Addr24 {
 }
 
 impl Addr24 {
-    /// The address with this number, if it has no more than 24 bits.
+    /// Returns the address with this number, if it has no more than 24 bits.
     #[inline(always)]
     pub fn new(value: u32) -> Option<Addr24>
         ensures found { IsSome result ↔ (value < 2 ^ 24) }
@@ -40,7 +42,7 @@ impl Addr24 {
         }
     }
 
-    /// The address in the right 24 bits of a number, as address arithmetic leaves it.
+    /// Returns the address in the right 24 bits of a number, as address arithmetic leaves it.
     #[inline(always)]
     pub fn wrapping(value: u32) -> Addr24
         ensures { result ≡ storage_address value }
@@ -50,7 +52,7 @@ impl Addr24 {
         }
     }
 
-    /// The address as a number.
+    /// Returns the address as a number.
     #[inline(always)]
     pub fn get(self) -> u32
         ensures value { result ≡ self }
@@ -59,7 +61,7 @@ impl Addr24 {
         self.value
     }
 
-    /// The address so many bytes further on, from which storage goes on at zero.
+    /// Returns the address so many bytes further on, from which storage goes on at zero.
     #[inline(always)]
     pub fn wrapping_add(self, bytes: u32) -> Addr24
         ensures { result ≡ storage_address (self + bytes) }
@@ -68,7 +70,8 @@ impl Addr24 {
     }
 }
 
-/// A word: 32 bits, which instructions take as a number without a sign or as one in two's complement.
+/// A word: 32 bits, which instructions take as a number without a sign or as one in two's
+/// complement.
 #[derive(Clone, Copy, PartialEq, Eq, Debug)]
 pub struct Word {
     bits: u32,
@@ -85,7 +88,7 @@ impl Model for Word {
 }
 
 impl Word {
-    /// The word that is this number without a sign.
+    /// Returns the word that is this number without a sign.
     #[inline(always)]
     pub fn from_unsigned(number: u32) -> Word
         ensures { result ≡ number }
@@ -93,7 +96,7 @@ impl Word {
         Word { bits: number }
     }
 
-    /// The word as a number without a sign.
+    /// Returns the word as a number without a sign.
     #[inline(always)]
     pub fn unsigned(self) -> u32
         ensures { result ≡ self }
@@ -101,7 +104,7 @@ impl Word {
         self.bits
     }
 
-    /// The word that is this number in two's complement.
+    /// Returns the word that is this number in two's complement.
     #[inline(always)]
     pub fn from_signed(number: i32) -> Word
         ensures { result ≡ cast_unsigned w32 number }
@@ -111,7 +114,7 @@ impl Word {
         }
     }
 
-    /// The word as a number in two's complement.
+    /// Returns the word as a number in two's complement.
     #[inline(always)]
     pub fn signed(self) -> i32
         ensures { result ≡ cast_signed w32 self }
@@ -119,7 +122,7 @@ impl Word {
         self.bits.cast_signed()
     }
 
-    /// The word that stands in storage as these bytes, the leftmost first.
+    /// Returns the word that is in storage as these bytes, the leftmost first.
     #[inline(always)]
     pub fn from_bytes(bytes: &[u8; 4]) -> Word
         ensures { result ≡ from_be_bytes w32 bytes.now }
@@ -129,7 +132,7 @@ impl Word {
         }
     }
 
-    /// The bytes of the word as they stand in storage, the leftmost first.
+    /// The bytes of the word as they are in storage, the leftmost first.
     #[inline(always)]
     pub fn to_bytes(self) -> [u8; 4]
         ensures { result ≡ to_be_bytes w32 self }
@@ -157,7 +160,7 @@ impl Model for DevAddr {
 }
 
 impl DevAddr {
-    /// The device address with this number.
+    /// Returns the device address with this number.
     #[inline(always)]
     pub fn new(value: u16) -> DevAddr
         ensures { result ≡ value }
@@ -165,7 +168,7 @@ impl DevAddr {
         DevAddr { value }
     }
 
-    /// The device address as a number.
+    /// Returns the device address as a number.
     #[inline(always)]
     pub fn get(self) -> u16
         ensures { result ≡ self }
@@ -173,7 +176,7 @@ impl DevAddr {
         self.value
     }
 
-    /// The channel to which the device is attached.
+    /// Returns the channel to which the device is attached.
     #[inline(always)]
     pub fn channel(self) -> u8
         ensures { result ≡ channel_of self }

@@ -1,7 +1,7 @@
 //! The EBCDIC alphabet of consoles, printers and cards.
 //!
-//! A character is a byte in ASCII. A byte and a character of the alphabet determine each other: what
-//! one of the two functions gives, the other takes back.
+//! A character is a byte in ASCII. A byte and a character of the alphabet determine each other:
+//! what one of the two functions gives, the other takes back.
 ghost use Rattle.std.specs.Prelude.{◌≡◌, ◌↔◌, Some, IsTrue, IsSome, IfSome, unwrap_or};
 ghost use Rattle.s370_num.specs.Ebcdic.{byte_of, character_of, printable_of};
 
@@ -47,7 +47,8 @@ static BYTES: [u8; 256] = [
     0x00, 0x00, 0x00, 0x00, 0x00, 0x00, 0x00, 0x00, 0x00, 0x00, 0x00, 0x00, 0x00, 0x00, 0x00, 0x00,
 ];
 
-/// What a console or a printer shows for an EBCDIC byte: its character, or `.` where it has none.
+/// Returns what a console or a printer shows for an EBCDIC byte: its character, or `.` where it has
+/// none.
 ///
 /// The byte C8 prints as `H`, and FF as `.`; so does 4B, of which `.` is the character.
 #[inline]
@@ -58,7 +59,7 @@ pub fn printable(byte: u8) -> u8
     PRINTABLE[byte as usize]
 }
 
-/// The EBCDIC byte of a character, or `None` where the alphabet lacks it.
+/// Returns the EBCDIC byte of a character, or `None` where the alphabet lacks it.
 ///
 /// The byte of `H` is C8; `!` and the line feed have none.
 #[inline]
@@ -77,7 +78,7 @@ fn byte_or_none(character: u8) -> u8
     BYTES[character as usize]
 }
 
-/// Whether a character is of the alphabet, and so has an EBCDIC byte.
+/// Returns whether a character is of the alphabet, and so has an EBCDIC byte.
 #[inline]
 pub fn is_printable(character: u8) -> bool
     ensures { IsTrue result ↔ IsSome (byte_of character) }

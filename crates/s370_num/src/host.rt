@@ -1,10 +1,12 @@
 //! Files of the host: bytes that come and go, and how often the host failed.
 //!
-//! A reader or a writer counts its failures, and a failure tells its number. So who calls it knows
+//! A reader or a writer counts its failures, and a failure says its number. So who calls it knows
 //! from the error alone which failure it was, and from the count that there was none.
 
-ghost use Rattle.std.specs.Prelude.{◌≡◌, ℕ, ◌<◌, ◌≤◌, ◌-◌, ◌^◌, List, [], Option, IfOk, OnOk, OnErr, length};
-ghost use Rattle.std.specs.Io.KnownBytes.{Appends, Consumes, IsAtEnd, Keeps, ReadConsumes, WriteAppends};
+ghost use Rattle.std.specs.Prelude.{◌≡◌, ℕ, ◌<◌, ◌≤◌, ◌-◌, ◌^◌, List, [], Option, IfOk, OnOk};
+ghost use Rattle.std.specs.Prelude.{OnErr, length};
+ghost use Rattle.std.specs.Io.KnownBytes.{Appends, Consumes, IsAtEnd, Keeps, ReadConsumes};
+ghost use Rattle.std.specs.Io.KnownBytes.{WriteAppends};
 ghost use Rattle.s370_num.specs.declared.host.HostFault.TheVariants.{Memory};
 ghost use Rattle.s370_num.specs.Host.{AppendsFront, Counts, ReadsFront};
 
@@ -24,7 +26,7 @@ pub enum HostFault {
     /// The program's memory could not grow. This is no failure of the file, and is not counted.
     #[error("the program's memory could not grow")]
     Memory,
-    /// The host failed, for the time that is told, counted from 1 since the file was opened.
+    /// The host failed, for the time that is reported, counted from 1 since the file was opened.
     #[error("failure {0} of a host file")]
     Device(u64),
 }
@@ -42,7 +44,7 @@ pub trait HostFile {
     /// How many of its calls have failed.
     ghost failures: { Self → ℕ };
 
-    /// How many of its calls have failed; the count stays at its greatest value.
+    /// Returns how many of its calls have failed; the count stays at its greatest value.
     fn failures(&self) -> u64
         ensures { result ≡ failures self.now };
 }
@@ -52,8 +54,12 @@ pub trait HostReader: HostFile {
     /// The bytes that are left, where they are known: of a file on a disk nothing is.
     ghost remaining: { Self → Option (List ℕ) };
 
-    /// Reads some bytes into the front of `buf` and tells how many: none only at the end of the
+    /// Reads some bytes into the front of `buf` and says how many: none only at the end of the
     /// file, or where `buf` is empty.
+    ///
+    /// # Errors
+    ///
+    /// `Device` with the number of the failure, or `Memory`.
     fn read(&mut self, buf: &mut [u8]) -> Result<usize, HostFault>
         ensures bound { IfOk result (λ n. n ≤ length buf.new) }
         ensures bytes { ReadConsumes (remaining self.old) (remaining self.new) result buf.new }
@@ -62,14 +68,18 @@ pub trait HostReader: HostFile {
 
 /// A host file that is written.
 pub trait HostWriter: HostFile {
-    /// The bytes that were written, where they are known: of a file on a disk nothing is. Those that are
-    /// still held back are among them.
+    /// The bytes that were written, where they are known: of a file on a disk nothing is. Those
+    /// that are still held back are among them.
     ghost contents: { Self → Option (List ℕ) };
 
     /// The bytes that were written and are still held back, so that the host does not have them.
     ghost held: { Self → List ℕ };
 
-    /// Writes a beginning of `bytes` and tells how many: at least one where there are any.
+    /// Writes a beginning of `bytes` and says how many: at least one where there are any.
+    ///
+    /// # Errors
+    ///
+    /// `Device` with the number of the failure, or `Memory`.
     fn write(&mut self, bytes: &[u8]) -> Result<usize, HostFault>
         ensures bound { IfOk result (λ n. n ≤ length bytes.now) }
         ensures some { 0 < length bytes.now → IfOk result (λ n. 0 < n) }
@@ -77,6 +87,10 @@ pub trait HostWriter: HostFile {
         ensures counts { Counts (Self.failures self.old) (Self.failures self.new) result };
 
     /// Hands to the host what was written and is still held back.
+    ///
+    /// # Errors
+    ///
+    /// `Device` with the number of the failure, or `Memory`.
     fn flush(&mut self) -> Result<(), HostFault>
         ensures flushed { OnOk result (held self.new ≡ []) }
         ensures bytes { Keeps (contents self.old) (contents self.new) }
@@ -84,10 +98,16 @@ pub trait HostWriter: HostFile {
 }
 
 /// Writes all the bytes, or a beginning of them where that fails.
+///
+/// # Errors
+///
+/// `Device` with the number of the failure, or `Memory`.
 pub fn write_all<W: HostWriter>(writer: &mut W, bytes: &[u8]) -> Result<(), HostFault>
     ensures ok { OnOk result (Appends (W.contents writer.old) (W.contents writer.new) bytes.now) }
-    ensures err { OnErr result (AppendsFront (W.contents writer.old) (W.contents writer.new) bytes.now) }
-    ensures counts { Counts (W.HostFile.failures writer.old) (W.HostFile.failures writer.new) result }
+    ensures err { OnErr result
+        (AppendsFront (W.contents writer.old) (W.contents writer.new) bytes.now) }
+    ensures counts { Counts (W.HostFile.failures writer.old) (W.HostFile.failures writer.new)
+        result }
 {
     let mut done = 0;
     while done < bytes.len() {
@@ -97,11 +117,17 @@ pub fn write_all<W: HostWriter>(writer: &mut W, bytes: &[u8]) -> Result<(), Host
 }
 
 /// Reads all that is left; where that fails, what was read until then is lost.
+///
+/// # Errors
+///
+/// `Device` with the number of the failure, or `Memory`.
 pub fn read_all<R: HostReader>(alloc: Global, reader: &mut R) -> Result<Vec<u8>, HostFault>
-    ensures ok { IfOk result (λ all. Consumes (R.remaining reader.old) (R.remaining reader.new) all.items) }
+    ensures ok { IfOk result
+        (λ all. Consumes (R.remaining reader.old) (R.remaining reader.new) all.items) }
     ensures end { OnOk result (IsAtEnd (R.remaining reader.new)) }
     ensures err { OnErr result (ReadsFront (R.remaining reader.old) (R.remaining reader.new)) }
-    ensures counts { Counts (R.HostFile.failures reader.old) (R.HostFile.failures reader.new) result }
+    ensures counts { Counts (R.HostFile.failures reader.old) (R.HostFile.failures reader.new)
+        result }
 {
     let mut all = Vec::new(alloc);
     let mut buf = [0u8; 4096];

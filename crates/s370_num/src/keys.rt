@@ -26,7 +26,7 @@ impl AccessKey {
     /// The key that passes every block.
     pub const ZERO: AccessKey = AccessKey { key: 0 };
 
-    /// The key of this number.
+    /// Returns the key of this number.
     #[inline(always)]
     pub fn new(key: u8) -> AccessKey
         requires { key < 16 }
@@ -35,7 +35,7 @@ impl AccessKey {
         AccessKey { key }
     }
 
-    /// The key's number.
+    /// Returns the key's number.
     #[inline(always)]
     pub fn get(self) -> u8
         ensures value { result ≡ self }
@@ -45,7 +45,8 @@ impl AccessKey {
     }
 }
 
-/// The key of a block of storage: four bits of access control and, last, the bit of fetch protection.
+/// The key of a block of storage: four bits of access control and, last, the bit of fetch
+/// protection.
 #[derive(Clone, Copy, PartialEq, Eq, Debug)]
 pub struct StorageKey {
     bits: u8,
@@ -67,7 +68,7 @@ impl StorageKey {
     /// Access control zero, and no fetch protection.
     pub const ZERO: StorageKey = StorageKey { bits: 0 };
 
-    /// The key of these five bits.
+    /// Returns the key of these five bits.
     #[inline(always)]
     pub fn new(bits: u8) -> StorageKey
         requires { bits < 32 }
@@ -76,7 +77,7 @@ impl StorageKey {
         StorageKey { bits }
     }
 
-    /// The key's five bits.
+    /// Returns the key's five bits.
     #[inline(always)]
     pub fn get(self) -> u8
         ensures value { result ≡ self }
@@ -113,7 +114,7 @@ impl ConditionCode {
 
     pub const THREE: ConditionCode = ConditionCode { code: 3 };
 
-    /// The condition code of this number.
+    /// Returns the condition code of this number.
     #[inline(always)]
     pub fn new(code: u8) -> ConditionCode
         requires { code < 4 }
@@ -122,7 +123,7 @@ impl ConditionCode {
         ConditionCode { code }
     }
 
-    /// The code's number.
+    /// Returns the code's number.
     #[inline(always)]
     pub fn get(self) -> u8
         ensures value { result ≡ self }

@@ -1,10 +1,10 @@
-//! What every part of the system stands on: storage addresses, words, device addresses, register numbers, keys and
-//! condition codes, each a type of its own that agrees with the whole number which it stands for; EBCDIC; and files of
-//! the host whose failures are counted.
+//! What every part of the system stands on: storage addresses, words, device addresses, register
+//! numbers, keys and condition codes, each a type of its own that agrees with the whole number
+//! which it stands for; EBCDIC; and files of the host whose failures are counted.
 //!
-//! What is written in EBCDIC is read back as it was. What passes through a file of the host is what was given:
-//! `write_all` appends all the bytes or a beginning of them, `read_all` gives all that is left, and each failure of the
-//! host is counted and told by its number.
+//! What is written in EBCDIC is read back as it was. What passes through a file of the host is what
+//! was given: `write_all` appends all the bytes or a beginning of them, `read_all` gives all that
+//! is left, and each failure of the host is counted and reported by its number.
 //!
 //! ```
 //! use s370_num::ebcdic::{ebcdic_of, printable};

@@ -28,7 +28,7 @@ impl Register {
     /// Register 0, which as a base or index names none.
     pub const ZERO: Register = Register { number: 0 };
 
-    /// The register of this number.
+    /// Returns the register of this number.
     #[inline(always)]
     pub fn new(number: u8) -> Register
         requires { number < 16 }
@@ -37,7 +37,7 @@ impl Register {
         Register { number }
     }
 
-    /// The register's number.
+    /// Returns the register's number.
     #[inline(always)]
     pub fn number(self) -> u8
         ensures value { result ≡ self }
@@ -46,7 +46,7 @@ impl Register {
         self.number
     }
 
-    /// The register's place among the sixteen.
+    /// Returns the register's place among the sixteen.
     #[inline(always)]
     pub fn index(self) -> usize
         ensures value { result ≡ self }
@@ -55,7 +55,7 @@ impl Register {
         self.number as usize
     }
 
-    /// The register after it; 0 follows 15.
+    /// Returns the register after it; 0 follows 15.
     #[inline(always)]
     pub fn next(self) -> Register
         ensures { result ≡ (self + 1) % 16 }

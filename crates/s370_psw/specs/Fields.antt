@@ -1,8 +1,10 @@
--- The program status word of basic control mode, as fields of 64 bits of which bit 0 is the leftmost
--- (GA22-7000, "Program-Status-Word Format in BC Mode").
-use Rattle.std.specs.Prelude.{ℕ, ◌+◌, ◌-◌, ◌*◌, ◌/◌, ◌%◌, ◌^◌, ◌==◌, nat_lt, Bool, List, cond, if◌then◌else◌}
+-- The program status word of basic control mode, as fields of 64 bits of which bit 0 is the
+-- leftmost (GA22-7000, "Program-Status-Word Format in BC Mode").
+use Rattle.std.specs.Prelude.{ℕ, ◌+◌, ◌-◌, ◌*◌, ◌/◌, ◌%◌, ◌^◌, ◌==◌, nat_lt, Bool, List, cond}
+use Rattle.std.specs.Prelude.{if◌then◌else◌}
 use Rattle.std.specs.Int.{w64, from_be_bytes, to_be_bytes}
 
+-- the fields of a PSW as the processor holds them
 pub record Fields : Type 0 where
   pub system_mask : ℕ
   pub key : ℕ
@@ -32,19 +34,24 @@ fields_of n = record {
   address = bits n 40 63;
 }
 
+-- a flag as a bit
 abbrev pub bit : Bool → ℕ
 bit b = cond b 1 0
 
--- the 64 bits of a PSW that is stored with an interruption code, in 16 to 31, and an instruction length code, in 32 and 33
+-- the 64 bits of a PSW that is stored with an interruption code, in 16 to 31, and an instruction
+-- length code, in 32 and 33
 abbrev pub word_of : Fields → ℕ → ℕ → ℕ
 word_of f code length_code =
-    f.system_mask * 2 ^ 56 + f.key * 2 ^ 52 + bit f.extended * 2 ^ 51 + bit f.machine_check * 2 ^ 50 + bit f.wait * 2 ^ 49 + bit f.problem * 2 ^ 48
-    + code * 2 ^ 32 + length_code * 2 ^ 30 + f.condition * 2 ^ 28 + f.program_mask * 2 ^ 24 + f.address
+    f.system_mask * 2 ^ 56 + f.key * 2 ^ 52 + bit f.extended * 2 ^ 51 + bit f.machine_check * 2 ^ 50
+    + bit f.wait * 2 ^ 49 + bit f.problem * 2 ^ 48
+    + code * 2 ^ 32 + length_code * 2 ^ 30 + f.condition * 2 ^ 28 + f.program_mask * 2 ^ 24 +
+    f.address
 
 -- the PSW that eight bytes of storage load, and the eight bytes that a PSW is stored as
 abbrev pub loaded : List ℕ → Fields
 loaded bytes = fields_of (from_be_bytes w64 bytes)
 
+-- the eight bytes that a PSW is stored as, with an interruption code and a length code
 abbrev pub stored : Fields → ℕ → ℕ → List ℕ
 stored f code length_code = to_be_bytes w64 (word_of f code length_code)
 

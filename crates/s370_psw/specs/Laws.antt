@@ -12,15 +12,19 @@ pub record IsInRange (f : Fields) : Type 0 where
 
 -- a PSW that is stored and loaded again is the PSW: of its 64 bits, and of its eight bytes
 abbrev pub ReadsBack : Type 0
-ReadsBack = (f : Fields) (code length_code : ℕ) → IsInRange f → code < 2 ^ 16 → length_code < 2 ^ 2 → fields_of (word_of f code length_code) ≡ f
+ReadsBack = (f : Fields) (code length_code : ℕ) → IsInRange f → code < 2 ^ 16 → length_code < 2 ^ 2
+    → fields_of (word_of f code length_code) ≡ f
 
+-- a PSW that is stored and then loaded is the same PSW
 abbrev pub LoadsBack : Type 0
-LoadsBack = (f : Fields) (code length_code : ℕ) → IsInRange f → code < 2 ^ 16 → length_code < 2 ^ 2 → loaded (stored f code length_code) ≡ f
+LoadsBack = (f : Fields) (code length_code : ℕ) → IsInRange f → code < 2 ^ 16 → length_code < 2 ^ 2
+    → loaded (stored f code length_code) ≡ f
 
 -- a stored PSW has its two codes in bits 16 to 31 and 32 to 33
 abbrev pub HoldsCodes : Type 0
 HoldsCodes = (f : Fields) (code length_code : ℕ) → IsInRange f → code < 2 ^ 16 → length_code < 2 ^ 2
-    → (bits (word_of f code length_code) 16 31 ≡ code) × (bits (word_of f code length_code) 32 33 ≡ length_code)
+    → (bits (word_of f code length_code) 16 31 ≡ code)
+    × (bits (word_of f code length_code) 32 33 ≡ length_code)
 
 -- a PSW that is loaded and stored again with codes of zero has its 64 bits, but zeros in 16 to 33
 abbrev pub WritesBack : Type 0

@@ -1,7 +1,11 @@
 -- The causes of program interruptions and their numbers (GA22-7000, "Program Interruption").
 use Rattle.std.specs.Prelude.{ℕ, List, codes}
 use Rattle.s370_psw.specs.declared.program.ProgramCode.{ProgramCode}
-use Rattle.s370_psw.specs.declared.program.ProgramCode.TheVariants.{Operation, PrivilegedOperation, Execute, Protection, Addressing, Specification, Data, FixedPointOverflow, FixedPointDivide}
+use Rattle.s370_psw.specs.declared.program.ProgramCode.TheVariants.{Operation, PrivilegedOperation}
+use Rattle.s370_psw.specs.declared.program.ProgramCode.TheVariants.{Execute, Protection, Addressing}
+use Rattle.s370_psw.specs.declared.program.ProgramCode.TheVariants.{Specification, Data}
+use Rattle.s370_psw.specs.declared.program.ProgramCode.TheVariants.{FixedPointOverflow}
+use Rattle.s370_psw.specs.declared.program.ProgramCode.TheVariants.{FixedPointDivide}
 
 -- the number that is stored as interruption code
 abbrev pub program_number : ProgramCode → ℕ

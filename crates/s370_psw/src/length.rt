@@ -4,8 +4,8 @@ ghost use Rattle.std.specs.Prelude.{◌≡◌, ℕ, ◌<◌, ◌↔◌, IsSome, 
 
 use std::marker::Model;
 
-/// An instruction length code: how many halfwords the instruction that was interrupted has, from 1 to 3,
-/// or 0 where none was fetched.
+/// An instruction length code: how many halfwords the instruction that was interrupted has, from 1
+/// to 3, or 0 where none was fetched.
 #[derive(Clone, Copy, PartialEq, Eq, Debug)]
 pub struct Ilc {
     halfwords: u8,
@@ -33,7 +33,7 @@ impl Ilc {
     /// An instruction of six bytes.
     pub const THREE: Ilc = Ilc { halfwords: 3 };
 
-    /// The code for so many halfwords, if there are no more than three.
+    /// Returns the code for so many halfwords, if there are no more than three.
     #[inline(always)]
     pub fn new(halfwords: u8) -> Option<Ilc>
         ensures found { IsSome result ↔ (halfwords < 4) }
@@ -46,7 +46,7 @@ impl Ilc {
         }
     }
 
-    /// How many halfwords the instruction has.
+    /// Returns how many halfwords the instruction has.
     #[inline(always)]
     pub fn get(self) -> u8
         ensures value { result ≡ self }

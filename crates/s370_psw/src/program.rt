@@ -20,7 +20,7 @@ pub enum ProgramCode {
 }
 
 impl ProgramCode {
-    /// The number that is stored as interruption code.
+    /// Returns the number that is stored as interruption code.
     #[inline(always)]
     pub fn number(self) -> u16
         ensures { result ≡ program_number self }
@@ -38,7 +38,7 @@ impl ProgramCode {
         }
     }
 
-    /// The name of the cause, for messages.
+    /// Returns the name of the cause, for messages.
     pub fn as_str(self) -> &'static str
         ensures { result.now ≡ program_name self }
     {

@@ -1,15 +1,17 @@
 //! The program status word in basic control mode.
 
 ghost use Rattle.std.specs.Prelude.{◌≡◌, ℕ, ◌+◌, ◌*◌, ◌^◌, ◌<◌, ◌≤◌, ◌==◌};
-ghost use Rattle.s370_psw.specs.Laws.{IsInRange, ReadsBack, LoadsBack, HoldsCodes, WritesBack, WritesAllBack};
+ghost use Rattle.s370_psw.specs.Laws.{IsInRange, ReadsBack, LoadsBack, HoldsCodes, WritesBack};
+ghost use Rattle.s370_psw.specs.Laws.{WritesAllBack};
 
 use crate::length::Ilc;
 use byteorder::{BigEndian, ByteOrder};
 use s370_num::{AccessKey, Addr24, ConditionCode};
 use std::marker::Model;
 
-/// A program status word as the processor holds it: without interruption code and instruction length
-/// code, which it has only where it is stored (GA22-7000, "Program-Status-Word Format in BC Mode").
+/// A program status word as the processor holds it: without interruption code and instruction
+/// length code, which it has only where it is stored (GA22-7000, "Program-Status-Word Format in BC
+/// Mode").
 #[derive(Clone, Copy, PartialEq, Eq, Debug)]
 pub struct Psw {
     system_mask: u8,
@@ -60,7 +62,7 @@ impl Model for Psw {
 impl Psw {
     ghost use Rattle.s370_psw.specs.Fields.{fields_of, word_of, loaded, stored};
 
-    /// The PSW that these eight bytes load. Bits 16 to 33 are dropped.
+    /// Returns the PSW that these eight bytes load. Bits 16 to 33 are dropped.
     #[inline]
     pub fn from_bytes(bytes: &[u8; 8]) -> Psw
         ensures { result ≡ loaded bytes.now }
@@ -68,7 +70,8 @@ impl Psw {
         Psw::from_word(BigEndian::read_u64(bytes))
     }
 
-    /// The eight bytes that are stored with an interruption code and an instruction length code.
+    /// Returns the eight bytes that are stored with an interruption code and an instruction length
+    /// code.
     #[inline]
     pub fn to_bytes(self, code: u16, length_code: Ilc) -> [u8; 8]
         ensures { result ≡ stored self code length_code }
@@ -78,7 +81,7 @@ impl Psw {
         bytes
     }
 
-    /// The PSW that these 64 bits load. Bits 16 to 33 are dropped.
+    /// Returns the PSW that these 64 bits load. Bits 16 to 33 are dropped.
     #[inline]
     pub fn from_word(word: u64) -> Psw
         ensures { result ≡ fields_of word }
@@ -96,7 +99,8 @@ impl Psw {
         }
     }
 
-    /// The 64 bits that are stored with an interruption code and an instruction length code.
+    /// Returns the 64 bits that are stored with an interruption code and an instruction length
+    /// code.
     #[inline]
     pub fn to_word(self, code: u16, length_code: Ilc) -> u64
         ensures { result ≡ word_of self code length_code }
@@ -118,7 +122,7 @@ impl Psw {
 impl Psw {
     ghost use Rattle.s370_psw.specs.Fields.{enables_channel, enables_external};
 
-    /// Where the next instruction stands.
+    /// Where the next instruction is.
     #[inline(always)]
     pub fn address(&self) -> Addr24
         ensures { result ≡ self.now.address }
@@ -126,7 +130,7 @@ impl Psw {
         self.address
     }
 
-    /// The key that storage accesses are tested with.
+    /// Returns the key that storage accesses are tested with.
     #[inline(always)]
     pub fn key(&self) -> AccessKey
         ensures { result ≡ self.now.key }
@@ -134,7 +138,7 @@ impl Psw {
         self.key
     }
 
-    /// The condition code.
+    /// Returns the condition code.
     #[inline(always)]
     pub fn condition(&self) -> ConditionCode
         ensures { result ≡ self.now.condition }
@@ -142,7 +146,7 @@ impl Psw {
         self.condition
     }
 
-    /// The four masks of program exceptions: fixed-point overflow is the leftmost.
+    /// Returns the four masks of program exceptions: fixed-point overflow is the leftmost.
     #[inline(always)]
     pub fn program_mask(&self) -> u8
         ensures value { result ≡ self.now.program_mask }
@@ -151,7 +155,7 @@ impl Psw {
         self.program_mask
     }
 
-    /// The eight masks of interruptions: channel 0 is the leftmost.
+    /// Returns the eight masks of interruptions: channel 0 is the leftmost.
     #[inline(always)]
     pub fn system_mask(&self) -> u8
         ensures { result ≡ self.now.system_mask }
@@ -175,7 +179,7 @@ impl Psw {
         self.machine_check
     }
 
-    /// The processor waits for an interruption (bit 14).
+    /// Returns the processor waits for an interruption (bit 14).
     #[inline(always)]
     pub fn waits(&self) -> bool
         ensures { result ≡ self.now.wait }
@@ -191,8 +195,8 @@ impl Psw {
         self.problem
     }
 
-    /// A device of this channel may interrupt: channels 0 to 5 have a mask each, the higher ones share
-    /// one.
+    /// A device of this channel may interrupt: channels 0 to 5 have a mask each, the higher ones
+    /// share one.
     #[inline(always)]
     pub fn enables_channel(&self, channel: u8) -> bool
         ensures { result ≡ enables_channel self.now channel }
@@ -277,9 +281,9 @@ pub fn fields_in_range(psw: &Psw)
     let _mask = psw.system_mask;
 }
 
-/// The laws of storing and loading: a PSW that is stored with any codes and loaded again is the PSW,
-/// its codes stand in their bits, and a PSW that is loaded and stored again has the bits that it had,
-/// but for those of the codes.
+/// The laws of storing and loading: a PSW that is stored with any codes and loaded again is the
+/// PSW, its codes are in their bits, and a PSW that is loaded and stored again has the bits that it
+/// had, but for those of the codes.
 pub fn storing_and_loading()
     ensures reads_back { ReadsBack }
     ensures loads_back { LoadsBack }

@@ -49,7 +49,7 @@ part_unit m m' present start second_byte here small h row =
 part_rights : (m m' : State) (present : ℕ → Bool) (i : Instruction) → MeetsRow (long_moved m i) present m (Ok Again) m' → rights_of m' ≡ rights_of m
 part_rights m m' present i row = (quick_done (long_moved m i) present m Again m' (long_quiet m i) row).2
 
--- it stands there as long as its bytes, the keys, the pages and the rights are the same
+-- it is there as long as its bytes, the keys, the pages and the rights are the same
 still_stands : (m m' : State) (present present' : ℕ → Bool) (start second_byte : ℕ) → length m'.bytes ≡ length m.bytes → rights_of m' ≡ rights_of m → present' ≡ present → ((k : ℕ) → k ≤ 1 → slice_index m'.bytes (start + k) ≡ slice_index m.bytes (start + k)) → IsLongMoveAt m present start second_byte → IsLongMoveAt m' present' start second_byte
 still_stands m m' present present' start second_byte size rights same kept h =
     let keys : m'.keys ≡ m.keys = ap (λ (r : Rights). r.keys) rights in
@@ -65,7 +65,7 @@ still_stands m m' present present' start second_byte size rights same kept h =
       second = kept 1 (omega arith) ∙ h.second;
     }
 
--- what so many parts leave: so many units, and the MVCL as it stood
+-- what so many parts leave: so many units, and the MVCL as it was
 pub record AreDone (n start second_byte : ℕ) (present : ℕ → Bool) (m m' : State) : Type 0 where
   pub units : DoesUnits n present m m'
   pub here : start ≡ m'.cpu.psw.address

@@ -1,5 +1,5 @@
--- Arithmetic and shifts are quiet, if none of their overflows interrupts: the processor goes on after them, and they change no
--- rights.
+-- Arithmetic and shifts are quiet, if none of their overflows interrupts: the processor goes on after them, and they
+-- change no rights.
 use Rattle.std.proofs.Common.{◌≡◌, ℕ, Bool, true, false, refl}
 use Rattle.std.specs.Prelude.{nat_le}
 use Rattle.s370_rows.specs.declared.arithmetic.Arithmetic.{Arithmetic}

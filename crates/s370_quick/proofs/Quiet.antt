@@ -1,5 +1,5 @@
--- Each row of a steady operation code is quiet, if none of its overflows interrupts: the processor goes on after it, and it changes
--- no rights.
+-- Each row of a steady operation code is quiet, if none of its overflows interrupts: the processor goes on after it,
+-- and it changes no rights.
 use Rattle.std.proofs.Common.{◌≡◌, ℕ, ◌-◌, ◌==◌, Bool, true, false, List, Option, Some, None, Result, Ok, Err, refl, slice_index}
 use Rattle.std.specs.Prelude.{if◌then◌else◌, ◌&&◌, nat_le, nat_lt}
 use Rattle.s370_psw.specs.declared.ProgramCode.{ProgramCode}

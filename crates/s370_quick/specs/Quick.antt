@@ -1,12 +1,14 @@
 -- What an instruction may answer that is done only where nothing keeps it from being done.
-use Rattle.std.specs.Prelude.{◌≡◌, ℕ, zero, suc, ◌+◌, ◌%◌, ◌<◌, ◌≤◌, Bool, true, false, length, slice_index, Option, Some, None, Result, Ok, Err, IfSome, IfNone}
+use Rattle.std.specs.Prelude.{◌≡◌, ℕ, zero, suc, ◌+◌, ◌%◌, ◌<◌, ◌≤◌, Bool, true, false, length}
+use Rattle.std.specs.Prelude.{slice_index, Option, Some, None, Result, Ok, Err, IfSome, IfNone}
 use Rattle.s370_store.specs.Blocks.{MayAccess, MayFetch}
 use Rattle.s370_store.specs.Memory.{Memory}
 use Rattle.s370_store.specs.declared.Access.{Access}
 use Rattle.s370_store.specs.declared.Access.TheVariants.{Fetch, Store}
 use Rattle.s370_store.specs.declared.block.Block.{Block}
 use Rattle.s370_rows.specs.declared.ending.Ending.{Ending}
-use Rattle.s370_rows.specs.declared.ending.Ending.TheVariants.{Done, Branch, Again, Interrupted, SupervisorCall, InputOutput}
+use Rattle.s370_rows.specs.declared.ending.Ending.TheVariants.{Done, Branch, Again, Interrupted}
+use Rattle.s370_rows.specs.declared.ending.Ending.TheVariants.{SupervisorCall, InputOutput}
 use Rattle.s370_rows.specs.declared.ending.Refusal.{Refusal}
 use Rattle.s370_rows.specs.State.{State}
 use Rattle.s370_rows.specs.Rows.{Row, MeetsRow}
@@ -14,7 +16,7 @@ use Rattle.s370_cpu.specs.Laws.{rights_of}
 use Rattle.s370_cpu.specs.Table.{unit}
 use Rattle.s370_cpu.specs.Unit.{MeetsUnit}
 use Rattle.s370_cpu.specs.declared.conclude.Stop.TheVariants.{Done as DoneStop}
-use Rattle.s370_quick.specs.declared.held.Held.{Held}
+use Rattle.s370_quick.specs.declared.held.HeldBlock.{HeldBlock}
 
 -- the processor goes on after it, and nothing else follows
 abbrev pub GoesOn : Ending → Type 0
@@ -41,14 +43,16 @@ MeetsQuick r present old None new = new ≡ old
 MeetsQuick r present old (Some ending) new =
     MeetsRow r present old (Ok ending) new × GoesOn ending × (rights_of new ≡ rights_of old)
 
--- a step that was done is the unit, and answers where the next one begins; else nothing is changed; and nobody's rights change
-pub record StepsQuickly (present : ℕ → Bool) (old : State) (result : Option ℕ) (new : State) : Type 0 where
+-- a step that was done is the unit, and answers where the next one begins; else nothing is changed;
+-- and nobody's rights change
+pub record StepsQuickly (present : ℕ → Bool) (old : State) (result : Option ℕ)
+    (new : State) : Type 0 where
   pub done : IfSome result (λ _. MeetsUnit (unit old) present old DoneStop new)
   pub next : IfSome result (λ next. next ≡ new.cpu.psw.address)
   pub still : IfNone result (new ≡ old)
   pub rights : rights_of new ≡ rights_of old
 
--- an MVCL with this second byte stands at an address, and the key of the PSW lets it be fetched there
+-- an MVCL with this second byte is at an address, and the key of the PSW lets it be fetched there
 pub record IsLongMoveAt (m : State) (present : ℕ → Bool) (start second_byte : ℕ) : Type 0 where
   pub block : ℕ
   pub may_fetch : MayFetch (length m.bytes) m.keys present m.cpu.psw.key block
@@ -62,15 +66,21 @@ pub record IsLongMoveAt (m : State) (present : ℕ → Bool) (start second_byte 
 abbrev pub DoesUnits : ℕ → (ℕ → Bool) → State → State → Type 0
 DoesUnits zero present m m' = m' ≡ m
 DoesUnits (suc n) present m m' =
-    (next : State) × MeetsUnit (unit m) present m DoneStop next × (rights_of next ≡ rights_of m) × DoesUnits n present next m'
+    (next : State) × MeetsUnit (unit m) present m DoneStop next × (rights_of next ≡ rights_of m)
+    × DoesUnits n present next m'
 
--- a block that is held for such operands: where addresses reach it, all of it may be accessed so, and it stands where it says
-pub record IsHeld (access : Access) (is_placed : Block → Type 0) (m : Memory) (present : ℕ → Bool) (key : ℕ) (block : Block) : Type 0 where
+-- a block that is held for such operands: where addresses reach it, all of it may be accessed so,
+-- and it is where it says
+pub record IsHeld (access : Access) (is_placed : Block → Type 0) (m : Memory) (present : ℕ → Bool)
+    (key : ℕ) (block : Block) : Type 0 where
   pub far : block.first ≤ 2147483648
-  pub may_access : block.first < 16777216 → MayAccess access (length m.bytes) m.keys present key block.first
+  pub may_access : block.first < 16777216
+      → MayAccess access (length m.bytes) m.keys present key block.first
   pub placed : block.first < 16777216 → is_placed block
 
--- the blocks that are held for operands, one for those that are fetched, and one for those that are stored
-pub record AreHeld (is_placed : Block → Type 0) (m : Memory) (present : ℕ → Bool) (key : ℕ) (held : Held) : Type 0 where
+-- the blocks that are held for operands, one for those that are fetched, and one for those that are
+-- stored
+pub record AreHeld (is_placed : Block → Type 0) (m : Memory) (present : ℕ → Bool) (key : ℕ)
+    (held : HeldBlock) : Type 0 where
   pub fetched : IsHeld Fetch is_placed m present key held.fetched
   pub stored : IsHeld Store is_placed m present key held.stored

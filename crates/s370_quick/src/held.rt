@@ -9,17 +9,17 @@ use s370_num::Addr24;
 use s370_rows::Cpu;
 use s370_store::{Access, Block, Storage};
 
-/// The blocks in which the last operands lay, one for each kind of access: what may be fetched from may not be stored
-/// into.
+/// The blocks in which the last operands lay, one for each kind of access: what may be fetched from
+/// may not be stored into.
 #[derive(Clone, Copy, PartialEq, Eq)]
-pub struct Held {
+pub struct HeldBlock {
     /// The block from which operands are fetched.
     pub fetched: Block,
     /// The block into which operands are stored.
     pub stored: Block,
 }
 
-/// Whether a range lies in a block.
+/// Returns whether a range lies in a block.
 #[inline(always)]
 fn holds(block: Block, start: Addr24, count: u32) -> bool
     requires far { block.first ≤ 2147483648 }
@@ -32,8 +32,8 @@ fn holds(block: Block, start: Addr24, count: u32) -> bool
     start.get().wrapping_sub(block.first) <= 2048 - count
 }
 
-/// The block in which an operand lies: the one that is held for such operands, or another. None where it lies in two,
-/// or may not be accessed so.
+/// Returns the block in which an operand lies: the one that is held for such operands, or another.
+/// None where it lies in two, or may not be accessed so.
 #[inline(always)]
 pub fn operand_block<S: Storage>(
     access: Access,

@@ -1,17 +1,19 @@
-//! The loop's processor: carries out one instruction after another, whose bytes and operands come from blocks of
-//! storage that the caller holds.
+//! The loop's processor: carries out one instruction after another, whose bytes and operands come
+//! from blocks of storage that the caller holds.
 //!
-//! Its one theorem: [`step_quickly`] leaves what the unit of operation of `s370_cpu` leaves, and the processor then
-//! goes on with the next instruction; or nothing has changed, and the caller has `s370_cpu` do the unit. The second is
-//! always allowed: carrying out an instruction here makes it faster, and changes nothing else.
+//! Its one theorem: [`step_quickly`] leaves what the unit of operation of `s370_cpu` leaves, and
+//! the processor then goes on with the next instruction; or nothing has changed, and the caller has
+//! `s370_cpu` do the unit. The second is always allowed: carrying out an instruction here makes it
+//! faster, and changes nothing else.
 //!
-//! Left to the unit are instructions that may change rights or interrupt: privileged ones, SVC, CVB, those whose
-//! overflow would interrupt, and whatever ends in an exception or needs a page that is absent.
+//! Left to the unit are instructions that may change rights or interrupt: privileged ones, SVC,
+//! CVB, those whose overflow would interrupt, and whatever ends in an exception or needs a page
+//! that is absent.
 //!
 //! ```
 //! use s370_num::{AccessKey, Addr24};
 //! use s370_psw::Psw;
-//! use s370_quick::{Held, step_quickly};
+//! use s370_quick::{HeldBlock, step_quickly};
 //! use s370_rows::Cpu;
 //! use s370_store::{Access, PlainStorage, Storage};
 //!
@@ -20,7 +22,7 @@
 //! storage.store(0x1000, &[0x41, 0x10, 0, 42]); // LA 1,42
 //! // a block into which may be stored may be fetched from, too
 //! let block = storage.find_block(0x1000, Access::Store, AccessKey::ZERO).ok_or("no block")?;
-//! let mut held = Held { fetched: block, stored: block };
+//! let mut held = HeldBlock { fetched: block, stored: block };
 //! let next = step_quickly(&mut cpu, &mut storage, Addr24::wrapping(0x1000), block, &mut held);
 //! assert_eq!(rt; next, Some(Addr24::wrapping(0x1004)));
 //! assert_eq!(rt; cpu.general[1], 42);
@@ -32,5 +34,5 @@ mod operands;
 mod quick;
 mod strings;
 
-pub use held::Held;
+pub use held::HeldBlock;
 pub use quick::{move_parts_quickly, step_quickly};

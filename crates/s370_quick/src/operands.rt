@@ -1,19 +1,24 @@
 //! The rows whose operands lie in blocks that are held for them, or in others that are found.
 //!
-//! A row of s370_cpu tests its operands and loads or stores them by their addresses, since it has to say what refuses
-//! it. Here an operand is tested and found in one look at the block that is held, and what is then done with it is the
-//! row's own function. An operand that lies in two blocks is left to the unit, unless the row says otherwise.
+//! A row of s370_cpu tests its operands and loads or stores them by their addresses, since it has
+//! to say what refuses it. Here an operand is tested and found in one look at the block that is
+//! held, and what is then done with it is the row's own function. An operand that lies in two
+//! blocks is left to the unit, unless the row says otherwise.
 ghost use Rattle.std.specs.Prelude.{◌≡◌, ℕ, ◌+◌, ◌≤◌, [], ◌∷◌, Ok, IfSome, slice_index};
 ghost use Rattle.s370_store.specs.Access.{test_of};
 ghost use Rattle.s370_store.specs.declared.Access.TheVariants.{Fetch, Store};
 ghost use Rattle.s370_rows.specs.State.{state_of};
 ghost use Rattle.s370_rows.specs.Rows.{Grants, fetch_test};
 ghost use Rattle.s370_bytes.specs.Multiple.{multiple_loaded, multiple_stored};
-ghost use Rattle.s370_cpu.specs.FetchRows.{MeetsOperand, byte_tested, character_inserted, fetch_row, half_of, halfword_multiplied, halfword_operation, operand_of, word_divided, word_multiplied, word_of, word_operation};
-ghost use Rattle.s370_cpu.specs.StoreRows.{byte_changed, character_stored, halfword_stored, store_row, word_stored, word_swapped};
+ghost use Rattle.s370_cpu.specs.FetchRows.{MeetsOperand, byte_tested, character_inserted};
+ghost use Rattle.s370_cpu.specs.FetchRows.{fetch_row, half_of, halfword_multiplied};
+ghost use Rattle.s370_cpu.specs.FetchRows.{halfword_operation, operand_of, word_divided};
+ghost use Rattle.s370_cpu.specs.FetchRows.{word_multiplied, word_of, word_operation};
+ghost use Rattle.s370_cpu.specs.StoreRows.{byte_changed, character_stored, halfword_stored};
+ghost use Rattle.s370_cpu.specs.StoreRows.{store_row, word_stored, word_swapped};
 ghost use Rattle.s370_quick.specs.Quick.{AreHeld, MeetsAtOnce, done_of};
 
-use crate::held::{Held, operand_block};
+use crate::held::{HeldBlock, operand_block};
 use crate::strings::{combine_quickly, compare_quickly, move_quickly, translate_quickly};
 use s370_bytes::{Combine, load_registers_in, store_registers_in, words_range};
 use s370_cpu::{FetchRow, StoreRow, fetch_row, store_row};
@@ -25,13 +30,13 @@ use s370_rows::{
 };
 use s370_store::{Access, Block, Storage, load_byte_in, load_word_in, store_word_in};
 
-/// The block from which an operand of so many bytes is fetched, which is held from then on; None if it lies in two
-/// blocks, or may not be fetched.
+/// The block from which an operand of so many bytes is fetched, which is held from then on; None if
+/// it lies in two blocks, or may not be fetched.
 #[inline(always)]
 pub fn source_block<S: Storage>(
     cpu: &Cpu,
     storage: &S,
-    held: &mut Held,
+    held: &mut HeldBlock,
     start: Addr24,
     count: u32,
 ) -> Option<Block>
@@ -55,13 +60,13 @@ pub fn source_block<S: Storage>(
     Some(found)
 }
 
-/// The block into which an operand of so many bytes is stored, which is held from then on; None if it lies in two
-/// blocks, or may not be stored.
+/// The block into which an operand of so many bytes is stored, which is held from then on; None if
+/// it lies in two blocks, or may not be stored.
 #[inline(always)]
 pub fn target_block<S: Storage>(
     cpu: &Cpu,
     storage: &S,
-    held: &mut Held,
+    held: &mut HeldBlock,
     start: Addr24,
     count: u32,
 ) -> Option<Block>
@@ -87,11 +92,17 @@ pub fn target_block<S: Storage>(
 
 /// The word at the address of a second operand with an index.
 #[inline(always)]
-fn held_word<S: Storage>(cpu: &Cpu, storage: &S, i: Instruction, held: &mut Held) -> Option<u32>
+fn held_word<S: Storage>(
+    cpu: &Cpu,
+    storage: &S,
+    i: Instruction,
+    held: &mut HeldBlock,
+) -> Option<u32>
     requires operands { AreHeld (S.IsPlaced storage.now) (S.memory storage.now)
         (S.present storage.now) cpu.now.psw.key held.old }
     ensures operand { let m = state_of cpu.now (S.memory storage.now) in
-        IfSome result (λ b. MeetsOperand m (S.present storage.now) (fetch_test (operand_of m i) 4) (word_of m i) (Ok b)) }
+        IfSome result (λ b. MeetsOperand m (S.present storage.now) (fetch_test (operand_of m i) 4)
+        (word_of m i) (Ok b)) }
     ensures operands { AreHeld (S.IsPlaced storage.now) (S.memory storage.now)
         (S.present storage.now) cpu.now.psw.key held.new }
 {
@@ -104,11 +115,17 @@ fn held_word<S: Storage>(cpu: &Cpu, storage: &S, i: Instruction, held: &mut Held
 
 /// The signed halfword at the address of a second operand with an index.
 #[inline(always)]
-fn held_halfword<S: Storage>(cpu: &Cpu, storage: &S, i: Instruction, held: &mut Held) -> Option<u32>
+fn held_halfword<S: Storage>(
+    cpu: &Cpu,
+    storage: &S,
+    i: Instruction,
+    held: &mut HeldBlock,
+) -> Option<u32>
     requires operands { AreHeld (S.IsPlaced storage.now) (S.memory storage.now)
         (S.present storage.now) cpu.now.psw.key held.old }
     ensures operand { let m = state_of cpu.now (S.memory storage.now) in
-        IfSome result (λ b. MeetsOperand m (S.present storage.now) (fetch_test (operand_of m i) 2) (half_of m i) (Ok b)) }
+        IfSome result (λ b. MeetsOperand m (S.present storage.now) (fetch_test (operand_of m i) 2)
+        (half_of m i) (Ok b)) }
     ensures operands { AreHeld (S.IsPlaced storage.now) (S.memory storage.now)
         (S.present storage.now) cpu.now.psw.key held.new }
 {
@@ -125,11 +142,12 @@ fn held_halfword<S: Storage>(cpu: &Cpu, storage: &S, i: Instruction, held: &mut 
 
 /// The byte at an address.
 #[inline(always)]
-fn held_byte<S: Storage>(cpu: &Cpu, storage: &S, start: Addr24, held: &mut Held) -> Option<u8>
+fn held_byte<S: Storage>(cpu: &Cpu, storage: &S, start: Addr24, held: &mut HeldBlock) -> Option<u8>
     requires operands { AreHeld (S.IsPlaced storage.now) (S.memory storage.now)
         (S.present storage.now) cpu.now.psw.key held.old }
     ensures operand { let m = state_of cpu.now (S.memory storage.now) in
-        IfSome result (λ b. MeetsOperand m (S.present storage.now) (fetch_test start 1) (slice_index m.bytes start) (Ok b)) }
+        IfSome result (λ b. MeetsOperand m (S.present storage.now) (fetch_test start 1)
+        (slice_index m.bytes start) (Ok b)) }
     ensures operands { AreHeld (S.IsPlaced storage.now) (S.memory storage.now)
         (S.present storage.now) cpu.now.psw.key held.new }
 {
@@ -139,20 +157,22 @@ fn held_byte<S: Storage>(cpu: &Cpu, storage: &S, start: Addr24, held: &mut Held)
     }
 }
 
-/// 54 N, 55 CL, 56 O, 57 X, 58 L, 59 C, 5A A, 5B S, 5E AL, 5F SL: an operation on a register and a word of storage.
+/// 54 N, 55 CL, 56 O, 57 X, 58 L, 59 C, 5A A, 5B S, 5E AL, 5F SL: an operation on a register and a
+/// word of storage.
 #[inline(always)]
 fn word_quickly<S: Storage>(
     operation: Arithmetic,
     cpu: &mut Cpu,
     storage: &S,
     i: Instruction,
-    held: &mut Held,
+    held: &mut HeldBlock,
 ) -> Option<Ending>
     requires operands { AreHeld (S.IsPlaced storage.now) (S.memory storage.now)
         (S.present storage.now) cpu.old.psw.key held.old }
     ensures row { let before = state_of cpu.old (S.memory storage.now) in
         let after = state_of cpu.new (S.memory storage.now) in
-        MeetsAtOnce (word_operation operation before i) (S.present storage.now) before result after }
+        MeetsAtOnce (word_operation operation before i) (S.present storage.now) before result
+        after }
     ensures operands { AreHeld (S.IsPlaced storage.now) (S.memory storage.now)
         (S.present storage.now) cpu.old.psw.key held.new }
 {
@@ -169,13 +189,14 @@ fn halfword_quickly<S: Storage>(
     cpu: &mut Cpu,
     storage: &S,
     i: Instruction,
-    held: &mut Held,
+    held: &mut HeldBlock,
 ) -> Option<Ending>
     requires operands { AreHeld (S.IsPlaced storage.now) (S.memory storage.now)
         (S.present storage.now) cpu.old.psw.key held.old }
     ensures row { let before = state_of cpu.old (S.memory storage.now) in
         let after = state_of cpu.new (S.memory storage.now) in
-        MeetsAtOnce (halfword_operation operation before i) (S.present storage.now) before result after }
+        MeetsAtOnce (halfword_operation operation before i) (S.present storage.now) before result
+        after }
     ensures operands { AreHeld (S.IsPlaced storage.now) (S.memory storage.now)
         (S.present storage.now) cpu.old.psw.key held.new }
 {
@@ -191,7 +212,7 @@ fn multiply_halfword_quickly<S: Storage>(
     cpu: &mut Cpu,
     storage: &S,
     i: Instruction,
-    held: &mut Held,
+    held: &mut HeldBlock,
 ) -> Option<Ending>
     requires operands { AreHeld (S.IsPlaced storage.now) (S.memory storage.now)
         (S.present storage.now) cpu.old.psw.key held.old }
@@ -213,7 +234,7 @@ fn multiply_word_quickly<S: Storage>(
     cpu: &mut Cpu,
     storage: &S,
     i: Instruction,
-    held: &mut Held,
+    held: &mut HeldBlock,
 ) -> Option<Ending>
     requires operands { AreHeld (S.IsPlaced storage.now) (S.memory storage.now)
         (S.present storage.now) cpu.old.psw.key held.old }
@@ -238,7 +259,7 @@ fn divide_word_quickly<S: Storage>(
     cpu: &mut Cpu,
     storage: &S,
     i: Instruction,
-    held: &mut Held,
+    held: &mut HeldBlock,
 ) -> Option<Ending>
     requires operands { AreHeld (S.IsPlaced storage.now) (S.memory storage.now)
         (S.present storage.now) cpu.old.psw.key held.old }
@@ -266,7 +287,7 @@ fn insert_quickly<S: Storage>(
     cpu: &mut Cpu,
     storage: &S,
     i: Instruction,
-    held: &mut Held,
+    held: &mut HeldBlock,
 ) -> Option<Ending>
     requires operands { AreHeld (S.IsPlaced storage.now) (S.memory storage.now)
         (S.present storage.now) cpu.old.psw.key held.old }
@@ -289,7 +310,7 @@ fn test_byte_quickly<S: Storage>(
     cpu: &mut Cpu,
     storage: &S,
     i: Instruction,
-    held: &mut Held,
+    held: &mut HeldBlock,
 ) -> Option<Ending>
     requires operands { AreHeld (S.IsPlaced storage.now) (S.memory storage.now)
         (S.present storage.now) cpu.old.psw.key held.old }
@@ -314,7 +335,7 @@ fn load_multiple_quickly<S: Storage>(
     cpu: &mut Cpu,
     storage: &S,
     i: Instruction,
-    held: &mut Held,
+    held: &mut HeldBlock,
 ) -> Option<Ending>
     requires operands { AreHeld (S.IsPlaced storage.now) (S.memory storage.now)
         (S.present storage.now) cpu.old.psw.key held.old }
@@ -340,7 +361,7 @@ fn store_word_quickly<S: Storage>(
     cpu: &Cpu,
     storage: &mut S,
     i: Instruction,
-    held: &mut Held,
+    held: &mut HeldBlock,
 ) -> Option<Ending>
     requires operands { AreHeld (S.IsPlaced storage.old) (S.memory storage.old)
         (S.present storage.old) cpu.now.psw.key held.old }
@@ -367,7 +388,7 @@ fn store_halfword_quickly<S: Storage>(
     cpu: &Cpu,
     storage: &mut S,
     i: Instruction,
-    held: &mut Held,
+    held: &mut HeldBlock,
 ) -> Option<Ending>
     requires operands { AreHeld (S.IsPlaced storage.old) (S.memory storage.old)
         (S.present storage.old) cpu.now.psw.key held.old }
@@ -395,7 +416,7 @@ fn store_character_quickly<S: Storage>(
     cpu: &Cpu,
     storage: &mut S,
     i: Instruction,
-    held: &mut Held,
+    held: &mut HeldBlock,
 ) -> Option<Ending>
     requires operands { AreHeld (S.IsPlaced storage.old) (S.memory storage.old)
         (S.present storage.old) cpu.now.psw.key held.old }
@@ -423,7 +444,7 @@ fn store_multiple_quickly<S: Storage>(
     cpu: &Cpu,
     storage: &mut S,
     i: Instruction,
-    held: &mut Held,
+    held: &mut HeldBlock,
 ) -> Option<Ending>
     requires operands { AreHeld (S.IsPlaced storage.old) (S.memory storage.old)
         (S.present storage.old) cpu.now.psw.key held.old }
@@ -451,7 +472,7 @@ fn change_byte_quickly<S: Storage>(
     cpu: &mut Cpu,
     storage: &mut S,
     i: Instruction,
-    held: &mut Held,
+    held: &mut HeldBlock,
 ) -> Option<Ending>
     requires operands { AreHeld (S.IsPlaced storage.old) (S.memory storage.old)
         (S.present storage.old) cpu.old.psw.key held.old }
@@ -481,7 +502,7 @@ fn swap_word_quickly<S: Storage>(
     cpu: &mut Cpu,
     storage: &mut S,
     i: Instruction,
-    held: &mut Held,
+    held: &mut HeldBlock,
 ) -> Option<Ending>
     requires operands { AreHeld (S.IsPlaced storage.old) (S.memory storage.old)
         (S.present storage.old) cpu.old.psw.key held.old }
@@ -516,7 +537,7 @@ pub fn fetch_held<S: Storage, const CODE: u8, const WAY: u8>(
     cpu: &mut Cpu,
     storage: &S,
     i: Instruction,
-    held: &mut Held,
+    held: &mut HeldBlock,
 ) -> Option<Ending>
     requires operands { AreHeld (S.IsPlaced storage.now) (S.memory storage.now)
         (S.present storage.now) cpu.old.psw.key held.old }
@@ -547,7 +568,7 @@ pub fn store_held<S: Storage, const CODE: u8, const WAY: u8>(
     cpu: &mut Cpu,
     storage: &mut S,
     i: Instruction,
-    held: &mut Held,
+    held: &mut HeldBlock,
 ) -> Option<Ending>
     requires operands { AreHeld (S.IsPlaced storage.old) (S.memory storage.old)
         (S.present storage.old) cpu.old.psw.key held.old }

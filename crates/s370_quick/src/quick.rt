@@ -1,15 +1,17 @@
 //! Instructions, each done in one go if nothing keeps it from being done.
-ghost use Rattle.std.specs.Prelude.{◌≡◌, ◌+◌, ◌*◌, ◌%◌, ◌≤◌, Ok, false, true, length, nat_le, slice_index};
+ghost use Rattle.std.specs.Prelude.{◌≡◌, ◌+◌, ◌*◌, ◌%◌, ◌≤◌, Ok, false, true, length, nat_le};
+ghost use Rattle.std.specs.Prelude.{slice_index};
 ghost use Rattle.s370_store.specs.Blocks.{MayFetch};
 ghost use Rattle.s370_rows.specs.State.{state_of};
 ghost use Rattle.s370_cpu.specs.declared.conclude.Stop.TheVariants as stops;
 ghost use Rattle.s370_cpu.specs.Fetch.{fetched, halfwords_of, instruction_at};
-ghost use Rattle.s370_quick.specs.Quick.{AreHeld, DoesUnits, GoesOn, IsLongMoveAt, MeetsAtOnce, MeetsQuick, StepsQuickly};
+ghost use Rattle.s370_quick.specs.Quick.{AreHeld, DoesUnits, GoesOn, IsLongMoveAt, MeetsAtOnce};
+ghost use Rattle.s370_quick.specs.Quick.{MeetsQuick, StepsQuickly};
 ghost use Rattle.s370_cpu.specs.Opcodes.{opcode_at};
 ghost use Rattle.s370_cpu.specs.Table.{may_overflow, row_of};
 ghost use Rattle.s370_cpu.specs.Unit.{Carries, place_at, stopped};
 
-use crate::held::Held;
+use crate::held::HeldBlock;
 use crate::operands::{fetch_held, store_held};
 use s370_bytes::move_long_quickly;
 use s370_cpu::{
@@ -23,28 +25,30 @@ use s370_store::{Block, Storage, load_byte_in};
 /// The way of an instruction whose turn it is.
 const IN_TURN: u8 = 0;
 
-/// The way of the target of an EX. It has instances of its own of all that is compiled for one operation code: LLVM
-/// takes a function into its caller, however large, if it has no other.
+/// The way of the target of an EX. It has instances of its own of all that is compiled for one
+/// operation code: LLVM takes a function into its caller, however large, if it has no other.
 const UNDER_EX: u8 = 1;
 
-/// Does one instruction of a running processor, if it is one of the most frequent, if it is done, and if the processor
-/// then goes on with the next one. Else nothing changes. It stands at an even address in a block that was found for
-/// fetches with the processor's key, with room behind it for the longest instruction.
+/// Does one instruction of a running processor, if it is one of the most frequent, if it is done,
+/// and if the processor then goes on with the next one. Else nothing changes. It is at an even
+/// address in a block that was found for fetches with the processor's key, with room after it for
+/// the longest instruction.
 ///
-/// The address of the next instruction says that it was done. So a loop over instructions has no stop to tell from
-/// others; what it has looked at before (all that only the supervisor state can change, the key among it) it need not
-/// look at again; and the address it holds itself, since what was just stored into the PSW would be waited for.
+/// The address of the next instruction says that it was done. So a loop over instructions has no
+/// stop to say from others; what it has looked at before (all that only the supervisor state can
+/// change, the key among it) it need not look at again; and the address it holds itself, since what
+/// was just stored into the PSW would be waited for.
 ///
-/// An operand is fetched from the block that is held for fetches, or stored into the one that is held for stores, where
-/// it lies in it; else in the block of its own that is found, which is held from then on. So an operand near the last
-/// one is looked up no more.
+/// An operand is fetched from the block that is held for fetches, or stored into the one that is
+/// held for stores, where it lies in it; else in the block of its own that is found, which is held
+/// from then on. So an operand near the last one is looked up no more.
 #[inline(always)]
 pub fn step_quickly<S: Storage>(
     cpu: &mut Cpu,
     storage: &mut S,
     start: Addr24,
     block: Block,
-    held: &mut Held,
+    held: &mut HeldBlock,
 ) -> Option<Addr24>
     requires here { start ≡ cpu.old.psw.address }
     requires may_fetch { MayFetch (length (S.memory storage.old).bytes) (S.memory storage.old).keys
@@ -72,7 +76,7 @@ fn step_found_quickly<S: Storage>(
     storage: &mut S,
     start: Addr24,
     block: Block,
-    held: &mut Held,
+    held: &mut HeldBlock,
 ) -> Option<Addr24>
     requires here { start ≡ cpu.old.psw.address }
     requires found { let m = state_of cpu.old (S.memory storage.old) in
@@ -89,7 +93,7 @@ fn step_found_quickly<S: Storage>(
     ensures operands { AreHeld (S.IsPlaced storage.old) (S.memory storage.old)
         (S.present storage.old) cpu.old.psw.key held.new }
 {
-    // One jump, behind which all is compiled for the one operation code.
+    // One jump, after which all is compiled for the one operation code.
     match load_byte_in(storage, block, start.get()) {
         0x04 => carry_quickly::<S, 0x04>(cpu, storage, start, block, held),
         0x05 => carry_quickly::<S, 0x05>(cpu, storage, start, block, held),
@@ -179,9 +183,10 @@ fn step_found_quickly<S: Storage>(
     }
 }
 
-/// Parts of an MVCL that stands at the instruction address, one after another and at most so many: those that can be
-/// moved as one, where each has all its 256 bytes, changes nothing of the MVCL, and is not the last. How many there
-/// were; where there is none, nothing changes. Either way the same MVCL is the next instruction.
+/// Parts of an MVCL that is at the instruction address, one after another and at most so many:
+/// those that can be moved as one, where each has all its 256 bytes, changes nothing of the MVCL,
+/// and is not the last. How many there were; where there is none, nothing changes. Either way the
+/// same MVCL is the next instruction.
 ///
 /// So a loop over parts need not fetch it again.
 #[inline(always)]
@@ -193,26 +198,28 @@ pub fn move_parts_quickly<S: Storage>(
     limit: u32,
 ) -> u32
     requires here { start ≡ cpu.old.psw.address }
-    requires stands { IsLongMoveAt (state_of cpu.old (S.memory storage.old)) (S.present storage.old) start second_byte }
+    requires stands { IsLongMoveAt (state_of cpu.old (S.memory storage.old)) (S.present storage.old)
+        start second_byte }
     ensures done { let before = state_of cpu.old (S.memory storage.old) in
         let after = state_of cpu.new (S.memory storage.new) in
         DoesUnits result (S.present storage.old) before after }
     ensures within { result ≤ limit }
     ensures here { start ≡ cpu.new.psw.address }
-    ensures stands { IsLongMoveAt (state_of cpu.new (S.memory storage.new)) (S.present storage.new) start second_byte }
+    ensures stands { IsLongMoveAt (state_of cpu.new (S.memory storage.new)) (S.present storage.new)
+        start second_byte }
     ensures rest { S.Keeps storage.old storage.new }
 {
     move_long_quickly(cpu, storage, start, second_byte, limit)
 }
 
-/// Goes on with the instruction of this operation code, which stands at the instruction address.
+/// Goes on with the instruction of this operation code, which is at the instruction address.
 #[inline(always)]
 fn carry_quickly<S: Storage, const CODE: u8>(
     cpu: &mut Cpu,
     storage: &mut S,
     start: Addr24,
     block: Block,
-    held: &mut Held,
+    held: &mut HeldBlock,
 ) -> Option<Addr24>
     requires here { start ≡ cpu.old.psw.address }
     requires found { let m = state_of cpu.old (S.memory storage.old) in
@@ -239,15 +246,15 @@ fn carry_quickly<S: Storage, const CODE: u8>(
     finish_quickly::<S, CODE, IN_TURN>(cpu, storage, Place { next, ilc }, first, held)
 }
 
-/// As `carry_quickly`, out of line: a call is little next to what these instructions do, and the loop keeps its
-/// registers for those that it inlines.
+/// As `carry_quickly`, out of line: a call is little next to what these instructions do, and the
+/// loop keeps its registers for those that it inlines.
 #[inline(never)]
 fn carry_apart<S: Storage, const CODE: u8>(
     cpu: &mut Cpu,
     storage: &mut S,
     start: Addr24,
     block: Block,
-    held: &mut Held,
+    held: &mut HeldBlock,
 ) -> Option<Addr24>
     requires here { start ≡ cpu.old.psw.address }
     requires found { let m = state_of cpu.old (S.memory storage.old) in
@@ -275,7 +282,7 @@ fn execute_quickly<S: Storage>(
     storage: &mut S,
     place: Place,
     first: Instruction,
-    held: &mut Held,
+    held: &mut HeldBlock,
 ) -> Option<Addr24>
     requires found { let m = state_of cpu.old (S.memory storage.old) in
         (fetched m cpu.old.psw.address).result ≡ Ok first }
@@ -304,7 +311,7 @@ fn finish_target<S: Storage>(
     storage: &mut S,
     place: Place,
     i: Instruction,
-    held: &mut Held,
+    held: &mut HeldBlock,
 ) -> Option<Addr24>
     requires carried { Carries (state_of cpu.old (S.memory storage.old)) place.ilc i }
     requires next { let m = state_of cpu.old (S.memory storage.old) in
@@ -413,7 +420,7 @@ fn finish_apart<S: Storage, const CODE: u8>(
     storage: &mut S,
     place: Place,
     i: Instruction,
-    held: &mut Held,
+    held: &mut HeldBlock,
 ) -> Option<Addr24>
     requires same { i.opcode ≡ CODE }
     requires carried { Carries (state_of cpu.old (S.memory storage.old)) place.ilc i }
@@ -438,7 +445,7 @@ fn finish_quickly<S: Storage, const CODE: u8, const WAY: u8>(
     storage: &mut S,
     place: Place,
     i: Instruction,
-    held: &mut Held,
+    held: &mut HeldBlock,
 ) -> Option<Addr24>
     requires same { i.opcode ≡ CODE }
     requires carried { Carries (state_of cpu.old (S.memory storage.old)) place.ilc i }
@@ -479,7 +486,8 @@ fn go_on(cpu: &mut Cpu, place: Place, ending: Ending) -> Addr24
     next
 }
 
-/// Whether an overflow of an instruction of this operation code would interrupt the program.
+/// Returns whether an overflow of an instruction of this operation code would interrupt the
+/// program.
 #[inline(always)]
 fn overflow_interrupts<const CODE: u8>(cpu: &Cpu) -> bool
     ensures { result ≡ false
@@ -491,18 +499,19 @@ fn overflow_interrupts<const CODE: u8>(cpu: &Cpu) -> bool
     false
 }
 
-/// Carries out an instruction, but for its address, if the processor goes on after it and its operands lie in blocks
-/// that may be accessed. Else nothing changes.
+/// Carries out an instruction, but for its address, if the processor goes on after it and its
+/// operands lie in blocks that may be accessed. Else nothing changes.
 ///
-/// Its operation code is a constant of the function's own, so that each of them is compiled by itself. An instruction
-/// whose overflow would interrupt is left to the unit, as is one that may change rights.
+/// Its operation code is a constant of the function's own, so that each of them is compiled by
+/// itself. An instruction whose overflow would interrupt is left to the unit, as is one that may
+/// change rights.
 #[inline(always)]
 fn perform_quickly<S: Storage, const CODE: u8, const WAY: u8>(
     cpu: &mut Cpu,
     storage: &mut S,
     place: Place,
     i: Instruction,
-    held: &mut Held,
+    held: &mut HeldBlock,
 ) -> Option<Ending>
     requires same { i.opcode ≡ CODE }
     requires operands { AreHeld (S.IsPlaced storage.old) (S.memory storage.old)
@@ -523,14 +532,15 @@ fn perform_quickly<S: Storage, const CODE: u8, const WAY: u8>(
     perform_held::<S, CODE, WAY>(cpu, storage, place, i, held)
 }
 
-/// Carries out the row of an operation code, but for the address, over the blocks that are held for its operands.
+/// Carries out the row of an operation code, but for the address, over the blocks that are held for
+/// its operands.
 #[inline(always)]
 fn perform_held<S: Storage, const CODE: u8, const WAY: u8>(
     cpu: &mut Cpu,
     storage: &mut S,
     place: Place,
     i: Instruction,
-    held: &mut Held,
+    held: &mut HeldBlock,
 ) -> Option<Ending>
     requires same { i.opcode ≡ CODE }
     requires operands { AreHeld (S.IsPlaced storage.old) (S.memory storage.old)

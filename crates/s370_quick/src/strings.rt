@@ -9,7 +9,7 @@ ghost use Rattle.s370_bytes.specs.Translate.{string_translated};
 ghost use Rattle.s370_bytes.specs.declared.combine.Combine.TheVariants as combines;
 ghost use Rattle.s370_quick.specs.Quick.{AreHeld, MeetsAtOnce};
 
-use crate::held::{Held, operand_block};
+use crate::held::{HeldBlock, operand_block};
 use crate::operands::{done_of, source_block, target_block};
 use s370_bytes::{
     Combine, combine_row, combine_straight, compare_row, compare_straight, fill_straight, move_row,
@@ -18,14 +18,16 @@ use s370_bytes::{
 use s370_rows::{Cpu, Ending, Instruction};
 use s370_store::{Access, Storage};
 
-/// D2 MVC between two blocks, if it is one copy or fills its target with one byte. Else nothing changes.
+/// D2 MVC between two blocks, if it is one copy or fills its target with one byte. Else nothing
+/// changes.
 #[inline(always)]
-fn move_held<S: Storage>(cpu: &Cpu, storage: &mut S, i: Instruction, held: &mut Held) -> bool
+fn move_held<S: Storage>(cpu: &Cpu, storage: &mut S, i: Instruction, held: &mut HeldBlock) -> bool
     requires operands { AreHeld (S.IsPlaced storage.old) (S.memory storage.old)
         (S.present storage.old) cpu.now.psw.key held.old }
     ensures done { let before = state_of cpu.now (S.memory storage.old) in
         let after = state_of cpu.now (S.memory storage.new) in
-        result ≡ true → MeetsRow (string_combined combines.Move before i) (S.present storage.old) before
+        result ≡ true → MeetsRow (string_combined combines.Move before i) (S.present storage.old)
+        before
         (Ok endings.Done) after }
     ensures still { let before = state_of cpu.now (S.memory storage.old) in
         let after = state_of cpu.now (S.memory storage.new) in
@@ -57,13 +59,14 @@ pub fn move_quickly<S: Storage>(
     cpu: &mut Cpu,
     storage: &mut S,
     i: Instruction,
-    held: &mut Held,
+    held: &mut HeldBlock,
 ) -> Option<Ending>
     requires operands { AreHeld (S.IsPlaced storage.old) (S.memory storage.old)
         (S.present storage.old) cpu.old.psw.key held.old }
     ensures row { let before = state_of cpu.old (S.memory storage.old) in
         let after = state_of cpu.new (S.memory storage.new) in
-        MeetsAtOnce (string_combined combines.Move before i) (S.present storage.old) before result after }
+        MeetsAtOnce (string_combined combines.Move before i) (S.present storage.old) before result
+        after }
     ensures rest { S.Keeps storage.old storage.new }
     ensures operands { AreHeld (S.IsPlaced storage.old) (S.memory storage.old)
         (S.present storage.old) cpu.old.psw.key held.new }
@@ -84,7 +87,8 @@ pub fn move_quickly<S: Storage>(
     None
 }
 
-/// D2 MVC by its row. It is given the parts of the instruction, so that the loop need not write the instruction to
+/// D2 MVC by its row. It is given the parts of the instruction, so that the loop need not write the
+/// instruction to
 /// memory for an MVC that is one copy.
 #[inline(never)]
 fn move_apart<S: Storage>(
@@ -103,7 +107,8 @@ fn move_apart<S: Storage>(
           second_half = second_half;
           third_half = third_half;
         } in
-        result ≡ true → MeetsRow (string_combined combines.Move before i) (S.present storage.old) before
+        result ≡ true → MeetsRow (string_combined combines.Move before i) (S.present storage.old)
+        before
         (Ok endings.Done) after }
     ensures still { let before = state_of cpu.old (S.memory storage.old) in
         let after = state_of cpu.new (S.memory storage.new) in
@@ -129,13 +134,14 @@ pub fn combine_quickly<S: Storage>(
     cpu: &mut Cpu,
     storage: &mut S,
     i: Instruction,
-    held: &mut Held,
+    held: &mut HeldBlock,
 ) -> Option<Ending>
     requires operands { AreHeld (S.IsPlaced storage.old) (S.memory storage.old)
         (S.present storage.old) cpu.old.psw.key held.old }
     ensures row { let before = state_of cpu.old (S.memory storage.old) in
         let after = state_of cpu.new (S.memory storage.new) in
-        MeetsAtOnce (string_combined operation before i) (S.present storage.old) before result after }
+        MeetsAtOnce (string_combined operation before i) (S.present storage.old) before result
+        after }
     ensures rest { S.Keeps storage.old storage.new }
     ensures operands { AreHeld (S.IsPlaced storage.old) (S.memory storage.old)
         (S.present storage.old) cpu.old.psw.key held.new }
@@ -170,7 +176,7 @@ pub fn translate_quickly<S: Storage>(
     cpu: &Cpu,
     storage: &mut S,
     i: Instruction,
-    held: &mut Held,
+    held: &mut HeldBlock,
 ) -> Option<Ending>
     requires operands { AreHeld (S.IsPlaced storage.old) (S.memory storage.old)
         (S.present storage.old) cpu.now.psw.key held.old }
@@ -204,7 +210,7 @@ pub fn compare_quickly<S: Storage>(
     cpu: &mut Cpu,
     storage: &S,
     i: Instruction,
-    held: &mut Held,
+    held: &mut HeldBlock,
 ) -> Option<Ending>
     requires operands { AreHeld (S.IsPlaced storage.now) (S.memory storage.now)
         (S.present storage.now) cpu.old.psw.key held.old }

@@ -1,14 +1,16 @@
--- Operations on a byte of storage: GA22-7000, "Move", "And", "Or", "Exclusive Or" (immediate), "Compare Logical"
--- (immediate), "Test under Mask" and "Test and Set".
+-- Operations on a byte of storage: GA22-7000, "Move", "And", "Or", "Exclusive Or" (immediate),
+-- "Compare Logical" (immediate), "Test under Mask" and "Test and Set".
 use Rattle.std.specs.Prelude.{ℕ, ◌/◌, ◌==◌, if◌then◌else◌, bit_and, bit_or, bit_xor}
 use Rattle.s370_rows.specs.declared.immediate.ByteTest.{ByteTest}
 use Rattle.s370_rows.specs.declared.immediate.ByteTest.TheVariants.{UnderMask, CompareLogical}
 use Rattle.s370_rows.specs.declared.immediate.ByteChange.{ByteChange}
-use Rattle.s370_rows.specs.declared.immediate.ByteChange.TheVariants.{Move, And, Or, ExclusiveOr, TestAndSet}
+use Rattle.s370_rows.specs.declared.immediate.ByteChange.TheVariants.{Move, And, Or, ExclusiveOr}
+use Rattle.s370_rows.specs.declared.immediate.ByteChange.TheVariants.{TestAndSet}
 use Rattle.s370_rows.specs.declared.immediate.ChangedByte.{ChangedByte}
 use Rattle.s370_rows.specs.Arithmetic.{order_code, zero_code}
 
--- TM: 0 where the bits of the byte that the mask selects are all zero or it selects none, 3 where they are all one, else 1
+-- TM: 0 where the bits of the byte that the mask selects are all zero or it selects none, 3 where
+-- they are all one, else 1
 abbrev pub selected_code : ℕ → ℕ → ℕ
 selected_code byte mask =
     let selected = bit_and byte mask in
@@ -19,7 +21,7 @@ abbrev pub byte_code : ByteTest → ℕ → ℕ → ℕ
 byte_code UnderMask byte immediate = selected_code byte immediate
 byte_code CompareLogical byte immediate = order_code byte immediate
 
--- a new byte, with the condition code that tells whether it is zero
+-- a new byte, with the condition code that says whether it is zero
 abbrev pub tested_byte : ℕ → ChangedByte
 tested_byte byte = record { byte = byte; condition = zero_code byte }
 

@@ -1,6 +1,7 @@
--- Bytes of a register under a mask of four bits: GA22-7000, "Insert Characters under Mask", "Store Characters under Mask"
--- and "Compare Logical Characters under Mask".
-use Rattle.std.specs.Prelude.{ℕ, zero, suc, ◌+◌, ◌-◌, ◌/◌, ◌%◌, ◌^◌, ◌==◌, nat_le, if◌then◌else◌, Bool, List, [], ◌∷◌, ◌++◌, slice_index}
+-- Bytes of a register under a mask of four bits: GA22-7000, "Insert Characters under Mask", "Store
+-- Characters under Mask" and "Compare Logical Characters under Mask".
+use Rattle.std.specs.Prelude.{ℕ, zero, suc, ◌+◌, ◌-◌, ◌/◌, ◌%◌, ◌^◌, ◌==◌, nat_le, if◌then◌else◌}
+use Rattle.std.specs.Prelude.{Bool, List, [], ◌∷◌, ◌++◌, slice_index}
 use Rattle.std.specs.Int.{w32, from_be_bytes, to_be_bytes}
 use Rattle.s370_rows.specs.declared.cpu.Cpu.{Cpu}
 use Rattle.s370_rows.specs.Arithmetic.{order_code}
@@ -14,6 +15,7 @@ byte_at word k = slice_index (to_be_bytes w32 word) k
 abbrev pub mask_bit : ℕ → ℕ → ℕ
 mask_bit mask k = mask / 2 ^ (3 - k) % 2
 
+-- whether a mask selects byte k
 abbrev pub selects : ℕ → ℕ → Bool
 selects mask k = mask_bit mask k == 1
 
@@ -29,7 +31,8 @@ selected_count mask = selected_before mask 4
 -- the bytes that it selects of the n leftmost of a word
 abbrev pub selected_front : ℕ → ℕ → ℕ → List ℕ
 selected_front word mask zero = []
-selected_front word mask (suc n) = selected_front word mask n ++ (if selects mask n then byte_at word n ∷ [] else [])
+selected_front word mask (suc n) = selected_front word mask n
+    ++ (if selects mask n then byte_at word n ∷ [] else [])
 
 -- STCM: the bytes of a word that a mask selects
 abbrev pub selected_bytes : ℕ → ℕ → List ℕ
@@ -44,6 +47,7 @@ abbrev pub inserted_byte : ℕ → ℕ → List ℕ → ℕ → ℕ
 inserted_byte word mask bytes k =
     if selects mask k then slice_index bytes (selected_before mask k) else byte_at word k
 
+-- the word whose selected bytes are taken from others
 abbrev pub inserted : ℕ → ℕ → List ℕ → ℕ
 inserted word mask bytes =
     let at = inserted_byte word mask bytes in
@@ -57,9 +61,12 @@ inserted_code bytes =
 -- ICM: bytes take the place of those of register r that the mask selects
 abbrev pub bytes_inserted : Cpu → ℕ → ℕ → List ℕ → Ended
 bytes_inserted cpu r mask bytes =
-    done (with_condition (with_register cpu r (inserted (slice_index cpu.general r) mask bytes)) (inserted_code bytes))
+    done (with_condition (with_register cpu r (inserted (slice_index cpu.general r) mask bytes))
+    (inserted_code bytes))
 
 -- CLM: the bytes of register r that the mask selects are compared with as many others
 abbrev pub bytes_compared : Cpu → ℕ → ℕ → List ℕ → Ended
 bytes_compared cpu r mask bytes =
-    done (with_condition cpu (order_code (left_word (selected_bytes (slice_index cpu.general r) mask)) (left_word bytes)))
+    done (with_condition cpu
+    (order_code (left_word (selected_bytes (slice_index cpu.general r) mask))
+    (left_word bytes)))

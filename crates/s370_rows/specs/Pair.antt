@@ -8,6 +8,7 @@ use Rattle.s370_rows.specs.Registers.{with_register}
 abbrev pub pair_of : Cpu → ℕ → ℕ
 pair_of cpu r = slice_index cpu.general r * 2 ^ 32 + slice_index cpu.general (r + 1)
 
+-- the registers with another number in the pair r and r + 1
 abbrev pub with_pair : Cpu → ℕ → ℕ → Cpu
 with_pair cpu r n = with_register (with_register cpu r (n / 2 ^ 32)) (r + 1) (n % 2 ^ 32)
 

@@ -1,5 +1,6 @@
 -- Shifts of a register and of a pair: GA22-7000, "Shift Left Single" and the seven that follow it.
-use Rattle.std.specs.Prelude.{ℕ, ◌+◌, ◌*◌, ◌/◌, ◌%◌, ◌^◌, nat_lt, if◌then◌else◌, Bool, false, true, ℤ, pos, negsuc, ◌*ℤ◌, slice_index}
+use Rattle.std.specs.Prelude.{ℕ, ◌+◌, ◌*◌, ◌/◌, ◌%◌, ◌^◌, nat_lt, if◌then◌else◌, Bool, false, true}
+use Rattle.std.specs.Prelude.{ℤ, pos, negsuc, ◌*ℤ◌, slice_index}
 use Rattle.std.specs.Int.{w32, w64, cast_unsigned}
 use Rattle.s370_rows.specs.declared.cpu.Cpu.{Cpu}
 use Rattle.s370_rows.specs.declared.arithmetic.Computed.{Computed}
@@ -17,6 +18,7 @@ floored (negsuc k) n = negsuc (k / 2 ^ n)
 
 -- ---- a register
 
+-- a word shifted right, filled with its sign
 abbrev pub right_word : ℕ → ℕ → Computed
 right_word a n = let x = floored (signed a) n in plain (cast_unsigned w32 x) (sign_code x)
 
@@ -26,7 +28,11 @@ left_word a n =
     let x = signed a *ℤ pos (2 ^ n) in
     if fits_word x
     then plain (cast_unsigned w32 x) (sign_code x)
-    else record { value = a / 2 ^ 31 * 2 ^ 31 + a * 2 ^ n % 2 ^ 31; condition = 3; overflows = true }
+    else record {
+      value = a / 2 ^ 31 * 2 ^ 31 + a * 2 ^ n % 2 ^ 31;
+      condition = 3;
+      overflows = true;
+    }
 
 -- the register contents a, shifted by n bits; cc is the condition code before
 abbrev pub word_shift : Shift → ℕ → ℕ → ℕ → Computed
@@ -39,27 +45,39 @@ word_shift LeftLogical cc a n = plain (a * 2 ^ n % 2 ^ 32) cc
 abbrev pub word_shifted : Shift → Cpu → ℕ → ℕ → Ended
 word_shifted op cpu r n =
     let x = word_shift op cpu.psw.condition (slice_index cpu.general r) n in
-    record { ending = overflow_ending cpu x.overflows; cpu = with_condition (with_register cpu r x.value) x.condition }
+    record {
+      ending = overflow_ending cpu x.overflows;
+      cpu = with_condition (with_register cpu r x.value) x.condition;
+    }
 
 -- ---- a pair
 
+-- whether an integer fits 64 bits in two's complement
 abbrev pub fits_pair : ℤ → Bool
 fits_pair (pos n) = nat_lt n (2 ^ 63)
 fits_pair (negsuc n) = nat_lt n (2 ^ 63)
 
+-- a value of a pair, with a condition code, that does not overflow
 abbrev pub plain_pair : ℕ → ℕ → ComputedPair
 plain_pair value condition = record { value = value; condition = condition; overflows = false }
 
+-- a pair shifted right, filled with its sign
 abbrev pub right_pair : ℕ → ℕ → ComputedPair
 right_pair a n = let x = floored (signed_pair a) n in plain_pair (cast_unsigned w64 x) (sign_code x)
 
+-- a pair shifted left under its sign, which overflows if a bit unlike the sign is lost
 abbrev pub left_pair : ℕ → ℕ → ComputedPair
 left_pair a n =
     let x = signed_pair a *ℤ pos (2 ^ n) in
     if fits_pair x
     then plain_pair (cast_unsigned w64 x) (sign_code x)
-    else record { value = a / 2 ^ 63 * 2 ^ 63 + a * 2 ^ n % 2 ^ 63; condition = 3; overflows = true }
+    else record {
+      value = a / 2 ^ 63 * 2 ^ 63 + a * 2 ^ n % 2 ^ 63;
+      condition = 3;
+      overflows = true;
+    }
 
+-- a pair shifted
 abbrev pub pair_shift : Shift → ℕ → ℕ → ℕ → ComputedPair
 pair_shift Right cc a n = right_pair a n
 pair_shift Left cc a n = left_pair a n
@@ -70,4 +88,7 @@ pair_shift LeftLogical cc a n = plain_pair (a * 2 ^ n % 2 ^ 64) cc
 abbrev pub pair_shifted : Shift → Cpu → ℕ → ℕ → Ended
 pair_shifted op cpu r n =
     let x = pair_shift op cpu.psw.condition (pair_of cpu r) n in
-    record { ending = overflow_ending cpu x.overflows; cpu = with_condition (with_pair cpu r x.value) x.condition }
+    record {
+      ending = overflow_ending cpu x.overflows;
+      cpu = with_condition (with_pair cpu r x.value) x.condition;
+    }

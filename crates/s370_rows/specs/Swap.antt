@@ -9,7 +9,8 @@ pub record Swapped : Type 0 where
   pub cpu : Cpu
   pub stored : Option ℕ
 
--- CS: where the operand is equal to register r1, storage takes register r3, CC 0; else r1 takes the operand, CC 1
+-- CS: where the operand is equal to register r1, storage takes register r3, CC 0; else r1 takes the
+-- operand, CC 1
 abbrev pub compared_swap : Cpu → ℕ → ℕ → ℕ → Swapped
 compared_swap cpu r1 r3 operand =
     if slice_index cpu.general r1 == operand

@@ -1,5 +1,6 @@
 //! Leave to access storage.
-ghost use Rattle.std.specs.Prelude.{◌≡◌, ℕ, ◌+◌, ◌≤◌, Bool, true, false, List, [], ◌∷◌, Ok, length, slice_range};
+ghost use Rattle.std.specs.Prelude.{◌≡◌, ℕ, ◌+◌, ◌≤◌, Bool, true, false, List, [], ◌∷◌, Ok, length};
+ghost use Rattle.std.specs.Prelude.{slice_range};
 ghost use Rattle.s370_store.specs.Access.{IsVerdict, Test, test_of, tested};
 ghost use Rattle.s370_store.specs.declared.Access.TheVariants.{Fetch, Store};
 ghost use Rattle.s370_store.specs.Memory.{with_stored};
@@ -11,7 +12,13 @@ use crate::ending::Refusal;
 use s370_psw::ProgramCode;
 use s370_store::{Access, Fault, Range, Storage, check_two};
 
-/// Leave to access a range of at most 256 bytes with the key of the PSW, or why the instruction can't.
+/// Leave to access a range of at most 256 bytes with the key of the PSW, or why the instruction
+/// can't.
+///
+/// # Errors
+///
+/// A `Refusal`: the program interruption, or an absent page that has to be brought first. Nothing
+/// has changed.
 #[inline(always)]
 pub fn grant<S: Storage>(
     cpu: &Cpu,
@@ -27,6 +34,11 @@ pub fn grant<S: Storage>(
 }
 
 /// Leave to access two ranges of at most 256 bytes, tested together, or why the instruction can't.
+///
+/// # Errors
+///
+/// A `Refusal`: the program interruption, or an absent page that has to be brought first. Nothing
+/// has changed.
 #[inline(always)]
 pub fn grant_two<S: Storage>(
     cpu: &Cpu,
@@ -52,17 +64,19 @@ pub fn grant_two<S: Storage>(
     leave_of(answer)
 }
 
-/// Copies at most 2048 bytes from one place to another, as if all were read before any is written, where one look at
-/// each grants leave with the key of the PSW; else nothing changes.
+/// Copies at most 2048 bytes from one place to another, as if all were read before any is written,
+/// where one look at each grants leave with the key of the PSW; else nothing changes.
 #[inline(always)]
 pub fn copy_granted<S: Storage>(cpu: &Cpu, storage: &mut S, from: u32, to: u32, count: u32) -> bool
     requires { count ≤ 2048 }
     ensures granted { let m = state_of cpu.now (S.memory storage.old) in
-        result ≡ true → Grants m (S.present storage.old) (test_of Store to count ∷ test_of Fetch from count ∷ [])
+        result ≡ true → Grants m (S.present storage.old)
+        (test_of Store to count ∷ test_of Fetch from count ∷ [])
         (Ok tt) }
     ensures moved { result ≡ true
         → S.memory storage.new
-        ≡ with_stored (S.memory storage.old) to (slice_range (S.memory storage.old).bytes from (from + count)) }
+        ≡ with_stored (S.memory storage.old) to
+        (slice_range (S.memory storage.old).bytes from (from + count)) }
     ensures still { result ≡ false → S.memory storage.new ≡ S.memory storage.old }
     ensures rest { S.Keeps storage.old storage.new }
 {
@@ -73,7 +87,8 @@ pub fn copy_granted<S: Storage>(cpu: &Cpu, storage: &mut S, from: u32, to: u32, 
 #[inline(always)]
 fn leave_of(answer: Result<(), Fault>) -> Result<(), Refusal>
     ensures { (m : State) → (present : ℕ → Bool) → (ts : List Test)
-        → IsVerdict (length m.bytes) m.keys present m.cpu.psw.key ts answer → Grants m present ts result }
+        → IsVerdict (length m.bytes) m.keys present m.cpu.psw.key ts answer
+        → Grants m present ts result }
 {
     match answer {
         Ok(()) => Ok(()),

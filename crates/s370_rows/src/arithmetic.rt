@@ -1,6 +1,7 @@
 //! The operations on a register and another operand: of a register, a word or a halfword.
 ghost use Rattle.std.specs.Prelude.{◌≡◌, ℕ, ◌+◌, ◌/◌, ◌%◌, ◌^◌, ◌==◌, nat_lt};
-ghost use Rattle.s370_rows.specs.Arithmetic.{computed, plain, exact, exact_number, sign_code, order_code, zero_code, carry_code};
+ghost use Rattle.s370_rows.specs.Arithmetic.{computed, plain, exact, exact_number, sign_code};
+ghost use Rattle.s370_rows.specs.Arithmetic.{order_code, zero_code, carry_code};
 
 use s370_num::ConditionCode;
 
@@ -23,8 +24,8 @@ pub enum Arithmetic {
     ExclusiveOr,
 }
 
-/// What an operation makes: the new contents of its register, the condition code, and whether a signed result did not
-/// fit.
+/// What an operation makes: the new contents of its register, the condition code, and whether a
+/// signed result did not fit.
 #[derive(Clone, Copy, PartialEq, Eq)]
 pub struct Computed {
     pub value: u32,
@@ -32,7 +33,8 @@ pub struct Computed {
     pub overflows: bool,
 }
 
-/// What an operation makes of the condition code, the contents `a` of its register and its other operand `b`.
+/// Returns what an operation makes of the condition code, the contents `a` of its register and its
+/// other operand `b`.
 #[inline(always)]
 pub fn compute(operation: Arithmetic, condition: ConditionCode, a: u32, b: u32) -> Computed
     ensures { result ≡ computed operation condition a b }
@@ -57,7 +59,7 @@ pub fn compute(operation: Arithmetic, condition: ConditionCode, a: u32, b: u32) 
     }
 }
 
-/// A value, with a condition code.
+/// Returns a value, with a condition code.
 #[inline(always)]
 pub fn kept(value: u32, condition: ConditionCode) -> Computed
     ensures { result ≡ plain value condition }
@@ -69,7 +71,7 @@ pub fn kept(value: u32, condition: ConditionCode) -> Computed
     }
 }
 
-/// The condition code of a signed number.
+/// Returns the condition code of a signed number.
 #[inline(always)]
 pub fn sign_of(number: i64) -> ConditionCode
     ensures { result ≡ sign_code number }
@@ -83,7 +85,7 @@ pub fn sign_of(number: i64) -> ConditionCode
     }
 }
 
-/// The condition code of two numbers without sign.
+/// Returns the condition code of two numbers without sign.
 #[inline(always)]
 pub fn order_of(a: u32, b: u32) -> ConditionCode
     ensures { result ≡ order_code a b }
@@ -97,7 +99,7 @@ pub fn order_of(a: u32, b: u32) -> ConditionCode
     }
 }
 
-/// The low bits of a signed result, where the exact one may not fit.
+/// Returns the low bits of a signed result, where the exact one may not fit.
 #[inline(always)]
 fn judged(value: u32, number: i64) -> Computed
     ensures { result ≡ exact value number }
@@ -120,7 +122,7 @@ fn judged_number(number: i64) -> Computed
     judged((number.cast_unsigned() & 0xFFFF_FFFF) as u32, number)
 }
 
-/// A sum without sign, and its carry.
+/// Returns a sum without sign, and its carry.
 #[inline(always)]
 fn carried(sum: u64) -> Computed
     ensures { result ≡ plain (sum % 2 ^ 32) (carry_code sum) }
@@ -131,7 +133,7 @@ fn carried(sum: u64) -> Computed
     kept(value, ConditionCode::new(low + high))
 }
 
-/// The condition code of a result: whether it is zero.
+/// Returns the condition code of a result: whether it is zero.
 #[inline(always)]
 pub fn zero_of(value: u32) -> ConditionCode
     ensures { result ≡ zero_code value }

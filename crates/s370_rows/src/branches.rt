@@ -1,6 +1,7 @@
 //! Branches.
 ghost use Rattle.std.specs.Prelude.{◌≡◌, ℕ, ◌<◌};
-ghost use Rattle.s370_rows.specs.Branches.{conditional_branch, counted_branch, index_branch, index_is, linked_branch};
+ghost use Rattle.s370_rows.specs.Branches.{conditional_branch, counted_branch, index_branch};
+ghost use Rattle.s370_rows.specs.Branches.{index_is, linked_branch};
 ghost use Rattle.s370_rows.specs.Registers.{link_of};
 
 use crate::cpu::Cpu;
@@ -22,7 +23,8 @@ pub enum IndexBranch {
 /// `may` says whether there is an address to branch to.
 #[inline(always)]
 pub fn branch_on_count(cpu: &mut Cpu, register: Register, may: bool, target: u32) -> Ending
-    ensures { counted_branch cpu.old register may target ≡ record { ending = result; cpu = cpu.new } }
+    ensures { counted_branch cpu.old register may target
+        ≡ record { ending = result; cpu = cpu.new } }
 {
     let less = cpu.general[register.index()].wrapping_sub(1);
     cpu.general[register.index()] = less;
@@ -37,7 +39,8 @@ pub fn branch_on_count(cpu: &mut Cpu, register: Register, may: bool, target: u32
 #[inline(always)]
 pub fn branch_on_condition(cpu: &Cpu, mask: u8, may: bool, target: u32) -> Ending
     requires { mask < 16 }
-    ensures { conditional_branch cpu.now mask may target ≡ record { ending = result; cpu = cpu.now } }
+    ensures { conditional_branch cpu.now mask may target
+        ≡ record { ending = result; cpu = cpu.now } }
 {
     let bit = mask >> (3 - cpu.psw.condition().get()) & 1;
     if may && bit == 1 {
@@ -47,7 +50,8 @@ pub fn branch_on_condition(cpu: &Cpu, mask: u8, may: bool, target: u32) -> Endin
     }
 }
 
-/// The link information: instruction length code, condition code, program mask and next address.
+/// Returns the link information: instruction length code, condition code, program mask and next
+/// address.
 #[inline(always)]
 fn link_of(cpu: &Cpu, place: Place) -> u32
     ensures { result ≡ link_of cpu.now place }
@@ -57,7 +61,8 @@ fn link_of(cpu: &Cpu, place: Place) -> u32
     place.ilc.get() as u32 * 0x4000_0000 + condition + mask + place.next.get()
 }
 
-/// 05 BALR, 45 BAL: the link information goes to a register; then a branch, where there is an address to branch to
+/// 05 BALR, 45 BAL: the link information goes to a register; then a branch, where there is an
+/// address to branch to
 #[inline(always)]
 pub fn branch_and_link(
     cpu: &mut Cpu,
@@ -66,7 +71,8 @@ pub fn branch_and_link(
     may: bool,
     target: u32,
 ) -> Ending
-    ensures { linked_branch cpu.old place register may target ≡ record { ending = result; cpu = cpu.new } }
+    ensures { linked_branch cpu.old place register may target
+        ≡ record { ending = result; cpu = cpu.new } }
 {
     cpu.general[register.index()] = link_of(cpu, place);
     if may {
@@ -76,7 +82,7 @@ pub fn branch_and_link(
     }
 }
 
-/// Whether a sum is high, or is low or equal, as a signed number.
+/// Returns whether a sum is high, or is low or equal, as a signed number.
 #[inline(always)]
 fn index_is(kind: IndexBranch, sum: u32, comparand: u32) -> bool
     ensures { result ≡ index_is kind sum comparand }
@@ -87,7 +93,8 @@ fn index_is(kind: IndexBranch, sum: u32, comparand: u32) -> bool
     }
 }
 
-/// 86 BXH, 87 BXLE: a register is added to another, and a branch where the sum is high, or is low or equal, to a third
+/// 86 BXH, 87 BXLE: a register is added to another, and a branch where the sum is high, or is low
+/// or equal, to a third
 #[inline(always)]
 pub fn branch_on_index(
     kind: IndexBranch,
@@ -96,7 +103,8 @@ pub fn branch_on_index(
     third: Register,
     target: u32,
 ) -> Ending
-    ensures { index_branch kind cpu.old first third target ≡ record { ending = result; cpu = cpu.new } }
+    ensures { index_branch kind cpu.old first third target
+        ≡ record { ending = result; cpu = cpu.new } }
 {
     let sum = cpu.general[first.index()].wrapping_add(cpu.general[third.index()]);
     let comparand = cpu.general[third.index() / 2 * 2 + 1];

@@ -20,16 +20,16 @@ pub enum IoOperation {
 pub enum Ending {
     /// It is done, and the next instruction follows.
     Done,
-    /// It is done, and the next instruction stands at this address, of which 24 bits count.
+    /// It is done, and the next instruction is at this address, of which 24 bits count.
     Branch(u32),
-    /// A part of it is done, and it stands next again.
+    /// A part of it is done, and it is next again.
     Again,
     /// It is done, and then the program is interrupted with this code. Only registers have changed.
     Interrupted(ProgramCode),
     /// A supervisor call with this number; nothing else is done.
     SupervisorCall(u8),
-    /// The device of this address, or its channel, is asked; nothing else is done. Who has the devices sets the
-    /// condition code.
+    /// The device of this address, or its channel, is asked; nothing else is done. Who has the
+    /// devices sets the condition code.
     InputOutput(IoOperation, u16),
 }
 

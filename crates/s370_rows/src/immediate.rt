@@ -47,7 +47,7 @@ pub fn test_byte(test: ByteTest, byte: u8, immediate: u8) -> ConditionCode
     }
 }
 
-/// The condition code of the bits that a mask selects.
+/// Returns the condition code of the bits that a mask selects.
 #[inline(always)]
 fn selected_code(byte: u8, mask: u8) -> ConditionCode
     ensures { result ≡ selected_code byte mask }
@@ -87,7 +87,7 @@ pub fn change_byte(
     }
 }
 
-/// A new byte, and whether it is zero.
+/// Returns a new byte, and whether it is zero.
 #[inline(always)]
 fn tested_byte(byte: u8) -> ChangedByte
     ensures { result ≡ tested_byte byte }

@@ -1,12 +1,15 @@
-//! The registers of the processor, the form of an instruction, and what instructions do to registers and operands.
+//! The registers of the processor, the form of an instruction, and what instructions do to
+//! registers and operands.
 //!
-//! Its one theorem: each function here leaves the registers, or names the address, that the definition of its rule in
-//! `specs/` does (IBM System/370 Principles of Operation, GA22-7000, "Instruction Formats", "Address Generation" and
-//! "General Instructions"). How an instruction is fetched, and which one an operation code names, is not known here.
+//! Its one theorem: each function here leaves the registers, or names the address, that the
+//! definition of its rule in `specs/` does (IBM System/370 Principles of Operation, GA22-7000,
+//! "Instruction Formats", "Address Generation" and "General Instructions"). How an instruction is
+//! fetched, and which one an operation code names, is not known here.
 //!
-//! A row of the instruction table has three parts: what refuses it before any test, the ranges of storage that it tests
-//! in order, and what it then leaves or is refused by. `specs/Rows.antt` has that form, and judges every row by one
-//! definition; [`grant`] and [`grant_two`] give leave to access the ranges, [`copy_granted`] where one look is enough.
+//! A row of the instruction table has three parts: what refuses it before any test, the ranges of
+//! storage that it tests in order, and what it then leaves or is refused by. `specs/Rows.antt` has
+//! that form, and judges every row by one definition; [`grant`] and [`grant_two`] give leave to
+//! access the ranges, [`copy_granted`] where one look is enough.
 //!
 //! ```
 //! use s370_num::ConditionCode;

@@ -1,13 +1,14 @@
 //! Bytes of a register under a mask of four bits.
 ghost use Rattle.std.specs.Prelude.{◌≡◌, ℕ, ◌<◌, ◌≤◌, length};
-ghost use Rattle.s370_rows.specs.Mask.{bytes_compared, bytes_inserted, inserted, inserted_code, left_word, selected_bytes, selected_count, selects};
+ghost use Rattle.s370_rows.specs.Mask.{bytes_compared, bytes_inserted, inserted, inserted_code};
+ghost use Rattle.s370_rows.specs.Mask.{left_word, selected_bytes, selected_count, selects};
 
 use crate::arithmetic::order_of;
 use crate::cpu::Cpu;
 use crate::ending::Ending;
 use s370_num::{ConditionCode, Register};
 
-/// Whether a mask selects this byte of a word, of which the leftmost is 0.
+/// Returns whether a mask selects this byte of a word, of which the leftmost is 0.
 #[inline(always)]
 fn selects(mask: u8, place: usize) -> bool
     requires { place < 4 }
@@ -16,7 +17,7 @@ fn selects(mask: u8, place: usize) -> bool
     mask >> (3 - place) & 1 == 1
 }
 
-/// How many bytes a mask selects.
+/// Returns how many bytes a mask selects.
 #[inline(always)]
 pub fn selected_count(mask: u8) -> usize
     ensures count { result ≡ selected_count mask }
@@ -54,7 +55,7 @@ fn left_word(bytes: &[u8]) -> u32
     u32::from_be_bytes(word)
 }
 
-/// A word of which the selected bytes are taken from others.
+/// Returns a word of which the selected bytes are taken from others.
 #[inline]
 fn insert_bytes(word: u32, mask: u8, bytes: &[u8]) -> u32
     requires { length bytes.now ≡ selected_count mask }
@@ -71,7 +72,7 @@ fn insert_bytes(word: u32, mask: u8, bytes: &[u8]) -> u32
     u32::from_be_bytes(all)
 }
 
-/// The condition code of bytes that were inserted.
+/// Returns the condition code of bytes that were inserted.
 #[inline(always)]
 fn inserted_code(bytes: &[u8]) -> ConditionCode
     requires { length bytes.now ≤ 4 }
@@ -91,7 +92,8 @@ fn inserted_code(bytes: &[u8]) -> ConditionCode
 #[inline]
 pub fn insert_under_mask_row(cpu: &mut Cpu, register: Register, mask: u8, bytes: &[u8]) -> Ending
     requires { length bytes.now ≡ selected_count mask }
-    ensures { bytes_inserted cpu.old register mask bytes.now ≡ record { ending = result; cpu = cpu.new } }
+    ensures { bytes_inserted cpu.old register mask bytes.now
+        ≡ record { ending = result; cpu = cpu.new } }
 {
     let a = cpu.general[register.index()];
     cpu.general[register.index()] = insert_bytes(a, mask, bytes);
@@ -103,7 +105,8 @@ pub fn insert_under_mask_row(cpu: &mut Cpu, register: Register, mask: u8, bytes:
 #[inline]
 pub fn compare_under_mask_row(cpu: &mut Cpu, register: Register, mask: u8, bytes: &[u8]) -> Ending
     requires { length bytes.now ≡ selected_count mask }
-    ensures { bytes_compared cpu.old register mask bytes.now ≡ record { ending = result; cpu = cpu.new } }
+    ensures { bytes_compared cpu.old register mask bytes.now
+        ≡ record { ending = result; cpu = cpu.new } }
 {
     let mut buffer = [0; 4];
     let selected = &mut buffer[..selected_count(mask)];

@@ -6,7 +6,7 @@ use crate::cpu::Cpu;
 use s370_num::Register;
 
 impl Cpu {
-    /// A register and the one after it as one number of 64 bits.
+    /// Returns a register and the one after it as one number of 64 bits.
     #[inline(always)]
     pub fn pair(&self, register: Register) -> u64
         requires { register < 15 }

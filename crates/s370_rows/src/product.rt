@@ -1,6 +1,7 @@
 //! Products and quotients.
 ghost use Rattle.std.specs.Prelude.{◌≡◌, ℕ, ◌<◌};
-ghost use Rattle.s370_rows.specs.Product.{product, multiplied, multiplied_halfword, MeetsDivision, divided, quotient_left};
+ghost use Rattle.s370_rows.specs.Product.{product, multiplied, multiplied_halfword, MeetsDivision};
+ghost use Rattle.s370_rows.specs.Product.{divided, quotient_left};
 ghost use Rattle.s370_rows.specs.Results.{MeetsEnded};
 
 use crate::cpu::Cpu;
@@ -15,7 +16,7 @@ pub struct Quotient {
     pub remainder: i32,
 }
 
-/// The signed product of two words.
+/// Returns the signed product of two words.
 #[inline(always)]
 fn product(a: u32, b: u32) -> u64
     ensures { result ≡ product a b }
@@ -44,7 +45,7 @@ pub fn multiply_halfword_row(cpu: &mut Cpu, register: Register, b: u32) -> Endin
     Ending::Done
 }
 
-/// The quotient and remainder, where the divisor is not zero and the quotient fits.
+/// Returns the quotient and remainder, where the divisor is not zero and the quotient fits.
 #[inline(always)]
 fn quotient_of(dividend: i64, divisor: i32) -> Option<Quotient>
     ensures { MeetsDivision (divided dividend divisor) result }
@@ -60,7 +61,12 @@ fn quotient_of(dividend: i64, divisor: i32) -> Option<Quotient>
     })
 }
 
-/// 1D DR, 5D D: a signed pair by a word: remainder and quotient; divide exception where the quotient does not fit
+/// 1D DR, 5D D: a signed pair by a word: remainder and quotient; divide exception where the
+/// quotient does not fit
+///
+/// # Errors
+///
+/// The code of the program interruption; nothing has changed.
 #[inline(always)]
 pub fn divide_row(cpu: &mut Cpu, register: Register, b: u32) -> Result<Ending, ProgramCode>
     requires { register < 15 }

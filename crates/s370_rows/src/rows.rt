@@ -8,7 +8,8 @@ use crate::ending::Ending;
 use s370_num::Register;
 use s370_psw::ProgramCode;
 
-/// 10 LPR, 11 LNR, 12 LTR, 13 LCR, 18 LR, 58 L, 48 LH: load; LPR, LNR, LTR and LCR set the condition code
+/// 10 LPR, 11 LNR, 12 LTR, 13 LCR, 18 LR, 58 L, 48 LH: load; LPR, LNR, LTR and LCR set the
+/// condition code
 /// 19 CR, 59 C, 49 CH, 15 CLR, 55 CL: compare signed, logical
 /// 1A AR, 5A A, 4A AH, 1B SR, 5B S, 4B SH: add, subtract; signed overflow
 /// 1E ALR, 5E AL, 1F SLR, 5F SL: add, subtract logical; carry

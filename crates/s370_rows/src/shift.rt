@@ -1,6 +1,7 @@
 //! Shifts of a register and of a pair.
 ghost use Rattle.std.specs.Prelude.{◌≡◌, ℕ, ◌*◌, ◌%◌, ◌/◌, ◌^◌, ◌<◌, ◌*ℤ◌, pos};
-ghost use Rattle.s370_rows.specs.Shift.{right_word, right_pair, left_word, left_pair, word_shift, word_shifted, pair_shift, pair_shifted, plain_pair};
+ghost use Rattle.s370_rows.specs.Shift.{right_word, right_pair, left_word, left_pair, word_shift};
+ghost use Rattle.s370_rows.specs.Shift.{word_shifted, pair_shift, pair_shifted, plain_pair};
 
 use crate::arithmetic::{Computed, kept, sign_of};
 use crate::cpu::Cpu;
@@ -25,7 +26,7 @@ pub struct ComputedPair {
     pub overflows: bool,
 }
 
-/// A signed number times a power of two.
+/// Returns a signed number times a power of two.
 #[inline(always)]
 fn scaled(number: i64, count: u8) -> i128
     requires { count < 64 }
@@ -62,7 +63,7 @@ fn shift_left(a: u32, count: u8) -> Computed
     }
 }
 
-/// A register's contents, shifted.
+/// Returns a register's contents, shifted.
 #[inline(always)]
 fn shift_word(shift: Shift, condition: ConditionCode, a: u32, count: u8) -> Computed
     requires { count < 64 }
@@ -76,11 +77,13 @@ fn shift_word(shift: Shift, condition: ConditionCode, a: u32, count: u8) -> Comp
     }
 }
 
-/// 88 SRL, 89 SLL, 8A SRA, 8B SLA: shift a register; the signed ones set the condition code, to the left with overflow
+/// 88 SRL, 89 SLL, 8A SRA, 8B SLA: shift a register; the signed ones set the condition code, to the
+/// left with overflow
 #[inline(always)]
 pub fn shift_row(shift: Shift, cpu: &mut Cpu, register: Register, count: u8) -> Ending
     requires { count < 64 }
-    ensures { word_shifted shift cpu.old register count ≡ record { ending = result; cpu = cpu.new } }
+    ensures { word_shifted shift cpu.old register count
+        ≡ record { ending = result; cpu = cpu.new } }
 {
     let a = cpu.general[register.index()];
     let computed = shift_word(shift, cpu.psw.condition(), a, count);
@@ -128,7 +131,7 @@ fn shift_left_pair(a: u64, count: u8) -> ComputedPair
     }
 }
 
-/// A pair's contents, shifted.
+/// Returns a pair's contents, shifted.
 #[inline(always)]
 fn shift_pair(shift: Shift, condition: ConditionCode, a: u64, count: u8) -> ComputedPair
     requires { count < 64 }
@@ -142,12 +145,14 @@ fn shift_pair(shift: Shift, condition: ConditionCode, a: u64, count: u8) -> Comp
     }
 }
 
-/// 8C SRDL, 8D SLDL, 8E SRDA, 8F SLDA: shift a pair; the signed ones set the condition code, to the left with overflow
+/// 8C SRDL, 8D SLDL, 8E SRDA, 8F SLDA: shift a pair; the signed ones set the condition code, to the
+/// left with overflow
 #[inline(always)]
 pub fn shift_pair_row(shift: Shift, cpu: &mut Cpu, register: Register, count: u8) -> Ending
     requires register { register < 15 }
     requires count { count < 64 }
-    ensures { pair_shifted shift cpu.old register count ≡ record { ending = result; cpu = cpu.new } }
+    ensures { pair_shifted shift cpu.old register count
+        ≡ record { ending = result; cpu = cpu.new } }
 {
     let a = cpu.pair(register);
     let computed = shift_pair(shift, cpu.psw.condition(), a, count);

@@ -4,9 +4,10 @@ use Rattle.s370_store.specs.Access.{is_passed}
 use Rattle.s370_store.specs.declared.Access.{Access}
 use Rattle.s370_store.specs.declared.Access.TheVariants.{Fetch}
 
--- each byte of the block that begins at this address lies in the storage and may be accessed so with this protection key, and
--- its page is present
-pub record MayAccess (access : Access) (size : ℕ) (keys : List ℕ) (present : ℕ → Bool) (key first : ℕ) : Type 0 where
+-- each byte of the block that begins at this address lies in the storage and may be accessed so
+-- with this protection key, and its page is present
+pub record MayAccess (access : Access) (size : ℕ) (keys : List ℕ) (present : ℕ → Bool)
+    (key first : ℕ) : Type 0 where
   pub aligned : first % 2048 ≡ 0
   pub inside : first + 2048 ≤ size
   pub passed : is_passed access key (slice_index keys (first / 2048)) ≡ true

@@ -7,6 +7,7 @@ pub record Memory : Type 0 where
   pub bytes : List ℕ
   pub keys : List ℕ
 
+-- the memory with these bytes and keys
 abbrev pub memory_of : List ℕ → List ℕ → Memory
 memory_of bytes keys = record { bytes = bytes; keys = keys }
 
@@ -20,4 +21,7 @@ with_key m block key = record { bytes = m.bytes; keys = slice_set m.keys block k
 
 -- all zero, as it is in a machine that is switched on
 abbrev pub cleared_memory : Memory → Memory
-cleared_memory m = record { bytes = replicate (length m.bytes) 0; keys = replicate (length m.keys) 0 }
+cleared_memory m = record {
+  bytes = replicate (length m.bytes) 0;
+  keys = replicate (length m.keys) 0;
+}

@@ -35,15 +35,21 @@ pub record PagedKeeps (s t : PagedStorage) : Type 0 where
   pub rest : PagedRest s t
   pub keys : paged_keys t ≡ paged_keys s
 
+-- two steps that keep the size and the presence of pages keep them together
 pub paged_rest_on : (s t u : PagedStorage) → PagedRest s t → PagedRest t u → PagedRest s u
-paged_rest_on s t u before after = record { size = rw after.size before.size; flags = rw after.flags before.flags }
+paged_rest_on s t u before after =
+    record { size = rw after.size before.size; flags = rw after.flags before.flags }
 
+-- two steps that keep all but bytes keep it together
 pub paged_keeps_on : (s t u : PagedStorage) → PagedKeeps s t → PagedKeeps t u → PagedKeeps s u
-paged_keeps_on s t u before after = record { rest = paged_rest_on s t u before.rest after.rest; keys = rw after.keys before.keys }
+paged_keeps_on s t u before after =
+    record { rest = paged_rest_on s t u before.rest after.rest; keys = rw after.keys before.keys }
 
+-- a step that keeps the rest keeps which pages are present
 pub paged_rest_present : (s t : PagedStorage) → PagedRest s t → is_present t ≡ is_present s
 paged_rest_present s t rest = ap (λ flags page. slice_index_or flags page false) rest.flags
 
 -- a block that lies in the storage stays in it
-pub paged_placed_kept : (s t : PagedStorage) (block : Block) → PagedKeeps s t → block.first + 2048 ≤ length (paged_bytes s) → block.first + 2048 ≤ length (paged_bytes t)
+pub paged_placed_kept : (s t : PagedStorage) (block : Block) → PagedKeeps s t
+    → block.first + 2048 ≤ length (paged_bytes s) → block.first + 2048 ≤ length (paged_bytes t)
 paged_placed_kept s t block kept h = rw kept.rest.size h

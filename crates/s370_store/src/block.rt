@@ -3,8 +3,9 @@ ghost use Rattle.std.specs.Prelude.{◌≡◌, ◌+◌, ◌%◌, ◌<◌, ◌≤
 
 /// A block of 2048 bytes that a storage has found, for fetches or for stores.
 ///
-/// What its place is, only the storage knows that found it: whoever fetches one instruction after another from a block,
-/// or has operands near one another in it, passes it back with each, and nothing is looked up twice.
+/// What its place is, only the storage knows that found it: whoever fetches one instruction after
+/// another from a block, or has operands near one another in it, passes it back with each, and
+/// nothing is looked up twice.
 #[derive(Clone, Copy, PartialEq, Eq)]
 pub struct Block {
     /// The address of its first byte.
@@ -20,7 +21,8 @@ impl Block {
         place: 0,
     };
 
-    /// Whether this is an even address from which on the longest instruction, which has six bytes, would lie in it.
+    /// Returns whether this is an even address from which on the longest instruction, which has six
+    /// bytes, would lie in it.
     ///
     /// Both are one comparison: turned right by a bit an odd number is greater than any even one.
     #[inline(always)]
@@ -31,7 +33,8 @@ impl Block {
         ensures ends { result ≡ true → start ≤ self.first + 2042 }
         ensures even { result ≡ true → start % 2 ≡ 0 }
     {
-        // Six bytes lie in it up to 2042, twice 1021. An address below wraps round to one that is far above.
+        // Six bytes lie in it up to 2042, twice 1021. An address below wraps round to one that is
+        // far above.
         start.wrapping_sub(self.first).rotate_right(1) <= 1021
     }
 }

@@ -1,14 +1,17 @@
-//! The storage of a processor: bytes, a key for each block of 2048 of them, and pages of 4096 that may be absent.
+//! The storage of a processor: bytes, a key for each block of 2048 of them, and pages of 4096 that
+//! may be absent.
 //!
-//! Its one theorem: an access is let through if each of its bytes lies in the storage and the key in storage of that
-//! byte's block passes it, and else is refused by addressing before protection; what is stored changes the bytes it
-//! names and nothing else, neither of this storage nor of what it is lent from (IBM System/370 Principles of Operation,
-//! GA22-7000, "Protection" and "Addressing Exception").
+//! Its one theorem: an access is let through if each of its bytes lies in the storage and the key
+//! in storage of that byte's block passes it, and else is refused by addressing before protection;
+//! what is stored changes the bytes it names and nothing else, neither of this storage nor of what
+//! it is borrowed from (IBM System/370 Principles of Operation, GA22-7000, "Protection" and
+//! "Addressing Exception").
 //!
-//! All code above is written over the trait [`Storage`]: [`PlainStorage`] is the whole storage of a bare machine, and a
-//! control program has bodies of its own, lent from the frames that its users share. What has to go on where a page is
-//! absent is written over [`Supply`], a storage that brings its absent pages, and over [`UnitSupply`] where that goes
-//! on for one unit of operation after another.
+//! All code above is written over the trait [`Storage`]: [`PlainStorage`] is the whole storage of a
+//! bare machine, and a control program has bodies of its own, lent from the frames that its users
+//! share. What has to go on where a page is absent is written over [`Supply`], a storage that
+//! brings its absent pages, and over [`UnitSupply`] where that goes on for one unit of operation
+//! after another.
 //!
 //! ```
 //! use s370_num::AccessKey;
@@ -32,7 +35,8 @@ mod supply;
 mod unit_supply;
 mod words;
 
-ghost use Rattle.std.specs.Prelude.{◌≡◌, ℕ, ◌+◌, ◌*◌, ◌/◌, ◌<◌, ◌≤◌, [], ◌∷◌, Bool, true, false, Ok, IfSome, length, slice_index, slice_range};
+ghost use Rattle.std.specs.Prelude.{◌≡◌, ℕ, ◌+◌, ◌*◌, ◌/◌, ◌<◌, ◌≤◌, [], ◌∷◌, Bool, true, false};
+ghost use Rattle.std.specs.Prelude.{Ok, IfSome, length, slice_index, slice_range};
 ghost use Rattle.s370_store.specs.Access.{tested, test_of, IsVerdict, IsGranted};
 ghost use Rattle.s370_store.specs.declared.Access.TheVariants.{Fetch, Store};
 ghost use Rattle.s370_store.specs.Blocks.{MayAccess};
@@ -43,7 +47,7 @@ pub use block::Block;
 pub use paged::PagedStorage;
 pub use place::{copy_at, put_at};
 pub use plain::PlainStorage;
-pub use protection::{Keyring, Listed, Open, may_access_block, passes_in_block, test_range};
+pub use protection::{KeySlice, KeyTable, ZeroKeys, may_access_block, passes_in_block, test_range};
 use s370_num::{AccessKey, StorageKey};
 pub use supply::{FramesOut, Supply};
 use thiserror::Error;
@@ -86,8 +90,9 @@ pub struct Page(pub u32);
 
 /// Why a range can't be accessed.
 ///
-/// The first two are the architecture's exceptions of these names (GA22-7000, "Program Interruption"). A page that is
-/// absent is no exception: whoever lends the storage brings the page, and the access is made again.
+/// The first two are the architecture's exceptions of these names (GA22-7000, "Program
+/// Interruption"). A page that is absent is no exception: whoever lends the storage brings the
+/// page, and the access is made again.
 #[derive(Clone, Copy, Debug, PartialEq, Eq, Error)]
 pub enum Fault {
     /// A byte lies beyond the storage.
@@ -110,39 +115,47 @@ pub enum Fault {
 /// store_word(storage, start, word);
 /// ```
 ///
-/// A body that is lent from a larger whole says by `Keeps` what of that whole stays: code written over any storage
-/// promises `Keeps`, and so whoever lent it knows that nobody else's bytes or keys were touched.
+/// A body that is borrowed from a larger whole says by `Keeps` what of that whole stays: code
+/// written over any storage promises `Keeps`, and so whoever lent it knows that nobody else's bytes
+/// or keys were touched.
 pub trait Storage {
-    /// Storage as it is: the bytes, also those of pages that are absent, and the key in storage of each block of 2048
-    /// bytes, four bits of access control and a last bit of fetch protection.
+    /// Storage as it is: the bytes, also those of pages that are absent, and the key in storage of
+    /// each block of 2048 bytes, four bits of access control and a last bit of fetch protection.
     ghost memory: { Self → Memory };
 
     /// Which pages are present.
     ghost present: { Self → ℕ → Bool };
 
-    /// What a store leaves: the keys, which pages are present, and all else that this storage is lent from.
+    /// What a store leaves: the keys, which pages are present, and all else that this storage is
+    /// borrowed from.
     ghost Keeps: { Self → Self → Type 0 };
 
-    /// How many bytes there are.
+    /// Returns how many bytes there are.
     fn size(&self) -> u32
         ensures bytes { result ≡ length (memory self.now).bytes }
         ensures keyed { length (memory self.now).bytes ≤ 2048 * length (memory self.now).keys };
 
     /// Tests an access to at most 256 bytes, with this protection key.
+    ///
+    /// # Errors
+    ///
+    /// A `Fault`: addressing before protection, and an absent page if both let the access pass.
     fn check(&self, range: Range, access: Access, key: AccessKey) -> Result<(), Fault>
         requires { range.count ≤ 256 }
-        ensures { IsVerdict (length (memory self.now).bytes) (memory self.now).keys (present self.now) key
+        ensures { IsVerdict (length (memory self.now).bytes) (memory self.now).keys
+            (present self.now) key
             (tested access range ∷ []) result };
 
-    /// A block stands where it says.
+    /// A block is where it says.
     ghost IsPlaced: { Self → Block → Type 0 };
 
-    /// Finds the block of an address, if the whole of it may be accessed so with this protection key, and its page is
-    /// present.
+    /// Finds the block of an address, if the whole of it may be accessed so with this protection
+    /// key, and its page is present.
     fn find_block(&self, start: u32, access: Access, key: AccessKey) -> Option<Block>
         ensures first { IfSome result (λ block. block.first ≡ start / 2048 * 2048) }
         ensures may_access { IfSome result
-            (λ block. MayAccess access (length (memory self.now).bytes) (memory self.now).keys (present self.now) key
+            (λ block. MayAccess access (length (memory self.now).bytes) (memory self.now).keys
+            (present self.now) key
             block.first) }
         ensures placed { IfSome result (λ block. IsPlaced self.now block) };
 
@@ -163,8 +176,8 @@ pub trait Storage {
         ensures stored { memory self.new ≡ with_stored (memory self.old) start from.now }
         ensures rest { Keeps self.old self.new };
 
-    /// Copies at most 256 bytes, one at least, from one block that was found into another or the same, as if all were
-    /// read before any is written.
+    /// Copies at most 256 bytes, one at least, from one block that was found into another or the
+    /// same, as if all were read before any is written.
     #[inline(always)]
     fn copy_in(&mut self, source: Block, from: u32, target: Block, to: u32, count: u32)
         requires source_placed { IsPlaced self.old source }
@@ -176,7 +189,8 @@ pub trait Storage {
         requires target_begins { target.first ≤ to }
         requires target_ends { to + count ≤ target.first + 2048 }
         ensures stored { memory self.new
-            ≡ with_stored (memory self.old) to (slice_range (memory self.old).bytes from (from + count)) }
+            ≡ with_stored (memory self.old) to
+            (slice_range (memory self.old).bytes from (from + count)) }
         ensures rest { Keeps self.old self.new }
     {
         let mut buffer = [0u8; 256];
@@ -187,25 +201,28 @@ pub trait Storage {
 
     /// Copies at most 256 bytes out, which `check` has granted.
     fn load(&self, start: u32, into: &mut [u8])
-        requires granted { IsGranted (length (memory self.now).bytes) (present self.now) start (length into.old) }
+        requires granted { IsGranted (length (memory self.now).bytes) (present self.now) start
+            (length into.old) }
         requires short { length into.old ≤ 256 }
         ensures { into.new ≡ slice_range (memory self.now).bytes start (start + length into.old) };
 
     /// Copies at most 256 bytes in, which `check` has granted.
     fn store(&mut self, start: u32, from: &[u8])
-        requires granted { IsGranted (length (memory self.old).bytes) (present self.old) start (length from.now) }
+        requires granted { IsGranted (length (memory self.old).bytes) (present self.old) start
+            (length from.now) }
         requires short { length from.now ≤ 256 }
         ensures stored { memory self.new ≡ with_stored (memory self.old) start from.now }
         ensures rest { Keeps self.old self.new };
 
-    /// Copies at most 256 bytes from one place to another, which `check` has granted, as if all were read before any is
-    /// written.
+    /// Copies at most 256 bytes from one place to another, which `check` has granted, as if all
+    /// were read before any is written.
     fn copy(&mut self, from: u32, to: u32, count: u32)
         requires source { IsGranted (length (memory self.old).bytes) (present self.old) from count }
         requires target { IsGranted (length (memory self.old).bytes) (present self.old) to count }
         requires short { count ≤ 256 }
         ensures stored { memory self.new
-            ≡ with_stored (memory self.old) to (slice_range (memory self.old).bytes from (from + count)) }
+            ≡ with_stored (memory self.old) to
+            (slice_range (memory self.old).bytes from (from + count)) }
         ensures rest { Keeps self.old self.new }
     {
         let mut buffer = [0u8; 256];
@@ -214,17 +231,19 @@ pub trait Storage {
         self.store(to, part);
     }
 
-    /// Copies at most 2048 bytes, as many as a block has, from one place to another as if all were read before any is
-    /// written, where one look at each place grants it; else nothing changes.
+    /// Copies at most 2048 bytes, as many as a block has, from one place to another as if all were
+    /// read before any is written, where one look at each place grants it; else nothing changes.
     #[inline(always)]
     fn copy_at_once(&mut self, from: u32, to: u32, count: u32, key: AccessKey) -> bool
         requires { count ≤ 2048 }
         ensures granted { result ≡ true
-            → IsVerdict (length (memory self.old).bytes) (memory self.old).keys (present self.old) key
+            → IsVerdict (length (memory self.old).bytes) (memory self.old).keys (present self.old)
+            key
             (test_of Store to count ∷ test_of Fetch from count ∷ []) (Ok tt) }
         ensures moved { result ≡ true
             → memory self.new
-            ≡ with_stored (memory self.old) to (slice_range (memory self.old).bytes from (from + count)) }
+            ≡ with_stored (memory self.old) to
+            (slice_range (memory self.old).bytes from (from + count)) }
         ensures still { result ≡ false → memory self.new ≡ memory self.old }
         ensures rest { Keeps self.old self.new }
     {
@@ -251,7 +270,8 @@ pub trait Storage {
     ghost keeps_same: { (s : Self) → Keeps s s };
 
     /// What is kept has as many bytes.
-    ghost keeps_size: { (s t : Self) → Keeps s t → length (memory t).bytes ≡ length (memory s).bytes };
+    ghost keeps_size: { (s t : Self) → Keeps s t
+        → length (memory t).bytes ≡ length (memory s).bytes };
 
     /// What is kept has the same keys.
     ghost keeps_keys: { (s t : Self) → Keeps s t → (memory t).keys ≡ (memory s).keys };
@@ -263,15 +283,17 @@ pub trait Storage {
     ghost keeps_on: { (s t u : Self) → Keeps s t → Keeps t u → Keeps s u };
 
     /// What is stored moves no block.
-    ghost placed_kept: { (s t : Self) (block : Block) → Keeps s t → IsPlaced s block → IsPlaced t block };
+    ghost placed_kept: { (s t : Self) (block : Block) → Keeps s t → IsPlaced s block
+        → IsPlaced t block };
 }
 
 /// A storage whose keys can be read and set one by one, as a storage with fixed keys can't.
 pub trait Keyed: Storage {
-    /// What a store leaves or a key that is set: which pages are present, and all else that this storage is lent from.
+    /// What a store leaves or a key that is set: which pages are present, and all else that this
+    /// storage is borrowed from.
     ghost KeepsRest: { Self → Self → Type 0 };
 
-    /// The key in storage of a block of 2048 bytes.
+    /// Returns the key in storage of a block of 2048 bytes.
     fn key_of(&self, block: u32) -> StorageKey
         requires { block < length (Self.memory self.now).keys }
         ensures { result ≡ slice_index (Self.memory self.now).keys block };
@@ -286,7 +308,8 @@ pub trait Keyed: Storage {
     ghost rest_kept: { (s t : Self) → Self.Keeps s t → KeepsRest s t };
 
     /// What is kept has as many bytes.
-    ghost rest_size: { (s t : Self) → KeepsRest s t → length (Self.memory t).bytes ≡ length (Self.memory s).bytes };
+    ghost rest_size: { (s t : Self) → KeepsRest s t
+        → length (Self.memory t).bytes ≡ length (Self.memory s).bytes };
 
     /// What is kept has the same pages present.
     ghost rest_present: { (s t : Self) → KeepsRest s t → Self.present t ≡ Self.present s };

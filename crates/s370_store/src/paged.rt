@@ -1,16 +1,18 @@
 //! A storage with absent pages, for the tests of code that is written over any storage.
-ghost use Rattle.std.specs.Prelude.{◌≡◌, ◌+◌, ◌*◌, ◌<◌, ◌≤◌, false, length, replicate, slice_index_or, slice_set, IfOk};
+ghost use Rattle.std.specs.Prelude.{◌≡◌, ◌+◌, ◌*◌, ◌<◌, ◌≤◌, false, length, replicate};
+ghost use Rattle.std.specs.Prelude.{slice_index_or, slice_set, IfOk};
 
 use crate::place::put_at;
-use crate::protection::{Listed, may_access_block, test_range};
+use crate::protection::{KeySlice, may_access_block, test_range};
 use crate::{Access, Block, Fault, Keyed, Page, Range, Storage};
 use s370_num::{AccessKey, StorageKey};
 use std::alloc::{AllocError, Global};
 
-/// A storage of up to 4 MiB of which pages may be absent: their bytes are kept, and can't be reached.
+/// A storage of up to 4 MiB of which pages may be absent: their bytes are kept, and can't be
+/// reached.
 ///
-/// The bodies that the product runs on have their own ways to bring a page; here the test that owns it says which are
-/// there.
+/// The bodies that the product runs on have their own ways to bring a page; here the test that owns
+/// it says which are there.
 #[derive(Drop)]
 pub struct PagedStorage {
     bytes: Vec<u8>,
@@ -24,7 +26,12 @@ pub struct PagedStorage {
 impl PagedStorage {
     ghost use Rattle.s370_store.specs.Paged.{paged_bytes, paged_keys, paged_flags};
 
-    /// A storage of this many pages of 4096 bytes, all zero and all absent, with keys that are all zero.
+    /// Returns a storage of this many pages of 4096 bytes, all zero and all absent, with keys that
+    /// are all zero.
+    ///
+    /// # Errors
+    ///
+    /// `AllocError` if memory is refused.
     pub fn new(alloc: Global, pages: u32) -> Result<PagedStorage, AllocError>
         requires { pages ≤ 1024 }
         ensures bytes { IfOk result (λ s. paged_bytes s ≡ replicate (4096 * pages) 0) }
@@ -54,7 +61,8 @@ impl PagedStorage {
 
 impl Storage for PagedStorage {
     ghost use Rattle.std.specs.Prelude.{refl};
-    ghost use Rattle.s370_store.specs.Paged.{paged_bytes, paged_memory, is_present, PagedKeeps, paged_keeps_on, paged_rest_present, paged_placed_kept};
+    ghost use Rattle.s370_store.specs.Paged.{paged_bytes, paged_memory, is_present, PagedKeeps};
+    ghost use Rattle.s370_store.specs.Paged.{paged_keeps_on, paged_rest_present, paged_placed_kept};
 
     ghost memory = { paged_memory };
 
@@ -69,7 +77,7 @@ impl Storage for PagedStorage {
     }
 
     fn check(&self, range: Range, access: Access, key: AccessKey) -> Result<(), Fault> {
-        let keys = Listed { keys: &self.keys };
+        let keys = KeySlice { keys: &self.keys };
         test_range(self.bytes.len() as u32, &keys, range, access, key)?;
         let Range { start, count } = range;
         if count == 0 {
@@ -87,7 +95,7 @@ impl Storage for PagedStorage {
     }
 
     fn find_block(&self, start: u32, access: Access, key: AccessKey) -> Option<Block> {
-        let keys = Listed { keys: &self.keys };
+        let keys = KeySlice { keys: &self.keys };
         if !may_access_block(self.bytes.len() as u32, &keys, start, access, key) {
             return None;
         }
@@ -156,7 +164,7 @@ impl Keyed for PagedStorage {
     ghost rest_on = { paged_rest_on };
 }
 
-/// A flag of a list.
+/// Returns a flag of a list.
 fn flag_at(flags: &[bool], place: u32) -> bool
     requires { place < length flags.now }
     ensures { result ≡ slice_index_or flags.now place false }

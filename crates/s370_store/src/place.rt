@@ -14,8 +14,8 @@ pub fn put_at(bytes: &mut [u8], start: usize, from: &[u8])
     bytes[start..end].copy_from_slice(from);
 }
 
-/// Copies at most 2048 bytes from one place to another, as if all were read before any is written. Where the places lie
-/// apart, they need no buffer.
+/// Copies at most 2048 bytes from one place to another, as if all were read before any is written.
+/// If the places lie apart, they need no buffer.
 #[inline]
 pub fn copy_at(bytes: &mut [u8], from: usize, to: usize, count: usize)
     requires source { from + count ≤ length bytes.old }
@@ -68,7 +68,8 @@ fn copy_long_near(bytes: &mut [u8], from: usize, to: usize, count: usize)
 fn copy_through(bytes: &mut [u8], from: usize, to: usize, buffer: &mut [u8])
     requires source { from + length buffer.old ≤ length bytes.old }
     requires target { to + length buffer.old ≤ length bytes.old }
-    ensures bytes { bytes.new ≡ put bytes.old to (slice_range bytes.old from (from + length buffer.old)) }
+    ensures bytes { bytes.new
+        ≡ put bytes.old to (slice_range bytes.old from (from + length buffer.old)) }
     ensures size { length bytes.new ≡ length bytes.old }
 {
     buffer.copy_from_slice(&bytes[from..from + buffer.len()]);

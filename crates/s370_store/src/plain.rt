@@ -2,7 +2,7 @@
 ghost use Rattle.std.specs.Prelude.{◌≡◌, ◌+◌, ◌*◌, ◌≤◌, true, length, replicate, IfOk};
 
 use crate::place::{copy_at, put_at};
-use crate::protection::{Listed, may_access_block, passes_range, test_range};
+use crate::protection::{KeySlice, may_access_block, passes_range, test_range};
 use crate::{Access, Block, Fault, Keyed, Range, Storage};
 use s370_num::{AccessKey, StorageKey};
 use std::alloc::{AllocError, Global};
@@ -22,7 +22,11 @@ impl PlainStorage {
     ghost use Rattle.s370_store.specs.Memory.{cleared_memory};
     ghost use Rattle.s370_store.specs.Plain.{plain_bytes, plain_keys, plain_memory};
 
-    /// A storage of this many blocks of 2048 bytes, all zero, with keys that are all zero.
+    /// Returns a storage of this many blocks of 2048 bytes, all zero, with keys that are all zero.
+    ///
+    /// # Errors
+    ///
+    /// `AllocError` if memory is refused.
     pub fn new(alloc: Global, blocks: u32) -> Result<PlainStorage, AllocError>
         requires { blocks ≤ 2048 }
         ensures bytes { IfOk result (λ s. plain_bytes s ≡ replicate (2048 * blocks) 0) }
@@ -33,14 +37,14 @@ impl PlainStorage {
         Ok(PlainStorage { bytes, keys })
     }
 
-    /// All its bytes.
+    /// Returns all its bytes.
     pub fn bytes(&self) -> &[u8]
         ensures { result.now ≡ plain_bytes self.now }
     {
         &self.bytes
     }
 
-    /// The key of each of its blocks.
+    /// Returns the key of each of its blocks.
     pub fn keys(&self) -> &[StorageKey]
         ensures { result.now ≡ plain_keys self.now }
     {
@@ -58,7 +62,8 @@ impl PlainStorage {
 
 impl Storage for PlainStorage {
     ghost use Rattle.std.specs.Prelude.{refl};
-    ghost use Rattle.s370_store.specs.Plain.{plain_bytes, plain_memory, PlainKeeps, plain_keeps_on, plain_placed_kept};
+    ghost use Rattle.s370_store.specs.Plain.{plain_bytes, plain_memory, PlainKeeps, plain_keeps_on};
+    ghost use Rattle.s370_store.specs.Plain.{plain_placed_kept};
 
     ghost memory = { plain_memory };
 
@@ -75,7 +80,7 @@ impl Storage for PlainStorage {
 
     #[inline(always)]
     fn check(&self, range: Range, access: Access, key: AccessKey) -> Result<(), Fault> {
-        let keys = Listed { keys: &self.keys };
+        let keys = KeySlice { keys: &self.keys };
         test_range(self.bytes.len() as u32, &keys, range, access, key)
     }
 
@@ -85,7 +90,7 @@ impl Storage for PlainStorage {
             return false;
         }
         let size = self.bytes.len() as u32;
-        let keys = Listed { keys: &self.keys };
+        let keys = KeySlice { keys: &self.keys };
         if !passes_range(size, &keys, Range { start: to, count }, Access::Store, key) {
             return false;
         }
@@ -104,7 +109,7 @@ impl Storage for PlainStorage {
 
     #[inline(always)]
     fn find_block(&self, start: u32, access: Access, key: AccessKey) -> Option<Block> {
-        let keys = Listed { keys: &self.keys };
+        let keys = KeySlice { keys: &self.keys };
         if may_access_block(self.bytes.len() as u32, &keys, start, access, key) {
             let first = start / 2048 * 2048;
             Some(Block {

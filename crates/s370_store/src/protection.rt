@@ -1,11 +1,13 @@
-//! The test of an access by size and keys, the one that each storage makes (GA22-7000, "Protection").
-ghost use Rattle.std.specs.Prelude.{◌≡◌, ◌+◌, ◌*◌, ◌/◌, ◌%◌, ◌<◌, ◌≤◌, [], ◌∷◌, true, Ok, length, slice_index, ℕ, List, replicate};
+//! The test of an access by size and keys, the one that each storage makes (GA22-7000,
+//! "Protection").
+ghost use Rattle.std.specs.Prelude.{◌≡◌, ◌+◌, ◌*◌, ◌/◌, ◌%◌, ◌<◌, ◌≤◌, [], ◌∷◌, true, Ok, length};
+ghost use Rattle.std.specs.Prelude.{slice_index, ℕ, List, replicate};
 ghost use Rattle.s370_store.specs.Access.{IsVerdict, tested, is_passed, is_permitted};
 
 use crate::{Access, Fault, Range};
 use s370_num::{AccessKey, StorageKey};
 
-/// Whether an access with this protection key passes a block with this key in storage.
+/// Returns whether an access with this protection key passes a block with this key in storage.
 #[inline(always)]
 #[tactic(auto, unfolding(crate::specs::Access::is_passed))]
 fn passes(access: Access, key: AccessKey, block: StorageKey) -> bool
@@ -20,11 +22,11 @@ fn passes(access: Access, key: AccessKey, block: StorageKey) -> bool
 }
 
 /// Keys in storage that can be looked up, however they are kept.
-pub trait Keyring {
+pub trait KeyTable {
     /// The key of each block of 2048 bytes.
     ghost of_blocks: { Self → List ℕ };
 
-    /// The key of one block.
+    /// Returns the key of one block.
     fn key_at(&self, block: u32) -> StorageKey
         requires { block < length (of_blocks self.now) }
         ensures { result ≡ slice_index (of_blocks self.now) block };
@@ -32,12 +34,12 @@ pub trait Keyring {
 
 /// Keys in a list.
 #[derive(Clone, Copy)]
-pub struct Listed<'a> {
+pub struct KeySlice<'a> {
     /// A key for each block.
     pub keys: &'a [StorageKey],
 }
 
-impl<'a> Keyring for Listed<'a> {
+impl<'a> KeyTable for KeySlice<'a> {
     ghost of_blocks = { λ l. l.keys.now };
 
     #[inline(always)]
@@ -48,12 +50,12 @@ impl<'a> Keyring for Listed<'a> {
 
 /// The key zero for each block: every key fetches, and none but zero stores.
 #[derive(Clone, Copy)]
-pub struct Open {
+pub struct ZeroKeys {
     /// How many blocks there are.
     pub blocks: u32,
 }
 
-impl Keyring for Open {
+impl KeyTable for ZeroKeys {
     ghost of_blocks = { λ o. replicate o.blocks 0 };
 
     #[inline(always)]
@@ -62,20 +64,21 @@ impl Keyring for Open {
     }
 }
 
-/// Whether an access with this protection key passes this block.
+/// Returns whether an access with this protection key passes this block.
 #[inline(always)]
-fn block_passes<K: Keyring>(keys: &K, block: u32, access: Access, key: AccessKey) -> bool
+fn block_passes<K: KeyTable>(keys: &K, block: u32, access: Access, key: AccessKey) -> bool
     requires { block < length (K.of_blocks keys.now) }
     ensures { result ≡ is_passed access key (slice_index (K.of_blocks keys.now) block) }
 {
     passes(access, key, keys.key_at(block))
 }
 
-/// Whether the key of the block in which a range lies lets the access pass: the test of an access by key alone.
+/// Returns whether the key of the block in which a range lies lets the access pass: the test of an
+/// access by key alone.
 ///
 /// It is for a storage that knows without the test of the size that the range lies in it.
 #[inline(always)]
-pub fn passes_in_block<K: Keyring>(keys: &K, range: Range, access: Access, key: AccessKey) -> bool
+pub fn passes_in_block<K: KeyTable>(keys: &K, range: Range, access: Access, key: AccessKey) -> bool
     requires inside { range.start < 2048 * length (K.of_blocks keys.now) }
     requires some { 0 < range.count }
     requires one_block { range.start % 2048 + range.count ≤ 2048 }
@@ -87,8 +90,9 @@ pub fn passes_in_block<K: Keyring>(keys: &K, range: Range, access: Access, key: 
     block_passes(keys, range.start / 2048, access, key)
 }
 
-/// Whether size and keys let each byte of the block of an address be accessed so with this protection key.
-pub fn may_access_block<K: Keyring>(
+/// Returns whether size and keys let each byte of the block of an address be accessed so with this
+/// protection key.
+pub fn may_access_block<K: KeyTable>(
     size: u32,
     keys: &K,
     start: u32,
@@ -97,7 +101,8 @@ pub fn may_access_block<K: Keyring>(
 ) -> bool
     requires keyed { size ≤ 2048 * length (K.of_blocks keys.now) }
     ensures inside { result ≡ true → start / 2048 * 2048 + 2048 ≤ size }
-    ensures passed { result ≡ true → is_passed access key (slice_index (K.of_blocks keys.now) (start / 2048)) ≡ true }
+    ensures passed { result ≡ true
+        → is_passed access key (slice_index (K.of_blocks keys.now) (start / 2048)) ≡ true }
 {
     let block = start / 2048;
     if size / 2048 <= block {
@@ -108,10 +113,15 @@ pub fn may_access_block<K: Keyring>(
 
 /// The test of an access to one range by size and keys, as if every page were present.
 ///
-/// A body's own `check` makes it first, and then looks for the pages. At most 2048 bytes lie in one block or in two
-/// that follow one another, so the key of the first byte decides, or those of the first and the last.
+/// A body's own `check` makes it first, and then looks for the pages. At most 2048 bytes lie in one
+/// block or in two that follow one another, so the key of the first byte decides, or those of the
+/// first and the last.
+///
+/// # Errors
+///
+/// A `Fault`: addressing before protection, and an absent page if both let the access pass.
 #[inline(always)]
-pub fn test_range<K: Keyring>(
+pub fn test_range<K: KeyTable>(
     size: u32,
     keys: &K,
     range: Range,
@@ -120,7 +130,8 @@ pub fn test_range<K: Keyring>(
 ) -> Result<(), Fault>
     requires keyed { size ≤ 2048 * length (K.of_blocks keys.now) }
     requires short { range.count ≤ 2048 }
-    ensures { IsVerdict size (K.of_blocks keys.now) (λ _. true) key (tested access range ∷ []) result }
+    ensures { IsVerdict size (K.of_blocks keys.now) (λ _. true) key (tested access range ∷ [])
+        result }
 {
     let Range { start, count } = range;
     if count == 0 {
@@ -144,9 +155,9 @@ pub fn test_range<K: Keyring>(
     Ok(())
 }
 
-/// Whether size and keys let an access to one range pass, as if every page were present.
+/// Returns whether size and keys let an access to one range pass, as if every page were present.
 #[inline(always)]
-pub(crate) fn passes_range<K: Keyring>(
+pub(crate) fn passes_range<K: KeyTable>(
     size: u32,
     keys: &K,
     range: Range,
@@ -155,7 +166,8 @@ pub(crate) fn passes_range<K: Keyring>(
 ) -> bool
     requires keyed { size ≤ 2048 * length (K.of_blocks keys.now) }
     requires short { range.count ≤ 2048 }
-    ensures { result ≡ true → IsVerdict size (K.of_blocks keys.now) (λ _. true) key (tested access range ∷ []) (Ok tt) }
+    ensures { result ≡ true → IsVerdict size (K.of_blocks keys.now) (λ _. true) key
+        (tested access range ∷ []) (Ok tt) }
 {
     match test_range(size, keys, range, access, key) {
         Ok(()) => true,

@@ -6,15 +6,17 @@ ghost use Rattle.s370_store.specs.Memory.{cleared_memory};
 use crate::{Keyed, Page, PlainStorage};
 use thiserror::Error;
 
-/// There is no room for a page that is wanted: no frame is free for it, and no other page can leave one.
+/// There is no room for a page that is wanted: no frame is free for it, and no other page can leave
+/// one.
 #[derive(Clone, Copy, Debug, PartialEq, Eq, Error)]
 #[error("there is no room for a page that is wanted")]
 pub struct FramesOut;
 
 /// A storage whose absent pages can be brought.
 ///
-/// Code that has to go on where a page is absent is written over it once, for a storage that is all there as for one
-/// that is lent from frames: it tries, brings the page that was absent, and tries again.
+/// Code that has to go on where a page is absent is written over it once, for a storage that is all
+/// there as for one that is borrowed from frames: it tries, brings the page that was absent, and
+/// tries again.
 ///
 /// ```
 /// loop {
@@ -31,18 +33,24 @@ pub trait Supply: Keyed {
     /// There is no room for this page, which is not present.
     ghost IsShort: { Self → ℕ → Type 0 };
 
-    /// From one to the other just these pages were brought, in this order; what this storage is lent from stays.
+    /// From one to the other just these pages were brought, in this order; what this storage is
+    /// borrowed from stays.
     ghost Brought: { Self → List ℕ → Self → Type 0 };
 
-    /// What clearing leaves of all that this storage is lent from.
+    /// What clearing leaves of all that this storage is borrowed from.
     ghost Cleared: { Self → Self → Type 0 };
 
-    /// Makes all bytes and keys zero, as they are in a machine that is switched on. No page has to be present for that.
+    /// Makes all bytes and keys zero, as they are in a machine that is switched on. No page has to
+    /// be present for that.
     fn clear(&mut self)
         ensures memory { Self.memory self.new ≡ cleared_memory (Self.memory self.old) }
         ensures cleared { Cleared self.old self.new };
 
     /// Brings a page that is absent. No byte changes, and no key.
+    ///
+    /// # Errors
+    ///
+    /// `FramesOut` if there is no room for a page that is needed; no byte has changed.
     fn bring(&mut self, page: Page) -> Result<(), FramesOut>
         requires { IsAway (length (Self.memory self.old).bytes) (Self.present self.old) page.0 }
         ensures memory { Self.memory self.new ≡ Self.memory self.old }
@@ -55,7 +63,8 @@ pub trait Supply: Keyed {
     ghost brought_none: { (s t : Self) → Self.Keyed.KeepsRest s t → Brought s [] t };
 
     /// What is brought twice is brought.
-    ghost brought_on: { (s t u : Self) (before after : List ℕ) → Brought s before t → Brought t after u
+    ghost brought_on: { (s t u : Self) (before after : List ℕ) → Brought s before t
+        → Brought t after u
         → Brought s (before ++ after) u };
 
     /// An access takes no room.

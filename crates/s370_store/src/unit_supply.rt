@@ -1,12 +1,14 @@
 //! A storage that brings absent pages for one unit of operation after another.
 //!
-//! What is brought for a unit is held until the unit ends: it tries, brings the page that was absent and tries again,
-//! each page but once, since what is held is present; and then it lets go. So a unit brings no more pages than it
-//! needs, and a storage that can hold nine tells that there is no room only where there is none for any unit.
+//! What is brought for a unit is held until the unit ends: it tries, brings the page that was
+//! absent and tries again, each page but once, since what is held is present; and then it lets go.
+//! So a unit brings no more pages than it needs, and a storage that can hold nine says that there
+//! is no room only where there is none for any unit.
 //!
-//! Whatever was brought from a state between units on, letting go leads to such a state again, and just
-//! the pages that were brought came from one to the other, as those of one unit.
-ghost use Rattle.std.specs.Prelude.{◌≡◌, ◌≤◌, ℕ, List, [], ◌∷◌, ◌++◌, length, replicate, true, Contains};
+//! Whatever was brought from a state between units on, letting go leads to such a state again, and
+//! just the pages that were brought came from one to the other, as those of one unit.
+ghost use Rattle.std.specs.Prelude.{◌≡◌, ◌≤◌, ℕ, List, [], ◌∷◌, ◌++◌, length, replicate, true};
+ghost use Rattle.std.specs.Prelude.{Contains};
 
 use crate::{PlainStorage, Supply};
 
@@ -23,14 +25,15 @@ use crate::{PlainStorage, Supply};
 /// done
 /// ```
 pub trait UnitSupply: Supply {
-    /// Between two units: nothing is held, and there is room to hold the nine pages that a unit may need.
+    /// Between two units: nothing is held, and there is room to hold the nine pages that a unit may
+    /// need.
     ghost IsBetween: { Self → Type 0 };
 
     /// There is no room for this page, though nothing is held.
     ghost IsOut: { Self → ℕ → Type 0 };
 
-    /// From one state between units to another just these pages came, for each unit in turn, in this order; what this
-    /// storage is lent from stays.
+    /// From one state between units to another just these pages came, for each unit in turn, in
+    /// this order; what this storage is borrowed from stays.
     ghost Came: { Self → List (List ℕ) → Self → Type 0 };
 
     /// What was brought is held no longer. It stays present, until another page takes its place.
@@ -42,33 +45,38 @@ pub trait UnitSupply: Supply {
         ensures let_go { LetsGo self.old self.new };
 
     /// What was brought is present, whatever was brought after it.
-    ghost held: { (s t : Self) (pages : List ℕ) (page : ℕ) → Self.Brought s pages t → Contains pages page
+    ghost held: { (s t : Self) (pages : List ℕ) (page : ℕ) → Self.Brought s pages t
+        → Contains pages page
         → Self.present t page ≡ true };
 
     /// Letting go ends a unit.
-    ghost let_go_between: { (s t u : Self) (pages : List ℕ) → IsBetween s → Self.Brought s pages t → LetsGo t u
+    ghost let_go_between: { (s t u : Self) (pages : List ℕ) → IsBetween s → Self.Brought s pages t
+        → LetsGo t u
         → IsBetween u };
 
     /// What was brought has come, for one unit.
     ghost let_go_came: { (s t u : Self) (pages : List ℕ) → Self.Brought s pages t → LetsGo t u
         → Came s (pages ∷ []) u };
 
-    /// Where there was no room beside at most nine pages that are held, there is none.
-    ghost let_go_out: { (s t u : Self) (pages : List ℕ) (page : ℕ) → IsBetween s → Self.Brought s pages t
+    /// If there was no room next to at most nine pages that are held, there is none.
+    ghost let_go_out: { (s t u : Self) (pages : List ℕ) (page : ℕ) → IsBetween s
+        → Self.Brought s pages t
         → length pages ≤ 9 → Self.IsShort t page → LetsGo t u → IsOut u page };
 
     /// An access holds nothing.
     ghost between_kept: { (s t : Self) → Self.KeepsRest s t → IsBetween s → IsBetween t };
 
     /// No page comes by an access, for so many units.
-    ghost came_none: { (s t : Self) (units : ℕ) → IsBetween s → Self.KeepsRest s t → Came s (replicate units []) t };
+    ghost came_none: { (s t : Self) (units : ℕ) → IsBetween s → Self.KeepsRest s t
+        → Came s (replicate units []) t };
 
     /// What has come has as many bytes.
     ghost came_size: { (s t : Self) (units : List (List ℕ)) → Came s units t
         → length (Self.memory t).bytes ≡ length (Self.memory s).bytes };
 
     /// What comes for some units and then for others comes for all of them.
-    ghost came_on: { (s t u : Self) (before after : List (List ℕ)) → Came s before t → Came t after u
+    ghost came_on: { (s t u : Self) (before after : List (List ℕ)) → Came s before t
+        → Came t after u
         → Came s (before ++ after) u };
 }
 
@@ -103,7 +111,7 @@ impl UnitSupply for PlainStorage {
 
     ghost came_none = { λ s t units between rest. rest };
 
-    ghost came_size = { λ s t units came. came };
+    ghost came_size = { λ s t units paged_in. paged_in };
 
     ghost came_on = { λ s t u before after a b. plain_rest_on s t u a b };
 }

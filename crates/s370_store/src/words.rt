@@ -1,7 +1,7 @@
 //! Bytes, halfwords, words and doublewords of any storage, and the test of two ranges.
 //!
-//! Numbers stand in storage with their leftmost byte first (GA22-7000, "Information Formats"). Each of these is one
-//! `load` or `store`, so what they require is that `check` granted the range.
+//! Numbers are in storage with their leftmost byte first (GA22-7000, "Information Formats"). Each
+//! of these is one `load` or `store`, so what they require is that `check` granted the range.
 ghost use Rattle.std.specs.Prelude.{◌≡◌, ◌+◌, ◌≤◌, [], ◌∷◌, length, slice_index, slice_range};
 ghost use Rattle.std.specs.Int.{w16, w32, w64, from_be_bytes, to_be_bytes};
 ghost use Rattle.s370_store.specs.Access.{tested, IsVerdict, join_of, IsGranted};
@@ -10,7 +10,7 @@ ghost use Rattle.s370_store.specs.Memory.{with_stored};
 use crate::{Access, Block, Fault, Range, Storage};
 use s370_num::AccessKey;
 
-/// The byte at an address.
+/// Returns the byte at an address.
 #[inline(always)]
 pub fn load_byte<S: Storage>(storage: &S, start: u32) -> u8
     requires { IsGranted (length (S.memory storage.now).bytes) (S.present storage.now) start 1 }
@@ -21,7 +21,7 @@ pub fn load_byte<S: Storage>(storage: &S, start: u32) -> u8
     into[0]
 }
 
-/// The byte at an address in a block that was found.
+/// Returns the byte at an address in a block that was found.
 #[inline(always)]
 pub fn load_byte_in<S: Storage>(storage: &S, block: Block, start: u32) -> u8
     requires placed { S.IsPlaced storage.now block }
@@ -34,46 +34,50 @@ pub fn load_byte_in<S: Storage>(storage: &S, block: Block, start: u32) -> u8
     into[0]
 }
 
-/// The halfword from an address on.
+/// Returns the halfword from an address on.
 #[inline(always)]
 pub fn load_halfword<S: Storage>(storage: &S, start: u32) -> u16
     requires { IsGranted (length (S.memory storage.now).bytes) (S.present storage.now) start 2 }
-    ensures { result ≡ from_be_bytes w16 (slice_range (S.memory storage.now).bytes start (start + 2)) }
+    ensures { result ≡ from_be_bytes w16
+        (slice_range (S.memory storage.now).bytes start (start + 2)) }
 {
     let mut into = [0u8; 2];
     storage.load(start, &mut into);
     u16::from_be_bytes(into)
 }
 
-/// The word from an address on.
+/// Returns the word from an address on.
 #[inline(always)]
 pub fn load_word<S: Storage>(storage: &S, start: u32) -> u32
     requires { IsGranted (length (S.memory storage.now).bytes) (S.present storage.now) start 4 }
-    ensures { result ≡ from_be_bytes w32 (slice_range (S.memory storage.now).bytes start (start + 4)) }
+    ensures { result ≡ from_be_bytes w32
+        (slice_range (S.memory storage.now).bytes start (start + 4)) }
 {
     let mut into = [0u8; 4];
     storage.load(start, &mut into);
     u32::from_be_bytes(into)
 }
 
-/// The word from an address on in a block that was found.
+/// Returns the word from an address on in a block that was found.
 #[inline(always)]
 pub fn load_word_in<S: Storage>(storage: &S, block: Block, start: u32) -> u32
     requires placed { S.IsPlaced storage.now block }
     requires begins { block.first ≤ start }
     requires ends { start + 4 ≤ block.first + 2048 }
-    ensures { result ≡ from_be_bytes w32 (slice_range (S.memory storage.now).bytes start (start + 4)) }
+    ensures { result ≡ from_be_bytes w32
+        (slice_range (S.memory storage.now).bytes start (start + 4)) }
 {
     let mut into = [0u8; 4];
     storage.load_in(block, start, &mut into);
     u32::from_be_bytes(into)
 }
 
-/// The doubleword from an address on.
+/// Returns the doubleword from an address on.
 #[inline(always)]
 pub fn load_doubleword<S: Storage>(storage: &S, start: u32) -> u64
     requires { IsGranted (length (S.memory storage.now).bytes) (S.present storage.now) start 8 }
-    ensures { result ≡ from_be_bytes w64 (slice_range (S.memory storage.now).bytes start (start + 8)) }
+    ensures { result ≡ from_be_bytes w64
+        (slice_range (S.memory storage.now).bytes start (start + 8)) }
 {
     let mut into = [0u8; 8];
     storage.load(start, &mut into);
@@ -94,7 +98,8 @@ pub fn store_byte<S: Storage>(storage: &mut S, start: u32, byte: u8)
 #[inline(always)]
 pub fn store_halfword<S: Storage>(storage: &mut S, start: u32, halfword: u16)
     requires { IsGranted (length (S.memory storage.old).bytes) (S.present storage.old) start 2 }
-    ensures stored { S.memory storage.new ≡ with_stored (S.memory storage.old) start (to_be_bytes w16 halfword) }
+    ensures stored { S.memory storage.new
+        ≡ with_stored (S.memory storage.old) start (to_be_bytes w16 halfword) }
     ensures rest { S.Keeps storage.old storage.new }
 {
     storage.store(start, &halfword.to_be_bytes());
@@ -104,7 +109,8 @@ pub fn store_halfword<S: Storage>(storage: &mut S, start: u32, halfword: u16)
 #[inline(always)]
 pub fn store_word<S: Storage>(storage: &mut S, start: u32, word: u32)
     requires { IsGranted (length (S.memory storage.old).bytes) (S.present storage.old) start 4 }
-    ensures stored { S.memory storage.new ≡ with_stored (S.memory storage.old) start (to_be_bytes w32 word) }
+    ensures stored { S.memory storage.new
+        ≡ with_stored (S.memory storage.old) start (to_be_bytes w32 word) }
     ensures rest { S.Keeps storage.old storage.new }
 {
     storage.store(start, &word.to_be_bytes());
@@ -116,7 +122,8 @@ pub fn store_word_in<S: Storage>(storage: &mut S, block: Block, start: u32, word
     requires placed { S.IsPlaced storage.old block }
     requires begins { block.first ≤ start }
     requires ends { start + 4 ≤ block.first + 2048 }
-    ensures stored { S.memory storage.new ≡ with_stored (S.memory storage.old) start (to_be_bytes w32 word) }
+    ensures stored { S.memory storage.new
+        ≡ with_stored (S.memory storage.old) start (to_be_bytes w32 word) }
     ensures rest { S.Keeps storage.old storage.new }
 {
     storage.store_in(block, start, &word.to_be_bytes());
@@ -126,14 +133,19 @@ pub fn store_word_in<S: Storage>(storage: &mut S, block: Block, start: u32, word
 #[inline(always)]
 pub fn store_doubleword<S: Storage>(storage: &mut S, start: u32, doubleword: u64)
     requires { IsGranted (length (S.memory storage.old).bytes) (S.present storage.old) start 8 }
-    ensures stored { S.memory storage.new ≡ with_stored (S.memory storage.old) start (to_be_bytes w64 doubleword) }
+    ensures stored { S.memory storage.new
+        ≡ with_stored (S.memory storage.old) start (to_be_bytes w64 doubleword) }
     ensures rest { S.Keeps storage.old storage.new }
 {
     storage.store(start, &doubleword.to_be_bytes());
 }
 
-/// Tests two accesses together, as an instruction with two operands has them tested: addressing of both, then
-/// protection of both, then whether their pages are present.
+/// Tests two accesses together, as an instruction with two operands has them tested: addressing of
+/// both, then protection of both, then whether their pages are present.
+///
+/// # Errors
+///
+/// A `Fault`: addressing before protection, and an absent page if both let the access pass.
 #[inline(always)]
 pub fn check_two<S: Storage>(
     storage: &S,
@@ -145,7 +157,8 @@ pub fn check_two<S: Storage>(
 ) -> Result<(), Fault>
     requires first { first.count ≤ 256 }
     requires second { second.count ≤ 256 }
-    ensures { IsVerdict (length (S.memory storage.now).bytes) (S.memory storage.now).keys (S.present storage.now) key
+    ensures { IsVerdict (length (S.memory storage.now).bytes) (S.memory storage.now).keys
+        (S.present storage.now) key
         (tested first_access first ∷ tested second_access second ∷ []) result }
 {
     let one = storage.check(first, first_access, key);

@@ -9,7 +9,8 @@ use s370_num::AccessKey;
 use s370_walk::Ending;
 
 impl Subchannels {
-    /// The start of the program on which the device of this address works, if there is such a device and it works.
+    /// Returns the start of the program on which the device of this address works, if there is such
+    /// a device and it works.
     pub fn program(&self, device: u16) -> Option<Caw>
         ensures { result ≡ program_of device self.now }
     {
@@ -22,7 +23,8 @@ impl Subchannels {
         }
     }
 
-    /// The program of the device of this address, which had this key, has ended so: its channel status word is pending.
+    /// The program of the device of this address, which had this key, has ended so: its channel
+    /// status word is pending.
     pub fn end_program(&mut self, device: u16, key: AccessKey, ending: Ending)
         ensures { self.new ≡ program_ended device key ending self.old }
     {

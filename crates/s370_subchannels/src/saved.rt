@@ -1,6 +1,7 @@
 //! Subchannels as the bytes of a saved state, and back.
 ghost use Rattle.std.specs.Prelude.{◌≡◌, ◌++◌, OnOk};
-ghost use Rattle.s370_subchannels.specs.Saved.{addresses, state_bytes, state_kind, state_word, subchannel_bytes, subchannels_bytes};
+ghost use Rattle.s370_subchannels.specs.Saved.{addresses, state_bytes, state_kind, state_word};
+ghost use Rattle.s370_subchannels.specs.Saved.{subchannel_bytes, subchannels_bytes};
 
 use crate::subchannel::{DeviceState, Subchannel};
 use crate::subchannels::Subchannels;
@@ -65,7 +66,7 @@ fn put_subchannels(out: &mut Vec<u8>, list: &[Subchannel]) -> Result<(), AllocEr
     put_zero(out)
 }
 
-/// Takes the state that comes next.
+/// Takes the state that is next.
 fn state_of(input: &mut Input<'_>) -> Option<DeviceState> {
     let kind = input.number()?;
     let word = input.number()?;
@@ -79,6 +80,10 @@ fn state_of(input: &mut Input<'_>) -> Option<DeviceState> {
 
 impl Subchannels {
     /// Appends what is seen of all subchannels.
+    ///
+    /// # Errors
+    ///
+    /// `AllocError` if memory is refused; `out` may have a part of it then.
     pub fn save(&self, out: &mut Vec<u8>) -> Result<(), AllocError>
         ensures { OnOk result (out.new.items ≡ out.old.items ++ subchannels_bytes self.now) }
     {
@@ -96,7 +101,7 @@ impl Subchannels {
         if input.flag()? { None } else { Some(()) }
     }
 
-    /// Takes the subchannel that comes next.
+    /// Takes the subchannel that is next.
     #[tactic(auto, using(crate::proofs::Kept::state_kept, crate::proofs::Kept::attention_kept, crate::proofs::Kept::last_start_kept))]
     fn restore_next(&mut self, input: &mut Input<'_>) -> Option<()>
         ensures { addresses self.new ≡ addresses self.old }

@@ -15,7 +15,7 @@ pub fn first_started(list: &[Subchannel], number: u64) -> Option<Subchannel>
     first
 }
 
-/// The first, when this device is looked at too.
+/// Returns the first, when this device is looked at too.
 fn first_of(first: Option<Subchannel>, s: &Subchannel, number: u64) -> Option<Subchannel>
     ensures { result ≡ first_of number first s.now }
 {
@@ -37,7 +37,7 @@ fn first_of(first: Option<Subchannel>, s: &Subchannel, number: u64) -> Option<Su
     }
 }
 
-/// Whether a device works, and its start has this number or a higher one.
+/// Returns whether a device works, and its start has this number or a higher one.
 fn is_started(s: &Subchannel, number: u64) -> bool
     ensures { result ≡ is_started number s.now }
 {

@@ -12,9 +12,9 @@ use Rattle.s370_walk.specs.declared.parts.Kind.TheVariants.{Gives, Takes, TakesU
 use Rattle.s370_walk.specs.declared.parts.Progress.{Progress}
 use Rattle.s370_walk.specs.declared.parts.Progress.TheVariants.{At, Ended}
 use Rattle.s370_walk.specs.declared.parts.Transfer.{Transfer}
-use Rattle.s370_walk.specs.declared.parts.Spot.{Spot}
+use Rattle.s370_walk.specs.declared.parts.NextCcw.{NextCcw}
 use Rattle.s370_walk.specs.declared.parts.Position.{Position}
-use Rattle.s370_walk.specs.declared.parts.Word.{Word}
+use Rattle.s370_walk.specs.declared.parts.Ccw.{Ccw}
 use Rattle.s370_store.specs.Memory.{Memory}
 use Rattle.s370_walk.specs.Hardware.{Machine, area, fault_of}
 use Rattle.s370_store.specs.declared.Access.TheVariants.{Fetch, Store}
@@ -37,24 +37,24 @@ module _ {D E : Type 0} (form : Form) (h : Setting D) (small : Machine E) (view 
   fails_viewed None at m d = refl
   fails_viewed (Some t) at m d = rw (same.status d, same.finished d) refl
 
-  answered_viewed : (spot : Spot) (w : Word) (answer : Answer) (m : Memory) (d : D) → answered h.prefix spot w answer m (view d) ≡ viewed view (answered h.prefix spot w answer m d)
+  answered_viewed : (spot : NextCcw) (w : Ccw) (answer : Answer) (m : Memory) (d : D) → answered h.prefix spot w answer m (view d) ≡ viewed view (answered h.prefix spot w answer m d)
   answered_viewed spot w (answers.Refused status) m d = refl
   answered_viewed spot w answers.Immediate m d = state_viewed _ m d
   answered_viewed spot w (answers.Input k) m d = refl
   answered_viewed spot w (answers.Output k) m d = refl
   answered_viewed spot w (answers.OutputUpTo k) m d = refl
 
-  pub entered_viewed : (spot : Spot) (w : Word) (role : Option Transfer) (m : Memory) (d : D) → entered (setting_for small h) spot w role m (view d) ≡ viewed view (entered h spot w role m d)
+  pub entered_viewed : (spot : NextCcw) (w : Ccw) (role : Option Transfer) (m : Memory) (d : D) → entered (setting_for small h) spot w role m (view d) ≡ viewed view (entered h spot w role m d)
   entered_viewed spot w None m d =
       rw (same.answer d (order_of h.prefix spot w), same.started d (order_of h.prefix spot w)) (answered_viewed spot w (h.machine.answer d (order_of h.prefix spot w)) m (h.machine.started d (order_of h.prefix spot w)))
   entered_viewed spot w (Some t) m d = refl
 
-  obeyed_viewed : (spot : Spot) (w : Word) (verdict : Verdict) (m : Memory) (d : D) → obeyed (setting_for small h) spot w verdict m (view d) ≡ viewed view (obeyed h spot w verdict m d)
+  obeyed_viewed : (spot : NextCcw) (w : Ccw) (verdict : Verdict) (m : Memory) (d : D) → obeyed (setting_for small h) spot w verdict m (view d) ≡ viewed view (obeyed h spot w verdict m d)
   obeyed_viewed spot w Bad m d = fails_viewed spot.role spot.at m d
   obeyed_viewed spot w Jump m d = refl
   obeyed_viewed spot w Good m d = entered_viewed spot w spot.role m d
 
-  fetched_viewed : (spot : Spot) (found : Option Word) (m : Memory) (d : D) → fetched (setting_for small h) spot found m (view d) ≡ viewed view (fetched h spot found m d)
+  fetched_viewed : (spot : NextCcw) (found : Option Ccw) (m : Memory) (d : D) → fetched (setting_for small h) spot found m (view d) ≡ viewed view (fetched h spot found m d)
   fetched_viewed spot None m d = fails_viewed spot.role spot.at m d
   fetched_viewed spot (Some w) m d = obeyed_viewed spot w (judged h.limit spot w) m d
 

@@ -1,5 +1,6 @@
 -- Storage and devices as a channel sees them.
-use Rattle.std.specs.Prelude.{ℕ, zero, suc, ◌≡◌, Bool, List, [], ◌∷◌, length, slice_index, Option, is_none, Result, Ok, Err}
+use Rattle.std.specs.Prelude.{ℕ, zero, suc, ◌≡◌, Bool, List, [], ◌∷◌, length, slice_index, Option}
+use Rattle.std.specs.Prelude.{is_none, Result, Ok, Err}
 use Rattle.s370_store.specs.declared.Access.{Access}
 use Rattle.s370_store.specs.declared.Access.TheVariants.{Fetch}
 use Rattle.s370_store.specs.declared.Fault.{Fault}
@@ -10,9 +11,11 @@ use Rattle.s370_walk.specs.declared.bits.UnitStatus.{UnitStatus}
 use Rattle.s370_walk.specs.declared.parts.Order.{Order}
 use Rattle.s370_walk.specs.declared.parts.Answer.{Answer}
 
+-- the byte at an address
 abbrev pub byte_at : Memory → ℕ → ℕ
 byte_at m a = slice_index m.bytes a
 
+-- memory with another byte at an address
 abbrev pub put_byte : Memory → ℕ → ℕ → Memory
 put_byte m a b = record { bytes = put m.bytes a (b ∷ []); keys = m.keys }
 
@@ -28,8 +31,9 @@ fault_of m key t = first_fault (length m.bytes) m.keys key (t ∷ [])
 abbrev pub is_in : Memory → ℕ → ℕ → Bool
 is_in m start count = is_none (fault_of m 0 (area Fetch start count))
 
--- what a fetch tells: what is wanted, or a page that is not present of those that it asks for
-abbrev pub FetchTells : {A : Type 0} → ℕ → (ℕ → Bool) → List Test → Option A → Result (Option A) Page → Type 0
+-- what a fetch says: what is wanted, or a page that is not present of those that it asks for
+abbrev pub FetchTells : {A : Type 0} → ℕ → (ℕ → Bool) → List Test → Option A
+    → Result (Option A) Page → Type 0
 FetchTells size present asked wanted (Ok found) = found ≡ wanted
 FetchTells size present asked wanted (Err page) = IsAway size present page.0 × Touches asked page.0
 
@@ -54,6 +58,7 @@ abbrev pub given : {D : Type 0} → Machine D → D → ℕ → List ℕ
 given machine d zero = []
 given machine d (suc n) = machine.gives d ∷ given machine (machine.gave d) n
 
+-- a device after it has given a number of bytes
 abbrev pub after_giving : {D : Type 0} → Machine D → D → ℕ → D
 after_giving machine d zero = d
 after_giving machine d (suc n) = after_giving machine (machine.gave d) n

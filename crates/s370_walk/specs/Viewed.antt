@@ -1,11 +1,14 @@
--- A smaller machine that stands for a device: a walk over it does to storage what a walk over the device does.
+-- A smaller machine that stands for a device: a walk over it does to storage what a walk over the
+-- device does.
 use Rattle.std.specs.Prelude.{ℕ, ◌≡◌}
 use Rattle.s370_walk.specs.declared.parts.Order.{Order}
 use Rattle.s370_walk.specs.Hardware.{Machine}
 use Rattle.s370_walk.specs.Walk.{Setting, State, Fetching, Moving, Over}
 
--- What is seen of a device answers, gives, and ends as the device does, and goes on to what is seen of it then.
-pub record IsViewed {D E : Type 0} (machine : Machine D) (small : Machine E) (view : D → E) : Type 0 where
+-- What is seen of a device answers, gives, and ends as the device does, and goes on to what is seen
+-- of it then.
+pub record IsViewed {D E : Type 0} (machine : Machine D) (small : Machine E)
+    (view : D → E) : Type 0 where
   pub answer : (d : D) (o : Order) → small.answer (view d) o ≡ machine.answer d o
   pub started : (d : D) (o : Order) → small.started (view d) o ≡ view (machine.started d o)
   pub done : (d : D) → small.done (view d) ≡ machine.done d

@@ -1,16 +1,17 @@
-//! The bits of command words and status words (GA22-7000, "Channel-Command Word" and "Channel-Status Word").
+//! The bits of command words and status words (GA22-7000, "Channel-Command Word" and
+//! "Channel-Status Word").
 ghost use Rattle.std.specs.Prelude.{◌≡◌, ◌%◌, ◌==◌};
 ghost use Rattle.s370_walk.specs.Bits.{has_bits, both};
 
 /// The command code of a command word.
 #[derive(Clone, Copy, Debug, PartialEq, Eq)]
-pub struct Command {
+pub struct CommandCode {
     /// The eight bits.
     pub code: u8,
 }
 
-impl Command {
-    /// Whether the word is a transfer in channel: the low four bits are 1000.
+impl CommandCode {
+    /// Returns whether the word is a transfer in channel: the low four bits are 1000.
     #[inline(always)]
     pub fn is_transfer_in_channel(self) -> bool
         ensures { result ≡ (self.code % 16 == 8) }
@@ -18,7 +19,7 @@ impl Command {
         self.code % 16 == 8
     }
 
-    /// Whether the low four bits are zero, which no command has.
+    /// Returns whether the low four bits are zero, which no command has.
     #[inline(always)]
     pub fn is_invalid(self) -> bool
         ensures { result ≡ (self.code % 16 == 0) }
@@ -26,7 +27,7 @@ impl Command {
         self.code % 16 == 0
     }
 
-    /// Whether it is a control command: the low two bits are 11.
+    /// Returns whether it is a control command: the low two bits are 11.
     #[inline(always)]
     pub fn is_control(self) -> bool
         ensures { result ≡ (self.code % 4 == 3) }
@@ -60,7 +61,7 @@ impl Flags {
     /// What a word has to have zero: PCI, and bits 38 and 39.
     pub const INVALID: Flags = Flags { bits: 0x0B };
 
-    /// Whether one of these flags is there.
+    /// Returns whether one of these flags is there.
     #[inline(always)]
     pub fn has(self, flags: Flags) -> bool
         ensures { result ≡ has_bits self.bits flags.bits }
@@ -69,7 +70,8 @@ impl Flags {
     }
 }
 
-/// What a device says at the end of a command, or at its start: bits 32 to 39 of a channel status word.
+/// What a device says at the end of a command, or at its start: bits 32 to 39 of a channel status
+/// word.
 #[derive(Clone, Copy, Debug, PartialEq, Eq)]
 pub struct UnitStatus {
     /// The eight bits.
@@ -91,7 +93,7 @@ impl UnitStatus {
     pub const CHANNEL_END: UnitStatus = UnitStatus { bits: 0x08 };
     /// The device is free again.
     pub const DEVICE_END: UnitStatus = UnitStatus { bits: 0x04 };
-    /// Something went wrong, which a sense command tells.
+    /// Something went wrong, which a sense command says.
     pub const UNIT_CHECK: UnitStatus = UnitStatus { bits: 0x02 };
     /// Something that is not usual, as the end of a file.
     pub const UNIT_EXCEPTION: UnitStatus = UnitStatus { bits: 0x01 };
@@ -100,7 +102,7 @@ impl UnitStatus {
     /// Unit check and unit exception: no next command is chained.
     pub const UNUSUAL: UnitStatus = UnitStatus { bits: 0x03 };
 
-    /// Whether one of these bits is there.
+    /// Returns whether one of these bits is there.
     #[inline(always)]
     pub fn has(self, status: UnitStatus) -> bool
         ensures { result ≡ has_bits self.bits status.bits }
@@ -108,7 +110,7 @@ impl UnitStatus {
         self.bits & status.bits != 0
     }
 
-    /// The bits of both.
+    /// Returns the bits of both.
     #[inline(always)]
     pub fn with(self, status: UnitStatus) -> UnitStatus
         ensures { result ≡ both self status }

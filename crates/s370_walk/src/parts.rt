@@ -1,21 +1,22 @@
-//! What channel, storage and devices hand to each other, and where a channel program stands.
+//! What channel, storage and devices hand to each other, and where a channel program is.
 
-use crate::bits::{ChannelStatus, Command, Flags, UnitStatus};
+use crate::bits::{ChannelStatus, CommandCode, Flags, UnitStatus};
 
 /// A command word in whatever form it is written, with the places of the words after it.
 #[derive(Clone, Copy, Debug, PartialEq, Eq)]
-pub struct Word {
+pub struct Ccw {
     /// What is to be done.
-    pub command: Command,
-    /// Where the data lie, or with IDA the list of their addresses; of a transfer in channel, where it leads.
+    pub command: CommandCode,
+    /// Where the data lie, or with IDA the list of their addresses; of a transfer in channel, where
+    /// it leads.
     pub address: u32,
     /// How.
     pub flags: Flags,
     /// How many bytes.
     pub count: u16,
-    /// Where the next word stands; of a transfer in channel, where it leads.
+    /// Where the next word is; of a transfer in channel, where it leads.
     pub next: u32,
-    /// Where the word after the next one stands.
+    /// Where the word after the next one is.
     pub skipped: u32,
 }
 
@@ -23,7 +24,7 @@ pub struct Word {
 #[derive(Clone, Copy, PartialEq, Eq)]
 pub struct Order {
     /// What is to be done.
-    pub command: Command,
+    pub command: CommandCode,
     /// Whether it is the first command of its program.
     pub first: bool,
     /// The flags of its word.
@@ -39,7 +40,7 @@ pub enum Answer {
     Immediate,
     /// It gives so many bytes.
     Input(u32),
-    /// It takes exactly so many bytes, or fewer where it tells so on the way.
+    /// It takes exactly so many bytes, or fewer where it says so on the way.
     Output(u32),
     /// It takes at most so many bytes.
     OutputUpTo(u32),
@@ -60,7 +61,7 @@ pub enum Kind {
 #[derive(Clone, Copy, PartialEq, Eq)]
 pub struct Transfer {
     /// The command.
-    pub command: Command,
+    pub command: CommandCode,
     /// Which way its bytes go.
     pub kind: Kind,
     /// How many bytes are left of those that the device said.
@@ -69,12 +70,12 @@ pub struct Transfer {
 
 /// Where the next word is fetched, and in which role.
 #[derive(Clone, Copy, PartialEq, Eq)]
-pub struct Spot {
-    /// Where the word stands.
+pub struct NextCcw {
+    /// Where the word is.
     pub at: u32,
     /// The transfer that the word continues, or None where it is a command.
     pub role: Option<Transfer>,
-    /// Whether no transfer in channel may stand here: the word is the first, or one led here.
+    /// Whether no transfer in channel may be here: the word is the first, or one led here.
     pub jumped: bool,
     /// How many commands were started.
     pub started: u32,
@@ -83,12 +84,12 @@ pub struct Spot {
 /// A word whose bytes are being moved.
 #[derive(Clone, Copy, PartialEq, Eq)]
 pub struct Position {
-    /// Where the word stands.
+    /// Where the word is.
     pub at: u32,
     /// How many commands were started.
     pub started: u32,
     /// The word.
-    pub word: Word,
+    pub word: Ccw,
     /// How many bytes the word still counts.
     pub count: u16,
     /// Where the byte before the next one lies, if one was moved.
@@ -100,7 +101,7 @@ pub struct Position {
 /// How a program ended.
 #[derive(Clone, Copy, PartialEq, Eq)]
 pub struct Ending {
-    /// Where the last word that was used stands, or the one that failed.
+    /// Where the last word that was used is, or the one that failed.
     pub at: u32,
     /// The status of the device.
     pub unit: UnitStatus,
@@ -114,7 +115,7 @@ pub struct Ending {
 #[derive(Clone, Copy, PartialEq, Eq)]
 pub enum Progress {
     /// Another word.
-    At(Spot),
+    At(NextCcw),
     /// The end of the program.
     Ended(Ending),
 }

@@ -1,17 +1,19 @@
 //! Devices, and the forms in which channel programs are written.
-ghost use Rattle.std.specs.Prelude.{◌≡◌, ℕ, ◌<◌, ◌≤◌, ◌+◌, ◌-◌, ◌*◌, Bool, true, false, length, List, if◌then◌else◌, IfOk, OnOk, OnErr};
+ghost use Rattle.std.specs.Prelude.{◌≡◌, ℕ, ◌<◌, ◌≤◌, ◌+◌, ◌-◌, ◌*◌, Bool, true, false, length};
+ghost use Rattle.std.specs.Prelude.{List, if◌then◌else◌, IfOk, OnOk, OnErr};
 ghost use Rattle.s370_walk.specs.Hardware.{Machine, FetchTells, given, after_giving, after_taking};
 ghost use Rattle.s370_walk.specs.Walk.{Written};
 
 use crate::bits::UnitStatus;
-use crate::parts::{Answer, Order, Position, Word};
+use crate::parts::{Answer, Ccw, Order, Position};
 use s370_store::{Page, Storage};
 use std::alloc::AllocError;
 
 /// A device, which answers a command, then gives or takes bytes, and then finishes.
 ///
-/// Whoever writes one says what it is by total functions on its state ([`Machine`](../specs/Hardware.antt)), and shows
-/// that its code is those functions: there is no other law.
+/// Whoever writes one says what it is by total functions on its state
+/// ([`Machine`](../specs/Hardware.antt)), and shows that its code is those functions: there is no
+/// other law.
 pub trait Device {
     ghost use Rattle.s370_walk.specs.declared.parts.Order.{Order};
 
@@ -23,15 +25,19 @@ pub trait Device {
 
     /// Begins a command, or refuses it.
     ///
-    /// A command that keeps a record takes the memory for it here, so that its bytes and its end need none. Where
-    /// memory is refused nothing has happened.
+    /// A command that keeps a record takes the memory for it here, so that its bytes and its end
+    /// need none. Where memory is refused nothing has happened.
+    ///
+    /// # Errors
+    ///
+    /// `AllocError` if memory is refused; nothing has changed.
     fn command(&mut self, order: Order) -> Result<Answer, AllocError>
         ensures answer { IfOk result (λ answer. answer ≡ machine.answer self.old order) }
         ensures after { OnOk result (self.new ≡ machine.started self.old order) }
         ensures memory { OnErr result (self.new ≡ self.old) }
         ensures needed { OnErr result (needs_memory self.old order ≡ true) };
 
-    /// Whether it wants no more bytes, though it has fewer than it said.
+    /// Returns whether it wants no more bytes, though it has fewer than it said.
     fn is_done(&self) -> bool
         ensures { result ≡ machine.done self.now };
 
@@ -49,11 +55,12 @@ pub trait Device {
         ensures status { result ≡ machine.status self.old }
         ensures after { self.new ≡ machine.finished self.old };
 
-    /// How many bytes at least it will give or take before it is done. Without a body of its own, one byte at a time is
-    /// moved.
+    /// Returns how many bytes at least it will give or take before it is done. Without a body of
+    /// its own, one byte at a time is moved.
     fn ready(&self) -> u32
         requires { machine.done self.now ≡ false }
-        ensures giving { (n : ℕ) → n < result → machine.done (after_giving machine self.now n) ≡ false }
+        ensures giving { (n : ℕ) → n < result
+            → machine.done (after_giving machine self.now n) ≡ false }
         ensures taking { (bytes : List ℕ) → length bytes < result
             → machine.done (after_taking machine self.now bytes) ≡ false }
     {
@@ -85,13 +92,23 @@ pub trait WordForm {
     /// The form as functions on storage.
     ghost written: { Self → Written };
 
-    /// The word at an address, or None where none lies there. An error is a page that is not present.
-    fn fetch<S: Storage>(&self, storage: &S, at: u32) -> Result<Option<Word>, Page>
-        ensures { FetchTells (length (S.memory storage.now).bytes) (S.present storage.now) ((written self.now).word_asks at)
+    /// Returns the word at an address, or None where none lies there. An error is a page that is
+    /// not present.
+    ///
+    /// # Errors
+    ///
+    /// A page that is needed and absent.
+    fn fetch<S: Storage>(&self, storage: &S, at: u32) -> Result<Option<Ccw>, Page>
+        ensures { FetchTells (length (S.memory storage.now).bytes) (S.present storage.now)
+            ((written self.now).word_asks at)
             ((written self.now).text (S.memory storage.now) at) result };
 
-    /// Where the block of this number begins of the area of a word, or None where that cannot be found out: block 0 is
-    /// where the area begins, the others are blocks of 2048 bytes.
+    /// Returns where the block of this number begins of the area of a word, or None where that
+    /// cannot be found out: block 0 is where the area begins, the others are blocks of 2048 bytes.
+    ///
+    /// # Errors
+    ///
+    /// A page that is needed and absent.
     fn block<S: Storage>(
         &self,
         storage: &S,

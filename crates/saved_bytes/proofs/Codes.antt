@@ -39,7 +39,7 @@ bytes_code a b x y e =
 
 -- ---- what is made of parts
 
--- a part, and what stands behind it
+-- a part, and what is after it
 pub first : {A : Type 0} (code : A → List ℕ) → IsCode code → (a b : A) (p q x y : List ℕ) → (code a ++ p) ++ x ≡ (code b ++ q) ++ y → Same a b (p ++ x) (q ++ y)
 first code is a b p q x y e = is a b (p ++ x) (q ++ y) (sym (append_assoc (code a) p x) ∙ e ∙ append_assoc (code b) q y)
 
@@ -66,7 +66,7 @@ both_code one other is are (a, c) (b, d) x y e =
     let back = are c d x y front.rest in
     record { this = ap (λ t. (t, c)) front.this ∙ ap (λ t. (b, t)) back.this; rest = back.rest }
 
--- what is told by parts of which it can be made again
+-- what is reported by parts of which it can be made again
 pub of_parts : {A B : Type 0} (code : A → List ℕ) → IsCode code → (parts : B → A) (made : A → B) → ((b : B) → made (parts b) ≡ b) → IsCode (λ b. code (parts b))
 of_parts code is parts made again a b x y e =
     let same = is (parts a) (parts b) x y e in

@@ -1,10 +1,12 @@
 -- Values as bytes. No value's bytes begin another's, so bytes are those of one value.
-use Rattle.std.specs.Prelude.{ℕ, ◌/◌, ◌%◌, ◌≡◌, Bool, true, false, List, [], ◌∷◌, ◌++◌, length, Option, Some, None}
+use Rattle.std.specs.Prelude.{ℕ, ◌/◌, ◌%◌, ◌≡◌, Bool, true, false, List, [], ◌∷◌, ◌++◌, length}
+use Rattle.std.specs.Prelude.{Option, Some, None}
 
 -- eight bytes, the greatest first
 unfoldable pub number : ℕ → List ℕ
 number n =
-    n / 72057594037927936 ∷ n / 281474976710656 % 256 ∷ n / 1099511627776 % 256 ∷ n / 4294967296 % 256
+    n / 72057594037927936 ∷ n / 281474976710656 % 256 ∷ n / 1099511627776 % 256 ∷ n / 4294967296 %
+    256
     ∷ n / 16777216 % 256 ∷ n / 65536 % 256 ∷ n / 256 % 256 ∷ n % 256 ∷ []
 
 abbrev pub flag : Bool → List ℕ
@@ -20,16 +22,16 @@ abbrev pub optional : {A : Type 0} → (A → List ℕ) → Option A → List �
 optional code None = 0 ∷ []
 optional code (Some a) = 1 ∷ code a
 
--- 1 before each, and 0 behind the last
+-- 1 before each, and 0 after the last
 abbrev pub each : {A : Type 0} → (A → List ℕ) → List A → List ℕ
 each code [] = 0 ∷ []
 each code (a ∷ list) = 1 ∷ (code a ++ each code list)
 
--- one behind the other
+-- one after the other
 abbrev pub both : {A B : Type 0} → (A → List ℕ) → (B → List ℕ) → A × B → List ℕ
 both one other (a, b) = one a ++ other b
 
--- the same value, and the same bytes behind it
+-- the same value, and the same bytes after it
 pub record Same {A : Type 0} (a b : A) (x y : List ℕ) : Type 0 where
   pub this : a ≡ b
   pub rest : x ≡ y

@@ -1,8 +1,9 @@
 //! The bytes of a saved state.
 //!
-//! Its one theorem: no value's bytes begin another's (`IsCode` in `specs/Codes.antt`), so bytes are those of one value.
-//! A type's code is made of these: numbers, flags, texts, options and lists. What is written is proved to be the code;
-//! what is read is not: who reads a state writes it again and compares.
+//! Its one theorem: no value's bytes begin another's (`IsCode` in `specs/Codes.antt`), so bytes are
+//! those of one value. A type's code is made of these: numbers, flags, texts, options and lists.
+//! What is written is proved to be the code; what is read is not: who reads a state writes it again
+//! and compares.
 //!
 //! ```
 //! use saved_bytes::{Input, put_bytes, put_flag, put_number, put_one, put_zero};
@@ -34,6 +35,10 @@ ghost use Rattle.saved_bytes.specs.Codes.{bytes, flag, number};
 use std::alloc::AllocError;
 
 /// Appends a number: eight bytes, the highest first.
+///
+/// # Errors
+///
+/// `AllocError` if memory is refused; `out` may have a part of it then.
 #[tactic(auto, unfolding(crate::specs::Codes::number))]
 pub fn put_number(out: &mut Vec<u8>, value: u64) -> Result<(), AllocError>
     ensures { OnOk result (out.new.items ≡ out.old.items ++ number value) }
@@ -53,6 +58,10 @@ pub fn put_number(out: &mut Vec<u8>, value: u64) -> Result<(), AllocError>
 }
 
 /// Appends whether something is so.
+///
+/// # Errors
+///
+/// `AllocError` if memory is refused; `out` may have a part of it then.
 pub fn put_flag(out: &mut Vec<u8>, value: bool) -> Result<(), AllocError>
     ensures { OnOk result (out.new.items ≡ out.old.items ++ flag value) }
 {
@@ -60,6 +69,10 @@ pub fn put_flag(out: &mut Vec<u8>, value: bool) -> Result<(), AllocError>
 }
 
 /// Appends the mark that something follows.
+///
+/// # Errors
+///
+/// `AllocError` if memory is refused; `out` may have a part of it then.
 pub fn put_one(out: &mut Vec<u8>) -> Result<(), AllocError>
     ensures { OnOk result (out.new.items ≡ out.old.items ++ 1 ∷ []) }
 {
@@ -68,6 +81,10 @@ pub fn put_one(out: &mut Vec<u8>) -> Result<(), AllocError>
 }
 
 /// Appends the mark that nothing follows.
+///
+/// # Errors
+///
+/// `AllocError` if memory is refused; `out` may have a part of it then.
 pub fn put_zero(out: &mut Vec<u8>) -> Result<(), AllocError>
     ensures { OnOk result (out.new.items ≡ out.old.items ++ 0 ∷ []) }
 {
@@ -76,6 +93,10 @@ pub fn put_zero(out: &mut Vec<u8>) -> Result<(), AllocError>
 }
 
 /// Appends bytes, and before them how many they are.
+///
+/// # Errors
+///
+/// `AllocError` if memory is refused; `out` may have a part of it then.
 pub fn put_bytes(out: &mut Vec<u8>, value: &[u8]) -> Result<(), AllocError>
     ensures { OnOk result (out.new.items ≡ out.old.items ++ bytes value.now) }
 {

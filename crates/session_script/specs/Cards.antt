@@ -1,5 +1,6 @@
 -- What a line of a script is as a card.
-use Rattle.std.specs.Prelude.{ℕ, if◌then◌else◌, nat_le, List, ◌++◌, length, map, take, replicate, Option, Some, None, unwrap_or}
+use Rattle.std.specs.Prelude.{ℕ, if◌then◌else◌, nat_le, List, ◌++◌, length, map, take, replicate}
+use Rattle.std.specs.Prelude.{Option, Some, None, unwrap_or}
 use Rattle.text_words.specs.Lines.{lines_of}
 use Rattle.s370_num.specs.Ebcdic.{byte_of}
 use Rattle.session_script.specs.declared.cards.Cards.{Cards}
@@ -18,7 +19,8 @@ card_of line = take 80 (map punched line ++ replicate 80 blank)
 
 -- the first so many of these lines as cards, or none where there are fewer
 abbrev pub cards_in : ℕ → List (List ℕ) → Option (List (List ℕ))
-cards_in count lines = if nat_le count (length lines) then Some (map card_of (take count lines)) else None
+cards_in count lines = if nat_le count (length lines) then Some (map card_of (take count lines))
+    else None
 
 -- the cards of a deck
 abbrev pub cards_of : Cards → List (List ℕ)

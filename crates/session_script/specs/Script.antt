@@ -1,5 +1,7 @@
 -- What a script says, line by line.
-use Rattle.std.specs.Prelude.{◌≡◌, ℕ, zero, suc, ◌+◌, ◌<◌, ◌==◌, ◌&&◌, Bool, true, if◌then◌else◌, is_some, nat_le, List, [], ◌∷◌, ◌++◌, length, codes, Option, Some, None, IfSome, Result, Ok, Err}
+use Rattle.std.specs.Prelude.{◌≡◌, ℕ, zero, suc, ◌+◌, ◌<◌, ◌==◌, ◌&&◌, Bool, true, if◌then◌else◌}
+use Rattle.std.specs.Prelude.{is_some, nat_le, List, [], ◌∷◌, ◌++◌, length, codes, Option, Some}
+use Rattle.std.specs.Prelude.{None, IfSome, Result, Ok, Err}
 use Rattle.std.specs.Option.{option_map, option_and_then}
 use Rattle.std.specs.Str.{bytes_eq}
 use Rattle.text_words.specs.Lines.{and_then, lines_of}
@@ -65,7 +67,9 @@ counted user units = if nat_le 1 units && nat_le units 1000000 then Some (Run us
 
 -- `RUN u n`, after its first word
 abbrev pub run_of : List (List ℕ) → List ℕ → Option Said
-run_of names operands = option_and_then (λ user. option_and_then (λ digits. option_and_then (counted user) (decimal_of 7 digits)) (after_word operands)) (user_of names (word_of operands))
+run_of names operands = option_and_then
+    (λ user. option_and_then (λ digits. option_and_then (counted user) (decimal_of 7 digits))
+    (after_word operands)) (user_of names (word_of operands))
 
 -- a text that is missing is empty
 abbrev pub text_of : Option (List ℕ) → List ℕ
@@ -74,11 +78,14 @@ text_of (Some text) = text
 
 -- `LINE u text`, after its first word
 abbrev pub typed_of : List (List ℕ) → List ℕ → Option Said
-typed_of names operands = option_map (λ user. Line user (text_of (after_word operands))) (user_of names (word_of operands))
+typed_of names operands =
+    option_map (λ user. Line user (text_of (after_word operands)))
+    (user_of names (word_of operands))
 
 -- `TICK u`, after its first word: nothing follows the name
 abbrev pub tick_of : List (List ℕ) → List ℕ → Option Said
-tick_of names operands = if is_some (after_word operands) then None else option_map Tick (user_of names (word_of operands))
+tick_of names operands = if is_some (after_word operands) then None
+    else option_map Tick (user_of names (word_of operands))
 
 -- a device that is served is one of the user's
 abbrev pub served : List KnownUser → ℕ → ℕ → Option Said
@@ -86,7 +93,10 @@ served users user device = if has_device users user device then Some (Serve user
 
 -- `SERVE u addr`, after its first word
 abbrev pub serve_of : List KnownUser → List ℕ → Option Said
-serve_of users operands = option_and_then (λ user. option_and_then (λ digits. option_and_then (served users user) (hexadecimal_of 3 3 digits)) (after_word operands)) (user_of (names_of users) (word_of operands))
+serve_of users operands =
+    option_and_then (λ user.
+    option_and_then (λ digits. option_and_then (served users user) (hexadecimal_of 3 3 digits))
+    (after_word operands)) (user_of (names_of users) (word_of operands))
 
 -- a number of turns is 1 to 100,000
 abbrev pub turned : ℕ → Option Said
@@ -98,11 +108,15 @@ auto_of operands = option_and_then turned (decimal_of 7 operands)
 
 -- a deck has 1 to 1000 cards, which are the next lines
 abbrev pub dealt : ℕ → List (List ℕ) → ℕ → Option Said
-dealt user after count = if nat_le 1 count && nat_le count 1000 then option_map (Deck user) (cards_in count after) else None
+dealt user after count = if nat_le 1 count && nat_le count 1000
+    then option_map (Deck user) (cards_in count after) else None
 
 -- `DECK u k`, after its first word; these lines come after it
 abbrev pub deck_of : List (List ℕ) → List ℕ → List (List ℕ) → Option Said
-deck_of names operands after = option_and_then (λ user. option_and_then (λ digits. option_and_then (dealt user after) (decimal_of 7 digits)) (after_word operands)) (user_of names (word_of operands))
+deck_of names operands after =
+    option_and_then (λ user.
+    option_and_then (λ digits. option_and_then (dealt user after) (decimal_of 7 digits))
+    (after_word operands)) (user_of names (word_of operands))
 
 -- by the first word
 abbrev pub operands_of : List KnownUser → List ℕ → List ℕ → List (List ℕ) → Option Said
@@ -117,7 +131,8 @@ operands_of users verb operands after =
 
 -- what a line names before these lines, none where it is refused
 abbrev pub said_of : List KnownUser → List ℕ → List (List ℕ) → Option Said
-said_of users line after = option_and_then (λ operands. operands_of users (word_of line) operands after) (after_word line)
+said_of users line after =
+    option_and_then (λ operands. operands_of users (word_of line) operands after) (after_word line)
 
 -- a line that is empty or begins with `*`
 abbrev pub is_ignored : List ℕ → Bool
@@ -133,35 +148,42 @@ cards_after (Tick user) = 0
 cards_after (Serve user device) = 0
 cards_after (Auto turns) = 0
 
--- how far a script is read: its events, and how many of the next lines are cards of the last of them
+-- how far a script is read: its events, and how many of the next lines are cards of the last of
+-- them
 pub record Reading : Type 0 where
   pub events : List Said
   pub cards : ℕ
 
--- an event is added to those before it; a line that is refused is told by its number
+-- an event is added to those before it; a line that is refused is reported by its number
 abbrev pub joined : ℕ → List Said → Option Said → Result Reading ℕ
 joined number so_far None = Err number
-joined number so_far (Some one) = Ok (record { events = so_far ++ one ∷ []; cards = cards_after one })
+joined number so_far (Some one) =
+    Ok (record { events = so_far ++ one ∷ []; cards = cards_after one })
 
 -- what a line of this number, which is no card, adds to the events before it
 abbrev pub line_step : List KnownUser → ℕ → List Said → List ℕ → List (List ℕ) → Result Reading ℕ
 line_step users number so_far line after =
-    if is_ignored line then Ok (record { events = so_far; cards = 0 }) else joined number so_far (said_of users line after)
+    if is_ignored line then Ok (record { events = so_far; cards = 0 })
+    else joined number so_far (said_of users line after)
 
--- a line of this number, which is a card, has at most 80 characters; so many cards are left after it
+-- a line of this number, which is a card, has at most 80 characters; so many cards are left after
+-- it
 abbrev pub card_step : ℕ → List Said → ℕ → List ℕ → Result Reading ℕ
-card_step number so_far left line = if nat_le (length line) 80 then Ok (record { events = so_far; cards = left }) else Err number
+card_step number so_far left line = if nat_le (length line) 80
+    then Ok (record { events = so_far; cards = left }) else Err number
 
 -- a line of this number, by whether it is a card
 abbrev pub step : List KnownUser → ℕ → List Said → ℕ → List ℕ → List (List ℕ) → Result Reading ℕ
 step users number so_far zero line after = line_step users number so_far line after
 step users number so_far (suc left) line after = card_step number so_far left line
 
--- the events of a script that is read so far and has these lines left, or the number of the first that is refused
+-- the events of a script that is read so far and has these lines left, or the number of the first
+-- that is refused
 abbrev pub read_on : List KnownUser → ℕ → Reading → List (List ℕ) → Result (List Said) ℕ
 read_on users number so_far [] = Ok so_far.events
 read_on users number so_far (line ∷ lines) =
-    and_then (step users number so_far.events so_far.cards line lines) (λ next. read_on users (number + 1) next lines)
+    and_then (step users number so_far.events so_far.cards line lines)
+    (λ next. read_on users (number + 1) next lines)
 
 -- the events that a script names, or the number of its first line that is refused
 abbrev pub script_of : List KnownUser → List ℕ → Result (List Said) ℕ

@@ -23,7 +23,7 @@ impl<'a> Cards<'a> {
     ghost use Rattle.std.specs.Option.{option_map};
     ghost use Rattle.session_script.specs.Cards.{cards_in, cards_of};
 
-    /// The first so many lines of a text as cards, or nothing where it has fewer.
+    /// Returns the first so many lines of a text as cards, or nothing where it has fewer.
     pub(crate) fn cut(text: &'a [u8], count: usize) -> Option<Cards<'a>>
         ensures { option_map cards_of result ≡ cards_in count (lines_of text.now) }
     {
@@ -34,15 +34,19 @@ impl<'a> Cards<'a> {
         }
     }
 
-    /// How many cards there are.
+    /// Returns how many cards there are.
     pub fn len(&self) -> usize
         ensures { result ≡ length (cards_of self.now) }
     {
         self.count
     }
 
-    /// The cards, each of the EBCDIC bytes of a line's characters and of blanks after them. A character
-    /// that has no byte is a blank.
+    /// Returns the cards, each of the EBCDIC bytes of a line's characters and of blanks after them.
+    /// A character that has no byte is a blank.
+    ///
+    /// # Errors
+    ///
+    /// `AllocError` if memory is refused.
     pub fn to_vec(&self, alloc: Global) -> Result<Vec<[u8; 80]>, AllocError>
         ensures { IfOk result (λ cards. cards.items ≡ cards_of self.now) }
     {
@@ -59,7 +63,7 @@ impl<'a> Cards<'a> {
     }
 }
 
-/// Whether a text has at least so many lines.
+/// Returns whether a text has at least so many lines.
 fn has_lines(text: &[u8], count: usize) -> bool
     ensures { result ≡ nat_le count (length (lines_of text.now)) }
 {

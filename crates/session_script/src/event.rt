@@ -23,7 +23,7 @@ pub enum ScriptEvent<'a> {
 }
 
 impl<'a> ScriptEvent<'a> {
-    /// The user whom the event names; turns name nobody.
+    /// Returns the user whom the event names; turns name nobody.
     pub fn user(&self) -> Option<UserNo>
         ensures { result ≡ user_of_event self.now }
     {
@@ -37,7 +37,7 @@ impl<'a> ScriptEvent<'a> {
         }
     }
 
-    /// How many of the lines that follow are cards of the event.
+    /// Returns how many of the lines that follow are cards of the event.
     pub(crate) fn cards(&self) -> usize
         ensures { result ≡ cards_after (said self.now) }
     {

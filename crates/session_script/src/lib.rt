@@ -1,11 +1,11 @@
 //! Scripts: which texts say what happens to machines, and the events that they say.
 //!
-//! A script's bytes name events exactly where they are a text of the grammar of docs/FORMATS.md, and
-//! any other text is refused at its first line that the grammar does not have ([`reads_grammar`]
-//! carries that law, [`read_script`] keeps it). A script is judged for the users that there are and
-//! the devices that each of them has, which whoever reads it tells ([`ScriptUser`]); what the events do
-//! is no matter of this crate. The cards of a deck are lines of the script, and are made when they are
-//! asked for ([`Cards::to_vec`]).
+//! A script's bytes name events exactly where they are a text of the grammar of docs/FORMATS.md,
+//! and any other text is refused at its first line that the grammar does not have
+//! ([`reads_grammar`] carries that law, [`read_script`] keeps it). A script is judged for the users
+//! that there are and the devices that each of them has, which whoever reads it says
+//! ([`ScriptUser`]); what the events do is no matter of this crate. The cards of a deck are lines
+//! of the script, and are made when they are asked for ([`Cards::to_vec`]).
 //!
 //! ```
 //! use session_script::{ScriptError, ScriptEvent, ScriptUser, read_script};

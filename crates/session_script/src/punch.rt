@@ -10,7 +10,7 @@ pub(crate) const COLUMNS: usize = 80;
 /// What stands for a character that has no byte, and after the last one.
 const BLANK: u8 = 0x40;
 
-/// A line as a card.
+/// Returns a line as a card.
 pub(crate) fn card_of(line: &[u8]) -> [u8; 80]
     ensures { result ≡ card_of line.now }
 {
@@ -22,7 +22,7 @@ pub(crate) fn card_of(line: &[u8]) -> [u8; 80]
     card
 }
 
-/// The byte of a character; one that has none is a blank.
+/// Returns the byte of a character; one that has none is a blank.
 fn punched(character: u8) -> u8
     ensures { result ≡ punched character }
 {

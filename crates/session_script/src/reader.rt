@@ -1,9 +1,13 @@
 //! The script: which texts are scripts, and the events that a script names.
-ghost use Rattle.std.specs.Prelude.{◌≡◌, ℕ, ◌<◌, ◌≤◌, ◌+◌, ◌∷◌, List, Option, Some, None, IfOk, IfErr, IfSome, OnOk, All, Ok, Err, length, map};
+ghost use Rattle.std.specs.Prelude.{◌≡◌, ℕ, ◌<◌, ◌≤◌, ◌+◌, ◌∷◌, List, Option, Some, None, IfOk};
+ghost use Rattle.std.specs.Prelude.{IfErr, IfSome, OnOk, All, Ok, Err, length, map};
 ghost use Rattle.std.specs.Option.{option_map};
 ghost use Rattle.text_words.specs.Lines.{lines_of};
 ghost use Rattle.session_script.specs.Grammar.{ReadsGrammar};
-ghost use Rattle.session_script.specs.Script.{Auto, IsOfDevice, IsOfUser, IsRefusal, auto_of, deck_of, is_ignored, line_step, run_of, said, said_of, script_of, serve_of, step, tick_of, typed_of};
+ghost use Rattle.session_script.specs.Script.{Auto, IsOfDevice, IsOfUser, IsRefusal, auto_of};
+ghost use Rattle.session_script.specs.Script.{deck_of, is_ignored, line_step, run_of, said};
+ghost use Rattle.session_script.specs.Script.{said_of, script_of, serve_of, step, tick_of};
+ghost use Rattle.session_script.specs.Script.{typed_of};
 ghost use Rattle.session_script.specs.Users.{names_of};
 
 use crate::cards::Cards;
@@ -38,15 +42,19 @@ pub enum ScriptError {
     /// There was no memory for the events.
     #[error("no memory for the script's events")]
     Memory,
-    /// The first line, counted from 1, that is no line of a script: also a `DECK` whose cards are missing, or a card
-    /// that is too long.
+    /// The first line, counted from 1, that is no line of a script: also a `DECK` whose cards are
+    /// missing, or a card that is too long.
     #[error("line {0} of the script is misspelled or too long, lacks its cards, or names an unknown user or device")]
     Line(u64),
 }
 
-/// The events that a script names, in the order of its lines. The whole text is judged: where one of
-/// its lines is no line of a script, the first such line is told. The events borrow their texts from
-/// the script.
+/// Returns the events that a script names, in the order of its lines. The whole text is judged:
+/// where one of its lines is no line of a script, the first such line is reported. The events
+/// borrow their texts from the script.
+///
+/// # Errors
+///
+/// A `ScriptError`: the number of the first faulty line, or refused memory.
 pub fn read_script<'a>(
     alloc: Global,
     users: &[ScriptUser<'_>],
@@ -71,8 +79,8 @@ pub fn read_script<'a>(
     Ok(events)
 }
 
-/// Reads a line of this number, where it and those after it are so many cards of the last event, and says how many
-/// cards are left. What it names is added to the events before it.
+/// Reads a line of this number, where it and those after it are so many cards of the last event,
+/// and says how many cards are left. What it names is added to the events before it.
 fn read_line<'a>(
     users: &[ScriptUser<'_>],
     number: u64,
@@ -90,7 +98,8 @@ fn read_line<'a>(
     ensures devices { All (IsOfDevice users.now) events.old.items
         → OnOk result (All (IsOfDevice users.now) events.new.items) }
     ensures err { IfErr result
-        (IsRefusal (step users.now number (map said events.old.items) cards line.now (lines_of after.now))) }
+        (IsRefusal (step users.now number (map said events.old.items) cards line.now
+        (lines_of after.now))) }
 {
     if cards == 0 {
         return read_entry(users, number, line, after, events);
@@ -118,7 +127,8 @@ fn read_entry<'a>(
     ensures devices { All (IsOfDevice users.now) events.old.items
         → OnOk result (All (IsOfDevice users.now) events.new.items) }
     ensures err { IfErr result
-        (IsRefusal (line_step users.now number (map said events.old.items) line.now (lines_of after.now))) }
+        (IsRefusal (line_step users.now number (map said events.old.items) line.now
+        (lines_of after.now))) }
 {
     if is_ignored(line) {
         return Ok(0);
@@ -133,7 +143,7 @@ fn read_entry<'a>(
     Ok(cards)
 }
 
-/// Whether a line is empty or a comment.
+/// Returns whether a line is empty or a comment.
 fn is_ignored(line: &[u8]) -> bool
     ensures { result ≡ is_ignored line.now }
 {
@@ -143,7 +153,7 @@ fn is_ignored(line: &[u8]) -> bool
     }
 }
 
-/// The event that a line names before a text, by its first word.
+/// Returns the event that a line names before a text, by its first word.
 fn read_event<'a>(
     users: &[ScriptUser<'_>],
     line: &'a [u8],
@@ -237,7 +247,7 @@ fn read_serve<'a>(users: &[ScriptUser<'_>], operands: &'a [u8]) -> Option<Script
     }
 }
 
-/// How many turns `AUTO k` names, after its first word: nothing follows the number.
+/// Returns how many turns `AUTO k` names, after its first word: nothing follows the number.
 fn turns_of(operands: &[u8]) -> Option<u32>
     ensures { option_map Auto result ≡ auto_of operands.now }
 {
@@ -258,7 +268,8 @@ fn read_deck<'a>(
     requires { length users.now ≤ MOST_USERS }
     ensures users { IfSome result (IsOfUser users.now) }
     ensures devices { IfSome result (IsOfDevice users.now) }
-    ensures said { option_map said result ≡ deck_of (names_of users.now) operands.now (lines_of after.now) }
+    ensures said { option_map said result
+        ≡ deck_of (names_of users.now) operands.now (lines_of after.now) }
 {
     let (name, digits) = cut_word(operands);
     let user = user_of(users, name)?;
@@ -270,8 +281,8 @@ fn read_deck<'a>(
     }
 }
 
-/// A script is read as its events, nothing else is accepted, and a text that is no script is refused
-/// at its first bad line.
+/// A script is read as its events, nothing else is accepted, and a text that is no script is
+/// refused at its first bad line.
 pub fn reads_grammar()
     ensures { ReadsGrammar }
 {}

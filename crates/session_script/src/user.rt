@@ -32,7 +32,7 @@ impl<'a> Named for ScriptUser<'a> {
 }
 
 impl<'a> ScriptUser<'a> {
-    /// Whether the user has a device of this address.
+    /// Returns whether the user has a device of this address.
     fn has(&self, address: u16) -> bool
         ensures { result ≡ list_any (λ device. device == address) self.now.devices }
     {
@@ -40,7 +40,7 @@ impl<'a> ScriptUser<'a> {
     }
 }
 
-/// Whether the user of this number has a device of this address.
+/// Returns whether the user of this number has a device of this address.
 pub(crate) fn has_device(users: &[ScriptUser<'_>], user: UserNo, address: u16) -> bool
     requires { user < length users.now }
     ensures { result ≡ has_device users.now user address }

@@ -1,5 +1,6 @@
 -- Parts of a script that are joined.
-use Rattle.std.proofs.Common.{◌≡◌, ℕ, zero, suc, Bool, true, false, inl, inr, List, [], ◌∷◌, ◌++◌, Ok, refl, ap, ◌∙◌, subst, append_assoc, append-nil}
+use Rattle.std.proofs.Common.{◌≡◌, ℕ, zero, suc, Bool, true, false, inl, inr, List, [], ◌∷◌, ◌++◌, Ok, Option, refl, ap}
+use Rattle.std.proofs.Common.{sym, ◌∙◌, subst, append_assoc, append-nil}
 use Rattle.std.specs.Prelude.{◌==◌}
 use Rattle.std.proofs.KnownBytes.{Appends-trans}
 use Rattle.text_words.specs.Lines.{lines_of}
@@ -8,17 +9,23 @@ use Rattle.session_script.specs.Script.{Said, Run, Line, Tick, Serve, Auto, Deck
 use Rattle.session_script.specs.Users.{KnownUser}
 use Rattle.sessions.specs.Files.{closing_lines}
 use Rattle.sessions.specs.Installed.{Installation, names_of}
-use Rattle.sessions.specs.Follow.{BeginsWithNothing, EndsAsSession, HasWholeLines, PartsJoin}
-use Rattle.sessions.specs.Schedule.{acts}
-use Rattle.sessions.specs.Session.{at_first}
+use Rattle.std.specs.Io.KnownBytes.{Appends}
+use Rattle.sessions.specs.Continuing.{IsToGoOn}
+use Rattle.sessions.specs.Follow.{BeginsWithNothing, EndsAsSession, HasWholeLines, IsFollowed, PartsJoin}
+use Rattle.sessions.specs.Schedule.{Scene, acts, scene}
+use Rattle.sessions.specs.declared.schedule.Detail.{Detail}
+use Rattle.cp_dispatch.specs.Policy.{Lines}
+use Rattle.sessions.specs.Session.{IsPlayed, IsSession, at_first}
 use Rattle.sessions.specs.Transcript.{ended, transcript}
+use Rattle.sessions.proofs.Continuing.{closing_same, played_alike, same_scene, scenes_chain, seen_same, users_same}
 use Rattle.sessions.proofs.Histories.{acts_append, history, played_more, played_none}
 
 -- ---- lines
 
--- a text with an LF in it has a first line, and what stands behind that LF are lines of their own
+-- a text with an LF in it has a first line, and what is after that LF are lines of their own
 abbrev Splits : List ℕ → List ℕ → Type 0
-Splits front more = (line : List ℕ) × (lines : List (List ℕ)) × (lines_of (front ++ 10 ∷ []) ≡ line ∷ lines) × (lines_of (front ++ 10 ∷ more) ≡ line ∷ (lines ++ lines_of more))
+Splits front more = (line : List ℕ) × (lines : List (List ℕ)) × (lines_of (front ++ 10 ∷ []) ≡ line ∷ lines)
+    × (lines_of (front ++ 10 ∷ more) ≡ line ∷ (lines ++ lines_of more))
 
 one_further : (c : ℕ) (front more : List ℕ) (b : Bool) → (c == 10) ≡ b → Splits front more → Splits (c ∷ front) more
 one_further c front more true e h = ([], h.0 ∷ h.1, rw (e, h.2) refl, rw (e, h.3) refl)
@@ -39,7 +46,8 @@ lines_join one other (inr whole) =
 -- ---- the grammar
 
 -- a line says the same before more lines
-says_more : (users : List KnownUser) (line : List ℕ) (after more : List (List ℕ)) (e : Said) → Says users line after e → Says users line (after ++ more) e
+says_more : (users : List KnownUser) (line : List ℕ) (after more : List (List ℕ)) (e : Said) → Says users line after e
+    → Says users line (after ++ more) e
 says_more users line after more (Run user units) h = h
 says_more users line after more (Line user text) h = h
 says_more users line after more (Tick user) h = h
@@ -59,46 +67,89 @@ says_more users line after more (Deck user cards) h = record {
   punched = h.punched;
 }
 
-reads_join : (users : List KnownUser) (cards : ℕ) (xs ys : List (List ℕ)) (es fs : List Said) → Reads users cards xs [] es 0 → Reads users 0 ys [] fs 0 → Reads users cards (xs ++ ys) [] (es ++ fs) 0
+reads_join : (users : List KnownUser) (cards : ℕ) (xs ys : List (List ℕ)) (es fs : List Said)
+    → Reads users cards xs [] es 0 → Reads users 0 ys [] fs 0 → Reads users cards (xs ++ ys) [] (es ++ fs) 0
 reads_join users cards [] ys es fs h k = subst (λ (n : ℕ). Reads users n ys [] (es ++ fs) 0) h.1 (rw h.0 k)
 reads_join users (suc cards) (x ∷ xs) ys es fs h k = (h.0, reads_join users cards xs ys es fs h.1 k)
 reads_join users zero (x ∷ xs) ys es fs (inl h) k = inl (h.0, reads_join users 0 xs ys es fs h.1 k)
 reads_join users zero (x ∷ xs) ys es fs (inr h) k =
-    let says : Says users x ((xs ++ ys) ++ []) h.1 = rw append-nil (says_more users x xs ys h.1 (rw append-nil at h.4)) in
-    inr (h.0, h.1, h.2 ++ fs, ap (λ (l : List Said). l ++ fs) h.3, says, reads_join users (cards_after h.1) xs ys h.2 fs h.5 k)
+    let says : Says users x ((xs ++ ys) ++ []) h.1 =
+    rw append-nil (says_more users x xs ys h.1 (rw append-nil at h.4)) in
+    inr (
+      h.0,
+      h.1,
+      h.2 ++ fs,
+      ap (λ (l : List Said). l ++ fs) h.3,
+      says,
+      reads_join users (cards_after h.1) xs ys h.2 fs h.5 k,
+    )
 
-scripts_join : ReadsGrammar → (users : List KnownUser) (one other : List ℕ) (es fs : List Said) → HasWholeLines one → script_of users one ≡ Ok es → script_of users other ≡ Ok fs → script_of users (one ++ other) ≡ Ok (es ++ fs)
+scripts_join : ReadsGrammar → (users : List KnownUser) (one other : List ℕ) (es fs : List Said) → HasWholeLines one
+    → script_of users one ≡ Ok es → script_of users other ≡ Ok fs → script_of users (one ++ other) ≡ Ok (es ++ fs)
 scripts_join grammar users one other es fs whole first second =
-    let both = reads_join users 0 (lines_of one) (lines_of other) es fs ((grammar users one).0 es first) ((grammar users other).0 fs second) in
+    let both = reads_join users 0 (lines_of one) (lines_of other) es fs ((grammar users one).0 es first)
+    ((grammar users other).0 fs second) in
     (grammar users (one ++ other)).1 (es ++ fs) (rw (lines_join one other whole) both)
 
 -- ---- what is followed
 
-pub nothing : {W : Type 0} (i : Installation W) → BeginsWithNothing i
-nothing i first before dealing = record { script = []; accepted = refl; played = played_none i first before dealing }
+-- a script that was played, to a world that then has forgotten printed lines
+pub followed_on : {W : Type 0} (i : Installation W) (text : List ℕ) (script : List Said) (old : Scene W)
+    (world next : W) (lines : Lines) (detail : Detail)
+    (a b : Option (List ℕ)) → script_of (i.seen old.world).users text ≡ Ok script
+    → IsPlayed i (acts script) old (scene world lines detail) a b → i.GoesOnAs world next
+    → IsFollowed i text old (scene next lines detail) a b
+followed_on i text script old world next lines detail a b accepted played on = record {
+  script = script;
+  accepted = accepted;
+  end = scene world lines detail;
+  played = played;
+  on = record { world = on; lines = refl; detail = refl; had_slice = refl };
+}
 
-pub join : ReadsGrammar → {W : Type 0} (i : Installation W) → PartsJoin i
-join grammar i one other first middle last before between after whole p q =
+module _ {W : Type 0} (i : Installation W) (law : IsToGoOn i) where
+  pub nothing : BeginsWithNothing i
+  nothing first before dealing = record {
+    script = [];
+    accepted = refl;
+    end = first;
+    played = played_none i first before dealing;
+    on = same_scene i law first;
+  }
+
+  pub session : EndsAsSession i
+  session detail text first last r s before between after read followed closed =
+      let p = followed.played in
+      let end = followed.end in
+      let same = closing_same (i.seen end.world) (i.seen last.world) (seen_same i law end last followed.on) in
+      let lines = subst (λ (ls : List (List ℕ)). Appends between after (ended ls)) (sym same) closed in
+      let whole : IsSession i detail first end.world r s before after = record {
+        text = text;
+        read = read;
+        script = followed.script;
+        accepted = followed.accepted;
+        entries = p.entries;
+        last = end;
+        done = p.done;
+        left = refl;
+        history = history i (acts followed.script) (at_first i detail first) end p.entries p.done;
+        written = Appends-trans before between after (transcript i detail (names_of (i.seen first)) p.entries)
+            (ended (closing_lines (i.seen end.world))) p.written lines;
+      } in
+      (end.world, whole, followed.on.world)
+
+pub join : ReadsGrammar → {W : Type 0} (i : Installation W) → IsToGoOn i → PartsJoin i
+join grammar i law one other first middle last before between after whole p q =
     let users = (i.seen first.world).users in
-    let second = subst (λ (u : List KnownUser). script_of u other ≡ Ok q.script) p.played.users q.accepted in
+    let found = played_alike i law (acts q.script) p.end middle q.end between after p.on q.played in
+    let known = sym (users_same (i.seen p.end.world) (i.seen middle.world) (seen_same i law p.end middle p.on)) ∙
+    p.played.users in
+    let second = subst (λ (u : List KnownUser). script_of u other ≡ Ok q.script) known q.accepted in
     record {
       script = p.script ++ q.script;
       accepted = scripts_join grammar users one other p.script q.script whole p.accepted second;
-      played = rw (acts_append p.script q.script) (played_more i (acts p.script) (acts q.script) first middle last before between after p.played q.played);
-    }
-
-pub session : {W : Type 0} (i : Installation W) → EndsAsSession i
-session i detail text first last r s before between after read followed closed =
-    let p = followed.played in
-    record {
-      text = text;
-      read = read;
-      script = followed.script;
-      accepted = followed.accepted;
-      entries = p.entries;
-      last = last;
-      done = p.done;
-      left = refl;
-      history = history i (acts followed.script) (at_first i detail first) last p.entries p.done;
-      written = Appends-trans before between after (transcript i detail (names_of (i.seen first)) p.entries) (ended (closing_lines (i.seen last.world))) p.written closed;
+      end = found.0;
+      played = rw (acts_append p.script q.script)
+          (played_more i (acts p.script) (acts q.script) first p.end found.0 before between after p.played found.1);
+      on = scenes_chain i law found.0 q.end last found.2 q.on;
     }

@@ -9,6 +9,7 @@ pub mod Stated
 pub mod Histories
 pub mod Queues
 pub mod Sessions
+pub mod Continuing
 pub mod Joined
 pub mod UsersKnown
 pub mod Changes
@@ -16,5 +17,6 @@ pub mod SameLines
 pub mod Told
 pub mod Whole
 pub mod Fair
+mod Started
 pub mod Restored
 pub mod Runs

@@ -1,4 +1,4 @@
--- What is told of an event that was answered.
+-- What is reported of an event that was answered.
 use Rattle.std.proofs.Common.{◌≡◌, ℕ, List, ap, ◌∙◌}
 use Rattle.machine_devices.specs.declared.reply.Reply.{Reply}
 use Rattle.session_script.specs.Script.{Said}
@@ -9,9 +9,16 @@ use Rattle.sessions.specs.Transcript.{ended, reply_lines, step_lines}
 use Rattle.sessions.specs.declared.schedule.Detail.{Detail}
 
 -- the lines of a reply to an event that was said are those of the step
-pub told_alike : {W : Type 0} (i : Installation W) (detail : Detail) (what : Said) (old new : W) (reply : Reply) (user : ℕ) (text : List ℕ) → user ≡ user_said what → (i.seen new).users ≡ (i.seen old).users → text ≡ ended (reply_lines detail (names_of (i.seen new)) user what (user_at (i.seen new) user).devices.reader.decks (user_at (i.seen new) user).machine.output reply) → text ≡ ended (step_lines i detail (names_of (i.seen old)) (record { said = what; reply = reply; left = new }))
+pub told_alike : {W : Type 0} (i : Installation W) (detail : Detail) (what : Said) (old new : W) (reply : Reply)
+    (user : ℕ) (text : List ℕ) → user ≡ user_said what → (i.seen new).users ≡ (i.seen old).users
+    → text ≡ ended (reply_lines detail (names_of (i.seen new)) user what
+    (user_at (i.seen new) user).devices.reader.decks (user_at (i.seen new) user).machine.output reply)
+    → text ≡ ended (step_lines i detail (names_of (i.seen old)) (record { said = what; reply = reply; left = new }))
 told_alike i detail what old new reply user text is same e =
     let seen = i.seen new in
     e
-    ∙ (ap (λ (users : List KnownUser). ended (reply_lines detail (names_in users) user what (user_at seen user).devices.reader.decks (user_at seen user).machine.output reply)) same
-    ∙ ap (λ (u : ℕ). ended (reply_lines detail (names_of (i.seen old)) u what (user_at seen u).devices.reader.decks (user_at seen u).machine.output reply)) is)
+    ∙ (ap (λ (users : List KnownUser).
+    ended (reply_lines detail (names_in users) user what (user_at seen user).devices.reader.decks
+    (user_at seen user).machine.output reply)) same
+    ∙ ap (λ (u : ℕ). ended (reply_lines detail (names_of (i.seen old)) u what (user_at seen u).devices.reader.decks
+    (user_at seen u).machine.output reply)) is)

@@ -1,5 +1,6 @@
 -- A text of which no line lacks its end, and the line that does, as a loop finds it.
-use Rattle.std.proofs.Common.{◌≡◌, ◌∙◌, ℕ, ◌+◌, Bool, true, false, inl, inr, List, [], ◌∷◌, ◌++◌, length, Option, Some, None, refl, sym, ap, rules, tests, arith}
+use Rattle.std.proofs.Common.{◌≡◌, ◌∙◌, ℕ, ◌+◌, Bool, true, false, inl, inr, List, [], ◌∷◌, ◌++◌, length, Option, Some}
+use Rattle.std.proofs.Common.{None, refl, sym, ap, rules, tests, arith}
 use Rattle.std.specs.Prelude.{◌==◌, if◌then◌else◌}
 use Rattle.std.specs.List.{onto_first}
 use Rattle.text_words.specs.Lines.{lines_of}
@@ -28,29 +29,35 @@ whole text e = whole_text text (none_unended (is_whole text) (length (lines_of t
 
 -- ---- a loop
 
--- what a loop finds in the rest of a text, where this line stands before that, and may have begun
+-- what a loop finds in the rest of a text, where this line is before that, and may have begun
 abbrev pub unended_from : ℕ → Bool → List ℕ → Option ℕ
 unended_from line true [] = None
 unended_from line false [] = Some line
 unended_from line is_ended (c ∷ cs) = if c == 10 then unended_from (line + 1) true cs else unended_from line false cs
 
-last_one : (c n m : ℕ) (is : Bool) → n + length (if is then [] ∷ [] else onto_first c []) ≡ m + 1 → (if is then unended_from (n + 1) true [] else unended_from n false []) ≡ (if is then None else Some m)
+last_one : (c n m : ℕ) (is : Bool) → n + length (if is then [] ∷ [] else onto_first c []) ≡ m + 1
+    → (if is then unended_from (n + 1) true [] else unended_from n false []) ≡ (if is then None else Some m)
 last_one c n m true e = refl
 last_one c n m false e = ap Some (omega (arith, e))
 
-onto_some : (c d : ℕ) (is : Bool) (lines : List (List ℕ)) → length (onto_first c (if is then [] ∷ lines else onto_first d lines)) ≡ length (if is then [] ∷ lines else onto_first d lines)
+onto_some : (c d : ℕ) (is : Bool) (lines : List (List ℕ))
+    → length (onto_first c (if is then [] ∷ lines else onto_first d lines))
+    ≡ length (if is then [] ∷ lines else onto_first d lines)
 onto_some c d true lines = refl
 onto_some c d false [] = refl
 onto_some c d false (line ∷ lines) = refl
 
 more_than_one : (c d : ℕ) (ds : List ℕ) (n m : ℕ) (is : Bool)
-    → ((k : ℕ) (b : Bool) → k + length (lines_of (d ∷ ds)) ≡ m + 1 → unended_from k b (d ∷ ds) ≡ (if is_whole (d ∷ ds) then None else Some m))
+    → ((k : ℕ) (b : Bool) → k + length (lines_of (d ∷ ds)) ≡ m + 1
+    → unended_from k b (d ∷ ds) ≡ (if is_whole (d ∷ ds) then None else Some m))
     → n + length (if is then [] ∷ lines_of (d ∷ ds) else onto_first c (lines_of (d ∷ ds))) ≡ m + 1
-    → (if is then unended_from (n + 1) true (d ∷ ds) else unended_from n false (d ∷ ds)) ≡ (if is_whole (d ∷ ds) then None else Some m)
+    → (if is then unended_from (n + 1) true (d ∷ ds) else unended_from n false (d ∷ ds))
+    ≡ (if is_whole (d ∷ ds) then None else Some m)
 more_than_one c d ds n m true h e = h (n + 1) true (omega (arith, e))
 more_than_one c d ds n m false h e = h n false (ap (λ (k : ℕ). n + k) (sym (onto_some c d (d == 10) (lines_of ds))) ∙ e)
 
-from_lines : (cs : List ℕ) (c m n : ℕ) (b : Bool) → n + length (lines_of (c ∷ cs)) ≡ m + 1 → unended_from n b (c ∷ cs) ≡ (if is_whole (c ∷ cs) then None else Some m)
+from_lines : (cs : List ℕ) (c m n : ℕ) (b : Bool) → n + length (lines_of (c ∷ cs)) ≡ m + 1
+    → unended_from n b (c ∷ cs) ≡ (if is_whole (c ∷ cs) then None else Some m)
 from_lines [] c m n true e = last_one c n m (c == 10) e
 from_lines [] c m n false e = last_one c n m (c == 10) e
 from_lines (d ∷ ds) c m n true e = more_than_one c d ds n m (c == 10) (from_lines ds d m) e

@@ -1,10 +1,12 @@
 -- A script that is given part by part.
-use Rattle.std.specs.Prelude.{◌≡◌, ◌==◌, ℕ, Bool, true, if◌then◌else◌, length, List, [], ◌∷◌, ◌++◌, ◌⊎◌, Option, Some, None, Result, Ok, Err}
+use Rattle.std.specs.Prelude.{◌≡◌, ◌==◌, ℕ, Bool, true, if◌then◌else◌, length, List, [], ◌∷◌, ◌++◌}
+use Rattle.std.specs.Prelude.{◌⊎◌, Option, Some, None, Result, Ok, Err}
 use Rattle.std.specs.Io.KnownBytes.{Appends}
 use Rattle.text_words.specs.Lines.{lines_of}
 use Rattle.session_script.specs.Script.{Said, script_of}
 use Rattle.session_script.specs.Users.{KnownUser}
 use Rattle.sessions.specs.Files.{closing_lines}
+use Rattle.sessions.specs.Continuing.{ContinuesAs}
 use Rattle.sessions.specs.Installed.{Installation}
 use Rattle.sessions.specs.Schedule.{IsOf, Scene, acts}
 use Rattle.sessions.specs.Session.{IsPartly, IsPlayed, IsRead, IsSession, at_first}
@@ -37,14 +39,19 @@ ended_script (Err line) unended = Err line
 abbrev pub part_of : List KnownUser → List ℕ → Result (List Said) ℕ
 part_of users text = ended_script (script_of users text) (unended_line text)
 
--- the text is a script; it was done, and its transcript was written
-pub record IsFollowed {W : Type 0} (i : Installation W) (text : List ℕ) (old new : Scene W) (before after : Option (List ℕ)) : Type 0 where
+-- the text is a script; it was done, and its transcript was written; the scene to which it has led
+-- goes on as this one, which may have forgotten printed lines
+pub record IsFollowed {W : Type 0} (i : Installation W) (text : List ℕ) (old new : Scene W)
+    (before after : Option (List ℕ)) : Type 0 where
   pub script : List Said
   pub accepted : script_of (i.seen old.world).users text ≡ Ok script
-  pub played : IsPlayed i (acts script) old new before after
+  pub end : Scene W
+  pub played : IsPlayed i (acts script) old end before after
+  pub on : ContinuesAs i end new
 
 -- the text is a script; a beginning of it was done, and a beginning of that transcript was written
-pub record IsFollowedPartly {W : Type 0} (i : Installation W) (text : List ℕ) (old : Scene W) (before after : Option (List ℕ)) : Type 0 where
+pub record IsFollowedPartly {W : Type 0} (i : Installation W) (text : List ℕ) (old : Scene W)
+    (before after : Option (List ℕ)) : Type 0 where
   pub script : List Said
   pub accepted : script_of (i.seen old.world).users text ≡ Ok script
   pub left : W
@@ -52,22 +59,33 @@ pub record IsFollowedPartly {W : Type 0} (i : Installation W) (text : List ℕ) 
 
 -- at first nothing was followed
 abbrev pub BeginsWithNothing : {W : Type 0} → Installation W → Type 0
-BeginsWithNothing {W} i = (first : Scene W) (before : Option (List ℕ)) → IsOf (i.seen first.world) first.lines → IsFollowed i [] first first before before
+BeginsWithNothing {W} i = (first : Scene W) (before : Option (List ℕ))
+    → IsOf (i.seen first.world) first.lines → IsFollowed i [] first first before before
 
--- parts that were followed one after another are one script that was followed, whose transcript is theirs joined
+-- parts that were followed one after another are one script that was followed, whose transcript is
+-- theirs joined
 abbrev pub PartsJoin : {W : Type 0} → Installation W → Type 0
-PartsJoin {W} i = (one other : List ℕ) (first middle last : Scene W) (before between after : Option (List ℕ)) → HasWholeLines one →
+PartsJoin {W} i = (one other : List ℕ) (first middle last : Scene W)
+    (before between after : Option (List ℕ)) → HasWholeLines one →
     IsFollowed i one first middle before between → IsFollowed i other middle last between after →
     IsFollowed i (one ++ other) first last before after
 
--- a script that was followed from the beginning on, and the files for the operator behind it, are its session
+-- a script that was followed from the beginning on, and the files for the operator after it, are
+-- its session; and what that leaves goes on as what the script has led to
 abbrev pub EndsAsSession : {W : Type 0} → Installation W → Type 0
-EndsAsSession {W} i = (detail : Detail) (text : List ℕ) (first : W) (last : Scene W) (reader_old reader_new before between after : Option (List ℕ)) →
-    IsRead reader_old reader_new text → IsFollowed i text (at_first i detail first) last before between →
+EndsAsSession {W} i = (detail : Detail) (text : List ℕ) (first : W) (last : Scene W)
+    (reader_old reader_new before between after : Option (List ℕ)) →
+    IsRead reader_old reader_new text
+    → IsFollowed i text (at_first i detail first) last before between →
     Appends between after (ended (closing_lines (i.seen last.world))) →
-    IsSession i detail first last.world reader_old reader_new before after
+    (end : W) × IsSession i detail first end reader_old reader_new before after
+    × i.GoesOnAs end last.world
 
--- what became of a part: it was done, and has whole lines; or nothing was, since this line of it is the first that is refused
-abbrev pub Became : {W : Type 0} → Installation W → List ℕ → Scene W → Part W → Option (List ℕ) → Option (List ℕ) → Type 0
-Became i text old (parts.Done new) before after = HasWholeLines text × IsFollowed i text old new before after
-Became i text old (parts.Refused new line) before after = (part_of (i.seen old.world).users text ≡ Err line) × (new ≡ old) × (after ≡ before)
+-- what became of a part: it was done, and has whole lines; or nothing was, since this line of it is
+-- the first that is refused
+abbrev pub Became : {W : Type 0} → Installation W → List ℕ → Scene W → Part W → Option (List ℕ)
+    → Option (List ℕ) → Type 0
+Became i text old (parts.Done new) before after = HasWholeLines text
+    × IsFollowed i text old new before after
+Became i text old (parts.Refused new line) before after =
+    (part_of (i.seen old.world).users text ≡ Err line) × (new ≡ old) × (after ≡ before)

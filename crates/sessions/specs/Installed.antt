@@ -10,7 +10,8 @@ use Rattle.cp_dispatch.specs.declared.program.Program.{Program}
 use Rattle.session_script.specs.Script.{Said}
 use Rattle.session_script.specs.Users.{KnownUser, has_device, names_of as names_in}
 
--- its users, as scripts know them; each one's machine with its devices; and of each file what it was and whose when it got its number
+-- its users, as scripts know them; each one's machine with its devices; and of each file what it
+-- was and whose when it got its number
 pub record Installed : Type 0 where
   pub users : List KnownUser
   pub machines : List Equipped
@@ -24,9 +25,11 @@ user_at s user = slice_index_or s.machines user nobody
 abbrev pub machine_at : Installed → ℕ → Machine
 machine_at s user = (user_at s user).machine
 
+-- the subchannels of a user's machine
 abbrev pub subchannels_at : Installed → ℕ → List Subchannel
 subchannels_at s user = (machine_at s user).core.subchannels
 
+-- the names of all users
 abbrev pub names_of : Installed → List (List ℕ)
 names_of s = names_in s.users
 
@@ -34,12 +37,14 @@ names_of s = names_in s.users
 abbrev pub is_stated : List KnownUser → Program → Bool
 is_stated users program = has_device users program.user program.device
 
+-- each program in the line is of a device of its user
 abbrev pub IsLineStated : List KnownUser → List Program → Type 0
 IsLineStated users line = list_all (is_stated users) line ≡ true
 
--- How an installation goes on: what is seen of it; what an event that a script says leaves of it, and what it replies; which event may
--- want memory, and what that may leave; and whether it has ended it. And as which bytes it is saved; and
--- which others are of one base with it, booted from the same.
+-- How an installation goes on: what is seen of it; what an event that a script says leaves of it,
+-- and what it replies; which event may want memory, and what that may leave; and whether it has
+-- ended it. And as which bytes it is saved; which others are of one base with it, booted from the
+-- same; and as which others it goes on.
 pub record Installation (W : Type 0) : Type 1 where
   pub seen : W → Installed
   pub Happens : W → Said → Reply → W → Type 0
@@ -48,6 +53,7 @@ pub record Installation (W : Type 0) : Type 1 where
   pub is_spent : W → Bool
   pub IsSaved : W → List ℕ → Type 0
   pub HasSameBase : W → W → Type 0
+  pub GoesOnAs : W → W → Type 0
 
 -- an event that was said, the reply, and what it has left
 pub record Step (W : Type 0) : Type 0 where
@@ -58,4 +64,5 @@ pub record Step (W : Type 0) : Type 0 where
 -- events that happened one after another
 abbrev pub IsHistory : {W : Type 0} → Installation W → W → List (Step W) → W → Type 0
 IsHistory i first [] last = last ≡ first
-IsHistory i first (step ∷ steps) last = i.Happens first step.said step.reply step.left × IsHistory i step.left steps last
+IsHistory i first (step ∷ steps) last = i.Happens first step.said step.reply step.left
+    × IsHistory i step.left steps last

@@ -1,10 +1,12 @@
 pub mod Installed
 pub mod Schedule
+pub mod Started
 pub mod Transcript
 pub mod Files
 pub mod Session
 pub mod News
 pub mod Alike
+pub mod Continuing
 pub mod Follow
 pub mod Fair
 pub mod Saved

@@ -1,5 +1,6 @@
--- What the answer to a part of a script tells of the users' machines.
-use Rattle.std.specs.Prelude.{ℕ, ◌&&◌, Bool, true, false, if◌then◌else◌, List, [], ◌∷◌, ◌++◌, codes, map}
+-- What the answer to a part of a script reports the users' machines.
+use Rattle.std.specs.Prelude.{ℕ, ◌&&◌, Bool, true, false, if◌then◌else◌, List, [], ◌∷◌, ◌++◌, codes}
+use Rattle.std.specs.Prelude.{map}
 use Rattle.std.specs.List.{list_any}
 use Rattle.machine_panel.specs.declared.machine.Mode.{Mode}
 use Rattle.machine_panel.specs.declared.machine.Mode.TheVariants.{Off, Stopped, Running}
@@ -11,15 +12,19 @@ use Rattle.sessions.specs.Schedule.{Scene, ready_in}
 abbrev pub modes_of : Installed → List Mode
 modes_of s = map (λ e. e.machine.mode) s.machines
 
+-- the line that a user has logged on
 abbrev pub on_line : List ℕ → List ℕ
 on_line name = codes "> ON " ++ name
 
+-- the line that a user has logged off
 abbrev pub off_line : List ℕ → List ℕ
 off_line name = codes "> OFF " ++ name
 
+-- the line that a user's machine runs
 abbrev pub runs_line : List ℕ → List ℕ
 runs_line name = codes "> RUNS " ++ name
 
+-- the line that a user's machine has stopped
 abbrev pub stops_line : List ℕ → List ℕ
 stops_line name = codes "> STOPS " ++ name
 
@@ -40,13 +45,15 @@ abbrev pub changed_lines : List (List ℕ) → List Mode → List Mode → List 
 changed_lines [] olds news = []
 changed_lines (name ∷ names) [] news = []
 changed_lines (name ∷ names) (old ∷ olds) [] = []
-changed_lines (name ∷ names) (old ∷ olds) (new ∷ news) = change_lines name old new ++ changed_lines names olds news
+changed_lines (name ∷ names) (old ∷ olds) (new ∷ news) = change_lines name old new
+    ++ changed_lines names olds news
 
--- no program stands in a line
+-- no program is in a line
 abbrev pub is_none : List Program → Bool
 is_none [] = true
 is_none (program ∷ programs) = false
 
 -- nobody is ready for a slice, and no program waits for a serve
 abbrev pub is_idle : {W : Type 0} → Installation W → Scene W → Bool
-is_idle i s = is_none s.lines.programs && (if list_any (ready_in (i.seen s.world)) s.lines.users then false else true)
+is_idle i s = is_none s.lines.programs &&
+    (if list_any (ready_in (i.seen s.world)) s.lines.users then false else true)

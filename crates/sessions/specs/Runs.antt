@@ -1,9 +1,9 @@
 -- Saved states of a script's scenes, and scripts that go on from them.
 use Rattle.std.specs.Prelude.{◌≡◌, ℕ, Bool, true, false, List, [], ◌∷◌, ◌++◌, Some}
 use Rattle.cp_dispatch.specs.Saved.{lines_bytes}
+use Rattle.sessions.specs.Continuing.{ContinuesAs}
 use Rattle.sessions.specs.Follow.{HasWholeLines, IsFollowed}
 use Rattle.sessions.specs.Installed.{Installation}
-use Rattle.sessions.specs.Saved.{GoesOnAs}
 use Rattle.sessions.specs.Schedule.{Scene}
 
 -- ---- a scene
@@ -33,13 +33,6 @@ pub record IsRestored {W : Type 0} (i : Installation W) (old : Scene W)
   pub users : (i.seen new.world).users ≡ (i.seen old.world).users
   pub detail : new.detail ≡ old.detail
 
--- one scene goes on as another: its installation does, and all else is the same
-pub record ContinuesAs {W : Type 0} (i : Installation W) (one other : Scene W) : Type 0 where
-  pub world : GoesOnAs i one.world other.world
-  pub lines : one.lines ≡ other.lines
-  pub detail : one.detail ≡ other.detail
-  pub had_slice : one.had_slice ≡ other.had_slice
-
 -- a scene that was saved goes on as each that was restored from its bytes on the same base
 abbrev pub RestoredContinue : {W : Type 0} → Installation W → Type 0
 RestoredContinue {W} i = (one start other : Scene W) (bytes : List ℕ) →
@@ -54,14 +47,12 @@ abbrev pub IsFollowedAs : {W : Type 0} → Installation W → List ℕ → Scene
 IsFollowedAs i text old new written = IsFollowed i text old new (Some []) (Some written)
 
 -- a script that was followed to a scene that goes on as another, and one that was followed from
--- that other, are one script that was followed. Its transcript is theirs joined, and the scene that
--- it leads to goes on as that which the second led to
+-- that other, are one script that was followed. Its transcript is theirs joined
 abbrev pub GoesOn : {W : Type 0} → Installation W → Type 0
 GoesOn {W} i = (one other : List ℕ) (first middle again last : Scene W) (written more : List ℕ) →
     HasWholeLines one → IsFollowedAs i one first middle written →
     ContinuesAs i middle again → IsFollowedAs i other again last more →
-    (end : Scene W) × IsFollowedAs i (one ++ other) first end (written ++ more)
-    × ContinuesAs i end last
+    IsFollowedAs i (one ++ other) first last (written ++ more)
 
 -- ---- runs of the program
 
@@ -98,6 +89,7 @@ abbrev pub texts_of : {W : Type 0} → List (ProgramRun W) → List ℕ
 texts_of [] = []
 texts_of (run ∷ runs) = run.text ++ texts_of runs
 
+-- what the runs have written, one after another
 abbrev pub written_of : {W : Type 0} → List (ProgramRun W) → List ℕ
 written_of [] = []
 written_of (run ∷ runs) = run.written ++ written_of runs
@@ -113,5 +105,4 @@ abbrev pub RunsAreASession : {W : Type 0} → Installation W → Type 0
 RunsAreASession {W} i = (text : List ℕ) (first middle : Scene W) (written : List ℕ)
     (runs : List (ProgramRun W)) →
     HasWholeLines text → IsFollowedAs i text first middle written → AreRuns i first middle runs →
-    (end : Scene W) × IsFollowedAs i (text ++ texts_of runs) first end (written ++ written_of runs)
-    × ContinuesAs i end (left_by middle runs)
+    IsFollowedAs i (text ++ texts_of runs) first (left_by middle runs) (written ++ written_of runs)

@@ -4,18 +4,11 @@ use Rattle.machine_devices.specs.declared.reply.Reply.{Reply}
 use Rattle.session_script.specs.Script.{Said}
 use Rattle.sessions.specs.Installed.{Installation}
 
--- one installation goes on as another: the same is seen of both, and what an event may leave of the
--- other it may leave of this one
-pub record GoesOnAs {W : Type 0} (i : Installation W) (one other : W) : Type 0 where
-  pub seen : i.seen one ≡ i.seen other
-  pub happens : (said : Said) (reply : Reply) (new : W) → i.Happens other said reply new
-      → i.Happens one said reply new
-
 -- bytes are those of one state: of two installations of one base that are saved as these bytes, one
 -- goes on as the other
 abbrev pub IsOneBySaved : {W : Type 0} → Installation W → Type 0
 IsOneBySaved {W} i = (one other : W) (bytes : List ℕ) → i.HasSameBase one other →
-    i.IsSaved one bytes → i.IsSaved other bytes → GoesOnAs i one other
+    i.IsSaved one bytes → i.IsSaved other bytes → i.GoesOnAs one other
 
 -- to be of one base is an equivalence, and no event changes the base
 pub record KeepsBase {W : Type 0} (i : Installation W) : Type 0 where

@@ -1,5 +1,6 @@
 -- The lines of an event and its reply.
-use Rattle.std.specs.Prelude.{ℕ, ◌-◌, Bool, true, false, List, [], ◌∷◌, ◌++◌, ◌≡◌, ◌≢◌, All, codes, drop, length, map, Option, Some, None}
+use Rattle.std.specs.Prelude.{ℕ, ◌-◌, Bool, true, false, List, [], ◌∷◌, ◌++◌, ◌≡◌, ◌≢◌, All, codes}
+use Rattle.std.specs.Prelude.{drop, length, map, Option, Some, None}
 use Rattle.std.specs.Fmt.{decimal}
 use Rattle.s370_num.specs.Address.{device_text}
 use Rattle.s370_intr.specs.declared.next.Reason.{Reason}
@@ -40,11 +41,13 @@ said_lines names name decks Nothing = []
 said_lines names name decks (Said response) = told_line name (text_of response) ∷ []
 said_lines names name decks Files = queue_lines names name decks
 
--- a message stands at its receiver's terminal, and a deck at nobody's
+-- a message is at its receiver's terminal, and a deck at nobody's
 abbrev pub delivery_lines : List (List ℕ) → ℕ → Delivery → List (List ℕ)
 delivery_lines names to (deliveries.Deck number) = []
-delivery_lines names to (deliveries.Message line) = told_line (name_of names to) (characters_of line) ∷ []
+delivery_lines names to (deliveries.Message line) =
+    told_line (name_of names to) (characters_of line) ∷ []
 
+-- the line of what was delivered, if something was
 abbrev pub delivered_lines : List (List ℕ) → Option Delivered → List (List ℕ)
 delivered_lines names None = []
 delivered_lines names (Some delivered) = delivery_lines names delivered.to delivered.what
@@ -60,7 +63,8 @@ reason_word reasons.FramesOut = codes "FRAMES"
 
 -- `= u units REASON`
 abbrev pub ran_line : List ℕ → RanUnits → List ℕ
-ran_line name ran = codes "= " ++ name ++ codes " " ++ decimal ran.units ++ codes " " ++ reason_word ran.reason
+ran_line name ran = codes "= " ++ name ++ codes " " ++ decimal ran.units ++ codes " "
+    ++ reason_word ran.reason
 
 -- `= u FRAMES`
 abbrev pub frames_line : List ℕ → List ℕ
@@ -71,6 +75,7 @@ abbrev pub served_word : Bool → List ℕ
 served_word true = codes " SERVED "
 served_word false = codes " IDLE "
 
+-- the line of a serve
 abbrev pub served_line : List ℕ → ℕ → Bool → List ℕ
 served_line name device done = codes "= " ++ name ++ served_word done ++ device_text device
 
@@ -83,14 +88,14 @@ served_lines name (asked.Tick user) done = []
 served_lines name (asked.Deck user cards) done = []
 served_lines name (asked.Auto turns) done = []
 
--- a run and a serve are told, and any other event only where it was out of frames
+-- a run and a serve are reported, and any other event only where it was out of frames
 abbrev pub ending_lines : List ℕ → Asked → Ended → List (List ℕ)
 ending_lines name event (Ran ran) = ran_line name ran ∷ []
 ending_lines name event (Served done) = served_lines name event done
 ending_lines name event Done = []
 ending_lines name event FramesOut = frames_line name ∷ []
 
--- where ends are left out: that frames were lacking
+-- where ends are left out: that it is out of frames
 abbrev pub lacking_lines : List ℕ → RanUnits → Reason → List (List ℕ)
 lacking_lines name ran reasons.FramesOut = ran_line name ran ∷ []
 lacking_lines name ran reasons.Count = []
@@ -99,12 +104,14 @@ lacking_lines name ran reasons.DisabledWait = []
 lacking_lines name ran reasons.EcMode = []
 lacking_lines name ran reasons.Stopped = []
 
+-- the lines of an ending if only shortages are printed
 abbrev pub scant_lines : List ℕ → Ended → List (List ℕ)
 scant_lines name (Ran ran) = lacking_lines name ran ran.reason
 scant_lines name (Served done) = []
 scant_lines name Done = []
 scant_lines name FramesOut = frames_line name ∷ []
 
+-- the lines of an ending
 abbrev pub end_lines : Detail → List ℕ → Asked → Ended → List (List ℕ)
 end_lines details.Whole name event ended = ending_lines name event ended
 end_lines details.Terminals name event ended = scant_lines name ended
@@ -113,17 +120,18 @@ end_lines details.Terminals name event ended = scant_lines name ended
 abbrev pub last_lines : ℕ → List (List ℕ) → List (List ℕ)
 last_lines count output = drop (length output - count) output
 
--- what a program has written at its console while it was served: the lines that have joined it. What joins it by any other event
--- is said or delivered
+-- what a program has written at its console while it was served: the lines that have joined it.
+-- What joins it by any other event is said or delivered
 abbrev pub written_lines : List ℕ → ℕ → List (List ℕ) → Ended → List (List ℕ)
 written_lines name count output (Served done) = map (told_line name) (last_lines count output)
 written_lines name count output (Ran ran) = []
 written_lines name count output Done = []
 written_lines name count output FramesOut = []
 
--- what was said to the user whom the event names, whose reader has these decks, what has been written at his console, what stands at
--- another's terminal, and then how the event ended
-abbrev pub reply_lines : Detail → List (List ℕ) → ℕ → Asked → List DeckValue → List (List ℕ) → Reply → List (List ℕ)
+-- what was said to the user whom the event names, whose reader has these decks, what has been
+-- written at his console, what is at another's terminal, and then how the event ended
+abbrev pub reply_lines : Detail → List (List ℕ) → ℕ → Asked → List DeckValue → List (List ℕ) → Reply
+    → List (List ℕ)
 reply_lines detail names user event decks output reply =
     let name = name_of names user in
     said_lines names name decks reply.said
@@ -132,16 +140,19 @@ reply_lines detail names user event decks output reply =
     ++ end_lines detail name event reply.ended
 
 -- the lines of an event that was answered so
-abbrev pub step_lines : {W : Type 0} → Installation W → Detail → List (List ℕ) → Step W → List (List ℕ)
+abbrev pub step_lines : {W : Type 0} → Installation W → Detail → List (List ℕ) → Step W
+    → List (List ℕ)
 step_lines i detail names step =
     let user = user_said step.said in
     let seen = i.seen step.left in
-    reply_lines detail names user step.said (user_at seen user).devices.reader.decks (machine_at seen user).output step.reply
+    reply_lines detail names user step.said (user_at seen user).devices.reader.decks
+    (machine_at seen user).output step.reply
 
 -- `= IDLE`
 abbrev pub idle_line : List ℕ
 idle_line = codes "= IDLE"
 
+-- the line of a turn that had nothing to do
 abbrev pub idle_lines : Detail → List (List ℕ)
 idle_lines details.Whole = idle_line ∷ []
 idle_lines details.Terminals = []
@@ -152,7 +163,8 @@ passed_lines detail true = []
 passed_lines detail false = idle_lines detail
 
 -- the lines of an event and its reply, or of a turn of which nobody had either half
-abbrev pub entry_lines : {W : Type 0} → Installation W → Detail → List (List ℕ) → Entry W → List (List ℕ)
+abbrev pub entry_lines : {W : Type 0} → Installation W → Detail → List (List ℕ) → Entry W
+    → List (List ℕ)
 entry_lines i detail names (Answered step) = step_lines i details.Whole names step
 entry_lines i detail names (Dealt step) = step_lines i detail names step
 entry_lines i detail names Passed = []
@@ -164,11 +176,13 @@ ended [] = []
 ended (line ∷ lines) = line ++ 10 ∷ ended lines
 
 -- the transcript of what was done
-abbrev pub transcript : {W : Type 0} → Installation W → Detail → List (List ℕ) → List (Entry W) → List ℕ
+abbrev pub transcript : {W : Type 0} → Installation W → Detail → List (List ℕ) → List (Entry W)
+    → List ℕ
 transcript i detail names [] = []
-transcript i detail names (entry ∷ entries) = ended (entry_lines i detail names entry) ++ transcript i detail names entries
+transcript i detail names (entry ∷ entries) = ended (entry_lines i detail names entry)
+    ++ transcript i detail names entries
 
--- no LF stands in a line
+-- no LF is in a line
 abbrev pub HasNoEnd : List ℕ → Type 0
 HasNoEnd line = All (λ c. c ≢ 10) line
 

@@ -3,7 +3,8 @@ ghost use Rattle.std.specs.Prelude.{[], ◌∷◌, Bool, IfOk, OnErr, OnOk};
 ghost use Rattle.std.specs.Io.KnownBytes.{Appends};
 ghost use Rattle.s370_num.specs.Host.{AppendsFront};
 ghost use Rattle.session_script.specs.Script.{IsOfDevice, IsOfUser, said};
-ghost use Rattle.sessions.specs.Schedule.{Applies, IsEvent, IsOf, Serves, Slices, acts_of, passed, scene, turn, turns, within};
+ghost use Rattle.sessions.specs.Schedule.{Applies, IsEvent, IsOf, Serves, Slices, acts_of, passed};
+ghost use Rattle.sessions.specs.Schedule.{scene, turn, turns, within};
 ghost use Rattle.sessions.specs.Session.{Accounts, IsPartly, IsPlayed};
 ghost use Rattle.sessions.specs.Transcript.{ended, passed_lines};
 
@@ -29,11 +30,15 @@ pub(crate) fn act<I: Installation, W: HostWriter>(
     requires user { IsOfUser (I.goes.seen installation.old).users event.now }
     requires device { IsOfDevice (I.goes.seen installation.old).users event.now }
     requires dealing { IsOf (I.goes.seen installation.old) policy.old }
-    ensures ok { OnOk result (IsPlayed I.goes (acts_of (said event.now)) (scene installation.old policy.old detail)
-        (scene installation.new policy.new detail) (W.contents writer.old) (W.contents writer.new)) }
-    ensures err { OnErr result (IsPartly I.goes (acts_of (said event.now)) (scene installation.old policy.old detail)
+    ensures ok { OnOk result
+        (IsPlayed I.goes (acts_of (said event.now)) (scene installation.old policy.old detail)
+        (scene installation.new policy.new detail) (W.contents writer.old)
+        (W.contents writer.new)) }
+    ensures err { OnErr result
+        (IsPartly I.goes (acts_of (said event.now)) (scene installation.old policy.old detail)
         installation.new (W.contents writer.old) (W.contents writer.new)) }
-    ensures why { Accounts result (I.goes.is_spent installation.old) (I.goes.is_spent installation.new)
+    ensures why { Accounts result (I.goes.is_spent installation.old)
+        (I.goes.is_spent installation.new)
         (W.HostFile.failures writer.old) (W.HostFile.failures writer.new) }
 {
     match event {
@@ -42,8 +47,8 @@ pub(crate) fn act<I: Installation, W: HostWriter>(
     }
 }
 
-/// Lets an event happen, and writes its lines. A user who logs on by it stands at the end of the queue, one who logs off
-/// stands in it no more.
+/// Applies an event, and writes its lines. A user who logs on by it is at the end of the queue, one
+/// who logs off is in it no more.
 fn apply<I: Installation, W: HostWriter>(
     alloc: Global,
     installation: &mut I,
@@ -56,11 +61,15 @@ fn apply<I: Installation, W: HostWriter>(
     requires device { IsOfDevice (I.goes.seen installation.old).users event.now }
     requires event { IsEvent event.now }
     requires dealing { IsOf (I.goes.seen installation.old) policy.old }
-    ensures ok { OnOk result (IsPlayed I.goes (Applies (said event.now) ∷ []) (scene installation.old policy.old detail)
-        (scene installation.new policy.new detail) (W.contents writer.old) (W.contents writer.new)) }
-    ensures err { OnErr result (IsPartly I.goes (Applies (said event.now) ∷ []) (scene installation.old policy.old detail)
+    ensures ok { OnOk result
+        (IsPlayed I.goes (Applies (said event.now) ∷ []) (scene installation.old policy.old detail)
+        (scene installation.new policy.new detail) (W.contents writer.old)
+        (W.contents writer.new)) }
+    ensures err { OnErr result
+        (IsPartly I.goes (Applies (said event.now) ∷ []) (scene installation.old policy.old detail)
         installation.new (W.contents writer.old) (W.contents writer.new)) }
-    ensures why { Accounts result (I.goes.is_spent installation.old) (I.goes.is_spent installation.new)
+    ensures why { Accounts result (I.goes.is_spent installation.old)
+        (I.goes.is_spent installation.new)
         (W.HostFile.failures writer.old) (W.HostFile.failures writer.new) }
 {
     let user = user_in(event);
@@ -81,11 +90,15 @@ fn deal<I: Installation, W: HostWriter>(
     writer: &mut W,
 ) -> Result<(), PlayError>
     requires dealing { IsOf (I.goes.seen installation.old) policy.old }
-    ensures ok { OnOk result (IsPlayed I.goes (turns count) (scene installation.old policy.old detail)
-        (scene installation.new policy.new detail) (W.contents writer.old) (W.contents writer.new)) }
-    ensures err { OnErr result (IsPartly I.goes (turns count) (scene installation.old policy.old detail)
+    ensures ok { OnOk result
+        (IsPlayed I.goes (turns count) (scene installation.old policy.old detail)
+        (scene installation.new policy.new detail) (W.contents writer.old)
+        (W.contents writer.new)) }
+    ensures err { OnErr result
+        (IsPartly I.goes (turns count) (scene installation.old policy.old detail)
         installation.new (W.contents writer.old) (W.contents writer.new)) }
-    ensures why { Accounts result (I.goes.is_spent installation.old) (I.goes.is_spent installation.new)
+    ensures why { Accounts result (I.goes.is_spent installation.old)
+        (I.goes.is_spent installation.new)
         (W.HostFile.failures writer.old) (W.HostFile.failures writer.new) }
 {
     for _turn in 0..count {
@@ -94,8 +107,8 @@ fn deal<I: Installation, W: HostWriter>(
     Ok(())
 }
 
-/// Deals a turn: a slice to the first in the queue who is ready, and then a serve to the first program in the line. Its
-/// lines are those of both, or that there was neither.
+/// Deals a turn: a slice to the first in the queue who is ready, and then a serve to the first
+/// program in the line. Its lines are those of both, or that there was neither.
 fn turn<I: Installation, W: HostWriter>(
     alloc: Global,
     installation: &mut I,
@@ -105,17 +118,19 @@ fn turn<I: Installation, W: HostWriter>(
 ) -> Result<(), PlayError>
     requires dealing { IsOf (I.goes.seen installation.old) policy.old }
     ensures ok { OnOk result (IsPlayed I.goes (turn) (scene installation.old policy.old detail)
-        (scene installation.new policy.new detail) (W.contents writer.old) (W.contents writer.new)) }
+        (scene installation.new policy.new detail) (W.contents writer.old)
+        (W.contents writer.new)) }
     ensures err { OnErr result (IsPartly I.goes (turn) (scene installation.old policy.old detail)
         installation.new (W.contents writer.old) (W.contents writer.new)) }
-    ensures why { Accounts result (I.goes.is_spent installation.old) (I.goes.is_spent installation.new)
+    ensures why { Accounts result (I.goes.is_spent installation.old)
+        (I.goes.is_spent installation.new)
         (W.HostFile.failures writer.old) (W.HostFile.failures writer.new) }
 {
     let had_slice = slice(alloc, installation, policy, detail, writer)?;
     serve(alloc, installation, policy, detail, had_slice, writer)
 }
 
-/// Deals a slice to the first in the queue who is ready, and tells whether there was one.
+/// Deals a slice to the first in the queue who is ready, and says whether there was one.
 fn slice<I: Installation, W: HostWriter>(
     alloc: Global,
     installation: &mut I,
@@ -124,11 +139,15 @@ fn slice<I: Installation, W: HostWriter>(
     writer: &mut W,
 ) -> Result<bool, PlayError>
     requires dealing { IsOf (I.goes.seen installation.old) policy.old }
-    ensures ok { IfOk result (λ had. IsPlayed I.goes (Slices ∷ []) (scene installation.old policy.old detail)
-        (within had installation.new policy.new detail) (W.contents writer.old) (W.contents writer.new)) }
-    ensures err { OnErr result (IsPartly I.goes (Slices ∷ []) (scene installation.old policy.old detail)
+    ensures ok { IfOk result
+        (λ had. IsPlayed I.goes (Slices ∷ []) (scene installation.old policy.old detail)
+        (within had installation.new policy.new detail) (W.contents writer.old)
+        (W.contents writer.new)) }
+    ensures err { OnErr result
+        (IsPartly I.goes (Slices ∷ []) (scene installation.old policy.old detail)
         installation.new (W.contents writer.old) (W.contents writer.new)) }
-    ensures why { Accounts result (I.goes.is_spent installation.old) (I.goes.is_spent installation.new)
+    ensures why { Accounts result (I.goes.is_spent installation.old)
+        (I.goes.is_spent installation.new)
         (W.HostFile.failures writer.old) (W.HostFile.failures writer.new) }
 {
     let ready = ready_users(installation);
@@ -140,8 +159,8 @@ fn slice<I: Installation, W: HostWriter>(
     Ok(true)
 }
 
-/// Deals a serve to the first program in the line. Where there is none, and nobody had the slice of the turn, its line
-/// says so.
+/// Deals a serve to the first program in the line. If there is none, and nobody had the slice of
+/// the turn, its line says so.
 fn serve<I: Installation, W: HostWriter>(
     alloc: Global,
     installation: &mut I,
@@ -151,11 +170,15 @@ fn serve<I: Installation, W: HostWriter>(
     writer: &mut W,
 ) -> Result<(), PlayError>
     requires dealing { IsOf (I.goes.seen installation.old) policy.old }
-    ensures ok { OnOk result (IsPlayed I.goes (Serves ∷ []) (within had_slice installation.old policy.old detail)
-        (scene installation.new policy.new detail) (W.contents writer.old) (W.contents writer.new)) }
-    ensures err { OnErr result (IsPartly I.goes (Serves ∷ []) (within had_slice installation.old policy.old detail)
+    ensures ok { OnOk result
+        (IsPlayed I.goes (Serves ∷ []) (within had_slice installation.old policy.old detail)
+        (scene installation.new policy.new detail) (W.contents writer.old)
+        (W.contents writer.new)) }
+    ensures err { OnErr result
+        (IsPartly I.goes (Serves ∷ []) (within had_slice installation.old policy.old detail)
         installation.new (W.contents writer.old) (W.contents writer.new)) }
-    ensures why { Accounts result (I.goes.is_spent installation.old) (I.goes.is_spent installation.new)
+    ensures why { Accounts result (I.goes.is_spent installation.old)
+        (I.goes.is_spent installation.new)
         (W.HostFile.failures writer.old) (W.HostFile.failures writer.new) }
 {
     match policy.serve() {
@@ -170,10 +193,13 @@ fn serve<I: Installation, W: HostWriter>(
 /// Writes that a turn had neither half, if nobody had its slice either.
 fn pass<W: HostWriter>(detail: Detail, had_slice: bool, writer: &mut W) -> Result<(), PlayError>
     ensures ok { OnOk result
-        (Appends (W.contents writer.old) (W.contents writer.new) (ended (passed_lines detail had_slice))) }
+        (Appends (W.contents writer.old) (W.contents writer.new)
+        (ended (passed_lines detail had_slice))) }
     ensures err { OnErr result
-        (AppendsFront (W.contents writer.old) (W.contents writer.new) (ended (passed_lines detail had_slice))) }
-    ensures why { (is : Bool) → Accounts result is is (W.HostFile.failures writer.old) (W.HostFile.failures writer.new) }
+        (AppendsFront (W.contents writer.old) (W.contents writer.new)
+        (ended (passed_lines detail had_slice))) }
+    ensures why { (is : Bool)
+        → Accounts result is is (W.HostFile.failures writer.old) (W.HostFile.failures writer.new) }
 {
     if !had_slice {
         write_all(writer, idle_line(detail))?;

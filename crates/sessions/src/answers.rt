@@ -15,8 +15,8 @@ use session_script::ScriptEvent;
 use std::alloc::Global;
 use user_names::UserNo;
 
-/// Lets an event happen, and writes its reply's lines. The programs that have ended or were withdrawn by it stand in the
-/// line no more, and those that were started by it stand at its end.
+/// Applies an event, and writes the lines of its reply. The programs that have ended or were
+/// withdrawn by it are in the line no more, and those that were started by it are at its end.
 pub(crate) fn follow<I: Installation, W: HostWriter>(
     alloc: Global,
     installation: &mut I,
@@ -28,18 +28,22 @@ pub(crate) fn follow<I: Installation, W: HostWriter>(
     requires user { IsOfUser (I.goes.seen installation.old).users event.now }
     requires device { IsOfDevice (I.goes.seen installation.old).users event.now }
     requires event { IsEvent event.now }
-    ensures ok { OnOk result (IsAnswered I.goes detail (said event.now) installation.old installation.new
+    ensures ok { OnOk result
+        (IsAnswered I.goes detail (said event.now) installation.old installation.new
         (W.contents writer.old) (W.contents writer.new)) }
-    ensures err { OnErr result (IsUnanswered I.goes (said event.now) installation.old installation.new
+    ensures err { OnErr result
+        (IsUnanswered I.goes (said event.now) installation.old installation.new
         (W.contents writer.old) (W.contents writer.new)
         ⊎ IsAnsweredPartly I.goes detail (said event.now) installation.old installation.new
         (W.contents writer.old) (W.contents writer.new)) }
     ensures lined { OnOk result (policy.new ≡ record policy.old {
-      programs = line_after (I.goes.seen installation.old) (I.goes.seen installation.new) (user_said (said event.now)) policy.old.programs;
+      programs = line_after (I.goes.seen installation.old) (I.goes.seen installation.new)
+          (user_said (said event.now)) policy.old.programs;
     }) }
     ensures rest { policy.new ≡ record policy.old { programs = policy.new.programs } }
     ensures users { (I.goes.seen installation.new).users ≡ (I.goes.seen installation.old).users }
-    ensures why { Accounts result (I.goes.is_spent installation.old) (I.goes.is_spent installation.new)
+    ensures why { Accounts result (I.goes.is_spent installation.old)
+        (I.goes.is_spent installation.new)
         (W.HostFile.failures writer.old) (W.HostFile.failures writer.new) }
 {
     let user = user_in(event);
@@ -49,7 +53,7 @@ pub(crate) fn follow<I: Installation, W: HostWriter>(
     Ok(())
 }
 
-/// The user whom an event names that is no turns.
+/// Returns the user whom an event names that is no turns.
 pub(crate) fn user_in(event: &ScriptEvent<'_>) -> UserNo
     requires { IsEvent event.now }
     ensures { result ≡ user_said (said event.now) }
@@ -60,7 +64,7 @@ pub(crate) fn user_in(event: &ScriptEvent<'_>) -> UserNo
     }
 }
 
-/// Lets an event happen, and writes its reply's lines.
+/// Applies an event, and writes the lines of its reply.
 fn answer<I: Installation, W: HostWriter>(
     alloc: Global,
     installation: &mut I,
@@ -71,14 +75,17 @@ fn answer<I: Installation, W: HostWriter>(
     requires user { IsOfUser (I.goes.seen installation.old).users event.now }
     requires device { IsOfDevice (I.goes.seen installation.old).users event.now }
     requires event { IsEvent event.now }
-    ensures ok { OnOk result (IsAnswered I.goes detail (said event.now) installation.old installation.new
+    ensures ok { OnOk result
+        (IsAnswered I.goes detail (said event.now) installation.old installation.new
         (W.contents writer.old) (W.contents writer.new)) }
-    ensures err { OnErr result (IsUnanswered I.goes (said event.now) installation.old installation.new
+    ensures err { OnErr result
+        (IsUnanswered I.goes (said event.now) installation.old installation.new
         (W.contents writer.old) (W.contents writer.new)
         ⊎ IsAnsweredPartly I.goes detail (said event.now) installation.old installation.new
         (W.contents writer.old) (W.contents writer.new)) }
     ensures users { (I.goes.seen installation.new).users ≡ (I.goes.seen installation.old).users }
-    ensures why { Accounts result (I.goes.is_spent installation.old) (I.goes.is_spent installation.new)
+    ensures why { Accounts result (I.goes.is_spent installation.old)
+        (I.goes.is_spent installation.new)
         (W.HostFile.failures writer.old) (W.HostFile.failures writer.new) }
 {
     let reply = installation.happen(alloc, event)?;

@@ -1,4 +1,4 @@
-//! Why a session does not come to its end.
+//! Why a session does not reach its end.
 ghost use Rattle.std.specs.Prelude.{◌≡◌};
 ghost use Rattle.sessions.specs.Session.{fault_error, play_error, refusal_error, refused_error};
 ghost use Rattle.sessions.specs.declared.faults.PlayError.TheVariants.{Memory};
@@ -16,7 +16,7 @@ pub enum PlayError {
     /// A growth was refused.
     #[error("no memory is left")]
     Memory,
-    /// A host file failed, for the time that is told.
+    /// A host file failed, and the number says for which time.
     #[error("failure {0} of a host file")]
     Device(u64),
     /// The installation is spent.
@@ -33,7 +33,7 @@ pub enum SessionError {
     /// The first line of the script, counted from 1, that is no line of a script.
     #[error("line {0} of the script names an unknown user or is misspelled")]
     Line(u64),
-    /// A host file failed, for the time that is told.
+    /// A host file failed, and the number says for which time.
     #[error("failure {0} of a host file")]
     Device(u64),
     /// The system is spent.

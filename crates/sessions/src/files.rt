@@ -1,5 +1,5 @@
-//! The files that were closed for the operator, by their numbers: the last part of a transcript, and what a part of a
-//! script has closed.
+//! The files that were closed for the operator, by their numbers: the last part of a transcript,
+//! and what a part of a script has closed.
 ghost use Rattle.std.specs.Prelude.{◌≡◌, ◌++◌, ◌∷◌, [], IfOk, OnOk, map};
 ghost use Rattle.std.specs.Option.{option_copied, option_map};
 ghost use Rattle.cp_spool.specs.File.{closed_file};
@@ -7,7 +7,9 @@ ghost use Rattle.user_names.specs.Users.{name_of};
 ghost use Rattle.std.specs.String.{string_bytes};
 ghost use Rattle.cp_console.specs.Responses.{file_number};
 ghost use Rattle.s370_num.specs.Address.{two_digits};
-ghost use Rattle.sessions.specs.Files.{closed_in, entry_line, entry_mark, file_lines, found_lines, heading_line, heading_mark, kind_word, lines_since, marked_entry, note_lines, printed_text};
+ghost use Rattle.sessions.specs.Files.{closed_in, entry_line, entry_mark, file_lines, found_lines};
+ghost use Rattle.sessions.specs.Files.{heading_line, heading_mark, kind_word, lines_since};
+ghost use Rattle.sessions.specs.Files.{marked_entry, note_lines, printed_text};
 ghost use Rattle.sessions.specs.Installed.{names_of};
 ghost use Rattle.sessions.specs.Transcript.{ended};
 
@@ -19,23 +21,25 @@ use std::alloc::{AllocError, Global};
 use unit_record::{Entry, Target};
 use user_names::UserNo;
 
-/// Where the lines of a file are told.
+/// Where the lines of a file are written.
 #[derive(Clone, Copy, Debug, PartialEq, Eq)]
 pub enum Telling {
     /// In a transcript.
     Transcript,
-    /// In the answer to a part of a script: each line behind `> `, an entry behind `> |`.
+    /// In the answer to a part of a script: each line after `> `, an entry after `> |`.
     Answer,
 }
 
-/// The lines of all files but the first so many that were closed for the operator, by their numbers, each ended by LF.
+/// Returns the lines of all files but the first so many that were closed for the operator, by their
+/// numbers, each ended by LF.
 pub(crate) fn print_files<I: Installation>(
     alloc: Global,
     installation: &I,
     telling: Telling,
     since: usize,
 ) -> Result<Vec<u8>, AllocError>
-    ensures { IfOk result (λ text. text.items ≡ ended (lines_since telling since (I.goes.seen installation.now))) }
+    ensures { IfOk result (λ text. text.items
+        ≡ ended (lines_since telling since (I.goes.seen installation.now))) }
 {
     let mut text = Vec::new(alloc);
     for place in since..installation.files() {
@@ -77,7 +81,8 @@ fn print_noted<I: Installation>(
     )
 }
 
-/// Adds the lines of a file of this kind and this number of the user of this name, where there is one.
+/// Adds the lines of a file of this kind and this number of the user of this name, where there is
+/// one.
 fn print_found(
     alloc: Global,
     out: &mut Vec<u8>,
@@ -88,7 +93,8 @@ fn print_found(
     file: Option<&SpoolFile>,
 ) -> Result<(), AllocError>
     ensures { OnOk result (out.new.items ≡ out.old.items
-        ++ ended (found_lines telling kind number name.now (option_map closed_file (option_copied file.entry)))) }
+        ++ ended (found_lines telling kind number name.now
+        (option_map closed_file (option_copied file.entry)))) }
 {
     match file {
         Some(file) => print_file(alloc, out, telling, kind, number, name, file),
@@ -96,13 +102,15 @@ fn print_found(
     }
 }
 
-/// The file that a user's device has closed at its place, where it is none of the operator's decks.
+/// Returns the file that a user's device has closed at its place, where it is none of the
+/// operator's decks.
 fn closed_file<I: Installation>(
     installation: &I,
     user: UserNo,
     kind: FileKind,
 ) -> Option<&SpoolFile>
-    ensures { option_map closed_file (option_copied result) ≡ closed_in (I.goes.seen installation.now) user kind }
+    ensures { option_map closed_file (option_copied result)
+        ≡ closed_in (I.goes.seen installation.now) user kind }
 {
     if user.index() >= installation.users() {
         return None;
@@ -115,8 +123,8 @@ fn closed_file<I: Installation>(
     }
 }
 
-/// Adds the lines of a file of this kind and this number of the user of this name, if it is for the operator: a first
-/// line, and then a line for each entry.
+/// Adds the lines of a file of this kind and this number of the user of this name, if it is for the
+/// operator: a first line, and then a line for each entry.
 ///
 /// ```text
 /// == PRT 0001 A
@@ -143,7 +151,7 @@ fn print_file(
     }
 }
 
-/// What stands before the first line of a file.
+/// Returns what is before the first line of a file.
 fn heading_mark(telling: Telling) -> &'static [u8]
     ensures { result.now ≡ heading_mark telling }
 {
@@ -153,7 +161,7 @@ fn heading_mark(telling: Telling) -> &'static [u8]
     }
 }
 
-/// What stands before an entry of a file.
+/// Returns what is before an entry of a file.
 fn entry_mark(telling: Telling) -> &'static [u8]
     ensures { result.now ≡ entry_mark telling }
 {
@@ -187,7 +195,7 @@ fn print_heading(
     Ok(())
 }
 
-/// What makes a file of this kind, in three letters.
+/// Returns what makes a file of this kind, in three letters.
 fn kind_word(kind: FileKind) -> &'static [u8]
     ensures { result.now ≡ kind_word kind }
 {
@@ -206,7 +214,8 @@ fn print_entries(
     kind: FileKind,
     entries: &[Entry],
 ) -> Result<(), AllocError>
-    ensures { OnOk result (out.new.items ≡ out.old.items ++ ended (map (marked_entry telling kind) entries.now)) }
+    ensures { OnOk result (out.new.items ≡ out.old.items
+        ++ ended (map (marked_entry telling kind) entries.now)) }
 {
     for entry in entries {
         print_entry(alloc, out, telling, kind, entry)?;
@@ -222,7 +231,8 @@ fn print_entry(
     kind: FileKind,
     entry: &Entry,
 ) -> Result<(), AllocError>
-    ensures { OnOk result (out.new.items ≡ out.old.items ++ ended (marked_entry telling kind entry.now ∷ [])) }
+    ensures { OnOk result (out.new.items ≡ out.old.items
+        ++ ended (marked_entry telling kind entry.now ∷ [])) }
 {
     out.extend_from_slice(entry_mark(telling))?;
     match kind {
@@ -244,14 +254,14 @@ fn print_code(alloc: Global, out: &mut Vec<u8>, code: u8) -> Result<(), AllocErr
     Ok(())
 }
 
-/// The code of a command in two digits.
+/// Returns the code of a command in two digits.
 fn code_text(alloc: Global, code: u8) -> Result<String, AllocError>
     ensures { IfOk result (λ text. string_bytes text ≡ two_digits code) }
 {
     format!(in alloc; "{code:02X}")
 }
 
-/// The number of a file in at least four digits.
+/// Returns the number of a file in at least four digits.
 fn number_text(alloc: Global, number: u64) -> Result<String, AllocError>
     ensures { IfOk result (λ text. string_bytes text ≡ file_number number) }
 {

@@ -1,13 +1,16 @@
 //! A script that is given part by part: each is judged and done where the parts before it have led.
 //!
-//! What was written since the beginning is the transcript of all that was done, as if it had been one script: parts that
-//! are joined are followed as one, and one that was followed to its end is a session ([`parts_are_a_session`]).
-ghost use Rattle.std.specs.Prelude.{◌≡◌, ◌⊎◌, ℕ, All, Bool, [], Err, IfErr, IfOk, IfSome, Ok, OnErr, OnOk, length, map, true};
+//! What was written since the beginning is the transcript of all that was done, as if it had been
+//! one script: parts that are joined are followed as one, and one that was followed to its end is a
+//! session ([`parts_are_a_session`]).
+ghost use Rattle.std.specs.Prelude.{◌≡◌, ◌⊎◌, ℕ, All, Bool, [], Err, IfErr, IfOk, IfSome, Ok};
+ghost use Rattle.std.specs.Prelude.{OnErr, OnOk, length, map, true};
 ghost use Rattle.std.specs.Io.KnownBytes.{Appends};
 ghost use Rattle.s370_num.specs.Host.{AppendsFront};
 ghost use Rattle.sessions.specs.Files.{closing_lines, lines_since};
 ghost use Rattle.session_script.specs.Script.{IsOfDevice, IsOfUser, IsRefusal, said, script_of};
-ghost use Rattle.sessions.specs.Follow.{Became, BeginsWithNothing, EndsAsSession, HasWholeLines, IsFollowedPartly, PartsJoin, part_of, unended_line};
+ghost use Rattle.sessions.specs.Follow.{Became, BeginsWithNothing, EndsAsSession, HasWholeLines};
+ghost use Rattle.sessions.specs.Follow.{IsFollowedPartly, PartsJoin, part_of, unended_line};
 ghost use Rattle.std.specs.List.{list_all, list_any};
 ghost use Rattle.cp_dispatch.specs.Policy.{is_ready};
 ghost use Rattle.sessions.specs.Installed.{is_stated, names_of};
@@ -36,6 +39,24 @@ use std::marker::Model;
 use user_names::UserNo;
 
 /// An installation that goes on from where a script has led it.
+///
+/// # Examples
+///
+/// ```
+/// use bare370::machine_of;
+/// use sessions::follow::{Follower, Part};
+/// use sessions::schedule::Detail;
+///
+/// let machine = machine_of(alloc, 4, Vec::new(alloc))?;
+/// let follower = Follower::begin(alloc, machine, Detail::Whole)?;
+/// let mut transcript = Vec::new(alloc);
+/// let Part::Done(follower) = follower.part(alloc, b"LINE BARE LOGON\n", &mut transcript)? else {
+///     return Err("the part is refused")?;
+/// };
+/// let refused = follower.part(alloc, b"LINE NOBODY LOGON\n", &mut transcript)?;
+/// assert!(rt; matches!(&refused, Part::Refused(_, 1)));
+/// assert_eq!(rt; transcript.as_slice(), b"BARE: LOGON OK\n".as_slice());
+/// ```
 #[derive(Drop)]
 pub struct Follower<I: Installation> {
     installation: I,
@@ -63,7 +84,11 @@ pub enum Part<I: Installation> {
 }
 
 impl<I: Installation + Drop> Follower<I> {
-    /// An installation of which no script has been followed yet.
+    /// Returns a follower of an installation for which no script has been followed yet.
+    ///
+    /// # Errors
+    ///
+    /// `AllocError` if memory is refused.
     pub fn begin(alloc: Global, installation: I, detail: Detail) -> Result<Follower<I>, AllocError>
         ensures { IfOk result (λ follower. follower ≡ at_first I.goes detail installation) }
     {
@@ -75,15 +100,21 @@ impl<I: Installation + Drop> Follower<I> {
         })
     }
 
-    /// The installation as it is.
+    /// Returns the installation as it is.
     pub fn installation(&self) -> &I
         ensures { result.now ≡ self.now.world }
     {
         &self.installation
     }
 
-    /// Judges a part of the script as a whole, of which each line has to be ended; then does it, and writes the lines that
-    /// come of it as they come. After a failure there is nothing that goes on.
+    /// Judges a part of the script as a whole, each line of which has to be ended; then does it,
+    /// and writes its lines of the transcript as they come. What consoles have printed is forgotten
+    /// then, since it was written. After a failure there is nothing that goes on.
+    ///
+    /// # Errors
+    ///
+    /// A `PlayError`: refused memory, a failure of the writer, or a spent installation. A beginning
+    /// may be written.
     pub fn part<W: HostWriter>(
         self,
         alloc: Global,
@@ -92,9 +123,11 @@ impl<I: Installation + Drop> Follower<I> {
     ) -> Result<Part<I>, PlayError>
         ensures ok { IfOk result (λ part.
             Became I.goes text.now self part (W.contents writer.old) (W.contents writer.new)) }
-        ensures unwritten { (same : Scene I) (n : ℕ) → result ≡ Ok (Part.Refused same n) → writer.new ≡ writer.old }
+        ensures unwritten { (same : Scene I) (n : ℕ) → result ≡ Ok (Part.Refused same n)
+            → writer.new ≡ writer.old }
         ensures err { OnErr result ((writer.new ≡ writer.old)
-            ⊎ IsFollowedPartly I.goes text.now self (W.contents writer.old) (W.contents writer.new)) }
+            ⊎ IsFollowedPartly I.goes text.now self (W.contents writer.old)
+            (W.contents writer.new)) }
         ensures why { Accounts result (I.goes.is_spent self.world) (I.goes.is_spent self.world)
             (W.HostFile.failures writer.old) (W.HostFile.failures writer.new) }
     {
@@ -125,6 +158,7 @@ impl<I: Installation + Drop> Follower<I> {
             &events,
             writer,
         )?;
+        installation.forget_printed();
         Ok(Part::Done(Follower {
             installation,
             policy,
@@ -132,7 +166,13 @@ impl<I: Installation + Drop> Follower<I> {
         }))
     }
 
-    /// Ends the session: writes the files for the operator, holds nothing back, and gives the installation.
+    /// Ends the session: writes the files for the operator, holds nothing back, and gives the
+    /// installation.
+    ///
+    /// # Errors
+    ///
+    /// A `PlayError`: refused memory, a failure of the writer, or a spent installation. A beginning
+    /// may be written.
     pub fn close<W: HostWriter>(self, alloc: Global, writer: &mut W) -> Result<I, PlayError>
         ensures installation { IfOk result (λ installation. installation ≡ self.world) }
         ensures ok { OnOk result (Appends (W.contents writer.old) (W.contents writer.new)
@@ -148,6 +188,10 @@ impl<I: Installation + Drop> Follower<I> {
     }
 
     /// Appends its state, and returns whether its installation has states.
+    ///
+    /// # Errors
+    ///
+    /// `AllocError` if memory is refused; `out` may have a part of it then.
     pub fn save(&self, out: &mut Vec<u8>) -> Result<bool, AllocError>
         ensures { IfOk result (λ is. AppendsScene I.goes self.now is out.old.items out.new.items) }
     {
@@ -168,6 +212,10 @@ impl<I: Installation + Drop> Follower<I> {
 
     /// Returns what these bytes restore in the place of this one, to which nothing has happened;
     /// `None` if that is not saved as these bytes.
+    ///
+    /// # Errors
+    ///
+    /// `AllocError` if memory is refused.
     pub fn restored(self, alloc: Global, bytes: &[u8]) -> Result<Option<Follower<I>>, AllocError>
         ensures { IfOk result (λ found. IfSome found (IsRestored I.goes self bytes.now)) }
     {
@@ -214,27 +262,41 @@ impl<I: Installation + Drop> Follower<I> {
         })
     }
 
-    /// The lines of the files that were closed for the operator since there were so many files, as the answer to a part
-    /// has them, each ended by LF.
+    /// Returns the lines of the files that were closed for the operator since there were so many
+    /// files, as the answer to a part has them, each ended by LF.
+    ///
+    /// # Errors
+    ///
+    /// `AllocError` if memory is refused.
     pub fn closed_since(&self, alloc: Global, files: usize) -> Result<Vec<u8>, AllocError>
-        ensures { IfOk result (λ text. text.items ≡ ended (lines_since Answer files (I.goes.seen self.now.world))) }
+        ensures { IfOk result (λ text. text.items
+            ≡ ended (lines_since Answer files (I.goes.seen self.now.world))) }
     {
         print_files(alloc, &self.installation, Telling::Answer, files)
     }
 
-    /// In which mode each user's machine is.
+    /// Returns the mode of each user's machine.
+    ///
+    /// # Errors
+    ///
+    /// `AllocError` if memory is refused.
     pub fn modes(&self, alloc: Global) -> Result<Vec<Mode>, AllocError>
         ensures { IfOk result (λ modes. modes.items ≡ modes_of (I.goes.seen self.now.world)) }
     {
         modes(alloc, &self.installation)
     }
 
-    /// The lines of who has logged on or off, and whose machine was started or stopped, since the machines were in these
-    /// modes, as the answer to a part has them, each ended by LF.
+    /// Returns the lines of who has logged on or off, and whose machine was started or stopped,
+    /// since the machines were in these modes, as the answer to a part has them, each ended by LF.
+    ///
+    /// # Errors
+    ///
+    /// `AllocError` if memory is refused.
     pub fn changes_since(&self, alloc: Global, olds: &[Mode]) -> Result<Vec<u8>, AllocError>
         requires { length olds.now ≡ length (I.goes.seen self.now.world).machines }
         ensures { let seen = I.goes.seen self.now.world in
-            IfOk result (λ text. text.items ≡ ended (changed_lines (names_of seen) olds.now (modes_of seen))) }
+            IfOk result (λ text. text.items
+            ≡ ended (changed_lines (names_of seen) olds.now (modes_of seen))) }
     {
         // There are as many users as machines.
         let _users = self.installation.users();
@@ -243,7 +305,7 @@ impl<I: Installation + Drop> Follower<I> {
         print_changes(alloc, &names, olds, &news)
     }
 
-    /// Whether nobody is ready for a slice, and no program waits for a serve.
+    /// Returns whether nobody is ready for a slice, and no program waits for a serve.
     pub fn is_idle(&self) -> bool
         ensures { result ≡ is_idle I.goes self.now }
     {
@@ -269,16 +331,21 @@ fn is_stated<I: Installation>(installation: &I, program: Program) -> bool
         && installation.has_device(program.user, program.device.get())
 }
 
-/// The events that a part names for the users of an installation and their devices. The last line of a part is ended too.
+/// Returns the events that a part names for the users of an installation and their devices. The
+/// last line of a part is ended too.
 fn read_part<'a, I: Installation>(
     alloc: Global,
     installation: &I,
     text: &'a [u8],
 ) -> Result<Vec<ScriptEvent<'a>>, ScriptError>
-    ensures ok { IfOk result (λ events. script_of (I.goes.seen installation.now).users text.now ≡ Ok (map said events.items)) }
+    ensures ok { IfOk result
+        (λ events. script_of (I.goes.seen installation.now).users text.now
+        ≡ Ok (map said events.items)) }
     ensures whole { OnOk result (HasWholeLines text.now) }
-    ensures users { IfOk result (λ events. All (IsOfUser (I.goes.seen installation.now).users) events.items) }
-    ensures devices { IfOk result (λ events. All (IsOfDevice (I.goes.seen installation.now).users) events.items) }
+    ensures users { IfOk result
+        (λ events. All (IsOfUser (I.goes.seen installation.now).users) events.items) }
+    ensures devices { IfOk result
+        (λ events. All (IsOfDevice (I.goes.seen installation.now).users) events.items) }
     ensures err { IfErr result (IsRefusal (part_of (I.goes.seen installation.now).users text.now)) }
 {
     let events = read_events(alloc, installation, text)?;
@@ -288,7 +355,7 @@ fn read_part<'a, I: Installation>(
     }
 }
 
-/// The last line of a text, counted from 1, where nothing ends it.
+/// Returns the last line of a text, counted from 1, where nothing ends it.
 fn unended(text: &[u8]) -> Option<u64>
     ensures { result ≡ unended_line text.now }
 {
@@ -303,18 +370,20 @@ fn unended(text: &[u8]) -> Option<u64>
     if is_ended { None } else { Some(line) }
 }
 
-/// Whether one of these users is ready.
+/// Returns whether one of these users is ready.
 fn has_ready(users: &[UserNo], ready: &Ready) -> bool
     ensures { result ≡ list_any (is_ready ready.now) users.now }
 {
     users.iter().any(|user| ready.has(*user))
 }
 
-/// Parts that are followed one after another are one script, and one that was followed to its end is a session.
+/// States that parts that are followed one after another are one script, and that one that was
+/// followed to its end is a session.
 pub fn parts_are_a_session<I: Installation>()
     ensures nothing { BeginsWithNothing I.goes }
     ensures join { PartsJoin I.goes }
     ensures session { EndsAsSession I.goes }
 {
     reads_grammar();
+    I::printed_lines_do_not_matter();
 }

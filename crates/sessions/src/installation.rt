@@ -1,10 +1,13 @@
 //! What a session needs of the machines that its script speaks to.
-ghost use Rattle.std.specs.Prelude.{◌≡◌, ◌<◌, ◌≤◌, ◌⊎◌, Bool, true, false, Err, IfOk, IfSome, OnErr, OnOk, length, slice_get};
+ghost use Rattle.std.specs.Prelude.{◌≡◌, ◌<◌, ◌≤◌, ◌⊎◌, Bool, true, false, Err, IfOk, IfSome};
+ghost use Rattle.std.specs.Prelude.{OnErr, OnOk, length, slice_get};
 ghost use Rattle.std.specs.Option.{option_map};
 ghost use Rattle.session_script.specs.Script.{IsOfDevice, IsOfUser, said};
 ghost use Rattle.session_script.specs.Users.{devices_of, has_device};
 ghost use Rattle.user_names.specs.Users.{name_of};
-ghost use Rattle.sessions.specs.Installed.{Installation as Goings, machine_at, names_of, subchannels_at, user_at};
+ghost use Rattle.sessions.specs.Continuing.{IsToGoOn, but_printed};
+ghost use Rattle.sessions.specs.Installed.{Installation as Goings, machine_at, names_of};
+ghost use Rattle.sessions.specs.Installed.{subchannels_at, user_at};
 ghost use Rattle.sessions.specs.Saved.{AppendsState, IsOneBySaved, KeepsBase};
 ghost use Rattle.sessions.specs.Schedule.{IsEvent, ready_in};
 
@@ -28,82 +31,103 @@ pub enum Refused {
     Spent,
 }
 
-/// The machines of one or several users, to which events happen: many on one system, or one of its own.
+/// The machines of one or several users, to which events happen: many on one system, or one of its
+/// own.
 pub trait Installation {
     /// What is seen of it, and what happens to it.
     ghost goes: { Goings Self };
 
-    /// How many users there are.
+    /// Returns how many users there are.
     fn users(&self) -> usize
         ensures value { result ≡ length ((goes).seen self.now).users }
         ensures machines { result ≡ length ((goes).seen self.now).machines }
         ensures few { result ≤ 64 };
 
-    /// The name of a user.
+    /// Returns the name of a user.
     fn name(&self, user: UserNo) -> &[u8]
         ensures { result.now ≡ name_of (names_of ((goes).seen self.now)) user };
 
-    /// The addresses of a user's devices.
+    /// Returns the addresses of a user's devices.
+    ///
+    /// # Errors
+    ///
+    /// `AllocError` if memory is refused.
     fn addresses(&self, alloc: Global, user: UserNo) -> Result<Vec<u16>, AllocError>
         requires { user < length ((goes).seen self.now).users }
         ensures { IfOk result (λ list. list.items ≡ devices_of ((goes).seen self.now).users user) };
 
-    /// Whether a user has a device of this address.
+    /// Returns whether a user has a device of this address.
     fn has_device(&self, user: UserNo, address: u16) -> bool
         requires { user < length ((goes).seen self.now).users }
         ensures { result ≡ has_device ((goes).seen self.now).users user address };
 
-    /// Whether a user's machine is on, and whether it runs.
+    /// Returns whether a user's machine is on, and whether it runs.
     fn mode(&self, user: UserNo) -> Mode
         requires { user < length ((goes).seen self.now).users }
         ensures { result ≡ (machine_at ((goes).seen self.now) user).mode };
 
-    /// Whether a user's machine is ready for a slice.
+    /// Returns whether a user's machine is ready for a slice.
     fn is_ready(&self, user: UserNo) -> bool
         requires { user < length ((goes).seen self.now).users }
         ensures { result ≡ ready_in ((goes).seen self.now) user };
 
-    /// The subchannels of a user's machine.
+    /// Returns the subchannels of a user's machine.
     fn subchannels(&self, user: UserNo) -> &[Subchannel]
         requires { user < length ((goes).seen self.now).users }
         ensures { result.now ≡ subchannels_at ((goes).seen self.now) user };
 
-    /// A user's console, reader, punch and printer, with their files.
+    /// Returns a user's console, reader, punch and printer, with their files.
     fn devices(&self, user: UserNo) -> SeenDevices<'_>
         requires { user < length ((goes).seen self.now).users }
         ensures { result ≡ (user_at ((goes).seen self.now) user).devices };
 
-    /// How many lines a user's console has printed.
+    /// Returns how many lines a user's console has printed.
     fn printed(&self, user: UserNo) -> usize
         requires { user < length ((goes).seen self.now).users }
         ensures { result ≡ length (machine_at ((goes).seen self.now) user).output };
 
-    /// A line that a user's console has printed, `None` past the last.
+    /// Returns a line that a user's console has printed, `None` past the last.
     fn console_output(&self, user: UserNo, line: usize) -> Option<&[u8]>
         requires { user < length ((goes).seen self.now).users }
-        ensures { option_map (λ text. text.now) result ≡ slice_get (machine_at ((goes).seen self.now) user).output line };
+        ensures { option_map (λ text. text.now) result
+            ≡ slice_get (machine_at ((goes).seen self.now) user).output line };
 
-    /// How many files have got a number.
+    /// Returns how many files have got a number.
     fn files(&self) -> usize
         ensures { result ≡ length ((goes).seen self.now).files };
 
-    /// Whose a file was when it got its number, and what, by its place from 0.
+    /// Returns the owner and the kind of a file, by its place from 0.
     fn file(&self, place: usize) -> Option<FileNote>
         ensures { result ≡ slice_get ((goes).seen self.now).files place };
 
-    /// An event that a script says happens.
+    /// Applies an event of a script.
+    ///
+    /// # Errors
+    ///
+    /// A `Refused`: refused memory, or a spent installation.
     fn happen(&mut self, alloc: Global, event: &ScriptEvent<'_>) -> Result<Reply, Refused>
         requires user { IsOfUser ((goes).seen self.old).users event.now }
         requires device { IsOfDevice ((goes).seen self.old).users event.now }
         requires event { IsEvent event.now }
-        ensures ok { IfOk result (λ reply. (goes).Happens self.old (said event.now) reply self.new) }
-        ensures err { OnErr result ((self.new ≡ self.old) ⊎ (goes).Lacks self.old (said event.now) self.new) }
+        ensures ok { IfOk result
+            (λ reply. (goes).Happens self.old (said event.now) reply self.new) }
+        ensures err { OnErr result
+            ((self.new ≡ self.old) ⊎ (goes).Lacks self.old (said event.now) self.new) }
         ensures memory { result ≡ Err Refused.Memory → (goes).May self.old (said event.now) }
         ensures users { ((goes).seen self.new).users ≡ ((goes).seen self.old).users }
         ensures alive { OnOk result ((goes).is_spent self.new ≡ false) }
         ensures spent { result ≡ Err Refused.Spent → (goes).is_spent self.old ≡ true };
 
+    /// Forgets the lines that consoles have printed, and nothing else that is seen.
+    fn forget_printed(&mut self)
+        ensures on { (goes).GoesOnAs self.old self.new }
+        ensures seen { (goes).seen self.new ≡ but_printed ((goes).seen self.old) };
+
     /// Appends its state, and returns whether it has states.
+    ///
+    /// # Errors
+    ///
+    /// `AllocError` if memory is refused; `out` may have a part of it then.
     fn save(&self, out: &mut Vec<u8>) -> Result<bool, AllocError>
         ensures { IfOk result (λ is. AppendsState (goes) self.now is out.old.items out.new.items) };
 
@@ -119,4 +143,8 @@ pub trait Installation {
     fn one_by_saved()
         ensures base { KeepsBase (goes) }
         ensures saved { IsOneBySaved (goes) };
+
+    /// States what it is to go on as another: lines that were printed before do not matter.
+    fn printed_lines_do_not_matter()
+        ensures { IsToGoOn (goes) };
 }

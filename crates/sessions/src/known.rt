@@ -1,4 +1,5 @@
-//! What scripts know of the users of an installation: their names, and the addresses of their devices.
+//! What scripts know of the users of an installation: their names, and the addresses of their
+//! devices.
 ghost use Rattle.std.specs.Prelude.{◌≡◌, All, IfErr, IfOk, Ok, length, map};
 ghost use Rattle.session_script.specs.Script.{IsOfDevice, IsOfUser, IsRefusal, said, script_of};
 
@@ -7,16 +8,21 @@ use session_script::{ScriptError, ScriptEvent, ScriptUser, read_script};
 use std::alloc::{AllocError, Global};
 use user_names::UserNo;
 
-/// The events that a script names for the users of an installation and their devices.
+/// Returns the events that a script names for the users of an installation and their devices.
 pub(crate) fn read_events<'a, I: Installation>(
     alloc: Global,
     installation: &I,
     text: &'a [u8],
 ) -> Result<Vec<ScriptEvent<'a>>, ScriptError>
-    ensures ok { IfOk result (λ events. script_of (I.goes.seen installation.now).users text.now ≡ Ok (map said events.items)) }
-    ensures users { IfOk result (λ events. All (IsOfUser (I.goes.seen installation.now).users) events.items) }
-    ensures devices { IfOk result (λ events. All (IsOfDevice (I.goes.seen installation.now).users) events.items) }
-    ensures err { IfErr result (IsRefusal (script_of (I.goes.seen installation.now).users text.now)) }
+    ensures ok { IfOk result
+        (λ events. script_of (I.goes.seen installation.now).users text.now
+        ≡ Ok (map said events.items)) }
+    ensures users { IfOk result
+        (λ events. All (IsOfUser (I.goes.seen installation.now).users) events.items) }
+    ensures devices { IfOk result
+        (λ events. All (IsOfDevice (I.goes.seen installation.now).users) events.items) }
+    ensures err { IfErr result
+        (IsRefusal (script_of (I.goes.seen installation.now).users text.now)) }
 {
     // There are few users.
     let _users = installation.users();
@@ -29,9 +35,10 @@ pub(crate) fn read_events<'a, I: Installation>(
     read_script(alloc, &users, text)
 }
 
-/// Of each user the addresses of the devices.
+/// Returns the addresses of each user's devices.
 fn addresses<I: Installation>(alloc: Global, installation: &I) -> Result<Vec<Vec<u16>>, AllocError>
-    ensures { IfOk result (λ lists. map (λ list. list.items) lists.items ≡ map (λ user. user.devices) (I.goes.seen installation.now).users) }
+    ensures { IfOk result (λ lists. map (λ list. list.items) lists.items
+        ≡ map (λ user. user.devices) (I.goes.seen installation.now).users) }
 {
     let mut lists = Vec::new(alloc);
     for number in 0..installation.users() {
@@ -40,13 +47,14 @@ fn addresses<I: Installation>(alloc: Global, installation: &I) -> Result<Vec<Vec
     Ok(lists)
 }
 
-/// The users as scripts know them, where these are the addresses of their devices.
+/// Returns the users as scripts know them, where these are the addresses of their devices.
 fn script_users<'a, I: Installation>(
     alloc: Global,
     installation: &'a I,
     devices: &'a [Vec<u16>],
 ) -> Result<Vec<ScriptUser<'a>>, AllocError>
-    requires { map (λ list. list.items) devices.now ≡ map (λ user. user.devices) (I.goes.seen installation.now).users }
+    requires { map (λ list. list.items) devices.now
+        ≡ map (λ user. user.devices) (I.goes.seen installation.now).users }
     ensures { IfOk result (λ known. known.items ≡ (I.goes.seen installation.now).users) }
 {
     // There are few users.

@@ -6,9 +6,9 @@ use crate::installation::Installation;
 use cp_dispatch::is_fair;
 use session_script::reads_grammar;
 
-/// Nobody in a session waits for ever: a user with j others before him in the queue who stays on and ready has one of the
-/// next j + 1 slices, whatever else happens, and a program with j others before it that stays waiting one of the next
-/// j + 1 serves.
+/// States that nobody in a session waits for ever: a user with j others before him in the queue who
+/// stays on and ready has one of the next j + 1 slices, and a program with j others before it that
+/// stays waiting one of the next j + 1 serves.
 pub fn sessions_are_fair<I: Installation>()
     ensures slices { SlicesAreFair I.goes }
     ensures serves { ServesAreFair I.goes }
@@ -26,4 +26,5 @@ pub fn restored_sessions_go_on<I: Installation>()
 {
     reads_grammar();
     I::one_by_saved();
+    I::printed_lines_do_not_matter();
 }

@@ -1,14 +1,15 @@
 //! A session: from a script's bytes to exactly its transcript's bytes, for any installation.
 //!
-//! What a session writes is what the installation answered to the events that the script names and to the slices and
-//! serves that its turns deal ([`session::session`]). After any failure it is a beginning of that. A script may also be
-//! given part by part, and is followed ([`follow::Follower`]): the parts joined are one session. A session also goes on from
-//! a saved state ([`restored_sessions_go_on`]).
+//! What a session writes is what the installation answered to the events that the script names and
+//! to the slices and serves that its turns deal ([`session::session`]). After any failure it is a
+//! beginning of that. A script may also be given part by part, and is followed
+//! ([`follow::Follower`]): the parts joined are one session. A session also goes on from a saved
+//! state ([`restored_sessions_go_on`]).
 //!
-//! A script's bytes name events exactly where they are a text of the grammar of docs/FORMATS.md, and any other text is
-//! refused at its first line that the grammar does not have ([`session_script::reads_grammar`] carries that law,
-//! [`session_script::read_script`] keeps it). The lines that the transcript has for an event are those of that document, in its
-//! order.
+//! A script's bytes name events exactly where they are a text of the grammar of docs/FORMATS.md,
+//! and any other text is refused at its first line that the grammar does not have
+//! ([`session_script::reads_grammar`] carries that law, [`session_script::read_script`] keeps it).
+//! The lines that the transcript has for an event are those of that document, in its order.
 //!
 //! ```
 //! use bare370::machine_of;
@@ -30,6 +31,7 @@ pub mod faults;
 pub mod files;
 pub mod follow;
 pub mod installation;
+mod joining;
 mod known;
 mod laws;
 mod news;
@@ -42,6 +44,7 @@ pub use alike::transcripts_agree;
 pub use faults::{PlayError, SessionError};
 pub use follow::{Follower, Part, parts_are_a_session};
 pub use installation::{Installation, Refused};
+pub use joining::starts_are_in_order;
 pub use laws::{restored_sessions_go_on, sessions_are_fair};
 pub use schedule::Detail;
 pub use transcript::cuts_back;

@@ -1,6 +1,7 @@
-//! What the answer to a part of a script tells of the users' machines: who has logged on or off, and whose machine was
-//! started or stopped.
-ghost use Rattle.std.specs.Prelude.{◌≡◌, ◌++◌, ◌∷◌, ◌<◌, [], IfOk, OnOk, Some, length, map, slice_get};
+//! What the answer to a part of a script reports the users' machines: who has logged on or off, and
+//! whose machine was started or stopped.
+ghost use Rattle.std.specs.Prelude.{◌≡◌, ◌++◌, ◌∷◌, ◌<◌, [], IfOk, OnOk, Some, length, map};
+ghost use Rattle.std.specs.Prelude.{slice_get};
 ghost use Rattle.sessions.specs.News.{change_lines, changed_lines, modes_of};
 ghost use Rattle.sessions.specs.Transcript.{ended};
 
@@ -9,7 +10,7 @@ use machine_panel::Mode;
 use std::alloc::{AllocError, Global};
 use user_names::UserNo;
 
-/// In which mode each user's machine is.
+/// Returns the mode of each user's machine.
 pub(crate) fn modes<I: Installation>(
     alloc: Global,
     installation: &I,
@@ -23,8 +24,8 @@ pub(crate) fn modes<I: Installation>(
     Ok(modes)
 }
 
-/// The lines of what has changed for users of these names, whose machines were in the first modes and are in the
-/// others, each ended by LF.
+/// Returns the lines of what has changed for users of these names, whose machines were in the first
+/// modes and are in the others, each ended by LF.
 pub(crate) fn print_changes(
     alloc: Global,
     names: &[Vec<u8>],
@@ -45,7 +46,7 @@ pub(crate) fn print_changes(
     Ok(text)
 }
 
-/// The mode at a place.
+/// Returns the mode at a place.
 fn mode_at(modes: &[Mode], place: usize) -> Mode
     requires { place < length modes.now }
     ensures { Some result ≡ slice_get modes.now place }

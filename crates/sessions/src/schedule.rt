@@ -18,11 +18,11 @@ pub(crate) const SLICE_UNITS: u32 = 100;
 pub enum Detail {
     /// All: how each half of a turn ended, and that a turn had neither.
     Whole,
-    /// Those at the users' terminals, and where frames were lacking.
+    /// Those at the users' terminals, and where it was out of frames.
     Terminals,
 }
 
-/// Whether a machine of this mode has a user who is logged on.
+/// Returns whether a machine of this mode has a user who is logged on.
 fn is_mode_of_user(mode: Mode) -> bool
     ensures { result ≡ is_on mode }
 {
@@ -32,7 +32,7 @@ fn is_mode_of_user(mode: Mode) -> bool
     }
 }
 
-/// Whether a user is logged on.
+/// Returns whether a user is logged on.
 pub(crate) fn is_on<I: Installation>(installation: &I, user: UserNo) -> bool
     requires { user < length (I.goes.seen installation.now).users }
     ensures { result ≡ is_user_on (I.goes.seen installation.now) user }
@@ -43,7 +43,8 @@ pub(crate) fn is_on<I: Installation>(installation: &I, user: UserNo) -> bool
 /// Tells the policy that a user has logged on or off, where he has.
 pub(crate) fn note(policy: &mut Policy, user: UserNo, was_on: bool, is_on: bool)
     requires { user < policy.old.most_users }
-    ensures { policy.new ≡ record policy.old { users = queue_with user was_on is_on policy.old.users } }
+    ensures { policy.new ≡ record
+        policy.old { users = queue_with user was_on is_on policy.old.users } }
 {
     if is_on && !was_on {
         policy.join(user);
@@ -53,8 +54,8 @@ pub(crate) fn note(policy: &mut Policy, user: UserNo, was_on: bool, is_on: bool)
     }
 }
 
-/// The policy for the users of an installation: those who are on stand in the queue by their numbers, and in the line
-/// stand the programs of each by their starts.
+/// Returns the policy for the users of an installation: those who are on are in the queue by their
+/// numbers, and in the line are the programs of each by their starts.
 pub(crate) fn first_policy<I: Installation>(
     alloc: Global,
     installation: &I,
@@ -71,10 +72,12 @@ pub(crate) fn first_policy<I: Installation>(
     Ok(policy)
 }
 
-/// Who is ready for a slice.
+/// Returns who is ready for a slice.
 pub(crate) fn ready_users<I: Installation>(installation: &I) -> Ready
-    ensures ready { (user : ℕ) → is_flagged result user ≡ ready_in (I.goes.seen installation.now) user }
-    ensures users { (user : ℕ) → is_flagged result user ≡ true → user < length (I.goes.seen installation.now).users }
+    ensures ready { (user : ℕ)
+        → is_flagged result user ≡ ready_in (I.goes.seen installation.now) user }
+    ensures users { (user : ℕ) → is_flagged result user ≡ true
+        → user < length (I.goes.seen installation.now).users }
 {
     let mut ready = Ready::nobody();
     for number in 0..installation.users() {

@@ -5,7 +5,8 @@ ghost use Rattle.s370_num.specs.Host.{AppendsFront};
 ghost use Rattle.session_script.specs.Script.{IsOfDevice, IsOfUser, said};
 ghost use Rattle.sessions.specs.Files.{closing_lines};
 ghost use Rattle.sessions.specs.Schedule.{IsOf, acts, scene};
-ghost use Rattle.sessions.specs.Session.{Accounts, AccountsFiles, IsCut, IsPartly, IsPlayed, IsRefused, IsSession};
+ghost use Rattle.sessions.specs.Session.{Accounts, AccountsFiles, IsCut, IsPartly, IsPlayed};
+ghost use Rattle.sessions.specs.Session.{IsRefused, IsSession};
 ghost use Rattle.sessions.specs.Transcript.{ended};
 ghost use Rattle.sessions.specs.declared.schedule.Detail.TheVariants.{Whole};
 
@@ -20,31 +21,56 @@ use s370_num::host::{HostReader, HostWriter, read_all, write_all};
 use session_script::ScriptEvent;
 use std::alloc::Global;
 
-/// Reads a whole script and judges it; then lets its events happen and deals its turns one after another, and writes the
-/// lines of each as they come, and at the end the files for the operator. When it ends well, nothing that was written is
-/// held back.
+/// Reads a whole script and judges it; then lets its events happen and deals its turns one after
+/// another, and writes the lines of each as they come, and at the end the files for the operator.
+/// When it ends well, nothing that was written is held back.
 ///
-/// Turns are dealt among the users who are on: those who are on at first, by their numbers, and behind them who
-/// logs on later; and among the programs that were started, in the order of their starts.
+/// Turns are dealt among the users who are on: those who are on at first, by their numbers, and
+/// after them who logs on later; and among the programs that were started, in the order of their
+/// starts.
+///
+/// # Errors
+///
+/// A `SessionError`: a faulty line (then nothing has happened), refused memory, a failure of the
+/// writer, or a spent installation (then a beginning is written).
+///
+/// # Examples
+///
+/// ```
+/// use bare370::machine_of;
+/// use s370_num::host::Bytes;
+/// use sessions::session::session;
+///
+/// let mut machine = machine_of(alloc, 4, Vec::new(alloc))?;
+/// let mut transcript = Vec::new(alloc);
+/// session(alloc, &mut machine, &mut Bytes::new(b"LINE BARE LOGON\n"), &mut transcript)?;
+/// assert_eq!(rt; transcript.as_slice(), b"BARE: LOGON OK\n".as_slice());
+/// ```
 pub fn session<I: Installation, R: HostReader, W: HostWriter>(
     alloc: Global,
     installation: &mut I,
     reader: &mut R,
     writer: &mut W,
 ) -> Result<(), SessionError>
-    ensures ok { OnOk result (IsSession I.goes Whole installation.old installation.new (R.remaining reader.old)
+    ensures ok { OnOk result
+        (IsSession I.goes Whole installation.old installation.new (R.remaining reader.old)
         (R.remaining reader.new) (W.contents writer.old) (W.contents writer.new)) }
     ensures line { (n : ℕ) → result ≡ Err (SessionError.Line n)
-        → IsRefused (I.goes.seen installation.old).users (R.remaining reader.old) (R.remaining reader.new) n }
-    ensures refused { (n : ℕ) → result ≡ Err (SessionError.Line n) → (installation.new ≡ installation.old)
+        → IsRefused (I.goes.seen installation.old).users (R.remaining reader.old)
+        (R.remaining reader.new) n }
+    ensures refused { (n : ℕ) → result ≡ Err (SessionError.Line n)
+        → (installation.new ≡ installation.old)
         × (writer.new ≡ writer.old) }
     ensures err { OnErr result
         (((installation.new ≡ installation.old) × (writer.new ≡ writer.old))
-        ⊎ IsCut I.goes Whole installation.old installation.new (R.remaining reader.old) (R.remaining reader.new)
+        ⊎ IsCut I.goes Whole installation.old installation.new (R.remaining reader.old)
+        (R.remaining reader.new)
         (W.contents writer.old) (W.contents writer.new)) }
     ensures flushed { OnOk result (W.held writer.new ≡ []) }
-    ensures why { AccountsFiles result (I.goes.is_spent installation.old) (R.HostFile.failures reader.old)
-        (R.HostFile.failures reader.new) (W.HostFile.failures writer.old) (W.HostFile.failures writer.new) }
+    ensures why { AccountsFiles result (I.goes.is_spent installation.old)
+        (R.HostFile.failures reader.old)
+        (R.HostFile.failures reader.new) (W.HostFile.failures writer.old)
+        (W.HostFile.failures writer.new) }
 {
     let text = read_all(alloc, reader)?;
     let events = read_events(alloc, installation, &text)?;
@@ -61,7 +87,8 @@ pub fn session<I: Installation, R: HostReader, W: HostWriter>(
     Ok(())
 }
 
-/// Lets the events happen and deals the turns one after another, and writes the lines of each as they come.
+/// Lets the events happen and deals the turns one after another, and writes the lines of each as
+/// they come.
 pub(crate) fn play<I: Installation, W: HostWriter>(
     alloc: Global,
     installation: &mut I,
@@ -73,11 +100,15 @@ pub(crate) fn play<I: Installation, W: HostWriter>(
     requires users { All (IsOfUser (I.goes.seen installation.old).users) events.now }
     requires devices { All (IsOfDevice (I.goes.seen installation.old).users) events.now }
     requires dealing { IsOf (I.goes.seen installation.old) policy.old }
-    ensures ok { OnOk result (IsPlayed I.goes (acts (map said events.now)) (scene installation.old policy.old detail)
-        (scene installation.new policy.new detail) (W.contents writer.old) (W.contents writer.new)) }
-    ensures err { OnErr result (IsPartly I.goes (acts (map said events.now)) (scene installation.old policy.old detail)
+    ensures ok { OnOk result
+        (IsPlayed I.goes (acts (map said events.now)) (scene installation.old policy.old detail)
+        (scene installation.new policy.new detail) (W.contents writer.old)
+        (W.contents writer.new)) }
+    ensures err { OnErr result
+        (IsPartly I.goes (acts (map said events.now)) (scene installation.old policy.old detail)
         installation.new (W.contents writer.old) (W.contents writer.new)) }
-    ensures why { Accounts result (I.goes.is_spent installation.old) (I.goes.is_spent installation.new)
+    ensures why { Accounts result (I.goes.is_spent installation.old)
+        (I.goes.is_spent installation.new)
         (W.HostFile.failures writer.old) (W.HostFile.failures writer.new) }
 {
     for event in events {
@@ -86,7 +117,7 @@ pub(crate) fn play<I: Installation, W: HostWriter>(
     Ok(())
 }
 
-/// Writes the files for the operator, and nothing that was written is held back.
+/// Writes the files for the operator, and flushes the writer.
 pub(crate) fn close<I: Installation, W: HostWriter>(
     alloc: Global,
     installation: &I,

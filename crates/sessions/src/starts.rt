@@ -7,7 +7,8 @@ ghost use Rattle.session_script.specs.Users.{has_device};
 ghost use Rattle.cp_dispatch.specs.Policy.{is_of};
 ghost use Rattle.cp_dispatch.specs.Turns.{without};
 ghost use Rattle.sessions.specs.Installed.{subchannels_at};
-ghost use Rattle.sessions.specs.Schedule.{in_order, is_before, is_joining, joined, line_since, started_since, withdrawn};
+ghost use Rattle.sessions.specs.Schedule.{in_order, is_before, is_joining, joined, line_since};
+ghost use Rattle.sessions.specs.Schedule.{started_since, withdrawn};
 
 use crate::installation::Installation;
 use cp_dispatch::Policy;
@@ -16,7 +17,7 @@ use s370_subchannels::{DeviceState, Subchannel};
 use std::alloc::{AllocError, Global};
 use user_names::UserNo;
 
-/// The number that the next start of a user's machine has.
+/// Returns the number that the next start of a user's machine will have.
 pub(crate) fn next_start<I: Installation>(installation: &I, user: UserNo) -> u64
     requires { user < length (I.goes.seen installation.now).users }
     ensures { result ≡ next_start (subchannels_at (I.goes.seen installation.now) user) }
@@ -24,8 +25,9 @@ pub(crate) fn next_start<I: Installation>(installation: &I, user: UserNo) -> u64
     latest_start(installation.subchannels(user)).saturating_add(1)
 }
 
-/// Takes out of the line the programs of a user that have ended or were withdrawn, and puts at its end those that were
-/// started since his machine's next start had this number, in the order of their starts.
+/// Takes out of the line the programs of a user that have ended or were withdrawn, and puts at its
+/// end those that were started since his machine's next start had this number, in the order of
+/// their starts.
 pub(crate) fn line_up<I: Installation>(
     alloc: Global,
     installation: &I,
@@ -35,7 +37,10 @@ pub(crate) fn line_up<I: Installation>(
 ) -> Result<(), AllocError>
     requires { user < length (I.goes.seen installation.now).users }
     ensures ok { OnOk result (policy.new
-        ≡ record policy.old { programs = line_since (I.goes.seen installation.now) user number policy.old.programs }) }
+        ≡ record policy.old {
+          programs = line_since (I.goes.seen installation.now) user number
+              policy.old.programs;
+        }) }
     ensures rest { policy.new ≡ record policy.old { programs = policy.new.programs } }
 {
     let started = started_since(alloc, installation, user, number)?;
@@ -43,7 +48,7 @@ pub(crate) fn line_up<I: Installation>(
     join(policy, user, &started)
 }
 
-/// The number of the latest start of these devices.
+/// Returns the number of the latest start of these devices.
 fn latest_start(list: &[Subchannel]) -> u64
     ensures { result ≡ latest_start list.now }
 {
@@ -54,8 +59,8 @@ fn latest_start(list: &[Subchannel]) -> u64
     latest
 }
 
-/// The devices of a user that were started since his machine's next start had this number, in the order of their
-/// starts.
+/// Returns the devices of a user that were started since his machine's next start had this number,
+/// in the order of their starts.
 fn started_since<I: Installation>(
     alloc: Global,
     installation: &I,
@@ -63,7 +68,8 @@ fn started_since<I: Installation>(
     number: u64,
 ) -> Result<Vec<Subchannel>, AllocError>
     requires { user < length (I.goes.seen installation.now).users }
-    ensures { IfOk result (λ started. started.items ≡ started_since (I.goes.seen installation.now) user number) }
+    ensures { IfOk result (λ started. started.items
+        ≡ started_since (I.goes.seen installation.now) user number) }
 {
     let list = installation.subchannels(user);
     let mut started = Vec::new(alloc);
@@ -74,13 +80,14 @@ fn started_since<I: Installation>(
     Ok(started)
 }
 
-/// Puts a device that joins the line behind those whose last start was before its own.
+/// Puts a device that joins the line after those whose last start was before its own.
 fn put_if_joining(
     started: &mut Vec<Subchannel>,
     joins: bool,
     d: Subchannel,
 ) -> Result<(), AllocError>
-    ensures { OnOk result (started.new.items ≡ if joins then in_order d started.old.items else started.old.items) }
+    ensures { OnOk result (started.new.items ≡ if joins then in_order d started.old.items
+        else started.old.items) }
 {
     if joins {
         return put_in_order(started, d);
@@ -88,8 +95,8 @@ fn put_if_joining(
     Ok(())
 }
 
-/// Whether a device of a user joins the line: it works, it was started with this number or a later one, and scripts know
-/// it.
+/// Returns whether a device of a user joins the line: it works, it was started with this number or
+/// a later one, and scripts know it.
 fn is_joining<I: Installation>(installation: &I, user: UserNo, number: u64, d: &Subchannel) -> bool
     requires { user < length (I.goes.seen installation.now).users }
     ensures { result ≡ is_joining (I.goes.seen installation.now) user number d.now }
@@ -97,7 +104,7 @@ fn is_joining<I: Installation>(installation: &I, user: UserNo, number: u64, d: &
     works(d.state) && number <= d.last_start && installation.has_device(user, d.address.get())
 }
 
-/// Whether a device in this state works on a program.
+/// Returns whether a device in this state works on a program.
 fn works(state: DeviceState) -> bool
     ensures { result ≡ works state }
 {
@@ -107,7 +114,7 @@ fn works(state: DeviceState) -> bool
     }
 }
 
-/// Puts a device behind those whose last start was before its own.
+/// Puts a device after those whose last start was before its own.
 fn put_in_order(started: &mut Vec<Subchannel>, d: Subchannel) -> Result<(), AllocError>
     ensures { OnOk result (started.new.items ≡ in_order d started.old.items) }
 {
@@ -123,7 +130,7 @@ fn put_in_order(started: &mut Vec<Subchannel>, d: Subchannel) -> Result<(), Allo
     }
 }
 
-/// The place of the first of these devices whose last start was after that of this one.
+/// Returns the place of the first of these devices whose last start was after that of this one.
 fn place_in_order(started: &[Subchannel], d: &Subchannel) -> Option<usize>
     ensures { result ≡ position (is_before d.now) started.now }
 {
@@ -134,7 +141,8 @@ fn place_in_order(started: &[Subchannel], d: &Subchannel) -> Option<usize>
 
 /// Takes out of the line the programs of those of these devices of a user that do not work.
 fn withdraw(policy: &mut Policy, user: UserNo, list: &[Subchannel])
-    ensures { policy.new ≡ record policy.old { programs = withdrawn user list.now policy.old.programs } }
+    ensures { policy.new ≡ record
+        policy.old { programs = withdrawn user list.now policy.old.programs } }
 {
     for d in list {
         withdraw_one(policy, user, d);

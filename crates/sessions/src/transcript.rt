@@ -4,7 +4,11 @@ ghost use Rattle.session_script.specs.Script.{said};
 ghost use Rattle.user_names.specs.Users.{name_of};
 ghost use Rattle.sessions.specs.Installed.{machine_at, names_of, user_at};
 ghost use Rattle.sessions.specs.Schedule.{Idle};
-ghost use Rattle.sessions.specs.Transcript.{CutsBack, delivered_lines, ended, ending_lines, frames_line, idle_lines, lacking_lines, last_lines, queue_lines, ran_line, reason_word, reply_lines, said_lines, scant_lines, served_line, served_lines, served_word, told_line, end_lines, written_lines};
+ghost use Rattle.sessions.specs.Transcript.{CutsBack, delivered_lines, ended, ending_lines};
+ghost use Rattle.sessions.specs.Transcript.{frames_line, idle_lines, lacking_lines, last_lines};
+ghost use Rattle.sessions.specs.Transcript.{queue_lines, ran_line, reason_word, reply_lines};
+ghost use Rattle.sessions.specs.Transcript.{said_lines, scant_lines, served_line, served_lines};
+ghost use Rattle.sessions.specs.Transcript.{served_word, told_line, end_lines, written_lines};
 
 use crate::installation::Installation;
 use crate::schedule::Detail;
@@ -16,8 +20,9 @@ use session_script::ScriptEvent;
 use std::alloc::{AllocError, Global};
 use user_names::UserNo;
 
-/// The transcript's lines for the reply to an event of this user, each ended by LF: what was said to the
-/// user, what has been written at his console, what stands at another's terminal, and then how the event ended.
+/// Returns the transcript's lines for the reply to an event of this user, each ended by LF: what
+/// was said to the user, what has been written at his console, what is at another's terminal, and
+/// then how the event ended.
 #[tactic(auto, using(crate::proofs::Endings::four_ended))]
 pub(crate) fn print_reply<I: Installation>(
     alloc: Global,
@@ -29,7 +34,8 @@ pub(crate) fn print_reply<I: Installation>(
 ) -> Result<Vec<u8>, AllocError>
     requires { user < length (I.goes.seen installation.now).users }
     ensures { let seen = user_at (I.goes.seen installation.now) user in
-        IfOk result (λ text. text.items ≡ ended (reply_lines detail (names_of (I.goes.seen installation.now)) user
+        IfOk result (λ text. text.items
+        ≡ ended (reply_lines detail (names_of (I.goes.seen installation.now)) user
         (said event.now) seen.devices.reader.decks seen.machine.output reply.now)) }
 {
     let mut text = Vec::new(alloc);
@@ -56,8 +62,10 @@ fn print_said<I: Installation>(
     said: Saying,
 ) -> Result<(), AllocError>
     requires { user < length (I.goes.seen installation.now).users }
-    ensures { let names = names_of (I.goes.seen installation.now) in OnOk result (out.new.items ≡ out.old.items
-        ++ ended (said_lines names (name_of names user) (user_at (I.goes.seen installation.now) user).devices.reader.decks said)) }
+    ensures { let names = names_of (I.goes.seen installation.now) in OnOk result
+        (out.new.items ≡ out.old.items
+        ++ ended (said_lines names (name_of names user)
+        (user_at (I.goes.seen installation.now) user).devices.reader.decks said)) }
 {
     match said {
         Saying::Said(response) => {
@@ -72,12 +80,13 @@ fn print_said<I: Installation>(
     }
 }
 
-/// The names of all users.
+/// Returns the names of all users.
 pub(crate) fn names<I: Installation>(
     alloc: Global,
     installation: &I,
 ) -> Result<Vec<Vec<u8>>, AllocError>
-    ensures { IfOk result (λ names. map (λ name. name.items) names.items ≡ names_of (I.goes.seen installation.now)) }
+    ensures { IfOk result (λ names. map (λ name. name.items) names.items
+        ≡ names_of (I.goes.seen installation.now)) }
 {
     let mut names = Vec::new(alloc);
     for number in 0..installation.users() {
@@ -98,8 +107,10 @@ fn print_queue<I: Installation>(
 ) -> Result<(), AllocError>
     requires user { user < length (I.goes.seen installation.now).users }
     requires names { map (λ name. name.items) names.now ≡ names_of (I.goes.seen installation.now) }
-    ensures { let names = names_of (I.goes.seen installation.now) in OnOk result (out.new.items ≡ out.old.items
-        ++ ended (queue_lines names (name_of names user) (user_at (I.goes.seen installation.now) user).devices.reader.decks)) }
+    ensures { let names = names_of (I.goes.seen installation.now) in OnOk result
+        (out.new.items ≡ out.old.items
+        ++ ended (queue_lines names (name_of names user)
+        (user_at (I.goes.seen installation.now) user).devices.reader.decks)) }
 {
     let devices = installation.devices(user);
     for index in 0..devices.decks() {
@@ -121,7 +132,8 @@ fn print_written<I: Installation>(
 ) -> Result<(), AllocError>
     requires { user < length (I.goes.seen installation.now).users }
     ensures { OnOk result (out.new.items ≡ out.old.items
-        ++ ended (written_lines (name_of (names_of (I.goes.seen installation.now)) user) reply.now.lines (machine_at (I.goes.seen installation.now) user).output
+        ++ ended (written_lines (name_of (names_of (I.goes.seen installation.now)) user)
+        reply.now.lines (machine_at (I.goes.seen installation.now) user).output
         reply.now.ended)) }
 {
     match reply.ended {
@@ -140,7 +152,8 @@ fn print_last<I: Installation>(
 ) -> Result<(), AllocError>
     requires { user < length (I.goes.seen installation.now).users }
     ensures { OnOk result (out.new.items ≡ out.old.items
-        ++ ended (map (told_line (name_of (names_of (I.goes.seen installation.now)) user)) (last_lines count (machine_at (I.goes.seen installation.now) user).output))) }
+        ++ ended (map (told_line (name_of (names_of (I.goes.seen installation.now)) user))
+        (last_lines count (machine_at (I.goes.seen installation.now) user).output))) }
 {
     let printed = installation.printed(user);
     for index in printed.saturating_sub(count)..printed {
@@ -158,7 +171,8 @@ fn print_delivered<I: Installation>(
     installation: &I,
     delivered: Option<Delivered>,
 ) -> Result<(), AllocError>
-    ensures { OnOk result (out.new.items ≡ out.old.items ++ ended (delivered_lines (names_of (I.goes.seen installation.now)) delivered)) }
+    ensures { OnOk result (out.new.items ≡ out.old.items
+        ++ ended (delivered_lines (names_of (I.goes.seen installation.now)) delivered)) }
 {
     let Some(Delivered { to, what }) = delivered else {
         return Ok(());
@@ -171,7 +185,8 @@ fn print_delivered<I: Installation>(
 
 /// Adds the line `u: text`.
 fn print_line(out: &mut Vec<u8>, name: &[u8], text: &[u8]) -> Result<(), AllocError>
-    ensures { OnOk result (out.new.items ≡ out.old.items ++ ended (told_line name.now text.now ∷ [])) }
+    ensures { OnOk result (out.new.items ≡ out.old.items
+        ++ ended (told_line name.now text.now ∷ [])) }
 {
     out.extend_from_slice(name)?;
     out.extend_from_slice(b": ")?;
@@ -188,7 +203,8 @@ fn print_ending(
     event: &ScriptEvent<'_>,
     ending: Ended,
 ) -> Result<(), AllocError>
-    ensures { OnOk result (out.new.items ≡ out.old.items ++ ended (ending_lines name.now (said event.now) ending)) }
+    ensures { OnOk result (out.new.items ≡ out.old.items
+        ++ ended (ending_lines name.now (said event.now) ending)) }
 {
     match ending {
         Ended::Ran(ran) => print_ran(alloc, out, name, ran),
@@ -206,7 +222,8 @@ fn print_serve(
     event: &ScriptEvent<'_>,
     done: bool,
 ) -> Result<(), AllocError>
-    ensures { OnOk result (out.new.items ≡ out.old.items ++ ended (served_lines name.now (said event.now) done)) }
+    ensures { OnOk result (out.new.items ≡ out.old.items
+        ++ ended (served_lines name.now (said event.now) done)) }
 {
     match event {
         ScriptEvent::Serve(_, device) => {
@@ -228,7 +245,8 @@ fn print_served(
     device: DevAddr,
     done: bool,
 ) -> Result<(), AllocError>
-    ensures { OnOk result (out.new.items ≡ out.old.items ++ ended (served_line name.now device done ∷ [])) }
+    ensures { OnOk result (out.new.items ≡ out.old.items
+        ++ ended (served_line name.now device done ∷ [])) }
 {
     let device = device.to_string(alloc)?;
     out.extend_from_slice(b"= ")?;
@@ -239,7 +257,7 @@ fn print_served(
     Ok(())
 }
 
-/// Whether a device was working that was served, as the transcript says it.
+/// Returns whether a device was working that was served, as the transcript says it.
 fn served_word(done: bool) -> &'static [u8]
     ensures { result.now ≡ served_word done }
 {
@@ -279,7 +297,7 @@ fn print_end(
     }
 }
 
-/// Adds the line of an ending where frames were lacking.
+/// Adds the line of an ending where it was out of frames.
 fn print_scant(
     alloc: Global,
     out: &mut Vec<u8>,
@@ -297,7 +315,8 @@ fn print_scant(
 
 /// Adds the line of a run that was out of frames.
 fn print_lacking(alloc: Global, out: &mut Vec<u8>, name: &[u8], ran: Ran) -> Result<(), AllocError>
-    ensures { OnOk result (out.new.items ≡ out.old.items ++ ended (lacking_lines name.now ran ran.reason)) }
+    ensures { OnOk result (out.new.items ≡ out.old.items
+        ++ ended (lacking_lines name.now ran ran.reason)) }
 {
     match ran.reason {
         Reason::FramesOut => print_ran(alloc, out, name, ran),
@@ -306,7 +325,7 @@ fn print_lacking(alloc: Global, out: &mut Vec<u8>, name: &[u8], ran: Ran) -> Res
     }
 }
 
-/// The line of a turn that nobody had, with its end, where the transcript has one for it.
+/// Returns the line of a turn that nobody had, with its end, where the transcript has one for it.
 pub(crate) fn idle_line(detail: Detail) -> &'static [u8]
     ensures { result.now ≡ ended (idle_lines detail) }
 {
@@ -326,7 +345,7 @@ fn print_frames_out(out: &mut Vec<u8>, name: &[u8]) -> Result<(), AllocError>
     Ok(())
 }
 
-/// Why a run did no further unit, as the transcript names it.
+/// Returns the word for why a run did no further unit.
 fn reason_word(reason: Reason) -> &'static [u8]
     ensures { result.now ≡ reason_word reason }
 {
@@ -340,8 +359,8 @@ fn reason_word(reason: Reason) -> &'static [u8]
     }
 }
 
-/// Cut at its LFs, what is printed is the lines that were told, one for one, where no text holds an
-/// LF.
+/// States that a transcript cut at its LFs is the lines that were reported, one for one, if no text
+/// holds an LF.
 pub fn cuts_back()
     ensures { CutsBack }
 {}

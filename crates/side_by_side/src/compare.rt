@@ -57,7 +57,7 @@ impl SideBySide {
         self.compare_keys(user, address / BLOCK_SIZE)
     }
 
-    /// Compares the subchannels, the devices with their lines, decks and files, and what was delivered.
+    /// Compares the subchannels, the devices with their lines, decks and files.
     pub fn compare_devices(&self, user: UserNo) -> Result<(), SideError> {
         let bare = self.bare(user)?;
         let Some(subchannels) = self.system.subchannels(user) else {
@@ -72,8 +72,7 @@ impl SideBySide {
         compare_punch(&devices, &bare.devices())?;
         compare_printer(&devices, &bare.devices())?;
         let target = devices.target() == bare.devices().target();
-        same(target, View::Punch)?;
-        self.compare_deliveries(user)
+        same(target, View::Punch)
     }
 
     /// Compares the disks: their arms with the sense, and all their tracks.
@@ -85,14 +84,5 @@ impl SideBySide {
             }
         }
         Ok(())
-    }
-
-    /// Compares what replies told as delivered with what came to the bare machine.
-    fn compare_deliveries(&self, user: UserNo) -> Result<(), SideError> {
-        let Some(beside) = self.machines.get(user.index()) else {
-            return Err(SideError::NoSuchUser);
-        };
-        let told = self.system.deliveries(user);
-        same(told == Some(beside.came.as_slice()), View::Deliveries)
     }
 }

@@ -5,7 +5,7 @@ use cp_spool::{SeenDeck, SpoolFile};
 use machine_devices::SeenDevices;
 use unit_record::{Console, Entry, Record};
 
-/// Whether two records have the same bytes.
+/// Returns whether two records have the same bytes.
 fn is_same_record(one: Option<&Record>, other: Option<&Record>) -> bool {
     match (one, other) {
         (Some(one), Some(other)) => one.as_slice() == other.as_slice(),
@@ -14,7 +14,8 @@ fn is_same_record(one: Option<&Record>, other: Option<&Record>) -> bool {
     }
 }
 
-/// Compares two consoles: lines that were written, the one that is not finished, and those that wait.
+/// Compares two consoles: lines that were written, the one that is not finished, and those that
+/// wait.
 pub(crate) fn compare_console_device(one: &Console, other: &Console) -> Result<(), SideError> {
     same(one.lines().len() == other.lines().len(), View::Console)?;
     for line in 0..other.lines().len() {
@@ -30,7 +31,7 @@ pub(crate) fn compare_console_device(one: &Console, other: &Console) -> Result<(
     same(one.sense() == other.sense(), View::Sense)
 }
 
-/// Whether two decks are the same, their numbers and senders too.
+/// Returns whether two decks are the same, their numbers and senders too.
 fn is_same_deck(one: Option<SeenDeck<'_>>, other: Option<SeenDeck<'_>>) -> bool {
     match (one, other) {
         (Some(one), Some(other)) => {
@@ -44,7 +45,7 @@ fn is_same_deck(one: Option<SeenDeck<'_>>, other: Option<SeenDeck<'_>>) -> bool 
     }
 }
 
-/// Whether each card of the one is that of the other.
+/// Returns whether each card of the one is that of the other.
 fn are_same_cards(one: &SeenDeck<'_>, other: &SeenDeck<'_>) -> bool {
     for index in 0..other.count() {
         if one.card(index) != other.card(index) {
@@ -67,14 +68,14 @@ pub(crate) fn compare_reader(
     same(one.reader_sense() == other.reader_sense(), View::Sense)
 }
 
-/// Whether two lists of entries are the same.
+/// Returns whether two lists of entries are the same.
 fn are_same_entries(one: &[Entry], other: &[Entry]) -> bool {
     let are_same = one.iter().zip(other.iter()).all(|(one, other)| one.code() == other.code()
         && one.bytes() == other.bytes());
     one.len() == other.len() && are_same
 }
 
-/// Whether two closed files are the same, and for the same.
+/// Returns whether two closed files are the same, and for the same.
 fn is_same_file(one: Option<&SpoolFile>, other: Option<&SpoolFile>) -> bool {
     match (one, other) {
         (Some(one), Some(other)) => {

@@ -1,4 +1,5 @@
-//! The disks of users: parts of volumes for bare machines, and whether a minidisk and a part are the same.
+//! The disks of users: parts of volumes for bare machines, and whether a minidisk and a part are
+//! the same.
 ghost use Rattle.std.specs.Prelude.{◌≡◌};
 
 use crate::machines::same;
@@ -10,7 +11,7 @@ use cp_directory::{DiskExtent, User};
 use machine_channels::AttachedDisk;
 use std::alloc::Global;
 
-/// The arm of a disk as a machine finds it.
+/// Returns the arm of a disk as a machine finds it.
 fn first_track(extent: &DiskExtent) -> Arm
     ensures cylinder { result.cylinder ≡ 0 }
     ensures home { result.home ≡ 0 }
@@ -28,7 +29,7 @@ fn first_track(extent: &DiskExtent) -> Arm
     }
 }
 
-/// A volume of its own with the cylinders of an extent.
+/// Returns a volume of its own with the cylinders of an extent.
 fn part_of(alloc: Global, extent: &DiskExtent, volumes: &[Volume]) -> Result<Volume, SideError> {
     let serial = extent.volser().padded();
     let Some(volume) = volumes.iter().find(|volume| volume.volser() == serial) else {
@@ -41,7 +42,7 @@ fn part_of(alloc: Global, extent: &DiskExtent, volumes: &[Volume]) -> Result<Vol
     Ok(volume.slice(alloc, start, count)?)
 }
 
-/// The disks of a user's bare machine: each has the cylinders of one of his minidisks.
+/// Returns the disks of a user's bare machine: each has the cylinders of one of his minidisks.
 pub(crate) fn disks_of(
     alloc: Global,
     user: &User,
@@ -56,7 +57,7 @@ pub(crate) fn disks_of(
     Ok(disks)
 }
 
-/// Whether two tracks have the same home address and the same records.
+/// Returns whether two tracks have the same home address and the same records.
 fn is_same_track(one: &Track, other: &Track) -> bool {
     if one.home() != other.home() || one.len() != other.len() {
         return false;
@@ -73,7 +74,7 @@ fn is_same_track(one: &Track, other: &Track) -> bool {
     true
 }
 
-/// Whether two cylinders have the same tracks.
+/// Returns whether two cylinders have the same tracks.
 fn is_same_cylinder(one: &Cylinder, other: &Cylinder) -> bool {
     for head in 0..HEADS {
         if !is_same_track(one.track(head), other.track(head)) {
@@ -83,7 +84,7 @@ fn is_same_cylinder(one: &Cylinder, other: &Cylinder) -> bool {
     true
 }
 
-/// Whether a volume has from a cylinder on those of another volume.
+/// Returns whether a volume has from a cylinder on those of another volume.
 fn has_part(volume: &Volume, start: usize, part: &Volume) -> bool {
     for number in 0..part.count() {
         let place = start.saturating_add(number);
@@ -97,7 +98,7 @@ fn has_part(volume: &Volume, start: usize, part: &Volume) -> bool {
     true
 }
 
-/// Whether a minidisk has the tracks of the disk of a bare machine.
+/// Returns whether a minidisk has the tracks of the disk of a bare machine.
 fn has_tracks(seen: &SeenDisk<'_>, part: &Volume) -> bool {
     let extent = seen.extent();
     match seen.volume() {

@@ -7,7 +7,7 @@ use cp_console::console_line::ConsoleLine;
 use cp_console::responses::Response;
 use cp_core::Event;
 use cp_spool::SpoolFile;
-use machine_devices::{Delivered, Delivery, Ended, Saying, Told, copy_of, is_logged_on};
+use machine_devices::{Delivered, Delivery, Ended, LineOutcome, Saying, copy_of, is_logged_on};
 use s370_num::DevAddr;
 use std::alloc::{AllocError, Global};
 use unit_record::{Card, Sender, Target};
@@ -31,7 +31,7 @@ impl Before {
     }
 }
 
-/// The response that was said, if there was one.
+/// Returns the response that was said, if there was one.
 fn response_of(said: &Saying) -> Option<Response> {
     match said {
         Saying::Said(response) => Some(*response),
@@ -39,28 +39,38 @@ fn response_of(said: &Saying) -> Option<Response> {
     }
 }
 
-/// What a user is told where his bare machine tells this, and the next file has this number.
-fn said(told: Told, number: u64) -> Saying {
-    match told {
-        Told::Silent => Saying::Nothing,
-        Told::Said(response) => Saying::Said(response),
-        Told::Files => Saying::Files,
-        Told::Sent(_, _) => Saying::Said(Response::Sent),
-        Told::Closed(_) => Saying::Said(Response::FileClosed(number)),
-        Told::LoggedOff(_) => Saying::Said(Response::LogoffOk),
+/// Returns the response that a user gets if his bare machine says this and the next file has this
+/// number.
+fn said(reported: LineOutcome, number: u64) -> Saying {
+    match reported {
+        LineOutcome::Silent => Saying::Nothing,
+        LineOutcome::Said(response) => Saying::Said(response),
+        LineOutcome::Files => Saying::Files,
+        LineOutcome::Sent(_, _) => Saying::Said(Response::Sent),
+        LineOutcome::Closed(_) => Saying::Said(Response::FileClosed(number)),
+        LineOutcome::LoggedOff(_) => Saying::Said(Response::LogoffOk),
     }
 }
 
 /// Of each user, whether his bare machine is on.
 fn on_of(alloc: Global, machines: &[Beside]) -> Result<Vec<bool>, AllocError> {
     let mut on = Vec::new(alloc);
-    for beside in machines {
-        on.push(is_logged_on(beside.bare.mode()))?;
+    for other_users in machines {
+        on.push(is_logged_on(other_users.bare.mode()))?;
     }
     Ok(on)
 }
 
-/// The cards of a closed file.
+/// How a reply says what came to the user of this number.
+fn told_of(to: u8, what: Delivery) -> Option<Delivered> {
+    if usize::from(to) >= MOST_USERS {
+        return None;
+    }
+    let to = UserNo::new(to);
+    Some(Delivered { to, what })
+}
+
+/// Returns the cards of a closed file.
 fn cards_of(alloc: Global, file: &SpoolFile) -> Result<Vec<Card>, AllocError> {
     let mut cards = Vec::new(alloc);
     for index in 0..file.count() {
@@ -72,7 +82,7 @@ fn cards_of(alloc: Global, file: &SpoolFile) -> Result<Vec<Card>, AllocError> {
 }
 
 impl SideBySide {
-    /// Types a line at both, and tells the response of both.
+    /// Types a line at both, and reports the response of both.
     pub fn line(
         &mut self,
         alloc: Global,
@@ -85,9 +95,9 @@ impl SideBySide {
         }
         let before = Before::of(self.bare(user)?);
         let number = self.files.saturating_add(1);
-        let told = self.type_line(alloc, user, typed)?;
-        self.delivered = self.follow(alloc, user, before, told)?;
-        let said = said(told, number);
+        let reported = self.type_line(alloc, user, typed)?;
+        self.delivered = self.follow(alloc, user, before, reported)?;
+        let said = said(reported, number);
         let lines = self.bare(user)?.printed().saturating_sub(before.lines);
         let mut wanted = reply(Ended::Done, said, lines);
         wanted.delivered = self.delivered;
@@ -96,7 +106,12 @@ impl SideBySide {
     }
 
     /// Types a line at the bare machine of a user, in the world of all.
-    fn type_line(&mut self, alloc: Global, user: UserNo, typed: &[u8]) -> Result<Told, SideError> {
+    fn type_line(
+        &mut self,
+        alloc: Global,
+        user: UserNo,
+        typed: &[u8],
+    ) -> Result<LineOutcome, SideError> {
         let on = on_of(alloc, &self.machines)?;
         let world = Others {
             users: self.system.directory().users(),
@@ -104,21 +119,21 @@ impl SideBySide {
             on: on.as_slice(),
         };
         match self.machines.get_mut(user.index()) {
-            Some(beside) => Ok(beside.bare.line_among(alloc, &world, typed)?),
+            Some(other_users) => Ok(other_users.bare.line_among(alloc, &world, typed)?),
             None => Err(SideError::NoSuchUser),
         }
     }
 
-    /// What a line brings about for others: each file that it closed gets its number, the punched one first, and a
-    /// message or a punched file comes to the user for whom it is.
+    /// Does what follows from a line for other users: numbers each closed file, the punched one
+    /// first, and delivers the message or the punched file to its user.
     fn follow(
         &mut self,
         alloc: Global,
         user: UserNo,
         before: Before,
-        told: Told,
+        reported: LineOutcome,
     ) -> Result<Option<Delivered>, SideError> {
-        if let Told::Sent(to, line) = told {
+        if let LineOutcome::Sent(to, line) = reported {
             return self.hear(to, line);
         }
         let now = Before::of(self.bare(user)?);
@@ -138,13 +153,14 @@ impl SideBySide {
     /// A message comes to the console of the user of this number.
     fn hear(&mut self, to: u8, line: ConsoleLine) -> Result<Option<Delivered>, SideError> {
         match self.machines.get_mut(usize::from(to)) {
-            Some(beside) => beside.bare.hear(line)?,
+            Some(other_users) => other_users.bare.hear(line)?,
             None => return Ok(None),
         }
-        self.note(to, Delivery::Message(line))
+        Ok(told_of(to, Delivery::Message(line)))
     }
 
-    /// The file of this index, which a user's punch has closed, comes to the reader of the user for whom it is.
+    /// Delivers the file of this index, which a user's punch has closed, to the reader of the user
+    /// for whom it is.
     fn send_cards(
         &mut self,
         alloc: Global,
@@ -172,26 +188,13 @@ impl SideBySide {
         cards: Vec<Card>,
     ) -> Result<Option<Delivered>, SideError> {
         match self.machines.get_mut(usize::from(to)) {
-            Some(beside) => beside.bare.take_deck(number, sender, cards)?,
+            Some(other_users) => other_users.bare.take_deck(number, sender, cards)?,
             None => return Ok(None),
         }
-        self.note(to, Delivery::Deck(number))
+        Ok(told_of(to, Delivery::Deck(number)))
     }
 
-    /// Notes what came to the user of this number.
-    fn note(&mut self, to: u8, what: Delivery) -> Result<Option<Delivered>, SideError> {
-        if usize::from(to) >= MOST_USERS {
-            return Ok(None);
-        }
-        let to = UserNo::new(to);
-        match self.machines.get_mut(to.index()) {
-            Some(beside) => beside.came.push(what)?,
-            None => return Ok(None),
-        }
-        Ok(Some(Delivered { to, what }))
-    }
-
-    /// The operator gives a deck of these cards to both; no cards are no deck.
+    /// Gives both machines a deck of these cards from the operator; no cards are no deck.
     pub fn deck(&mut self, alloc: Global, user: UserNo, cards: &[Card]) -> Result<(), SideError> {
         // The prover finds what a reply may hold only where a function names it.
         let _device: Option<DevAddr> = None;

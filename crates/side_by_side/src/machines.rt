@@ -6,21 +6,21 @@ use ckd_volume::Volume;
 use cp_console::responses::Response;
 use cp_core::{Event, Sizes, System};
 use cp_directory::{User, UserDevices, read_directory};
-use machine_devices::{Delivered, Delivery, Ended, Places, Reply, Saying};
+use machine_devices::{Delivered, Ended, Places, Reply, Saying};
 use s370_intr::{Ran, Reason};
 use s370_num::DevAddr;
 use s370_store::PlainStorage;
 use std::alloc::Global;
 use user_names::UserNo;
 
-/// A user's bare machine, and what came to it from others and from the operator.
+/// A user's bare machine.
 #[derive(Drop)]
 pub(crate) struct Beside {
     pub(crate) bare: Bare,
-    pub(crate) came: Vec<Delivery>,
 }
 
-/// A system, and for each of its users a bare machine with a storage of the same size and the same devices.
+/// A system, and for each of its users a bare machine with a storage of the same size and the same
+/// devices.
 #[derive(Drop)]
 pub struct SideBySide {
     pub(crate) system: System,
@@ -41,14 +41,15 @@ fn places_in(devices: UserDevices) -> Places {
     }
 }
 
-/// The bare machine of a user, with disks that have the cylinders of his minidisks on these volumes.
+/// Returns the bare machine of a user, with disks that have the cylinders of his minidisks on these
+/// volumes.
 fn machine_of(alloc: Global, user: &User, volumes: &[Volume]) -> Result<Bare, SideError> {
     let storage = PlainStorage::new(alloc, user.storage().blocks())?;
     let disks = disks_of(alloc, user, volumes)?;
     Ok(Bare::new(alloc, storage, places_in(user.devices()), disks)?)
 }
 
-/// A bare machine for each user.
+/// Returns a bare machine for each user.
 fn machines_of(
     alloc: Global,
     users: &[User],
@@ -58,13 +59,13 @@ fn machines_of(
     for user in users {
         machines.push(Beside {
             bare: machine_of(alloc, user, volumes)?,
-            came: Vec::new(alloc),
         })?;
     }
     Ok(machines)
 }
 
-/// The reply to an event that ended so, where this was told and so many lines joined the console.
+/// Returns the reply to an event that ended so, where this was reported and so many lines joined
+/// the console.
 pub(crate) fn reply(ended: Ended, said: Saying, lines: usize) -> Reply {
     Reply {
         ended,
@@ -83,7 +84,7 @@ pub(crate) fn same(is_same: bool, view: View) -> Result<(), SideError> {
     }
 }
 
-/// Of the units that were asked for, those that were done where frames were lacking.
+/// Returns how many of the units that were asked for were done, if frames ran out.
 fn units_of(asked: u32, ended: Ended) -> u32 {
     match ended {
         Ended::Ran(ran) if ran.reason == Reason::FramesOut => ran.units,
@@ -92,12 +93,12 @@ fn units_of(asked: u32, ended: Ended) -> u32 {
 }
 
 impl SideBySide {
-    /// What a directory without minidisks states, with all machines off.
+    /// Boots both sides of a directory without minidisks, with all machines off.
     pub fn boot(alloc: Global, directory: &[u8], sizes: Sizes) -> Result<SideBySide, SideError> {
         SideBySide::boot_on(alloc, directory, Vec::new(alloc), sizes)
     }
 
-    /// What a directory states whose minidisks are on these volumes, with all machines off.
+    /// Boots both sides of a directory whose minidisks are on these volumes, with all machines off.
     pub fn boot_on(
         alloc: Global,
         directory: &[u8],
@@ -118,42 +119,43 @@ impl SideBySide {
         })
     }
 
-    /// The bare machine beside a user.
+    /// Returns the bare machine next to a user.
     pub fn bare(&self, user: UserNo) -> Result<&Bare, SideError> {
         match self.machines.get(user.index()) {
-            Some(beside) => Ok(&beside.bare),
+            Some(other_users) => Ok(&other_users.bare),
             None => Err(SideError::NoSuchUser),
         }
     }
 
     pub(crate) fn bare_mut(&mut self, user: UserNo) -> Result<&mut Bare, SideError> {
         match self.machines.get_mut(user.index()) {
-            Some(beside) => Ok(&mut beside.bare),
+            Some(other_users) => Ok(&mut other_users.bare),
             None => Err(SideError::NoSuchUser),
         }
     }
 
-    /// How many files there were so far.
+    /// Returns how many files there were so far.
     pub fn files(&self) -> u64 {
         self.files
     }
 
-    /// What the last event delivered, and to whom.
+    /// Returns what the last event delivered, and to whom.
     pub fn delivered(&self) -> Option<Delivered> {
         self.delivered
     }
 
-    /// How many events were out of frames.
+    /// Returns how many events were out of frames.
     pub fn out_of_frames(&self) -> u64 {
         self.out_of_frames
     }
 
-    /// How many pages have come into frames.
+    /// Returns how many pages have come into frames.
     pub fn page_ins(&self) -> u64 {
         self.system.page_ins()
     }
 
-    /// Whether an event was out of frames, and so did nothing. Nothing may be told of it but that.
+    /// Whether an event was out of frames, and so did nothing. Nothing may be reported of it but
+    /// that.
     pub(crate) fn lacks_frames(&mut self, answered: Reply) -> Result<bool, SideError> {
         self.delivered = None;
         // The prover finds what a reply may hold only where a function names it.
@@ -167,26 +169,26 @@ impl SideBySide {
         Ok(true)
     }
 
-    /// Lets both run for at most so many units, and tells how many both did and why no more.
+    /// Lets both run for at most so many units, and says how many both did and why no more.
     pub fn run(&mut self, user: UserNo, units: u32) -> Result<Ran, SideError> {
         let answered = self.system.apply(Event::Run(user, units))?;
         let _is_out = self.lacks_frames(answered)?;
         let asked = units_of(units, answered.ended);
         let bare = self.bare_mut(user)?;
         let before = bare.printed();
-        let told = bare.units(asked);
+        let reported = bare.units(asked);
         let lines = bare.printed().saturating_sub(before);
         let Ended::Ran(ran) = answered.ended else {
             return Err(SideError::Differs(View::Answer));
         };
         if ran.reason == Reason::FramesOut {
             self.out_of_frames = self.out_of_frames.saturating_add(1);
-            same(ran.units == told.ran.units, View::Answer)?;
+            same(ran.units == reported.ran.units, View::Answer)?;
             let wanted = reply(answered.ended, Saying::Nothing, lines);
             same(answered == wanted, View::Answer)?;
             return Ok(ran);
         }
-        let wanted = reply(Ended::Ran(told.ran), Saying::of(told.notice), lines);
+        let wanted = reply(Ended::Ran(reported.ran), Saying::of(reported.notice), lines);
         same(answered == wanted, View::Answer)?;
         Ok(ran)
     }
@@ -204,7 +206,7 @@ impl SideBySide {
         same(answered == wanted, View::Answer)
     }
 
-    /// Serves the device of this address of both, and tells whether it had a program.
+    /// Serves the device of this address of both, and says whether it had a program.
     pub fn serve(&mut self, user: UserNo, device: DevAddr) -> Result<bool, SideError> {
         let answered = self.system.apply(Event::Serve(user, device))?;
         if self.lacks_frames(answered)? {

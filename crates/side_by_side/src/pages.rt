@@ -8,8 +8,8 @@ use user_names::UserNo;
 /// A page of zeros.
 const ZEROS: [u8; FRAME_SIZE] = [0; FRAME_SIZE];
 
-/// Whether two lists of bytes are the same; eight are compared at a time, and all of them, which takes less time than to
-/// look for the first that differs.
+/// Returns whether two lists of bytes are the same; eight are compared at a time, and all of them,
+/// which takes less time than to look for the first that differs.
 fn are_same_bytes(one: &[u8], other: &[u8]) -> bool {
     let (words, rest) = one.as_chunks::<8>();
     let (other_words, other_rest) = other.as_chunks::<8>();
@@ -20,7 +20,7 @@ fn are_same_bytes(one: &[u8], other: &[u8]) -> bool {
     differing == 0 && one.len() == other.len() && rest == other_rest
 }
 
-/// Whether each byte of a page is that of these, as the views of storage show it.
+/// Returns whether each byte of a page is that of these, as the views of storage show it.
 fn shows_page(system: &System, user: UserNo, page: u32, wanted: &[u8]) -> bool {
     let mut address = page.wrapping_mul(FRAME_SIZE as u32);
     for byte in wanted {
@@ -32,7 +32,7 @@ fn shows_page(system: &System, user: UserNo, page: u32, wanted: &[u8]) -> bool {
     true
 }
 
-/// Whether a page has these bytes: in its frame, in its slot, or, where it stands nowhere, zeros.
+/// Returns whether a page has these bytes: in its frame, in its slot, or zeros if it is nowhere.
 fn has_page(system: &mut System, user: UserNo, page: u32, wanted: &[u8]) -> bool {
     if let Some(frame) = system.frame_of(user, Page(page)) {
         return match system.frame_mut(frame) {
@@ -47,14 +47,14 @@ fn has_page(system: &mut System, user: UserNo, page: u32, wanted: &[u8]) -> bool
 }
 
 impl SideBySide {
-    /// Compares the bytes of storage and the keys, as [`SideBySide::compare_storage`] does, but those of a page that
-    /// stands in a frame at once.
+    /// Compares the bytes of storage and the keys, as [`SideBySide::compare_storage`] does, but
+    /// those of a page that is in a frame at once.
     pub fn compare_pages(&mut self, user: UserNo) -> Result<(), SideError> {
-        let Some(beside) = self.machines.get(user.index()) else {
+        let Some(other_users) = self.machines.get(user.index()) else {
             return Err(SideError::NoSuchUser);
         };
         let mut page = 0u32;
-        for wanted in beside.bare.storage().chunks(FRAME_SIZE) {
+        for wanted in other_users.bare.storage().chunks(FRAME_SIZE) {
             same(
                 has_page(&mut self.system, user, page, wanted),
                 View::Storage,

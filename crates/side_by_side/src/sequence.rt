@@ -8,7 +8,7 @@ pub struct Sequence {
 }
 
 impl Sequence {
-    /// The sequence that begins with this number.
+    /// Returns the sequence that begins with this number.
     pub fn new(seed: u64) -> Sequence {
         Sequence { state: seed }
     }

@@ -39,8 +39,6 @@ pub enum View {
     Printer,
     /// The sense byte of a device.
     Sense,
-    /// What was delivered.
-    Deliveries,
     /// The arm of a disk, and its sense.
     Arm,
     /// The tracks of a disk.
@@ -65,7 +63,6 @@ impl fmt::Display for View {
             View::Punch => "what was punched",
             View::Printer => "what the printer printed",
             View::Sense => "a sense byte",
-            View::Deliveries => "what was delivered",
             View::Arm => "the arm of a disk",
             View::Tracks => "the tracks of a disk",
         };

@@ -1,8 +1,8 @@
-//! The world of one user beside the bare machines of all.
+//! The world of one user next to the bare machines of all.
 ghost use Rattle.std.specs.Prelude.{◌≤◌, length};
 
 use cp_directory::User;
-use machine_devices::World;
+use machine_devices::UserDirectory;
 use user_names::{UserNo, name_of, user_of};
 
 /// The users of the directory, and whose bare machines are on.
@@ -17,7 +17,7 @@ pub(crate) struct Others<'a> {
     ghost few: { length users.now ≤ 64 },
 }
 
-impl<'a> World for Others<'a> {
+impl<'a> UserDirectory for Others<'a> {
     ghost use Rattle.cp_core.specs.System.{world_among};
 
     ghost known = { λ o. world_among o.users.now o.own o.on.now };

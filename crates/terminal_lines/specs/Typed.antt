@@ -2,6 +2,7 @@
 use Rattle.std.specs.Prelude.{ℕ, Bool, List}
 use Rattle.terminal_lines.specs.declared.decoder.Expects.{Expects}
 
+-- what was typed of a line so far
 pub record Typed : Type 0 where
   -- the characters of the line so far
   pub line : List ℕ

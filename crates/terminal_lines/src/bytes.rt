@@ -36,7 +36,11 @@ impl Bytes {
         Bytes { bytes }
     }
 
-    /// A copy of these bytes.
+    /// Returns a copy of these bytes.
+    ///
+    /// # Errors
+    ///
+    /// `AllocError` if memory is refused.
     pub fn of(alloc: Global, bytes: &[u8]) -> Result<Bytes, AllocError>
         ensures { IfOk result (λ copy. copy ≡ bytes.now) }
     {
@@ -45,7 +49,7 @@ impl Bytes {
         })
     }
 
-    /// The bytes.
+    /// Returns the bytes.
     pub fn as_slice(&self) -> &[u8]
         ensures { result.now ≡ self.now }
     {
@@ -53,6 +57,10 @@ impl Bytes {
     }
 
     /// Adds a byte at the end.
+    ///
+    /// # Errors
+    ///
+    /// `AllocError` if memory is refused; what this is then is not specified.
     pub fn push(&mut self, byte: u8) -> Result<(), AllocError>
         ensures { OnOk result (self.new ≡ self.old ++ byte ∷ []) }
     {
@@ -61,6 +69,10 @@ impl Bytes {
     }
 
     /// Adds bytes at the end.
+    ///
+    /// # Errors
+    ///
+    /// `AllocError` if memory is refused; what this is then is not specified.
     pub fn extend(&mut self, bytes: &[u8]) -> Result<(), AllocError>
         ensures { OnOk result (self.new ≡ self.old ++ bytes.now) }
     {

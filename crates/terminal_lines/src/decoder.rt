@@ -92,11 +92,15 @@ impl Model for LineDecoder {
 
     ghost Value = { Typed };
 
-    ghost view = { λ d. record { line = d.line; expects = d.expects; is_after_return = d.is_after_return } };
+    ghost view = { λ d. record {
+      line = d.line;
+      expects = d.expects;
+      is_after_return = d.is_after_return;
+    } };
 }
 
 impl LineDecoder {
-    /// A terminal at which nothing was typed.
+    /// Returns a terminal at which nothing was typed.
     pub fn new(alloc: Global) -> LineDecoder
         ensures { result ≡ nothing_typed }
     {
@@ -108,8 +112,13 @@ impl LineDecoder {
     }
 
     /// Takes a byte.
+    ///
+    /// # Errors
+    ///
+    /// `AllocError` if memory is refused; what this is then is not specified.
     pub fn take(&mut self, alloc: Global, byte: u8) -> Result<Decoded, AllocError>
-        ensures { IfOk result (λ decoded. after_byte self.old byte ≡ record { typed = self.new; decoded = decoded }) }
+        ensures { IfOk result (λ decoded. after_byte self.old byte
+            ≡ record { typed = self.new; decoded = decoded }) }
     {
         match self.expects {
             Expects::Text => self.take_text(alloc, byte),
@@ -133,7 +142,8 @@ impl LineDecoder {
     }
 
     fn take_text(&mut self, alloc: Global, byte: u8) -> Result<Decoded, AllocError>
-        ensures { IfOk result (λ decoded. after_text self.old byte ≡ record { typed = self.new; decoded = decoded }) }
+        ensures { IfOk result (λ decoded. after_text self.old byte
+            ≡ record { typed = self.new; decoded = decoded }) }
     {
         if byte == COMMAND {
             self.expects = Expects::Command;
@@ -157,7 +167,8 @@ impl LineDecoder {
     }
 
     fn take_command(&mut self, alloc: Global, byte: u8) -> Result<Decoded, AllocError>
-        ensures { IfOk result (λ decoded. after_command self.old byte ≡ record { typed = self.new; decoded = decoded }) }
+        ensures { IfOk result (λ decoded. after_command self.old byte
+            ≡ record { typed = self.new; decoded = decoded }) }
     {
         self.expects = match byte {
             PARAMETERS => Expects::Parameter,
@@ -188,7 +199,8 @@ impl LineDecoder {
     }
 
     fn take_option(&mut self, command: u8, option: u8) -> Decoded
-        ensures { after_option self.old command option ≡ record { typed = self.new; decoded = result } }
+        ensures { after_option self.old command option
+            ≡ record { typed = self.new; decoded = result } }
     {
         self.expects = Expects::Text;
         match command {
@@ -215,7 +227,7 @@ fn add(line: &mut Bytes, character: u8) -> Result<(), AllocError>
     Ok(())
 }
 
-/// The character as it stands in a line: a blank for what is no printable ASCII character.
+/// The character as it is in a line: a blank for what is no printable ASCII character.
 pub fn printable(byte: u8) -> u8
     ensures { result ≡ printable byte }
 {

@@ -1,15 +1,20 @@
-//! A typed line as it stands in the script.
+//! A typed line as it is in the script.
 ghost use Rattle.std.specs.Prelude.{◌≡◌, ◌≤◌, IfOk, codes, length};
 ghost use Rattle.text_words.specs.Words.{after_first_word};
-ghost use Rattle.terminal_lines.specs.Script.{asks_cp, begins_with, command_of, message_of, script_line};
+ghost use Rattle.terminal_lines.specs.Script.{asks_cp, begins_with, command_of, message_of};
+ghost use Rattle.terminal_lines.specs.Script.{script_line};
 
 use crate::bytes::Bytes;
 use crate::words::in_capitals;
 use std::alloc::{AllocError, Global};
 use text_words::words::{cut_word, unindented};
 
-/// The line with its command in capitals, if it goes to the control program; the text of a message
-/// stays as it is.
+/// Returns the line with its command in capitals, if it goes to the control program; the text of a
+/// message stays as it is.
+///
+/// # Errors
+///
+/// `AllocError` if memory is refused.
 pub fn script_line(alloc: Global, is_running: bool, line: &[u8]) -> Result<Bytes, AllocError>
     ensures { IfOk result (λ copy. copy ≡ script_line is_running line.now) }
 {

@@ -17,7 +17,11 @@ pub struct Guess {
 }
 
 impl Guess {
-    /// A copy.
+    /// Returns a copy.
+    ///
+    /// # Errors
+    ///
+    /// `AllocError` if memory is refused.
     pub fn copy(&self, alloc: Global) -> Result<Guess, AllocError>
         ensures { IfOk result (λ copy. copy ≡ self.now) }
     {
@@ -41,7 +45,11 @@ pub enum Said {
     Other,
 }
 
-/// What a line in capitals says.
+/// Returns what a line in capitals says.
+///
+/// # Errors
+///
+/// `AllocError` if memory is refused.
 pub fn said_of(alloc: Global, line: &[u8]) -> Result<Said, AllocError>
     ensures { IfOk result (λ said. said ≡ said_by (words_of line.now)) }
 {
@@ -71,7 +79,9 @@ fn named(alloc: Global, is_logon: bool, name: &[u8]) -> Result<Said, AllocError>
 }
 
 fn both(alloc: Global, is_logon: bool, name: &[u8], password: &[u8]) -> Result<Said, AllocError>
-    ensures { IfOk result (λ said. said ≡ (if is_logon then Said.Both (record { name = name.now; password = password.now }) else Said.Other)) }
+    ensures { IfOk result (λ said. said
+        ≡ (if is_logon then Said.Both (record { name = name.now; password = password.now })
+        else Said.Other)) }
 {
     if !is_logon {
         return Ok(Said::Other);
@@ -82,7 +92,11 @@ fn both(alloc: Global, is_logon: bool, name: &[u8], password: &[u8]) -> Result<S
     }))
 }
 
-/// The line in capitals.
+/// Returns the line in capitals.
+///
+/// # Errors
+///
+/// `AllocError` if memory is refused.
 pub fn in_capitals(alloc: Global, line: &[u8]) -> Result<Bytes, AllocError>
     ensures { IfOk result (λ capitals. capitals ≡ map capital line.now) }
 {

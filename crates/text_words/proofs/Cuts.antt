@@ -7,7 +7,7 @@ use Rattle.std.proofs.lemmas.List.Quantifiers.{position-Some}
 use Rattle.text_words.specs.Lines.{lines_of}
 use Rattle.text_words.specs.Words.{word_of, after_word}
 
--- this byte stands there, and nowhere before
+-- this byte is there, and nowhere before
 record First (byte : ℕ) (xs : List ℕ) (at : ℕ) : Type 0 where
   within : at < length xs
   here : eqb (get_or xs at 0) byte ≡ true
@@ -64,7 +64,7 @@ fails : (b : Bool) → not b ≡ true → b ≡ false
 fails true e = cc
 fails false e = refl
 
--- where no place is found, it stands nowhere
+-- where no place is found, it is nowhere
 pub nowhere : (byte : ℕ) (xs : List ℕ) → position (λ c. eqb c byte) xs ≡ None → (k : ℕ) → k < length xs → eqb (get_or xs k 0) byte ≡ false
 nowhere byte xs e k less =
     let none : ltb (position_or_len (λ c. eqb c byte) xs) (length xs) ≡ false = past _ _ e in

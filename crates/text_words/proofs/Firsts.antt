@@ -1,4 +1,4 @@
--- What `first_fault_of` says: the fault that is told is the first faulty line's.
+-- What `first_fault_of` says: the fault that is reported is the first faulty line's.
 use Rattle.std.proofs.Common.{◌≡◌, ℕ, ◌+◌, List, [], ◌∷◌, ◌++◌, length, Result, Ok, Err, refl, ap, ◌∙◌, subst, add-zero, arith}
 use Rattle.text_words.specs.Lines.{and_then, read_lines}
 

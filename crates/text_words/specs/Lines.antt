@@ -1,5 +1,6 @@
 -- A text is judged line by line, from its first line on.
-use Rattle.std.specs.Prelude.{◌≡◌, ℕ, ◌+◌, ◌==◌, Bool, false, if◌then◌else◌, List, [], ◌∷◌, ◌++◌, length, Option, MatchOption, Result, Ok, Err}
+use Rattle.std.specs.Prelude.{◌≡◌, ℕ, ◌+◌, ◌==◌, Bool, false, if◌then◌else◌, List, [], ◌∷◌, ◌++◌}
+use Rattle.std.specs.Prelude.{length, Option, MatchOption, Result, Ok, Err}
 use Rattle.std.specs.List.{onto_first}
 use Rattle.text_words.specs.declared.lines.NumberedLine.{NumberedLine}
 
@@ -18,10 +19,13 @@ abbrev pub and_then : {A B F : Type 0} → Result A F → (A → Result B F) →
 and_then (Ok a) f = f a
 and_then (Err fault) f = Err fault
 
--- what is read from these lines, by what a line of this number adds to what was read before it; the first fault is told
-abbrev pub read_lines : {S F : Type 0} → (ℕ → S → List ℕ → Result S F) → ℕ → S → List (List ℕ) → Result S F
+-- what is read from these lines, by what a line of this number adds to what was read before it; the
+-- first fault is reported
+abbrev pub read_lines : {S F : Type 0} → (ℕ → S → List ℕ → Result S F) → ℕ → S → List (List ℕ)
+    → Result S F
 read_lines step number so_far [] = Ok so_far
-read_lines step number so_far (line ∷ lines) = and_then (step number so_far line) (λ next. read_lines step (number + 1) next lines)
+read_lines step number so_far (line ∷ lines) =
+    and_then (step number so_far line) (λ next. read_lines step (number + 1) next lines)
 
 -- the line of this number, counted from 1, and those before and after it
 pub record LineAt (lines : List (List ℕ)) (number : ℕ) : Type 0 where
@@ -40,4 +44,5 @@ pub record LinesLeft : Type 0 where
 abbrev pub YieldsLine : LinesLeft → Option NumberedLine → LinesLeft → Type 0
 YieldsLine old next new =
     MatchOption next ((old.lines ≡ []) × (new ≡ old))
-    (λ line. (old.lines ≡ line.text.now ∷ new.lines) × (line.number ≡ old.number) × (new.number ≡ old.number + 1))
+    (λ line. (old.lines ≡ line.text.now ∷ new.lines) × (line.number ≡ old.number)
+    × (new.number ≡ old.number + 1))

@@ -1,12 +1,12 @@
 //! Texts that people write for the program: their lines, the words of a line, and numbers.
 //!
-//! Every text is judged line by line, from its first line on, and the first faulty line is told. One
-//! theorem serves every such reader: [`lines::numbered_lines`] gives exactly the lines that a text
-//! has, in order and each with its number, so what a reader makes of them one after another is
-//! `read_lines` over `lines_of` of the text.
+//! Every text is judged line by line, from its first line on, and the first faulty line is
+//! reported. One theorem serves every such reader: [`lines::numbered_lines`] gives exactly the
+//! lines that a text has, in order and each with its number, so what a reader makes of them one
+//! after another is `read_lines` over `lines_of` of the text.
 //!
-//! A line's words are what stands between its blanks: one blank ([`words::cut_word`]), or any number
-//! of blanks ([`words::next_word`], [`words::words_of`]). A number is what all the digits of a word
+//! A line's words are what is between its blanks: one blank ([`words::cut_word`]), or any number of
+//! blanks ([`words::next_word`], [`words::words_of`]). A number is what all the digits of a word
 //! spell, or the word is none ([`numbers`]).
 //!
 //! ```

@@ -5,15 +5,15 @@ ghost use Rattle.text_words.specs.Lines.{lines_of, is_comment};
 
 use std::marker::Model;
 
-/// Where a byte stands first.
+/// Where a byte is first.
 pub fn place_of(byte: u8, bytes: &[u8]) -> Option<usize>
     ensures { result ≡ position (λ c. c == byte) bytes.now }
 {
     bytes.iter().position(|c| *c == byte)
 }
 
-/// The first line of a text that has one, without its LF, and the text that follows it. The last
-/// line may lack its LF.
+/// Returns the first line of a text that has one, without its LF, and the text that follows it. The
+/// last line may lack its LF.
 pub fn cut_line(text: &[u8]) -> (&[u8], &[u8])
     requires { 0 < length text.now }
     ensures lines { lines_of text.now ≡ result.0.now ∷ lines_of result.1.now }
@@ -52,7 +52,7 @@ impl<'a> Model for NumberedLines<'a> {
     ghost invariant = { λ l. l.number + length l.rest.now < 2 ^ 64 };
 }
 
-/// The lines of a text, numbered from 1.
+/// Returns the lines of a text, numbered from 1.
 ///
 /// ```text
 /// for line in numbered_lines(b"USER A PW 8K\n*\n") {
@@ -91,7 +91,7 @@ impl<'a> Iterator for NumberedLines<'a> {
     }
 }
 
-/// Whether a line begins with `*`.
+/// Returns whether a line begins with `*`.
 pub fn is_comment(line: &[u8]) -> bool
     ensures { result ≡ is_comment line.now }
 {

@@ -2,14 +2,14 @@
 ghost use Rattle.std.specs.Prelude.{◌≡◌, ◌^◌, ◌<◌, ◌≤◌, Option, Some, None, IfSome};
 ghost use Rattle.text_words.specs.Numbers.{decimal_of, digit_value, hexadecimal_of, is_digit};
 
-/// Whether a byte is a decimal digit.
+/// Returns whether a byte is a decimal digit.
 pub fn is_digit(c: u8) -> bool
     ensures { result ≡ is_digit c }
 {
     b'0' <= c && c <= b'9'
 }
 
-/// The number that 1 to `most` decimal digits spell, leading zeros allowed.
+/// Returns the number that 1 to `most` decimal digits spell, leading zeros allowed.
 pub fn decimal_of(most: usize, digits: &[u8]) -> Option<u32>
     requires { most ≤ 9 }
     ensures { result ≡ decimal_of most digits.now }
@@ -27,7 +27,7 @@ pub fn decimal_of(most: usize, digits: &[u8]) -> Option<u32>
     Some(number)
 }
 
-/// The value of a hexadecimal digit, `0` to `9` or `A` to `F`.
+/// Returns the value of a hexadecimal digit, `0` to `9` or `A` to `F`.
 pub fn digit_value(c: u8) -> Option<u8>
     ensures value { result ≡ digit_value c }
     ensures below { IfSome result (λ digit. digit < 16) }
@@ -39,7 +39,7 @@ pub fn digit_value(c: u8) -> Option<u8>
     }
 }
 
-/// The number that `least` to `most` hexadecimal digits spell, leading zeros allowed.
+/// Returns the number that `least` to `most` hexadecimal digits spell, leading zeros allowed.
 pub fn hexadecimal_of(least: usize, most: usize, digits: &[u8]) -> Option<u32>
     requires { most ≤ 8 }
     ensures value { result ≡ hexadecimal_of least most digits.now }

@@ -1,13 +1,14 @@
 //! The words of a line.
 ghost use Rattle.std.specs.Prelude.{◌≡◌, ◌∷◌, [], map, IfOk, IfSome, MatchOption};
 ghost use Rattle.std.specs.Option.{option_map};
-ghost use Rattle.text_words.specs.Words.{after_first_word, after_word, unindented, word_of, words_of};
+ghost use Rattle.text_words.specs.Words.{after_first_word, after_word, unindented, word_of};
+ghost use Rattle.text_words.specs.Words.{words_of};
 
 use crate::lines::place_of;
 use std::alloc::{AllocError, Global};
 
-/// The first word of a line whose words are separated by one blank, and what follows the blank
-/// after it. Where the line has no blank it is one word, and nothing follows.
+/// Returns the first word of a line whose words are separated by one blank, and what follows the
+/// blank after it. If the line has no blank it is one word, and nothing follows.
 pub fn cut_word(line: &[u8]) -> (&[u8], Option<&[u8]>)
     ensures word { result.0.now ≡ word_of line.now }
     ensures rest { option_map (λ rest. rest.now) result.1 ≡ after_word line.now }
@@ -18,7 +19,7 @@ pub fn cut_word(line: &[u8]) -> (&[u8], Option<&[u8]>)
     }
 }
 
-/// The first word of a line whose words are separated by any number of blanks, and what stands
+/// Returns the first word of a line whose words are separated by any number of blanks, and what is
 /// after the blank that ends it; none where the line has only blanks.
 pub fn next_word(line: &[u8]) -> Option<(&[u8], &[u8])>
     ensures words { MatchOption result (words_of line.now ≡ [])
@@ -36,7 +37,7 @@ pub fn next_word(line: &[u8]) -> Option<(&[u8], &[u8])>
     }
 }
 
-/// The line from its first character on that is no blank.
+/// Returns the line from its first character on that is no blank.
 pub fn unindented(line: &[u8]) -> &[u8]
     ensures { result.now ≡ unindented line.now }
 {
@@ -47,7 +48,11 @@ pub fn unindented(line: &[u8]) -> &[u8]
     rest
 }
 
-/// The words of a line, separated by any number of blanks; no word is empty.
+/// Returns the words of a line, separated by any number of blanks; no word is empty.
+///
+/// # Errors
+///
+/// `AllocError` if memory is refused.
 pub fn words_of<'a>(alloc: Global, line: &'a [u8]) -> Result<Vec<&'a [u8]>, AllocError>
     ensures { IfOk result (λ words. map (λ w. w.now) words.items ≡ words_of line.now) }
 {

@@ -1,5 +1,6 @@
 -- Read after read of a deck.
-use Rattle.std.proofs.Common.{◌≡◌, ℕ, zero, suc, ◌<◌, Bool, List, [], ◌∷◌, length, Option, Some, None, refl, ap, ◌∙◌, arith, add-one}
+use Rattle.std.proofs.Common.{◌≡◌, ℕ, zero, suc, ◌<◌, Bool, List, [], ◌∷◌, length, Option, Some, None, refl, ap, ◌∙◌}
+use Rattle.std.proofs.Common.{arith, add-one}
 use Rattle.std.specs.Prelude.{slice_get, slice_index_or}
 use Rattle.s370_walk.specs.declared.bits.Flags.{Flags}
 use Rattle.s370_walk.specs.declared.parts.Answer.TheVariants.{Refused, Input}
@@ -50,22 +51,30 @@ module _ (deck : DeckValue) (decks : List DeckValue) (sense : ℕ) (first : Bool
       ∙ reads (Some (suc k)) (slice_index_or deck.cards k []) lt
 
   answers_at : (giving : List ℕ) (k : ℕ) → k < length deck.cards
-      → reader_answer (after_reads (before_deck deck decks sense giving) (asked 2 first flags) k) (asked 2 first flags) ≡ Input 80
+      → reader_answer (after_reads (before_deck deck decks sense giving) (asked 2 first flags) k) (asked 2 first flags)
+      ≡ Input 80
   answers_at giving zero lt = gives None giving (omega arith)
   answers_at giving (suc k) lt =
-      ap (λ q. reader_answer q (asked 2 first flags)) (place_after giving k (omega arith)) ∙ gives (Some (suc k)) (slice_index_or deck.cards k []) lt
+      ap (λ q. reader_answer q (asked 2 first flags)) (place_after giving k (omega arith)) ∙ gives (Some (suc k))
+      (slice_index_or deck.cards k []) lt
 
   exception_at : (giving : List ℕ) (k : ℕ) → k ≡ length deck.cards
-      → reader_answer (after_reads (before_deck deck decks sense giving) (asked 2 first flags) k) (asked 2 first flags) ≡ Refused unit_exception
+      → reader_answer (after_reads (before_deck deck decks sense giving) (asked 2 first flags) k) (asked 2 first flags)
+      ≡ Refused unit_exception
   exception_at giving zero e = excepts None giving e
   exception_at giving (suc k) e =
-      ap (λ q. reader_answer q (asked 2 first flags)) (place_after giving k (omega arith)) ∙ excepts (Some (suc k)) (slice_index_or deck.cards k []) e
+      ap (λ q. reader_answer q (asked 2 first flags)) (place_after giving k (omega arith)) ∙ excepts (Some (suc k))
+      (slice_index_or deck.cards k []) e
 
   gone_at : (giving : List ℕ) (k : ℕ) → k ≡ length deck.cards
-      → (given : List ℕ) × (after_reads (before_deck deck decks sense giving) (asked 2 first flags) (suc k) ≡ record { decks = decks; place = None; sense = sense; giving = given })
+      → (given : List ℕ) × (after_reads (before_deck deck decks sense giving) (asked 2 first flags) (suc k)
+      ≡ record { decks = decks; place = None; sense = sense; giving = given })
   gone_at giving zero e = (giving, ends None giving e)
-  gone_at giving (suc k) e =
-      (slice_index_or deck.cards k [], ap (λ q. reader_started q (asked 2 first flags)) (place_after giving k (omega arith)) ∙ ends (Some (suc k)) (slice_index_or deck.cards k []) e)
+  gone_at giving (suc k) e = (
+    slice_index_or deck.cards k [],
+    ap (λ q. reader_started q (asked 2 first flags)) (place_after giving k (omega arith)) ∙ ends (Some (suc k))
+        (slice_index_or deck.cards k []) e,
+  )
 
 pub reads_decks_in_order : ReadsDecksInOrder
 reads_decks_in_order deck decks sense giving first flags =

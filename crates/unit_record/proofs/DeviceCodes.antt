@@ -10,7 +10,8 @@ use Rattle.unit_record.specs.Console.{ConsoleState}
 use Rattle.unit_record.specs.Output.{EntryValue}
 use Rattle.unit_record.specs.Printer.{PrinterState}
 use Rattle.unit_record.specs.Punch.{PunchState}
-use Rattle.unit_record.specs.Saved.{user_of_target, target_bytes, user_of_sender, sender_bytes, entry_bytes, entries_bytes, console_bytes, punch_bytes, printer_bytes}
+use Rattle.unit_record.specs.Saved.{user_of_target, target_bytes, user_of_sender, sender_bytes, entry_bytes}
+use Rattle.unit_record.specs.Saved.{entries_bytes, console_bytes, punch_bytes, printer_bytes}
 
 -- ---- for whom a file is, and from whom
 
@@ -49,7 +50,8 @@ entries_code = each_code entry_bytes entry_code
 pub console_code : IsCode console_bytes
 console_code =
     let lines = each_code bytes bytes_code in
-    let written = both_code (each bytes) (both bytes (each bytes)) lines (both_code bytes (each bytes) bytes_code lines) in
+    let written = both_code (each bytes) (both bytes (each bytes)) lines (both_code bytes (each bytes) bytes_code lines)
+    in
     let ending = both_code flag bytes flag_code bytes_code in
     let command = both_code number (both flag bytes) number_code ending in
     let last = both_code number (both number (both flag bytes)) number_code command in
@@ -71,7 +73,8 @@ pub punch_code : IsCode punch_bytes
 punch_code =
     let card = both_code flag bytes flag_code bytes_code in
     let sense = both_code number (both flag bytes) number_code card in
-    of_parts (both entries_bytes (both number (both flag bytes))) (both_code entries_bytes (both number (both flag bytes)) entries_code sense)
+    of_parts (both entries_bytes (both number (both flag bytes)))
+    (both_code entries_bytes (both number (both flag bytes)) entries_code sense)
     (λ (p : PunchState). (p.entries, (p.sense, (p.is_punching, p.card))))
     (λ p. record { entries = p.0; sense = p.1.0; is_punching = p.1.1.0; card = p.1.1.1 })
     (λ p. refl)
@@ -81,7 +84,8 @@ printer_code =
     let code = optional_code number number_code in
     let line = both_code (optional number) bytes code bytes_code in
     let sense = both_code number (both (optional number) bytes) number_code line in
-    of_parts (both entries_bytes (both number (both (optional number) bytes))) (both_code entries_bytes (both number (both (optional number) bytes)) entries_code sense)
+    of_parts (both entries_bytes (both number (both (optional number) bytes)))
+    (both_code entries_bytes (both number (both (optional number) bytes)) entries_code sense)
     (λ (p : PrinterState). (p.entries, (p.sense, (p.printing, p.line))))
     (λ p. record { entries = p.0; sense = p.1.0; printing = p.1.1.0; line = p.1.1.1 })
     (λ p. refl)

@@ -1,7 +1,8 @@
 -- The room that a console keeps for the lines that a write may finish.
 use Rattle.std.specs.Prelude.{ℕ, ◌+◌, ◌≤◌, ◌<◌, ◌≡◌, Bool, true}
 
--- of so many lines with room for so many, a line of so many characters, and so many that are still wanted
+-- of so many lines with room for so many, a line of so many characters, and so many that are still
+-- wanted
 pub record HasRoom (lines room characters wanted : ℕ) (ends_line : Bool) : Type 0 where
   pub whole : characters ≤ 132
   pub bounded : wanted ≤ 132

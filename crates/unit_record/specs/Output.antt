@@ -24,4 +24,5 @@ has_entries entries = not (length entries == 0)
 -- The closed files, once the open one is closed too.
 abbrev pub closed_with : List FileValue → Target → List EntryValue → List FileValue
 closed_with closed target [] = closed
-closed_with closed target (entry ∷ entries) = closed ++ record { target = target; entries = entry ∷ entries } ∷ []
+closed_with closed target (entry ∷ entries) = closed
+    ++ record { target = target; entries = entry ∷ entries } ∷ []

@@ -1,5 +1,6 @@
 -- The card punch (profile; GA21-9124, "IBM 3525 Card Punch", for the command).
-use Rattle.std.specs.Prelude.{ℕ, ◌-◌, ◌==◌, Bool, true, false, nat_lt, if◌then◌else◌, List, [], ◌∷◌, ◌++◌, length, replicate}
+use Rattle.std.specs.Prelude.{ℕ, ◌-◌, ◌==◌, Bool, true, false, nat_lt, if◌then◌else◌, List, [], ◌∷◌}
+use Rattle.std.specs.Prelude.{◌++◌, length, replicate}
 use Rattle.s370_walk.specs.declared.parts.Order.{Order}
 use Rattle.s370_walk.specs.declared.parts.Answer.{Answer}
 use Rattle.s370_walk.specs.declared.parts.Answer.TheVariants.{Refused, Immediate, Input, Output}
@@ -27,6 +28,7 @@ punch_answer p order =
     else if is_sense order then Input 1
     else Refused unit_check
 
+-- the punch after a command has begun
 abbrev pub punch_started : PunchState → Order → PunchState
 punch_started p order =
     if order.command.code == 0x01 then record p { is_punching = true; card = [] }
@@ -46,10 +48,13 @@ punch_took p byte = if nat_lt (length p.card) 80 then record p { card = p.card +
 abbrev pub whole_card : List ℕ → EntryValue
 whole_card bytes = record { code = 0x01; bytes = bytes ++ replicate (80 - length bytes) 0x40 }
 
+-- the punch after a card was written
 abbrev pub punch_finished : PunchState → PunchState
 punch_finished p =
-    if p.is_punching then record p { entries = p.entries ++ whole_card p.card ∷ []; is_punching = false; card = [] } else p
+    if p.is_punching then record
+    p { entries = p.entries ++ whole_card p.card ∷ []; is_punching = false; card = [] } else p
 
+-- the punch as a device
 abbrev pub punch_machine : Machine PunchState
 punch_machine =
     record {
@@ -63,12 +68,15 @@ punch_machine =
       finished = punch_finished;
     }
 
--- From outside: a reset, and the open file taken to be closed. Both find no command under way, or end it.
+-- From outside: a reset, and the open file taken to be closed. Both find no command under way, or
+-- end it.
 abbrev pub punch_new : PunchState
 punch_new = record { entries = []; sense = 0; is_punching = false; card = [] }
 
+-- the punch after a reset
 abbrev pub punch_reset : PunchState → PunchState
 punch_reset p = record p { sense = 0; is_punching = false; card = [] }
 
+-- the punch after its file was closed
 abbrev pub punch_emptied : PunchState → PunchState
 punch_emptied p = record p { entries = []; is_punching = false; card = [] }

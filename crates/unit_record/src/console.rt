@@ -1,8 +1,10 @@
 //! The typewriter console.
-ghost use Rattle.std.specs.Prelude.{◌≡◌, ◌≤◌, ◌==◌, length, IfOk, OnOk, OnErr, map, slice_get, if◌then◌else◌};
+ghost use Rattle.std.specs.Prelude.{◌≡◌, ◌≤◌, ◌==◌, length, IfOk, OnOk, OnErr, map, slice_get};
+ghost use Rattle.std.specs.Prelude.{if◌then◌else◌};
 ghost use Rattle.std.specs.Option.{option_copied};
 ghost use Rattle.unit_record.specs.declared.console.Arrival.TheVariants.{Kept, Lost};
-ghost use Rattle.unit_record.specs.Console.{console_new, console_reset, without_lines, is_write, has_room, typed_byte, with_typed, wants_attention};
+ghost use Rattle.unit_record.specs.Console.{console_new, console_reset, without_lines, is_write};
+ghost use Rattle.unit_record.specs.Console.{has_room, typed_byte, with_typed, wants_attention};
 
 use crate::front::{COMMAND_REJECT, NO_OPERATION, is_sense};
 use crate::outgoing::Outgoing;
@@ -78,7 +80,8 @@ impl Device for Console {
     fn command(&mut self, order: Order) -> Result<Answer, AllocError> {
         match order.command.code {
             code if is_write(code) => {
-                // A write finishes two lines at most: one that its characters fill, and the one that it ends.
+                // A write finishes two lines at most: one that its characters fill, and the one
+                // that it ends.
                 self.lines.reserve(2)?;
                 self.wanted = RECORD_LENGTH;
                 self.ends_line = code == WRITE_LINE;
@@ -135,7 +138,7 @@ impl Device for Console {
 impl Console {
     ghost use Rattle.unit_record.specs.Console.{read_answer, read_started};
 
-    /// A console on which nothing was written or typed.
+    /// Returns a console on which nothing was written or typed.
     pub fn new(alloc: Global) -> Console
         ensures { result ≡ console_new }
     {
@@ -165,10 +168,15 @@ impl Console {
         }
     }
 
-    /// A line is typed. Where memory is refused the console stays as it was.
+    /// Types a line, which waits to be read. Where memory is refused the console stays as it was.
+    ///
+    /// # Errors
+    ///
+    /// `AllocError` if memory is refused; nothing has changed.
     pub fn line(&mut self, text: &[u8]) -> Result<Arrival, AllocError>
         requires { length text.now ≤ RECORD_LENGTH }
-        ensures arrival { IfOk result (λ arrival. arrival ≡ (if has_room self.old then Kept else Lost)) }
+        ensures arrival { IfOk result
+            (λ arrival. arrival ≡ (if has_room self.old then Kept else Lost)) }
         ensures kept { OnOk result (self.new ≡ with_typed self.old text.now) }
         ensures err { OnErr result (self.new ≡ self.old) }
     {
@@ -179,14 +187,14 @@ impl Console {
         Ok(Arrival::Kept)
     }
 
-    /// Whether attention is wanted: a line waits.
+    /// Returns whether attention is wanted: a line waits.
     pub fn attention(&self) -> bool
         ensures { result ≡ wants_attention self.now }
     {
         self.waiting.len() > 0
     }
 
-    /// A system reset: no line waits any more; what was written stays.
+    /// Resets the console: no line waits any more; what was written stays.
     pub fn reset(&mut self)
         ensures { self.new ≡ console_reset self.old }
     {
@@ -197,46 +205,47 @@ impl Console {
         self.giving = Outgoing::new();
     }
 
-    /// The lines that are finished, in characters.
+    /// Returns the lines that are finished, in characters.
     pub fn lines(&self) -> &[Record]
         ensures { result.now ≡ self.now.lines }
     {
         self.lines.as_slice()
     }
 
-    /// Forgets the finished lines, which were copied elsewhere. The room for what is being written stays.
+    /// Forgets the finished lines, which were copied elsewhere. The room for what is being written
+    /// stays.
     pub fn forget_lines(&mut self)
         ensures { self.new ≡ without_lines self.old }
     {
         self.lines.clear();
     }
 
-    /// The characters of the line that is not finished.
+    /// Returns the characters of the line that is not finished.
     pub fn unfinished(&self) -> &[u8]
         ensures { result.now ≡ self.now.unfinished }
     {
         self.unfinished.as_slice()
     }
 
-    /// How many lines wait to be read.
+    /// Returns how many lines wait to be read.
     pub fn waiting(&self) -> usize
         ensures { result ≡ length self.now.waiting }
     {
         self.waiting.len()
     }
 
-    /// A line that waits, as the bytes that a read would give.
+    /// Returns a line that waits, as the bytes that a read would give.
     pub fn waiting_line(&self, index: usize) -> Option<&Record>
         ensures { option_copied result ≡ slice_get self.now.waiting index }
     {
         self.waiting.get(index)
     }
 
-    /// The sense byte of the last unit check.
+    /// Returns the sense byte of the last unit check.
     pub fn sense(&self) -> u8
         ensures { result ≡ self.now.sense }
     {
-        // All its fields: what is added to them is seen here.
+        // Exhaustive: a new field fails to compile here.
         let Console {
             lines: _,
             unfinished: _,
@@ -250,14 +259,14 @@ impl Console {
     }
 }
 
-/// Whether the command writes.
+/// Returns whether the command writes.
 fn is_write(code: u8) -> bool
     ensures { result ≡ is_write code }
 {
     matches!(code, 0x01 | 0x09)
 }
 
-/// A typed line as bytes.
+/// Returns a typed line as bytes.
 fn typed(text: &[u8]) -> Record
     requires { length text.now ≤ RECORD_LENGTH }
     ensures { result ≡ map typed_byte text.now }
@@ -269,7 +278,7 @@ fn typed(text: &[u8]) -> Record
     bytes
 }
 
-/// The byte of a character, or a blank.
+/// Returns the byte of a character, or a blank.
 fn typed_byte(character: u8) -> u8
     ensures { result ≡ typed_byte character }
 {

@@ -11,12 +11,12 @@ pub const INTERVENTION_REQUIRED: u8 = 0x40;
 
 /// The command that does nothing.
 pub(crate) const NO_OPERATION: u8 = 0x03;
-/// The command that tells the sense byte.
+/// The command that reads the sense byte.
 const SENSE: u8 = 0x04;
 /// Chain data and chain command.
 const CHAINING: Flags = Flags { bits: 0xC0 };
 
-/// Whether a sense command is asked for and accepted.
+/// Returns whether a sense command is asked for and accepted.
 pub(crate) fn is_sense(order: Order) -> bool
     ensures { result ≡ is_sense order }
 {

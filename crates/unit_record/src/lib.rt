@@ -1,19 +1,20 @@
-//! The unit record devices and the console: a card reader, a card punch, a line printer and a typewriter console.
+//! The unit record devices and the console: a card reader, a card punch, a line printer and a
+//! typewriter console.
 //!
-//! Their one theorem: each is a [`Device`](s370_walk::Device) whose machine is the one that `specs/` defines, one small
-//! file a device (docs/MACHINE.md, "Unit record devices and console"): no record that a program wrote is lost or
-//! changed, and none is read twice. What a device keeps between programs is changed from outside only by the calls
-//! named here.
+//! Their one theorem: each is a [`Device`](s370_walk::Device) whose machine is the one that
+//! `specs/` defines, one small file a device (docs/MACHINE.md, "Unit record devices and console"):
+//! no record that a program wrote is lost or changed, and none is read twice. What a device keeps
+//! between programs is changed from outside only by the calls named here.
 //!
-//! A command that keeps a record takes the memory for it when it begins. So want of memory is told by
-//! `Device::command`, and nothing has happened then.
+//! A command that keeps a record takes the memory for it when it begins. So lack of memory is
+//! reported by `Device::command`, and nothing has happened then.
 //!
 //! ```
-//! use s370_walk::{Answer, Command, Device, Flags, Order};
+//! use s370_walk::{Answer, CommandCode, Device, Flags, Order};
 //! use unit_record::Punch;
 //!
 //! let mut punch = Punch::new(alloc);
-//! let order = Order { command: Command { code: 0x01 }, first: true, flags: Flags::NONE };
+//! let order = Order { command: CommandCode { code: 0x01 }, first: true, flags: Flags::NONE };
 //! assert_eq!(rt; punch.command(order)?, Answer::Output(80));
 //! punch.take(0xC1);
 //! punch.finish();

@@ -32,21 +32,21 @@ impl Outgoing {
         }
     }
 
-    /// A whole record.
+    /// Returns a whole record.
     pub fn of(bytes: Record) -> Outgoing
         ensures { result ≡ bytes }
     {
         Outgoing { bytes, given: 0 }
     }
 
-    /// The same bytes once more.
+    /// Returns the same bytes once more.
     pub fn copy(&self) -> Outgoing
         ensures { result ≡ self.now }
     {
         Outgoing::of(Record::of(&self.bytes.as_slice()[self.given..]))
     }
 
-    /// The bytes that are left.
+    /// Returns the bytes that are left.
     pub(crate) fn left(&self) -> &[u8]
         ensures { result.now ≡ self.now }
     {
@@ -55,7 +55,7 @@ impl Outgoing {
         &bytes.as_slice()[*given..]
     }
 
-    /// How many bytes are left.
+    /// Returns how many bytes are left.
     pub fn len(&self) -> usize
         ensures { result ≡ length self.now }
     {

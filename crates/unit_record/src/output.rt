@@ -31,7 +31,7 @@ impl Model for Entry {
 }
 
 impl Entry {
-    /// An entry of this command and these bytes.
+    /// Returns a file without entries.
     pub fn new(code: u8, bytes: Record) -> Entry
         ensures code { result.code ≡ code }
         ensures bytes { result.bytes ≡ bytes }
@@ -39,7 +39,7 @@ impl Entry {
         Entry { code, bytes }
     }
 
-    /// The command that made it.
+    /// Returns the command that made it.
     pub fn code(&self) -> u8
         ensures { result ≡ self.now.code }
     {
@@ -48,7 +48,7 @@ impl Entry {
         *code
     }
 
-    /// Its bytes, as they stood in storage.
+    /// Returns its bytes, as they were in storage.
     pub fn bytes(&self) -> &[u8]
         ensures { result.now ≡ self.now.bytes }
     {
@@ -92,6 +92,10 @@ impl Output {
     }
 
     /// Makes room for one more entry.
+    ///
+    /// # Errors
+    ///
+    /// `AllocError` if memory is refused; what this is then is not specified.
     pub fn reserve(&mut self) -> Result<(), AllocError>
         ensures entries { self.new.entries ≡ self.old.entries }
         ensures room { OnOk result (0 < self.new.room) }
@@ -116,7 +120,7 @@ impl Output {
         mem::replace(&mut self.entries, Vec::new(alloc))
     }
 
-    /// The entries of the open file, in order.
+    /// Returns the entries of the open file, in order.
     pub fn entries(&self) -> &[Entry]
         ensures { result.now ≡ self.now.entries }
     {

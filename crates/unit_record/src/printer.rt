@@ -1,6 +1,7 @@
 //! The line printer.
 ghost use Rattle.std.specs.Prelude.{◌≡◌};
-ghost use Rattle.unit_record.specs.Printer.{printer_new, printer_reset, printer_emptied, is_write, is_space};
+ghost use Rattle.unit_record.specs.Printer.{printer_new, printer_reset, printer_emptied, is_write};
+ghost use Rattle.unit_record.specs.Printer.{is_space};
 
 use crate::front::{COMMAND_REJECT, NO_OPERATION, is_sense};
 use crate::output::{Entry, Output};
@@ -95,7 +96,7 @@ impl Device for Printer {
 }
 
 impl Printer {
-    /// A printer that has printed nothing.
+    /// Returns a printer that has printed nothing.
     pub fn new(alloc: Global) -> Printer
         ensures { result ≡ printer_new }
     {
@@ -107,7 +108,7 @@ impl Printer {
         }
     }
 
-    /// A system reset: the open file stays.
+    /// Resets the printer: the open file stays.
     pub fn reset(&mut self)
         ensures { self.new ≡ printer_reset self.old }
     {
@@ -116,7 +117,8 @@ impl Printer {
         self.line = Record::new();
     }
 
-    /// Takes the entries of the open file, to be closed; the file has none then. This takes no memory.
+    /// Takes the entries of the open file, to be closed; the file has none then. This takes no
+    /// memory.
     pub fn take_entries(&mut self, alloc: Global) -> Vec<Entry>
         ensures taken { result.items ≡ self.old.entries }
         ensures after { self.new ≡ printer_emptied self.old }
@@ -126,18 +128,18 @@ impl Printer {
         self.output.take(alloc)
     }
 
-    /// The entries of the open file, in order.
+    /// Returns the entries of the open file, in order.
     pub fn entries(&self) -> &[Entry]
         ensures { result.now ≡ self.now.entries }
     {
         self.output.entries()
     }
 
-    /// The sense byte of the last unit check.
+    /// Returns the sense byte of the last unit check.
     pub fn sense(&self) -> u8
         ensures { result ≡ self.now.sense }
     {
-        // All its fields: what is added to them is seen here.
+        // Exhaustive: a new field fails to compile here.
         let Printer {
             output: _,
             sense,
@@ -148,14 +150,14 @@ impl Printer {
     }
 }
 
-/// Whether the command prints a line.
+/// Returns whether the command prints a line.
 fn is_write(code: u8) -> bool
     ensures { result ≡ is_write code }
 {
     matches!(code, 0x01 | 0x09 | 0x11 | 0x19 | 0x89)
 }
 
-/// Whether the command moves the paper at once.
+/// Returns whether the command moves the paper at once.
 fn is_space(code: u8) -> bool
     ensures { result ≡ is_space code }
 {

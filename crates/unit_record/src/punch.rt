@@ -14,7 +14,7 @@ use std::mem;
 const CARD_LENGTH: usize = 80;
 /// The command that punches a card.
 const PUNCH: u8 = 0x01;
-/// What stands in columns that nothing was punched into.
+/// What is in columns that nothing was punched into.
 const BLANK: u8 = 0x40;
 
 /// A card punch: the cards of its open file.
@@ -97,7 +97,7 @@ impl Device for Punch {
 }
 
 impl Punch {
-    /// A punch that has punched nothing.
+    /// Returns a punch that has punched nothing.
     pub fn new(alloc: Global) -> Punch
         ensures { result ≡ punch_new }
     {
@@ -109,7 +109,7 @@ impl Punch {
         }
     }
 
-    /// A system reset: the open file stays.
+    /// Resets the punch: the open file stays.
     pub fn reset(&mut self)
         ensures { self.new ≡ punch_reset self.old }
     {
@@ -118,7 +118,8 @@ impl Punch {
         self.card = Record::new();
     }
 
-    /// Takes the entries of the open file, to be closed; the file has none then. This takes no memory.
+    /// Takes the entries of the open file, to be closed; the file has none then. This takes no
+    /// memory.
     pub fn take_entries(&mut self, alloc: Global) -> Vec<Entry>
         ensures taken { result.items ≡ self.old.entries }
         ensures after { self.new ≡ punch_emptied self.old }
@@ -128,18 +129,18 @@ impl Punch {
         self.output.take(alloc)
     }
 
-    /// The cards of the open file, in order.
+    /// Returns the cards of the open file, in order.
     pub fn entries(&self) -> &[Entry]
         ensures { result.now ≡ self.now.entries }
     {
         self.output.entries()
     }
 
-    /// The sense byte of the last unit check.
+    /// Returns the sense byte of the last unit check.
     pub fn sense(&self) -> u8
         ensures { result ≡ self.now.sense }
     {
-        // All its fields: what is added to them is seen here.
+        // Exhaustive: a new field fails to compile here.
         let Punch {
             output: _,
             sense,

@@ -1,7 +1,9 @@
 //! The card reader.
-ghost use Rattle.std.specs.Prelude.{◌≡◌, ◌++◌, ◌∷◌, [], ◌==◌, length, slice_get, is_some, IsOk, IfOk, OnOk, OnErr};
+ghost use Rattle.std.specs.Prelude.{◌≡◌, ◌++◌, ◌∷◌, [], ◌==◌, length, slice_get, is_some, IsOk};
+ghost use Rattle.std.specs.Prelude.{IfOk, OnOk, OnErr};
 ghost use Rattle.std.specs.Option.{option_copied};
-ghost use Rattle.unit_record.specs.Reader.{reader_new, reader_reset, currents, with_deck, with_deck_back, queued_at, purged};
+ghost use Rattle.unit_record.specs.Reader.{reader_new, reader_reset, currents, with_deck};
+ghost use Rattle.unit_record.specs.Reader.{with_deck_back, queued_at, purged};
 
 use crate::front::{COMMAND_REJECT, INTERVENTION_REQUIRED, NO_OPERATION, is_sense};
 use crate::outgoing::Outgoing;
@@ -43,7 +45,7 @@ impl Model for Deck {
 }
 
 impl Deck {
-    /// A deck of these cards.
+    /// Returns a deck of these cards.
     pub fn new(label: u64, sender: Sender, cards: Vec<Card>) -> Deck
         ensures label { result.label ≡ label }
         ensures sender { result.sender ≡ sender }
@@ -56,21 +58,21 @@ impl Deck {
         }
     }
 
-    /// Its label.
+    /// Returns its label.
     pub fn label(&self) -> u64
         ensures { result ≡ self.now.label }
     {
         self.label
     }
 
-    /// From whom it comes.
+    /// Returns from whom it comes.
     pub fn sender(&self) -> Sender
         ensures { result ≡ self.now.sender }
     {
         self.sender
     }
 
-    /// Its cards, in order.
+    /// Returns its cards, in order.
     pub fn cards(&self) -> &[Card]
         ensures { result.now ≡ self.now.cards }
     {
@@ -92,7 +94,12 @@ impl Model for Reader {
 
     ghost Value = { ReaderState };
 
-    ghost view = { λ r. record { decks = r.decks.items; place = r.place; sense = r.sense; giving = r.giving } };
+    ghost view = { λ r. record {
+      decks = r.decks.items;
+      place = r.place;
+      sense = r.sense;
+      giving = r.giving;
+    } };
 }
 
 impl Device for Reader {
@@ -145,7 +152,7 @@ impl Device for Reader {
 impl Reader {
     ghost use Rattle.unit_record.specs.Reader.{next_card, read_answer, read_started};
 
-    /// A reader without decks.
+    /// Returns a reader without decks.
     pub fn new(alloc: Global) -> Reader
         ensures { result ≡ reader_new }
     {
@@ -157,7 +164,7 @@ impl Reader {
         }
     }
 
-    /// A read.
+    /// Reads the next card.
     fn read(&mut self) -> Answer
         ensures answer { result ≡ read_answer (next_card self.old) }
         ensures after { self.new ≡ read_started self.old (next_card self.old) }
@@ -177,7 +184,11 @@ impl Reader {
         Answer::Input(80)
     }
 
-    /// A deck comes to the end of the queue. Where memory is refused the reader stays as it was.
+    /// Appends a deck to the queue. Where memory is refused the reader stays as it was.
+    ///
+    /// # Errors
+    ///
+    /// `AllocError` if memory is refused; nothing has changed.
     pub fn deck(&mut self, deck: Deck) -> Result<(), AllocError>
         ensures kept { OnOk result (self.new ≡ with_deck self.old deck) }
         ensures err { OnErr result (self.new ≡ self.old) }
@@ -186,14 +197,16 @@ impl Reader {
         Ok(())
     }
 
-    /// The current deck, if there is one, goes back to the front of the queue, to be read from its first card.
+    /// Puts the current deck, if there is one, back to the front of the queue, to be read from its
+    /// first card.
     pub fn put_back(&mut self)
         ensures { self.new ≡ with_deck_back self.old }
     {
         self.place = None;
     }
 
-    /// Takes the first queued deck of this label away, and tells whether there was any. The current deck is not queued.
+    /// Takes the first queued deck of this label away, and says whether there was any. The current
+    /// deck is not queued.
     pub fn purge(&mut self, label: u64) -> bool
         ensures found { result ≡ is_some (queued_at self.old label) }
         ensures after { self.new ≡ purged self.old (queued_at self.old label) }
@@ -205,7 +218,7 @@ impl Reader {
         true
     }
 
-    /// Where the first queued deck of this label stands among all decks.
+    /// Returns the place of the first queued deck of this label among all decks.
     fn queued_at(&self, label: u64) -> Option<usize>
         ensures { result ≡ queued_at self.now label }
     {
@@ -220,7 +233,7 @@ impl Reader {
         None
     }
 
-    /// How many decks stand before the queue.
+    /// Returns how many decks are before the queue.
     fn currents(&self) -> usize
         ensures { result ≡ currents self.now.place }
     {
@@ -230,7 +243,7 @@ impl Reader {
         }
     }
 
-    /// A system reset: the decks stay, and so does the place in the current one.
+    /// Resets the reader: the decks stay, and so does the place in the current one.
     pub fn reset(&mut self)
         ensures { self.new ≡ reader_reset self.old }
     {
@@ -238,39 +251,39 @@ impl Reader {
         self.giving = Outgoing::new();
     }
 
-    /// How many decks there are, a current one included.
+    /// Returns how many decks there are, a current one included.
     pub fn len(&self) -> usize
         ensures { result ≡ length self.now.decks }
     {
         self.decks.len()
     }
 
-    /// Whether there is no deck.
+    /// Returns whether there is no deck.
     pub fn is_empty(&self) -> bool
         ensures { result ≡ (length self.now.decks == 0) }
     {
         self.decks.is_empty()
     }
 
-    /// A deck, in their order; a current one is the first.
+    /// Returns a deck, in their order; a current one is the first.
     pub fn get(&self, index: usize) -> Option<&Deck>
         ensures { option_copied result ≡ slice_get self.now.decks index }
     {
         self.decks.get(index)
     }
 
-    /// How many cards of the current deck were read, or None where no deck is current.
+    /// Returns how many cards of the current deck were read, or None where no deck is current.
     pub fn place(&self) -> Option<usize>
         ensures { result ≡ self.now.place }
     {
         self.place
     }
 
-    /// The sense byte of the last unit check.
+    /// Returns the sense byte of the last unit check.
     pub fn sense(&self) -> u8
         ensures { result ≡ self.now.sense }
     {
-        // All its fields: what is added to them is seen here.
+        // Exhaustive: a new field fails to compile here.
         let Reader {
             decks: _,
             place: _,

@@ -1,5 +1,6 @@
 //! A record: what one command gives or takes.
-ghost use Rattle.std.specs.Prelude.{◌≡◌, ◌+◌, ◌-◌, ◌<◌, ◌≤◌, ◌==◌, [], ◌∷◌, ◌++◌, length, replicate, slice_index};
+ghost use Rattle.std.specs.Prelude.{◌≡◌, ◌+◌, ◌-◌, ◌<◌, ◌≤◌, ◌==◌, [], ◌∷◌, ◌++◌, length};
+ghost use Rattle.std.specs.Prelude.{replicate, slice_index};
 
 use arrayvec::ArrayVec;
 use std::marker::Model;
@@ -24,7 +25,7 @@ impl Model for Record {
 }
 
 impl Record {
-    /// A record without a byte.
+    /// Returns a record without a byte.
     pub fn new() -> Record
         ensures { result ≡ [] }
     {
@@ -33,7 +34,7 @@ impl Record {
         }
     }
 
-    /// A record of these bytes.
+    /// Returns a record of these bytes.
     pub fn of(bytes: &[u8]) -> Record
         requires { length bytes.now ≤ RECORD_LENGTH }
         ensures { result ≡ bytes.now }
@@ -45,7 +46,7 @@ impl Record {
         made
     }
 
-    /// How many bytes it has.
+    /// Returns how many bytes it has.
     pub fn len(&self) -> usize
         ensures value { result ≡ length self.now }
         ensures bound { result ≤ RECORD_LENGTH }
@@ -53,7 +54,7 @@ impl Record {
         self.bytes.len()
     }
 
-    /// Whether it has no byte.
+    /// Returns whether it has no byte.
     pub fn is_empty(&self) -> bool
         ensures { result ≡ (length self.now == 0) }
     {
@@ -79,7 +80,7 @@ impl Record {
         }
     }
 
-    /// A byte, or zero past the end.
+    /// Returns a byte, or zero past the end.
     pub fn byte(&self, index: usize) -> u8
         ensures { result ≡ slice_index self.now index }
     {
@@ -89,7 +90,7 @@ impl Record {
         }
     }
 
-    /// The bytes.
+    /// Returns the bytes.
     pub fn as_slice(&self) -> &[u8]
         ensures value { result.now ≡ self.now }
         ensures bound { length result.now ≤ RECORD_LENGTH }

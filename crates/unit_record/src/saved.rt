@@ -1,7 +1,9 @@
 //! Devices that are no disks as the bytes of a saved state, and back.
 ghost use Rattle.std.specs.Prelude.{◌≡◌, ◌++◌, length, IfSome, OnOk};
 ghost use Rattle.saved_bytes.specs.Codes.{bytes, each, number, optional};
-ghost use Rattle.unit_record.specs.Saved.{console_bytes, console_command_bytes, console_lines_bytes, entries_bytes, entry_bytes, printer_bytes, punch_bytes, sender_bytes, target_bytes};
+ghost use Rattle.unit_record.specs.Saved.{console_bytes, console_command_bytes};
+ghost use Rattle.unit_record.specs.Saved.{console_lines_bytes, entries_bytes, entry_bytes};
+ghost use Rattle.unit_record.specs.Saved.{printer_bytes, punch_bytes, sender_bytes, target_bytes};
 
 use crate::console::Console;
 use crate::outgoing::Outgoing;
@@ -15,6 +17,10 @@ use std::alloc::{AllocError, Global};
 use std::collections::VecDeque;
 
 /// Appends for whom a file is.
+///
+/// # Errors
+///
+/// `AllocError` if memory is refused; `out` may have a part of it then.
 pub fn put_target(out: &mut Vec<u8>, target: Target) -> Result<(), AllocError>
     ensures { OnOk result (out.new.items ≡ out.old.items ++ target_bytes target) }
 {
@@ -27,7 +33,7 @@ pub fn put_target(out: &mut Vec<u8>, target: Target) -> Result<(), AllocError>
     }
 }
 
-/// Takes the target that comes next.
+/// Takes the target that is next.
 pub fn target_of(input: &mut Input<'_>) -> Option<Target> {
     if input.flag()? {
         Some(Target::User(input.small()?))
@@ -37,6 +43,10 @@ pub fn target_of(input: &mut Input<'_>) -> Option<Target> {
 }
 
 /// Appends from whom a deck is.
+///
+/// # Errors
+///
+/// `AllocError` if memory is refused; `out` may have a part of it then.
 pub fn put_sender(out: &mut Vec<u8>, sender: Sender) -> Result<(), AllocError>
     ensures { OnOk result (out.new.items ≡ out.old.items ++ sender_bytes sender) }
 {
@@ -49,7 +59,7 @@ pub fn put_sender(out: &mut Vec<u8>, sender: Sender) -> Result<(), AllocError>
     }
 }
 
-/// Takes the sender that comes next.
+/// Takes the sender that is next.
 pub fn sender_of(input: &mut Input<'_>) -> Option<Sender> {
     if input.flag()? {
         Some(Sender::User(input.small()?))
@@ -58,7 +68,7 @@ pub fn sender_of(input: &mut Input<'_>) -> Option<Sender> {
     }
 }
 
-/// Takes the card that comes next, behind how many bytes it has.
+/// Takes the card that is next, after how many bytes it has.
 pub fn card_of(input: &mut Input<'_>) -> Option<Card> {
     let bytes = input.bytes()?;
     let mut card = [0u8; 80];
@@ -69,7 +79,7 @@ pub fn card_of(input: &mut Input<'_>) -> Option<Card> {
     Some(card)
 }
 
-/// Takes the record that comes next.
+/// Takes the record that is next.
 pub fn record_of(input: &mut Input<'_>) -> Option<Record> {
     let bytes = input.bytes()?;
     if bytes.len() > RECORD_LENGTH {
@@ -87,6 +97,10 @@ fn put_entry(out: &mut Vec<u8>, entry: &Entry) -> Result<(), AllocError>
 }
 
 /// Appends entries.
+///
+/// # Errors
+///
+/// `AllocError` if memory is refused; `out` may have a part of it then.
 pub fn put_entries(out: &mut Vec<u8>, entries: &[Entry]) -> Result<(), AllocError>
     ensures { OnOk result (out.new.items ≡ out.old.items ++ entries_bytes entries.now) }
 {
@@ -97,7 +111,7 @@ pub fn put_entries(out: &mut Vec<u8>, entries: &[Entry]) -> Result<(), AllocErro
     put_zero(out)
 }
 
-/// Takes the entries that come next.
+/// Takes the entries that are next.
 pub fn entries_of(alloc: Global, input: &mut Input<'_>) -> Option<Vec<Entry>> {
     let mut entries = Vec::new(alloc);
     for _ in 0..u64::MAX {
@@ -122,7 +136,7 @@ fn put_records(out: &mut Vec<u8>, records: &[Record]) -> Result<(), AllocError>
     put_zero(out)
 }
 
-/// Adds the records that come next to finished lines.
+/// Adds the records that are next to finished lines.
 fn take_lines(lines: &mut Vec<Record>, input: &mut Input<'_>) -> Option<()> {
     for _ in 0..u64::MAX {
         if !input.flag()? {
@@ -133,7 +147,7 @@ fn take_lines(lines: &mut Vec<Record>, input: &mut Input<'_>) -> Option<()> {
     Some(())
 }
 
-/// Adds the records that come next to lines that wait.
+/// Adds the records that are next to lines that wait.
 fn take_waiting(waiting: &mut VecDeque<Record>, input: &mut Input<'_>) -> Option<()> {
     for _ in 0..u64::MAX {
         if !input.flag()? {
@@ -157,7 +171,7 @@ fn put_command(out: &mut Vec<u8>, command: Option<u8>) -> Result<(), AllocError>
     }
 }
 
-/// Takes the command that comes next, if one does.
+/// Takes the command that is next, if one is.
 fn command_of(input: &mut Input<'_>) -> Option<Option<u8>> {
     if input.flag()? {
         Some(Some(input.small()?))
@@ -168,6 +182,10 @@ fn command_of(input: &mut Input<'_>) -> Option<Option<u8>> {
 
 impl Console {
     /// Appends all that is seen of a console.
+    ///
+    /// # Errors
+    ///
+    /// `AllocError` if memory is refused; `out` may have a part of it then.
     pub fn save(&self, out: &mut Vec<u8>) -> Result<(), AllocError>
         ensures { OnOk result (out.new.items ≡ out.old.items ++ console_bytes self.now) }
     {
@@ -242,6 +260,10 @@ impl Console {
 
 impl Punch {
     /// Appends all that is seen of a punch.
+    ///
+    /// # Errors
+    ///
+    /// `AllocError` if memory is refused; `out` may have a part of it then.
     pub fn save(&self, out: &mut Vec<u8>) -> Result<(), AllocError>
         ensures { OnOk result (out.new.items ≡ out.old.items ++ punch_bytes self.now) }
     {
@@ -274,6 +296,10 @@ impl Punch {
 
 impl Printer {
     /// Appends all that is seen of a printer.
+    ///
+    /// # Errors
+    ///
+    /// `AllocError` if memory is refused; `out` may have a part of it then.
     pub fn save(&self, out: &mut Vec<u8>) -> Result<(), AllocError>
         ensures { OnOk result (out.new.items ≡ out.old.items ++ printer_bytes self.now) }
     {

@@ -1,10 +1,11 @@
-//! Devices as a program would use them that is only tried: each is lent, and stays as it is.
+//! Devices as a program would use them that is only tried: each is borrowed, and stays as it is.
 //!
-//! A walk over one of these has the ending and the storage of the walk over the device: so it tells which pages the
-//! device's own program will touch. It takes no memory.
+//! A walk over one of these has the ending and the storage of the walk over the device: so it says
+//! which pages the device's own program will touch. It takes no memory.
 ghost use Rattle.std.specs.Prelude.{◌≡◌};
 ghost use Rattle.unit_record.specs.Console.{read_answer as line_answer};
-ghost use Rattle.unit_record.specs.Trials.{ViewsConsole, ViewsPrinter, ViewsPunch, console_seen, printer_seen, punch_seen};
+ghost use Rattle.unit_record.specs.Trials.{ViewsConsole, ViewsPrinter, ViewsPunch, console_seen};
+ghost use Rattle.unit_record.specs.Trials.{printer_seen, punch_seen};
 
 use crate::console::Console;
 use crate::front::{COMMAND_REJECT, NO_OPERATION, is_sense};
@@ -32,7 +33,11 @@ impl<'a> Model for ConsoleTrial<'a> {
 
     ghost Value = { ConsoleSeen };
 
-    ghost view = { λ c. record { waiting = drop c.read c.waiting.now.items; sense = c.sense; giving = c.giving } };
+    ghost view = { λ c. record {
+      waiting = drop c.read c.waiting.now.items;
+      sense = c.sense;
+      giving = c.giving;
+    } };
 
     ghost invariant = { λ c. c.read ≤ length c.waiting.now.items };
 }
@@ -208,7 +213,7 @@ impl Device for PrinterTrial {
 }
 
 impl Console {
-    /// The console on trial, from now on.
+    /// Returns the console on trial, from now on.
     pub fn trial(&self) -> ConsoleTrial<'_>
         ensures { result ≡ console_seen self.now }
     {
@@ -222,7 +227,7 @@ impl Console {
 }
 
 impl Punch {
-    /// The punch on trial, from now on.
+    /// Returns the punch on trial, from now on.
     pub fn trial(&self) -> PunchTrial
         ensures { result ≡ punch_seen self.now }
     {
@@ -233,7 +238,7 @@ impl Punch {
 }
 
 impl Printer {
-    /// The printer on trial, from now on.
+    /// Returns the printer on trial, from now on.
     pub fn trial(&self) -> PrinterTrial
         ensures { result ≡ printer_seen self.now }
     {
@@ -243,7 +248,7 @@ impl Printer {
     }
 }
 
-/// What is seen of a device is enough for each walk.
+/// States that what a dry run sees of a device is enough for each walk.
 pub fn trials_view_their_devices()
     ensures console { ViewsConsole }
     ensures punch { ViewsPunch }

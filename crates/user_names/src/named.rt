@@ -1,5 +1,6 @@
 //! Users by their names.
-ghost use Rattle.std.specs.Prelude.{◌≡◌, ℕ, ◌<◌, ◌≤◌, List, Option, Some, None, IfSome, length, map};
+ghost use Rattle.std.specs.Prelude.{◌≡◌, ℕ, ◌<◌, ◌≤◌, List, Option, Some, None, IfSome, length};
+ghost use Rattle.std.specs.Prelude.{map};
 ghost use Rattle.user_names.specs.Users.{name_of, user_of};
 
 use crate::number::{MOST_USERS, UserNo};
@@ -9,7 +10,7 @@ pub trait Named {
     /// The name's characters.
     ghost name: { Self → List ℕ };
 
-    /// The name's characters.
+    /// Returns the name's characters.
     fn name(&self) -> &[u8]
         ensures { result.now ≡ name self.now };
 }
@@ -30,7 +31,7 @@ impl Named for &[u8] {
     }
 }
 
-/// The number of the first user of this name.
+/// Returns the number of the first user of this name.
 pub fn user_of<N: Named>(users: &[N], name: &[u8]) -> Option<UserNo>
     requires { length users.now ≤ MOST_USERS }
     ensures within { IfSome result (λ user. user < length users.now) }
@@ -40,7 +41,7 @@ pub fn user_of<N: Named>(users: &[N], name: &[u8]) -> Option<UserNo>
     Some(UserNo::new(place as u8))
 }
 
-/// The place of the first user of this name.
+/// Returns the place of the first user of this name.
 fn place_of<N: Named>(users: &[N], name: &[u8]) -> Option<usize>
     ensures within { IfSome result (λ user. user < length users.now) }
     ensures value { result ≡ user_of (map N.name users.now) name.now }
@@ -48,7 +49,7 @@ fn place_of<N: Named>(users: &[N], name: &[u8]) -> Option<usize>
     users.iter().position(|user| name == user.name())
 }
 
-/// The name of a user, empty for a number that no user has.
+/// Returns the name of a user, empty for a number that no user has.
 pub fn name_of<N: Named>(users: &[N], user: UserNo) -> &[u8]
     ensures { result.now ≡ name_of (map N.name users.now) user }
 {

@@ -25,7 +25,7 @@ impl Model for UserNo {
 }
 
 impl UserNo {
-    /// The user of this number.
+    /// Returns the user of this number.
     #[inline(always)]
     pub fn new(number: u8) -> UserNo
         requires { number < MOST_USERS }
@@ -34,7 +34,7 @@ impl UserNo {
         UserNo { number }
     }
 
-    /// The user's number.
+    /// Returns the user's number.
     #[inline(always)]
     pub fn number(self) -> u8
         ensures value { result ≡ self }
@@ -43,7 +43,7 @@ impl UserNo {
         self.number
     }
 
-    /// The user's place in the directory.
+    /// Returns the user's place in the directory.
     #[inline(always)]
     pub fn index(self) -> usize
         ensures value { result ≡ self }

@@ -1,13 +1,27 @@
--- A system that was restored goes on as the one that was saved.
-use Rattle.std.proofs.Common.{◌≡◌, ℕ, List, refl, ap, sym, ◌∙◌}
-use Rattle.cp_core.proofs.Unkept.{step_unkept}
+-- A system that was restored, or has forgotten printed lines, goes on as the one that was.
+use Rattle.std.specs.Prelude.{◌-◌}
+use Rattle.std.proofs.Common.{◌≡◌, ◌≤◌, ℕ, suc, List, [], ◌∷◌, ◌++◌, refl, ap, sym, ◌∙◌, subst, arith, drop, get_or}
+use Rattle.std.proofs.Common.{length, length-append, map}
+use Rattle.cp_core.proofs.Forgotten.{same_but_kept, user_with}
 use Rattle.cp_core.specs.Boot.{IsBooted}
-use Rattle.cp_core.specs.Saved.{AgreeButKept, IsOneBySaved as IsOneSystem}
-use Rattle.cp_core.specs.System.{SystemView}
+use Rattle.cp_core.specs.Events.{user_of}
+use Rattle.cp_core.specs.Forgotten.{GoesOnAs, StepsGoOn, users_having_printed}
+use Rattle.cp_core.specs.Local.{Step as SystemStep}
+use Rattle.cp_core.specs.Saved.{IsOneBySaved as IsOneSystem}
+use Rattle.cp_core.specs.System.{SystemView, machine_at}
+use Rattle.cp_core.specs.declared.events.Event.{Event}
+use Rattle.cp_core.specs.declared.events.Event.TheVariants as events
 use Rattle.cp_directory.specs.Users.{DirectoryUser}
 use Rattle.ckd_volume.specs.Volume.{VolumeFormat}
-use Rattle.sessions.specs.Saved.{GoesOnAs, IsOneBySaved, KeepsBase}
-use Rattle.vm370.specs.Goes.{seen_in, system_goes}
+use Rattle.machine_devices.specs.Equipped.{Equipped, nobody}
+use Rattle.machine_devices.specs.Forgotten.{unprinted}
+use Rattle.session_script.specs.Script.{Said}
+use Rattle.sessions.specs.Continuing.{HappensToo, IsToGoOn, but_printed}
+use Rattle.sessions.specs.Installed.{Installed, Step}
+use Rattle.sessions.specs.Saved.{IsOneBySaved, KeepsBase}
+use Rattle.sessions.specs.Schedule.{user_said}
+use Rattle.sessions.specs.Transcript.{last_lines}
+use Rattle.vm370.specs.Goes.{HasHappened, as_said, seen_in, system_goes}
 
 pub base : KeepsBase system_goes
 base = record {
@@ -17,20 +31,80 @@ base = record {
   kept = λ old new what reply h. h.step.directory;
 }
 
--- which programs are kept is nothing to what is seen, nor to what events leave
-alike : (one other : SystemView) → AgreeButKept one other → GoesOnAs system_goes one other
-alike one other agree = record {
-  seen = sym (ap seen_in agree);
-  happens = λ what reply new h. record {
-    event = h.event;
-    named = h.named;
-    step = step_unkept one other (record { event = h.event; reply = reply; seen = new }) agree h.step;
-  };
-}
-
 pub one_system : IsOneSystem → IsOneBySaved system_goes
-one_system law one other bytes directory is are = alike one other (law one other bytes directory is are)
+one_system law one other bytes directory is are = same_but_kept one other (law one other bytes directory is are)
+
+-- ---- lines that were printed before
+
+unprinted_again : (gone : List (List (List ℕ))) (users : List Equipped)
+    → map unprinted (users_having_printed gone users) ≡ map unprinted users
+unprinted_again [] users = refl
+unprinted_again (lines ∷ gone) [] = refl
+unprinted_again (lines ∷ gone) (e ∷ users) = ap (λ (us : List Equipped). unprinted e ∷ us) (unprinted_again gone users)
+
+-- the lines that have joined a console are the same, whatever was printed before
+last_same : (gone lines : List (List ℕ)) (count : ℕ) → count ≤ length lines
+    → last_lines count (gone ++ lines) ≡ last_lines count lines
+last_same [] lines count few = refl
+last_same (line ∷ gone) lines count few =
+    let more : suc (length (gone ++ lines)) - count ≡ suc (length (gone ++ lines) - count) = omega
+    (arith, few, length-append gone lines) in
+    ap (λ (n : ℕ). drop n (line ∷ (gone ++ lines))) more ∙ last_same gone lines count few
+
+-- an event names the user of what was said
+user_same : (event : Event) → user_said (as_said event) ≡ user_of event
+user_same (events.Run user units) = refl
+user_same (events.Line user text) = refl
+user_same (events.Tick user) = refl
+user_same (events.Serve user device) = refl
+user_same (events.Deck user cards) = refl
+
+seen_same : (one other : SystemView) → GoesOnAs one other → but_printed (seen_in one) ≡ but_printed (seen_in other)
+seen_same one other g =
+    let seen = λ (us : List Equipped). let s : Installed = record (seen_in other) { machines = us } in s in
+    ap (λ (s : SystemView). but_printed (seen_in s)) g.same ∙ ap seen (unprinted_again g.lines other.users)
+
+module _ (law : StepsGoOn) where
+  happens_too : (one other : SystemView) (step : Step SystemView) → GoesOnAs one other
+      → HasHappened other step.said step.reply step.left → HappensToo system_goes one step
+  happens_too one other step g h =
+      let applied : SystemStep = record { event = h.event; reply = step.reply; seen = step.left } in
+      let left : SystemView = record step.left { users = users_having_printed g.lines step.left.users } in
+      let happened : HasHappened one step.said step.reply left =
+      record { event = h.event; named = h.named; step = law.steps one other applied g h.step } in
+      let on : GoesOnAs left step.left = record { lines = g.lines; same = refl } in
+      let user = user_said step.said in
+      let users = step.left.users in
+      let named : user_of h.event ≡ user = sym (user_same h.event) ∙ ap user_said h.named in
+      let reported = subst (λ (u : ℕ). step.reply.lines ≡ length (machine_at step.left u).output - length
+      (machine_at other u).output) named h.step.replied.reported.lines in
+      let mine = user_with g.lines users user in
+      let output = ap (λ (e : Equipped). last_lines step.reply.lines e.machine.output) mine in
+      let few : step.reply.lines ≤ length (machine_at step.left user).output = omega (arith, reported) in
+      record {
+        left = left;
+        happens = happened;
+        on = on;
+        alike = record {
+          said = refl;
+          reply = refl;
+          decks = ap (λ (e : Equipped). e.devices.reader.decks) mine;
+          output = output ∙ last_same _ (machine_at step.left user).output step.reply.lines few;
+        };
+      }
+
+  pub goes_on : IsToGoOn system_goes
+  goes_on = record {
+    reflexive = law.reflexive;
+    transitive = law.transitive;
+    seen = seen_same;
+    base = λ one other g. sym (ap (λ (s : SystemView). s.directory) g.same);
+    happens = happens_too;
+  }
+
+-- ---- boots
 
 -- a system that was booted has the directory of its boot
-pub booted_from : (directory : List DirectoryUser) (volumes : List VolumeFormat) (frames slots : ℕ) (s : SystemView) → IsBooted directory volumes frames slots s → s.directory ≡ directory
+pub booted_from : (directory : List DirectoryUser) (volumes : List VolumeFormat) (frames slots : ℕ) (s : SystemView)
+    → IsBooted directory volumes frames slots s → s.directory ≡ directory
 booted_from directory volumes frames slots s h = ap (λ (v : SystemView). v.directory) h.rest

@@ -1,5 +1,6 @@
 -- Users and devices of a directory, as scripts know them.
-use Rattle.std.proofs.Common.{◌≡◌, ◌<◌, ℕ, arith, get_or, zero, suc, Bool, true, false, List, [], ◌∷◌, refl, ap, sym, ◌∙◌, subst, length, map}
+use Rattle.std.proofs.Common.{◌≡◌, ◌<◌, ℕ, arith, get_or, zero, suc, Bool, true, false, List, [], ◌∷◌, refl, ap, sym}
+use Rattle.std.proofs.Common.{◌∙◌, subst, length, map}
 use Rattle.std.specs.Prelude.{slice_get, slice_index_or}
 use Rattle.cp_core.specs.Histories.{IsHistory as IsSystemHistory}
 use Rattle.cp_core.specs.Local.{Step as SystemStep}
@@ -21,12 +22,14 @@ pub known_count : (directory : List DirectoryUser) → length (known_users direc
 known_count [] = refl
 known_count (one ∷ directory) = ap suc (known_count directory)
 
-pub known_names : (directory : List DirectoryUser) → map (λ user. user.name) (known_users directory) ≡ map (λ user. user.name) directory
+pub known_names : (directory : List DirectoryUser)
+    → map (λ user. user.name) (known_users directory) ≡ map (λ user. user.name) directory
 known_names [] = refl
 known_names (one ∷ directory) = ap (λ (l : List (List ℕ)). one.name ∷ l) (known_names directory)
 
 -- scripts and the directory give a user the same devices
-pub had : (directory : List DirectoryUser) (user device : ℕ) → has_device (known_users directory) user device ≡ states_device device (slice_get directory user)
+pub had : (directory : List DirectoryUser) (user device : ℕ)
+    → has_device (known_users directory) user device ≡ states_device device (slice_get directory user)
 had [] user device = refl
 had (one ∷ directory) zero device = refl
 had (one ∷ directory) (suc user) device = had directory user device
@@ -50,24 +53,33 @@ of_said users (scripts.Deck user cards) h = tt
 not_both : (b : Bool) → b ≡ true → b ≡ false → ⊥
 not_both b h k = cc
 
-of_event : (s : SystemView) (event : Event) → IsOfDeviceSaid (known_users s.directory) (as_said event) → LacksDevice s event → ⊥
+of_event : (s : SystemView) (event : Event) → IsOfDeviceSaid (known_users s.directory) (as_said event)
+    → LacksDevice s event → ⊥
 of_event s (events.Run user units) h lacks = lacks
 of_event s (events.Line user text) h lacks = lacks
 of_event s (events.Tick user) h lacks = lacks
-of_event s (events.Serve user device) h lacks = not_both (states_device device (slice_get s.directory user)) (sym (had s.directory user device) ∙ h) lacks
+of_event s (events.Serve user device) h lacks =
+    not_both (states_device device (slice_get s.directory user)) (sym (had s.directory user device) ∙ h) lacks
 of_event s (events.Deck user cards) h lacks = lacks
 
 -- an event that an accepted script says is for a device of its user
-pub stated : (s : SystemView) (script : ScriptEvent) (event : Event) → as_said event ≡ said script → IsOfDevice (known_users s.directory) script → IsStated s event
-stated s script event same h = of_event s event (subst (λ (x : Said). IsOfDeviceSaid (known_users s.directory) x) (sym same) (of_said (known_users s.directory) script h))
+pub stated : (s : SystemView) (script : ScriptEvent) (event : Event) → as_said event ≡ said script
+    → IsOfDevice (known_users s.directory) script → IsStated s event
+stated s script event same h =
+    of_event s event (subst (λ (x : Said). IsOfDeviceSaid (known_users s.directory) x) (sym same)
+    (of_said (known_users s.directory) script h))
 
 -- ---- histories
 
-step_of : (old : SystemView) (step : Step SystemView) (event : Event) → as_said event ≡ step.said → of_system (record { event = event; reply = step.reply; seen = step.left }) ≡ step
-step_of old step event e = ap (λ (s : Said). let one : Step SystemView = record { said = s; reply = step.reply; left = step.left } in one) e
+step_of : (old : SystemView) (step : Step SystemView) (event : Event) → as_said event ≡ step.said
+    → of_system (record { event = event; reply = step.reply; seen = step.left }) ≡ step
+step_of old step event e =
+    ap (λ (s : Said). let one : Step SystemView = record { said = s; reply = step.reply; left = step.left } in one) e
 
-together : (step : Step SystemView) (steps : List (Step SystemView)) (one : SystemStep) (more : List SystemStep) → of_system one ≡ step → map of_system more ≡ steps → map of_system (one ∷ more) ≡ step ∷ steps
-together step steps one more e f = ap (λ (s : Step SystemView). s ∷ map of_system more) e ∙ ap (λ (l : List (Step SystemView)). step ∷ l) f
+together : (step : Step SystemView) (steps : List (Step SystemView)) (one : SystemStep) (more : List SystemStep)
+    → of_system one ≡ step → map of_system more ≡ steps → map of_system (one ∷ more) ≡ step ∷ steps
+together step steps one more e f =
+    ap (λ (s : Step SystemView). s ∷ map of_system more) e ∙ ap (λ (l : List (Step SystemView)). step ∷ l) f
 
 pub histories : AreHistories
 histories first last [] h = ([], refl, h)
@@ -77,7 +89,8 @@ histories first last (step ∷ steps) h =
     (one ∷ more.0, together step steps one more.0 (step_of first step h.0.event h.0.named) more.1, (h.0.step, more.2))
 
 -- scripts know the addresses of his devices
-pub known_devices : (directory : List DirectoryUser) (user : ℕ) (one : DirectoryUser) → user < length directory → one ≡ get_or directory user one → addresses_of one ≡ devices_of (known_users directory) user
+pub known_devices : (directory : List DirectoryUser) (user : ℕ) (one : DirectoryUser) → user < length directory
+    → one ≡ get_or directory user one → addresses_of one ≡ devices_of (known_users directory) user
 known_devices [] user one h is = absurd (omega (arith, h))
 known_devices (u ∷ us) zero one h is = ap addresses_of is
 known_devices (u ∷ us) (suc user) one h is = known_devices us user one (omega (arith, h)) is

@@ -11,7 +11,8 @@ refusal_text names refusals.Memory = codes "fault: memory Memory"
 refusal_text names refusals.TooFewFrames = codes "fault: boot TooFewFrames"
 refusal_text names refusals.DuplicateVolume = codes "fault: boot DuplicateVolume"
 refusal_text names (refusals.NoVolume volser) = codes "fault: boot NoVolume " ++ volser
-refusal_text names (refusals.ExtentPastEnd user address) = past_end_text (name_of names user) address
+refusal_text names (refusals.ExtentPastEnd user address) =
+    past_end_text (name_of names user) address
 refusal_text names refusals.DuplicateDevice = codes "fault: boot DuplicateDevice"
 
 -- a boot that is refused is refused input, unless memory was

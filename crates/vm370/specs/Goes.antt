@@ -1,5 +1,6 @@
 -- How a system goes on, as sessions see it.
 use Rattle.std.specs.Prelude.{◌≡◌, ℕ, true, false, IsSome, List, map}
+use Rattle.cp_core.specs.Forgotten.{GoesOnAs}
 use Rattle.cp_core.specs.Histories.{IsStep}
 use Rattle.cp_core.specs.Memory.{MayTakeMemory, is_cut_short}
 use Rattle.cp_core.specs.Saved.{IsSaved}
@@ -23,9 +24,11 @@ use Rattle.sessions.specs.Installed.{Installation, Installed}
 abbrev pub known_user : DirectoryUser → KnownUser
 known_user user = record { name = user.name; devices = addresses_of user }
 
+-- the users of a directory, as scripts know them
 abbrev pub known_users : List DirectoryUser → List KnownUser
 known_users users = map known_user users
 
+-- what a session sees of a system
 abbrev pub seen_in : SystemView → Installed
 seen_in s = record { users = known_users s.directory; machines = s.users; files = s.files }
 
@@ -38,13 +41,14 @@ as_said (events.Serve user device) = Serve user device
 as_said (events.Deck user cards) = Deck user cards.now
 
 -- the event that was said was applied, and was answered so
-pub record HasHappened (old : SystemView) (said : Said) (reply : Reply) (new : SystemView) : Type 0 where
+pub record HasHappened (old : SystemView) (said : Said) (reply : Reply)
+    (new : SystemView) : Type 0 where
   pub event : Event
   pub named : as_said event ≡ said
   pub step : IsStep old (record { event = event; reply = reply; seen = new })
 
--- it was refused memory: each user is as he was, but for one whose own line closes files or whose device is served, and the system is
--- spent
+-- it was refused memory: each user is as he was, but for one whose own line closes files or whose
+-- device is served, and the system is spent
 pub record IsSpent (old : SystemView) (said : Said) (new : SystemView) : Type 0 where
   pub event : Event
   pub named : as_said event ≡ said
@@ -52,14 +56,17 @@ pub record IsSpent (old : SystemView) (said : Said) (new : SystemView) : Type 0 
   pub directory : new.directory ≡ old.directory
   pub may : MayTakeMemory old event
   pub supplied : IsSuppliedInPart old event new
-  pub others : (user : ℕ) → is_cut_short old event user ≡ false → user_at new user ≡ user_at old user
+  pub others : (user : ℕ) → is_cut_short old event user ≡ false
+      → user_at new user ≡ user_at old user
 
--- what was said may want memory: such lines, a device that is served and works on a program, and a deck, whose cards are made
+-- what was said may want memory: such lines, a device that is served and works on a program, and a
+-- deck, whose cards are made
 abbrev pub MayRefuse : SystemView → Said → Type 0
 MayRefuse old (Run user units) = ⊥
 MayRefuse old (Line user text) = LineMay text (user_at old user)
 MayRefuse old (Tick user) = ⊥
-MayRefuse old (Serve user device) = IsSome (program_of device (machine_at old user).core.subchannels)
+MayRefuse old (Serve user device) =
+    IsSome (program_of device (machine_at old user).core.subchannels)
 MayRefuse old (Deck user cards) = Unit {0}
 MayRefuse old (Auto turns) = ⊥
 
@@ -67,6 +74,7 @@ MayRefuse old (Auto turns) = ⊥
 abbrev pub HasSameDirectory : SystemView → SystemView → Type 0
 HasSameDirectory one other = other.directory ≡ one.directory
 
+-- how a system goes, as an installation
 abbrev pub system_goes : Installation SystemView
 system_goes = record {
   seen = seen_in;
@@ -76,6 +84,7 @@ system_goes = record {
   is_spent = λ s. s.is_spent;
   IsSaved = IsSaved;
   HasSameBase = HasSameDirectory;
+  GoesOnAs = GoesOnAs;
 }
 
 -- the cards that an event gives: those of a deck

@@ -13,11 +13,15 @@ use Rattle.vm370.specs.Goes.{as_said, system_goes}
 abbrev pub of_system : SystemStep → Step SystemView
 of_system step = record { said = as_said step.event; reply = step.reply; left = step.seen }
 
+-- each history of an installation of users is one of a system
 abbrev pub AreHistories : Type 0
-AreHistories = (first last : SystemView) (steps : List (Step SystemView)) → IsHistory system_goes first steps last →
+AreHistories = (first last : SystemView) (steps : List (Step SystemView))
+    → IsHistory system_goes first steps last →
     (events : List SystemStep) × (map of_system events ≡ steps) × IsSystemHistory first events last
 
 -- systems that were booted from one directory, with any volumes and sizes, are of one base
 abbrev pub BootsAreOfOneBase : Type 0
-BootsAreOfOneBase = (directory : List DirectoryUser) (volumes others : List VolumeFormat) (frames slots m n : ℕ) (one other : SystemView) →
-    IsBooted directory volumes frames slots one → IsBooted directory others m n other → system_goes.HasSameBase one other
+BootsAreOfOneBase = (directory : List DirectoryUser) (volumes others : List VolumeFormat)
+    (frames slots m n : ℕ) (one other : SystemView) →
+    IsBooted directory volumes frames slots one → IsBooted directory others m n other
+    → system_goes.HasSameBase one other

@@ -1,6 +1,8 @@
 -- What the words of the program name, as those of a simple command of `clap`.
-use Rattle.std.specs.Prelude.{◌≡◌, ◌≤◌, ◌&&◌, ℕ, Bool, true, false, List, [], map, codes, Option, Some, None, is_some}
-use Rattle.clap.specs.Words.{App, Row, Rule, all_of, fault_of, first_of, matches_of, new_app, new_rule, one_of, takes, with_rule}
+use Rattle.std.specs.Prelude.{◌≡◌, ◌≤◌, ◌&&◌, ℕ, Bool, true, false, List, [], map, codes, Option}
+use Rattle.std.specs.Prelude.{Some, None, is_some}
+use Rattle.clap.specs.Words.{App, Row, Rule, all_of, fault_of, first_of, matches_of, new_app}
+use Rattle.clap.specs.Words.{new_rule, one_of, takes, with_rule}
 use Rattle.clap.specs.declared.builder.action.ArgAction.TheVariants.{Set}
 use Rattle.text_words.specs.Numbers.{decimal_of}
 use Rattle.cp_core.specs.Sizes.{SystemSizes}
@@ -45,14 +47,17 @@ HasNoFault program words = fault_of (command_of program) words ≡ []
 
 -- both paths are given
 abbrev pub gives_paths : List Row → Bool
-gives_paths rows = is_some (first_of (codes "DIRECTORY") rows) && is_some (first_of (codes "SCRIPT") rows)
+gives_paths rows = is_some (first_of (codes "DIRECTORY") rows) && is_some
+    (first_of (codes "SCRIPT") rows)
 
--- the number that an option spells in at most 7 decimal digits, and this one where the option is not given
+-- the number that an option spells in at most 7 decimal digits, and this one where the option is
+-- not given
 abbrev pub number_or : ℕ → Option (List ℕ) → Option ℕ
 number_or default None = Some default
 number_or default (Some text) = decimal_of 7 text
 
--- so many frames and slots are named: 64 and 256 where they are not given, and no more than 4096 and 65,536
+-- so many frames and slots are named: 64 and 256 where they are not given, and no more than 4096
+-- and 65,536
 pub record IsSized (rows : List Row) (sizes : SystemSizes) : Type 0 where
   pub frames : number_or 64 (first_of (codes "frames") rows) ≡ Some sizes.frames
   pub slots : number_or 256 (first_of (codes "slots") rows) ≡ Some sizes.slots
@@ -65,4 +70,5 @@ pub record IsNamed (rows : List Row) (options : Options) : Type 0 where
   pub save : IsFlag (one_of (codes "save") rows) options.save
   pub directory : first_of (codes "DIRECTORY") rows ≡ Some options.directory.now
   pub script : first_of (codes "SCRIPT") rows ≡ Some options.script.now
-  pub volumes : map (λ path. path.now) options.volumes.items ≡ texts_of (all_of (codes "VOLUME") rows)
+  pub volumes : map (λ path. path.now) options.volumes.items
+      ≡ texts_of (all_of (codes "VOLUME") rows)

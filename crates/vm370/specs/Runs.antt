@@ -21,7 +21,9 @@ abbrev pub system_volumes : SystemView → List VolumeFormat
 system_volumes s = s.volumes
 
 -- the file at this path was opened, and read to its end as the text of this directory
-pub record IsDirectoryAt {F : Type 0} (Gives : List ℕ → F → Type 0) (remaining : F → Option (List ℕ)) (path : List ℕ) (directory : List DirectoryUser) : Type 0 where
+pub record IsDirectoryAt {F : Type 0} (Gives : List ℕ → F → Type 0)
+    (remaining : F → Option (List ℕ)) (path : List ℕ)
+    (directory : List DirectoryUser) : Type 0 where
   pub file : F
   pub left : F
   pub text : List ℕ
@@ -30,7 +32,9 @@ pub record IsDirectoryAt {F : Type 0} (Gives : List ℕ → F → Type 0) (remai
   pub accepted : directory_of text ≡ Ok directory
 
 -- a system of these sizes was booted with the directory and the volumes at these paths
-pub record IsSystemOf {F : Type 0} (Gives : List ℕ → F → Type 0) (remaining : F → Option (List ℕ)) (directory : List ℕ) (paths : List (List ℕ)) (sizes : SystemSizes) (system : SystemView) : Type 0 where
+pub record IsSystemOf {F : Type 0} (Gives : List ℕ → F → Type 0) (remaining : F → Option (List ℕ))
+    (directory : List ℕ) (paths : List (List ℕ)) (sizes : SystemSizes)
+    (system : SystemView) : Type 0 where
   pub users : List DirectoryUser
   pub volumes : List VolumeFormat
   pub stated : IsDirectoryAt Gives remaining directory users
@@ -48,37 +52,69 @@ detail_of false = Whole
 
 -- ---- the whole
 
--- a system was booted, the script was played on that, and the images were saved if that was asked for
-pub record IsWholeRun {F : Type 0} (Gives : List ℕ → F → Type 0) (remaining : F → Option (List ℕ)) (options : Options) (deeds_old deeds_new : Option (List Deed)) (writer_old writer_new : Option (List ℕ)) : Type 0 where
+-- a system was booted, the script was played on that, and the images were saved if that was asked
+-- for
+pub record IsWholeRun {F : Type 0} (Gives : List ℕ → F → Type 0) (remaining : F → Option (List ℕ))
+    (options : Options) (deeds_old deeds_new : Option (List Deed))
+    (writer_old writer_new : Option (List ℕ)) : Type 0 where
   pub first : SystemView
   pub last : SystemView
   pub between : Option (List Deed)
-  pub booted : IsSystemOf Gives remaining options.directory.now (map (λ path. path.now) options.volumes.items) options.sizes first
-  pub read : Adds deeds_old between (inputs options.directory.now (map (λ path. path.now) options.volumes.items))
-  pub run : IsRun system_goes system_volumes Gives remaining options.script.now (saved_of options.save (map (λ path. path.now) options.volumes.items)) first last between deeds_new writer_old writer_new
+  pub booted : IsSystemOf Gives remaining options.directory.now
+      (map (λ path. path.now) options.volumes.items) options.sizes first
+  pub read : Adds deeds_old between
+      (inputs options.directory.now (map (λ path. path.now) options.volumes.items))
+  pub run : IsRun system_goes system_volumes Gives remaining options.script.now
+      (saved_of options.save (map (λ path. path.now) options.volumes.items)) first last between
+      deeds_new writer_old writer_new
 
--- no system was booted, and nothing was written or saved; or one was, and the script was not played or an image not saved
-abbrev pub IsFailedWholeRun : {F : Type 0} → (List ℕ → F → Type 0) → (F → Option (List ℕ)) → Options → Option (List Deed) → Option (List Deed) → Option (List ℕ) → Option (List ℕ) → Failure → Type 0
+-- no system was booted, and nothing was written or saved; or one was, and the script was not played
+-- or an image not saved
+abbrev pub IsFailedWholeRun : {F : Type 0} → (List ℕ → F → Type 0) → (F → Option (List ℕ)) → Options
+    → Option (List Deed) → Option (List Deed) → Option (List ℕ) → Option (List ℕ) → Failure → Type 0
 IsFailedWholeRun Gives remaining options deeds_old deeds_new writer_old writer_new failure =
-    (AddsFront deeds_old deeds_new (inputs options.directory.now (map (λ path. path.now) options.volumes.items)) × (writer_new ≡ writer_old))
+    (AddsFront deeds_old deeds_new
+    (inputs options.directory.now (map (λ path. path.now) options.volumes.items))
+    × (writer_new ≡ writer_old))
     ⊎ ((first : SystemView) × (last : SystemView) × (between : Option (List Deed))
-    × IsSystemOf Gives remaining options.directory.now (map (λ path. path.now) options.volumes.items) options.sizes first
-    × Adds deeds_old between (inputs options.directory.now (map (λ path. path.now) options.volumes.items))
-    × IsFailedRun system_goes system_volumes Gives remaining options.script.now (saved_of options.save (map (λ path. path.now) options.volumes.items)) first last between deeds_new writer_old writer_new failure)
+    × IsSystemOf Gives remaining options.directory.now
+    (map (λ path. path.now) options.volumes.items) options.sizes first
+    × Adds deeds_old between
+    (inputs options.directory.now (map (λ path. path.now) options.volumes.items))
+    × IsFailedRun system_goes system_volumes Gives remaining options.script.now
+    (saved_of options.save (map (λ path. path.now) options.volumes.items)) first last between
+    deeds_new writer_old writer_new failure)
 
--- a system was booted, the parts of a script were followed on that, and the images were saved if that was asked for, by the options and
--- by the input
-pub record IsWholeFollowing {F : Type 0} (Gives : List ℕ → F → Type 0) (remaining : F → Option (List ℕ)) (options : FollowOptions) (deeds_old deeds_new : Option (List Deed)) (reader_old reader_new writer_old writer_new : Option (List ℕ)) : Type 0 where
+-- a system was booted, the parts of a script were followed on that, and the images were saved if
+-- that was asked for, by the options and by the input
+pub record IsWholeFollowing {F : Type 0} (Gives : List ℕ → F → Type 0)
+    (remaining : F → Option (List ℕ)) (options : FollowOptions)
+    (deeds_old deeds_new : Option (List Deed))
+    (reader_old reader_new writer_old writer_new : Option (List ℕ)) : Type 0 where
   pub first : SystemView
   pub between : Option (List Deed)
-  pub booted : IsSystemOf Gives remaining options.directory.now (map (λ path. path.now) options.volumes.items) options.sizes first
-  pub read : Adds deeds_old between (inputs options.directory.now (map (λ path. path.now) options.volumes.items))
-  pub followed : IsFollowing system_goes system_volumes (detail_of options.terminals) (saved_of options.save (map (λ path. path.now) options.volumes.items)) first between deeds_new reader_old reader_new writer_old writer_new
+  pub booted : IsSystemOf Gives remaining options.directory.now
+      (map (λ path. path.now) options.volumes.items) options.sizes first
+  pub read : Adds deeds_old between
+      (inputs options.directory.now (map (λ path. path.now) options.volumes.items))
+  pub followed : IsFollowing system_goes system_volumes (detail_of options.terminals)
+      (saved_of options.save (map (λ path. path.now) options.volumes.items)) first between deeds_new
+      reader_old reader_new writer_old writer_new
 
-abbrev pub IsFailedWholeFollowing : {F : Type 0} → (List ℕ → F → Type 0) → (F → Option (List ℕ)) → FollowOptions → Option (List Deed) → Option (List Deed) → Option (List ℕ) → Option (List ℕ) → Option (List ℕ) → Option (List ℕ) → Failure → Type 0
-IsFailedWholeFollowing Gives remaining options deeds_old deeds_new reader_old reader_new writer_old writer_new failure =
-    (AddsFront deeds_old deeds_new (inputs options.directory.now (map (λ path. path.now) options.volumes.items)) × (reader_new ≡ reader_old) × (writer_new ≡ writer_old))
+-- what a run that followed parts has done when it fails
+abbrev pub IsFailedWholeFollowing : {F : Type 0} → (List ℕ → F → Type 0) → (F → Option (List ℕ))
+    → FollowOptions → Option (List Deed) → Option (List Deed) → Option (List ℕ) → Option (List ℕ)
+    → Option (List ℕ) → Option (List ℕ) → Failure → Type 0
+IsFailedWholeFollowing Gives remaining options deeds_old deeds_new reader_old reader_new writer_old
+    writer_new failure =
+    (AddsFront deeds_old deeds_new
+    (inputs options.directory.now (map (λ path. path.now) options.volumes.items))
+    × (reader_new ≡ reader_old) × (writer_new ≡ writer_old))
     ⊎ ((first : SystemView) × (between : Option (List Deed))
-    × IsSystemOf Gives remaining options.directory.now (map (λ path. path.now) options.volumes.items) options.sizes first
-    × Adds deeds_old between (inputs options.directory.now (map (λ path. path.now) options.volumes.items))
-    × IsFailedFollowing system_goes system_volumes (detail_of options.terminals) (saved_of options.save (map (λ path. path.now) options.volumes.items)) first between deeds_new reader_old reader_new writer_old writer_new failure)
+    × IsSystemOf Gives remaining options.directory.now
+    (map (λ path. path.now) options.volumes.items) options.sizes first
+    × Adds deeds_old between
+    (inputs options.directory.now (map (λ path. path.now) options.volumes.items))
+    × IsFailedFollowing system_goes system_volumes (detail_of options.terminals)
+    (saved_of options.save (map (λ path. path.now) options.volumes.items)) first between
+    deeds_new reader_old reader_new writer_old writer_new failure)

@@ -1,8 +1,11 @@
 //! The words of the program: how much it has, and which files it is to read and to write.
-ghost use Rattle.std.specs.Prelude.{◌≡◌, IfOk, IfErr, IfSome, OnOk, IsSome, Some, codes, map, false, true};
+ghost use Rattle.std.specs.Prelude.{◌≡◌, IfOk, IfErr, IfSome, OnOk, IsSome, Some, codes, map};
+ghost use Rattle.std.specs.Prelude.{false, true};
 ghost use Rattle.clap.specs.Words.{app_of, first_of, found_of, rows_of, rule_of};
 ghost use Rattle.cp_core.specs.Sizes.{SystemSizes};
-ghost use Rattle.vm370.specs.Options.{HasNoFault, IsNamed, IsSized, command_of, directory_rule, frames_rule, gives_paths, is_taken, number_or, rows_named, slots_rule};
+ghost use Rattle.vm370.specs.Options.{HasNoFault, IsNamed, IsSized, command_of, directory_rule};
+ghost use Rattle.vm370.specs.Options.{frames_rule, gives_paths, is_taken, number_or, rows_named};
+ghost use Rattle.vm370.specs.Options.{slots_rule};
 
 use clap::{Arg, ArgAction, ArgMatches, Command};
 use cp_core::Sizes;
@@ -20,7 +23,8 @@ const SLOTS: u32 = 256;
 /// The most digits of a number of frames or slots.
 const MOST_DIGITS: usize = 7;
 
-/// What the words of the program name: `vm370 [--frames N] [--slots N] [--save] DIRECTORY SCRIPT [VOLUME]...`.
+/// What the words of the program name: `vm370 [--frames N] [--slots N] [--save] DIRECTORY SCRIPT
+/// [VOLUME]...`.
 #[derive(Drop)]
 pub struct Options<'a> {
     /// How many frames and slots the machine has.
@@ -35,10 +39,13 @@ pub struct Options<'a> {
     pub volumes: Vec<&'a str>,
 }
 
-/// What the words name, the first of which is the name that the program was started by; `program` is
-/// its name in a text for the person who wrote them. Words are read as `clap` reads
-/// them: `--` before the paths is allowed, and `--help` is a request for the text of
-/// [`UsageError::Usage`].
+/// Reads the arguments, the first of which is the name that the program was started by; `program`
+/// is its name in a usage text. Words are read as `clap` reads them: `--` before the paths is
+/// allowed, and `--help` is a request for the text of [`UsageError::Usage`].
+///
+/// # Errors
+///
+/// A `UsageError`: the text that says what is wrong with the arguments, or refused memory.
 pub fn arguments<'a, S: AsStr>(
     alloc: Global,
     program: &'a str,
@@ -46,7 +53,8 @@ pub fn arguments<'a, S: AsStr>(
 ) -> Result<Options<'a>, UsageError>
     ensures ok { IfOk result (IsNamed (rows_named program.entry.now (map S.text words.entry.now))) }
     ensures taken { OnOk result (HasNoFault program.entry.now (map S.text words.entry.now)) }
-    ensures err { (sizes : SystemSizes) → is_taken program.entry.now (map S.text words.entry.now) ≡ true →
+    ensures err { (sizes : SystemSizes)
+        → is_taken program.entry.now (map S.text words.entry.now) ≡ true →
         gives_paths (rows_named program.entry.now (map S.text words.entry.now)) ≡ true →
         IsSized (rows_named program.entry.now (map S.text words.entry.now)) sizes →
         IfErr result (λ error. error ≡ UsageError.Memory) }
@@ -68,7 +76,7 @@ pub fn arguments<'a, S: AsStr>(
     })
 }
 
-/// A wrong use: frames or slots that there can't be.
+/// Returns a wrong use: frames or slots that there can't be.
 pub(crate) fn wrong_sizes(alloc: Global) -> UsageError {
     usage(
         alloc,
@@ -76,17 +84,18 @@ pub(crate) fn wrong_sizes(alloc: Global) -> UsageError {
     )
 }
 
-/// How many frames and slots are named, where there may be so many.
+/// Returns how many frames and slots are named, where there may be so many.
 pub(crate) fn sizes_in(matches: &ArgMatches<'_>) -> Option<Sizes>
     ensures some { IfSome result (IsSized (rows_of (found_of matches.now))) }
-    ensures none { (sizes : SystemSizes) → IsSized (rows_of (found_of matches.now)) sizes → IsSome result }
+    ensures none { (sizes : SystemSizes) → IsSized (rows_of (found_of matches.now)) sizes
+        → IsSome result }
 {
     let frames = number_in(matches, "frames", FRAMES)?;
     let slots = number_in(matches, "slots", SLOTS)?;
     Sizes::new(frames, slots)
 }
 
-/// The number that the words give for an option, and this one where they give none.
+/// Returns the number that the words give for an option, and this one where they give none.
 fn number_in(matches: &ArgMatches<'_>, id: &str, default: u32) -> Option<u32>
     ensures { result ≡ number_or default (first_of id.now (rows_of (found_of matches.now))) }
 {
@@ -96,10 +105,11 @@ fn number_in(matches: &ArgMatches<'_>, id: &str, default: u32) -> Option<u32>
     }
 }
 
-/// The paths of the directory and of the script, where both are given.
+/// Returns the paths of the directory and of the script, where both are given.
 fn paths_in<'a>(matches: &ArgMatches<'a>) -> Option<(&'a str, &'a str)>
     ensures directory { IfSome result
-        (λ paths. first_of (codes "DIRECTORY") (rows_of (found_of matches.now)) ≡ Some paths.0.now) }
+        (λ paths. first_of (codes "DIRECTORY") (rows_of (found_of matches.now))
+        ≡ Some paths.0.now) }
     ensures script { IfSome result
         (λ paths. first_of (codes "SCRIPT") (rows_of (found_of matches.now)) ≡ Some paths.1.now) }
     ensures none { gives_paths (rows_of (found_of matches.now)) ≡ true → IsSome result }
@@ -109,13 +119,14 @@ fn paths_in<'a>(matches: &ArgMatches<'a>) -> Option<(&'a str, &'a str)>
     Some((directory, script))
 }
 
-/// What `clap` finds in the words.
+/// Returns what `clap` finds in the words.
 fn matched<'a, S: AsStr>(
     alloc: Global,
     program: &'a str,
     words: &'a [S],
 ) -> Result<ArgMatches<'a>, UsageError>
-    ensures ok { IfOk result (λ m. rows_of (found_of m) ≡ rows_named program.entry.now (map S.text words.entry.now)) }
+    ensures ok { IfOk result
+        (λ m. rows_of (found_of m) ≡ rows_named program.entry.now (map S.text words.entry.now)) }
     ensures taken { OnOk result (HasNoFault program.entry.now (map S.text words.entry.now)) }
     ensures err { is_taken program.entry.now (map S.text words.entry.now) ≡ true
         → IfErr result (λ error. error ≡ UsageError.Memory) }
@@ -127,7 +138,7 @@ fn matched<'a, S: AsStr>(
     }
 }
 
-/// The program's words, as `clap` is told of them.
+/// Returns the program's words, as they are described to `clap`.
 fn command<'a>(alloc: Global, program: &'a str) -> Result<Command<'a>, AllocError>
     ensures { IfOk result (λ c. app_of c ≡ command_of program.entry.now) }
 {
@@ -168,7 +179,7 @@ pub(crate) fn slots<'a>(alloc: Global) -> Arg<'a>
         )
 }
 
-/// The first word, which is the path of the directory.
+/// Returns the first word, which is the path of the directory.
 pub(crate) fn directory<'a>(alloc: Global) -> Arg<'a>
     ensures rule { rule_of result ≡ directory_rule }
     ensures local { result.global ≡ false }

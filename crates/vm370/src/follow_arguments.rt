@@ -3,7 +3,8 @@ ghost use Rattle.std.specs.Prelude.{◌≡◌, IfErr, IfOk, OnOk, map, true};
 ghost use Rattle.clap.specs.Words.{app_of, found_of, rows_of};
 ghost use Rattle.cp_core.specs.Sizes.{SystemSizes};
 ghost use Rattle.vm370.specs.Options.{IsSized};
-ghost use Rattle.vm370.specs.FollowOptions.{HasNoFault, IsNamed, command_of, gives_directory, is_taken, rows_named};
+ghost use Rattle.vm370.specs.FollowOptions.{HasNoFault, IsNamed, command_of, gives_directory};
+ghost use Rattle.vm370.specs.FollowOptions.{is_taken, rows_named};
 
 use crate::arguments::{directory, frames, sizes_in, slots, wrong_sizes};
 use clap::{ArgMatches, Command};
@@ -30,8 +31,12 @@ pub struct FollowOptions<'a> {
     pub volumes: Vec<&'a str>,
 }
 
-/// What the words name, the first of which is the name that the program was started by, as
-/// [`arguments`](crate::arguments::arguments) reads them.
+/// Reads the arguments of a run that follows parts, as [`arguments`](crate::arguments::arguments)
+/// does those of a script.
+///
+/// # Errors
+///
+/// A `UsageError`: the text that says what is wrong with the arguments, or refused memory.
 pub fn follow_arguments<'a, S: AsStr>(
     alloc: Global,
     program: &'a str,
@@ -39,7 +44,8 @@ pub fn follow_arguments<'a, S: AsStr>(
 ) -> Result<FollowOptions<'a>, UsageError>
     ensures ok { IfOk result (IsNamed (rows_named program.entry.now (map S.text words.entry.now))) }
     ensures taken { OnOk result (HasNoFault program.entry.now (map S.text words.entry.now)) }
-    ensures err { (sizes : SystemSizes) → is_taken program.entry.now (map S.text words.entry.now) ≡ true →
+    ensures err { (sizes : SystemSizes)
+        → is_taken program.entry.now (map S.text words.entry.now) ≡ true →
         gives_directory (rows_named program.entry.now (map S.text words.entry.now)) ≡ true →
         IsSized (rows_named program.entry.now (map S.text words.entry.now)) sizes →
         IfErr result (λ error. error ≡ UsageError.Memory) }
@@ -61,13 +67,14 @@ pub fn follow_arguments<'a, S: AsStr>(
     })
 }
 
-/// What `clap` finds in the words.
+/// Returns what `clap` finds in the words.
 fn matched<'a, S: AsStr>(
     alloc: Global,
     program: &'a str,
     words: &'a [S],
 ) -> Result<ArgMatches<'a>, UsageError>
-    ensures ok { IfOk result (λ m. rows_of (found_of m) ≡ rows_named program.entry.now (map S.text words.entry.now)) }
+    ensures ok { IfOk result
+        (λ m. rows_of (found_of m) ≡ rows_named program.entry.now (map S.text words.entry.now)) }
     ensures taken { OnOk result (HasNoFault program.entry.now (map S.text words.entry.now)) }
     ensures err { is_taken program.entry.now (map S.text words.entry.now) ≡ true
         → IfErr result (λ error. error ≡ UsageError.Memory) }
@@ -79,7 +86,7 @@ fn matched<'a, S: AsStr>(
     }
 }
 
-/// The program's words, as `clap` is told of them.
+/// Returns the program's words, as they are described to `clap`.
 fn command<'a>(alloc: Global, program: &'a str) -> Result<Command<'a>, AllocError>
     ensures { IfOk result (λ c. app_of c ≡ command_of program.entry.now) }
 {

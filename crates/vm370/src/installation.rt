@@ -1,5 +1,6 @@
 //! The system as sessions know it.
-ghost use Rattle.std.specs.Prelude.{◌≡◌, ◌++◌, ◌<◌, ◌≤◌, ◌⊎◌, Err, IfErr, IfOk, OnErr, OnOk, false, length, map, slice_get, true};
+ghost use Rattle.std.specs.Prelude.{◌≡◌, ◌++◌, ◌<◌, ◌≤◌, ◌⊎◌, Err, IfErr, IfOk, OnErr, OnOk, false};
+ghost use Rattle.std.specs.Prelude.{length, map, slice_get, true};
 ghost use Rattle.std.specs.Option.{option_to_list};
 ghost use Rattle.cp_directory.specs.Devices.{places_of};
 ghost use Rattle.cp_directory.specs.Users.{addresses_of};
@@ -9,9 +10,10 @@ ghost use Rattle.session_script.specs.Users.{devices_of};
 ghost use Rattle.user_names.specs.Users.{name_of};
 ghost use Rattle.sessions.specs.Installed.{names_of};
 ghost use Rattle.sessions.specs.Schedule.{IsEvent};
-ghost use Rattle.vm370.specs.Goes.{GivesCards, HasCards, HasHappened, IsSpent, MayRefuse, as_said, known_users, seen_in, system_goes};
+ghost use Rattle.vm370.specs.Goes.{GivesCards, HasCards, HasHappened, IsSpent, MayRefuse, as_said};
+ghost use Rattle.vm370.specs.Goes.{known_users, seen_in, system_goes};
 
-use cp_core::{CpError, Event, System, one_by_saved};
+use cp_core::{CpError, Event, System, one_by_saved, printed_lines_do_not_matter};
 use cp_directory::{Minidisk, User, UserDevices};
 use machine_devices::{FileNote, Reply, SeenDevices};
 use machine_panel::Mode;
@@ -47,7 +49,7 @@ impl SharedMachines {
         SharedMachines { system }
     }
 
-    /// The system.
+    /// Returns the system.
     pub fn system(&self) -> &System
         ensures { result.now ≡ self.now }
     {
@@ -137,6 +139,10 @@ impl Installation for SharedMachines {
         ask(&mut self.system, event, &cards)
     }
 
+    fn forget_printed(&mut self) {
+        self.system.forget_printed();
+    }
+
     fn save(&self, out: &mut Vec<u8>) -> Result<bool, AllocError> {
         self.system.save(out)?;
         Ok(true)
@@ -153,9 +159,13 @@ impl Installation for SharedMachines {
     fn one_by_saved() {
         one_by_saved();
     }
+
+    fn printed_lines_do_not_matter() {
+        printed_lines_do_not_matter();
+    }
 }
 
-/// How many users a system has.
+/// Returns how many users a system has.
 fn users_of(system: &System) -> usize
     ensures value { result ≡ length (known_users system.now.directory) }
     ensures machines { result ≡ length system.now.users }
@@ -164,14 +174,14 @@ fn users_of(system: &System) -> usize
     system.users()
 }
 
-/// The name of a user, empty where there is none.
+/// Returns the name of a user, empty where there is none.
 fn name_in(system: &System, user: UserNo) -> &[u8]
     ensures { result.now ≡ name_of (names_of (seen_in system.now)) user }
 {
     name_of(system.directory().users(), user)
 }
 
-/// Whether the directory gives a user a device of this address.
+/// Returns whether the directory gives a user a device of this address.
 fn states_device(system: &System, user: UserNo, device: DevAddr) -> bool
     ensures { result ≡ states_device device (slice_get system.now.directory user) }
 {
@@ -181,16 +191,17 @@ fn states_device(system: &System, user: UserNo, device: DevAddr) -> bool
     }
 }
 
-/// The addresses of the devices of a user of the directory.
+/// Returns the addresses of the devices of a user of the directory.
 fn addresses_in(alloc: Global, system: &System, user: UserNo) -> Result<Vec<u16>, AllocError>
     requires { user < length system.now.directory }
-    ensures { IfOk result (λ list. list.items ≡ devices_of (known_users system.now.directory) user) }
+    ensures { IfOk result (λ list. list.items
+        ≡ devices_of (known_users system.now.directory) user) }
 {
     let list = addresses_of(alloc, &system.directory().users()[user.index()])?;
     Ok(list)
 }
 
-/// The addresses of the devices of a user.
+/// Returns the addresses of the devices of a user.
 fn addresses_of(alloc: Global, user: &User) -> Result<Vec<u16>, AllocError>
     ensures { IfOk result (λ list. list.items ≡ addresses_of user.now) }
 {
@@ -213,7 +224,8 @@ fn add_places(list: &mut Vec<u16>, devices: UserDevices) -> Result<(), AllocErro
 
 /// Adds the addresses of disks.
 fn add_disks(list: &mut Vec<u16>, disks: &[Minidisk]) -> Result<(), AllocError>
-    ensures { OnOk result (list.new.items ≡ list.old.items ++ map (λ disk. disk.address) disks.now) }
+    ensures { OnOk result (list.new.items ≡ list.old.items
+        ++ map (λ disk. disk.address) disks.now) }
 {
     for disk in disks {
         list.push(disk.address.get())?;
@@ -234,7 +246,7 @@ fn add_place(list: &mut Vec<u16>, place: Option<DevAddr>) -> Result<(), AllocErr
     }
 }
 
-/// The cards that an event gives.
+/// Returns the cards that an event gives.
 fn cards_in(alloc: Global, event: &ScriptEvent<'_>) -> Result<Vec<Card>, AllocError>
     ensures cards { IfOk result (λ cards. HasCards event.now cards.items) }
     ensures refused { IfErr result (λ _. GivesCards event.now) }
@@ -252,7 +264,8 @@ fn ask(system: &mut System, event: &ScriptEvent<'_>, cards: &[Card]) -> Result<R
     requires event { IsEvent event.now }
     requires cards { HasCards event.now cards.now }
     ensures ok { IfOk result (λ reply. HasHappened system.old (said event.now) reply system.new) }
-    ensures err { OnErr result ((system.new ≡ system.old) ⊎ IsSpent system.old (said event.now) system.new) }
+    ensures err { OnErr result
+        ((system.new ≡ system.old) ⊎ IsSpent system.old (said event.now) system.new) }
     ensures memory { result ≡ Err Refused.Memory → MayRefuse system.old (said event.now) }
     ensures directory { system.new.directory ≡ system.old.directory }
     ensures alive { OnOk result (system.new.is_spent ≡ false) }
@@ -262,7 +275,11 @@ fn ask(system: &mut System, event: &ScriptEvent<'_>, cards: &[Card]) -> Result<R
     // There are as many machines as users of the directory.
     let _users = system.users();
     match system.apply(event_of(event, cards)) {
-        Ok(reply) => Ok(reply),
+        Ok(reply) => {
+            // There still are.
+            let _users = system.users();
+            Ok(reply)
+        }
         Err(CpError::Memory) => Err(Refused::Memory),
         Err(CpError::Spent) => Err(Refused::Spent),
         Err(CpError::NoSuchUser) => unreachable!(),
@@ -270,7 +287,7 @@ fn ask(system: &mut System, event: &ScriptEvent<'_>, cards: &[Card]) -> Result<R
     }
 }
 
-/// The event that a line of a script says, which gives these cards.
+/// Returns the event that a line of a script says, which gives these cards.
 fn event_of<'a>(event: &ScriptEvent<'a>, cards: &'a [Card]) -> Event<'a>
     requires event { IsEvent event.now }
     requires cards { HasCards event.now cards.now }

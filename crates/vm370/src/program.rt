@@ -1,20 +1,21 @@
-//! The program `vm370 [--frames N] [--slots N] [--save] DIRECTORY SCRIPT [VOLUME]...`: its words, its files, its
-//! session, and what it says of a failure. With `--follow` there is no `SCRIPT`, and standard input has its parts.
+//! The program `vm370 [--frames N] [--slots N] [--save] DIRECTORY SCRIPT [VOLUME]...`: its words,
+//! its files, its session, and what it says of a failure. With `--follow` there is no `SCRIPT`, and
+//! standard input has its parts.
 //!
-//! The transcript goes to standard output. A failure is one line on standard error, and its kind is the
-//! exit status; of an image that is not saved a second line has the path.
+//! The transcript goes to standard output. A failure is one line on standard error, and its kind is
+//! the exit status; of an image that is not saved a second line has the path.
 
 use crate::arguments::arguments;
 use crate::follow_arguments::follow_arguments;
 use crate::runs::{follow_system, run_files};
 use programs::program::{asks_to_follow, input, output, words, wrong_use};
-use programs::{Ended, Failure, HostFiles, finish};
+use programs::{Failure, HostFiles, ProgramEnd, finish};
 use std::rt::{Env, Files};
 
-/// The program's name, as it tells it.
+/// The program's name, as it says it.
 const PROGRAM: &str = "vm370";
 
-/// What is told after a usage text: an example, and the exit statuses.
+/// What is reported after a usage text: an example, and the exit statuses.
 const USAGE_NOTE: &str = "
 Example:
   printf 'USER A PW 8K\\n' > users
@@ -29,17 +30,17 @@ The transcript goes to standard output, a fault as one line to standard error. E
   4  there was not memory enough
 ";
 
-/// The whole program: what it is started with names a directory, a script and volumes, and the transcript of that
-/// script is written, to a terminal as its lines come. A failure is told on standard error.
+/// Runs the whole program: reads the arguments, the directory, the volumes and the script, and
+/// writes the transcript, to a terminal as its lines come. A failure is reported on standard error.
 pub fn program<R: AllocGlobal + Files + Env + Input + Print + Eprint>(
     rt: &R,
     is_watched: bool,
-) -> Ended {
+) -> ProgramEnd {
     finish(rt, run(rt, is_watched))
 }
 
-/// Reads the words, the directory, the images and the script, writes the transcript, and saves the volumes where that
-/// is asked for. A wrong use is told here.
+/// Reads the arguments, the directory, the images and the script, writes the transcript, and saves
+/// the volumes if `--save` is given. A wrong use is reported here.
 fn run<R: AllocGlobal + Files + Env + Input + Print + Eprint>(
     rt: &R,
     is_watched: bool,
@@ -57,8 +58,8 @@ fn run<R: AllocGlobal + Files + Env + Input + Print + Eprint>(
     run_files(alloc, &mut HostFiles::new(rt), &options, &mut output)
 }
 
-/// Follows a script by these words, whose parts are read from standard input, and writes its transcript to standard
-/// output; where its end is asked for, saves the volumes if the words want that. A wrong use is told here.
+/// Follows a script whose parts are read from standard input, writes its transcript to standard
+/// output, and at its end saves the volumes if `--save` is given. A wrong use is reported here.
 fn follow<R: AllocGlobal + Files + Input + Print + Eprint>(
     rt: &R,
     words: &[String],

@@ -1,9 +1,11 @@
-//! What the program does with its files: it reads a directory and images, boots the system that they state, plays or
-//! follows a script, and saves the images.
+//! What the program does with its files: it reads a directory and images, boots the system that
+//! they state, plays or follows a script, and saves the images.
 ghost use Rattle.std.specs.Prelude.{◌≡◌, ℕ, List, [], ◌∷◌, IfErr, IfOk, OnErr, OnOk, map};
 ghost use Rattle.cp_core.specs.Boot.{IsBooted};
 ghost use Rattle.programs.specs.Opened.{Adds, AddsFront, Opens};
-ghost use Rattle.vm370.specs.Runs.{IsDirectoryAt, IsFailedWholeFollowing, IsFailedWholeRun, IsSystemOf, IsWholeFollowing, IsWholeRun, detail_of, inputs, system_volumes};
+ghost use Rattle.vm370.specs.Runs.{IsDirectoryAt, IsFailedWholeFollowing, IsFailedWholeRun};
+ghost use Rattle.vm370.specs.Runs.{IsSystemOf, IsWholeFollowing, IsWholeRun, detail_of, inputs};
+ghost use Rattle.vm370.specs.Runs.{system_volumes};
 
 use crate::arguments::Options;
 use crate::boot_faults::{boot_failure, names_of};
@@ -27,18 +29,24 @@ impl HasVolumes for SharedMachines {
     }
 }
 
-/// Boots the system of the directory and the volumes that these options name, plays the script and writes its
-/// transcript, and saves the images of the volumes if the options ask for that.
+/// Boots the system of the directory and the volumes that these options name, plays the script and
+/// writes its transcript, and saves the images of the volumes if the options ask for that.
+///
+/// # Errors
+///
+/// A `Failure`: of a file, a text, an image or the boot, or refused memory.
 pub fn run_files<F: FileStore, W: HostWriter>(
     alloc: Global,
     files: &mut F,
     options: &Options<'_>,
     writer: &mut W,
 ) -> Result<(), Failure>
-    ensures ok { OnOk result (IsWholeRun F.gives F.File.remaining options.now (F.deeds files.old) (F.deeds files.new)
+    ensures ok { OnOk result
+        (IsWholeRun F.gives F.File.remaining options.now (F.deeds files.old) (F.deeds files.new)
         (W.contents writer.old) (W.contents writer.new)) }
     ensures flushed { OnOk result (W.held writer.new ≡ []) }
-    ensures err { IfErr result (IsFailedWholeRun F.gives F.File.remaining options.now (F.deeds files.old)
+    ensures err { IfErr result
+        (IsFailedWholeRun F.gives F.File.remaining options.now (F.deeds files.old)
         (F.deeds files.new) (W.contents writer.old) (W.contents writer.new)) }
 {
     let volumes = options.volumes.as_slice();
@@ -47,9 +55,13 @@ pub fn run_files<F: FileStore, W: HostWriter>(
     run_script(alloc, files, &mut machines, options.script, saved, writer)
 }
 
-/// Boots the system of the directory and the volumes that these options name, follows the parts of a script that an
-/// input has and writes what comes of each, and saves the images of the volumes if the options ask for that and the input
-/// asked for its end.
+/// Boots the system of the directory and the volumes that these options name, follows the parts of
+/// a script that an input has and writes what comes of each, and saves the images of the volumes if
+/// the options ask for that and the input asked for its end.
+///
+/// # Errors
+///
+/// A `Failure`: of a file, a text, an image or the boot, or refused memory.
 pub fn follow_system<F: FileStore, R: HostReader, W: HostWriter>(
     alloc: Global,
     files: &mut F,
@@ -57,11 +69,16 @@ pub fn follow_system<F: FileStore, R: HostReader, W: HostWriter>(
     reader: &mut R,
     writer: &mut W,
 ) -> Result<(), Failure>
-    ensures ok { OnOk result (IsWholeFollowing F.gives F.File.remaining options.now (F.deeds files.old) (F.deeds files.new)
-        (R.remaining reader.old) (R.remaining reader.new) (W.contents writer.old) (W.contents writer.new)) }
+    ensures ok { OnOk result
+        (IsWholeFollowing F.gives F.File.remaining options.now (F.deeds files.old)
+        (F.deeds files.new)
+        (R.remaining reader.old) (R.remaining reader.new) (W.contents writer.old)
+        (W.contents writer.new)) }
     ensures flushed { OnOk result (W.held writer.new ≡ []) }
-    ensures err { IfErr result (IsFailedWholeFollowing F.gives F.File.remaining options.now (F.deeds files.old)
-        (F.deeds files.new) (R.remaining reader.old) (R.remaining reader.new) (W.contents writer.old)
+    ensures err { IfErr result
+        (IsFailedWholeFollowing F.gives F.File.remaining options.now (F.deeds files.old)
+        (F.deeds files.new) (R.remaining reader.old) (R.remaining reader.new)
+        (W.contents writer.old)
         (W.contents writer.new)) }
 {
     let volumes = options.volumes.as_slice();
@@ -79,6 +96,10 @@ pub fn follow_system<F: FileStore, R: HostReader, W: HostWriter>(
 }
 
 /// Reads the directory and then the images at these paths, and boots the system that they state.
+///
+/// # Errors
+///
+/// A `Failure`: of a file, a text, an image or the boot, or refused memory.
 pub fn read_system<F: FileStore>(
     alloc: Global,
     files: &mut F,
@@ -86,7 +107,9 @@ pub fn read_system<F: FileStore>(
     volumes: &[&str],
     sizes: Sizes,
 ) -> Result<SharedMachines, Failure>
-    ensures ok { IfOk result (IsSystemOf F.gives F.File.remaining directory.now (map (λ path. path.now) volumes.now) sizes) }
+    ensures ok { IfOk result
+        (IsSystemOf F.gives F.File.remaining directory.now (map (λ path. path.now) volumes.now)
+        sizes) }
     ensures deeds { OnOk result (Adds (F.deeds files.old) (F.deeds files.new)
         (inputs directory.now (map (λ path. path.now) volumes.now))) }
     ensures err { OnErr result (AddsFront (F.deeds files.old) (F.deeds files.new)
@@ -124,7 +147,7 @@ fn boot(
     }
 }
 
-/// Which lines of turns a transcript has.
+/// Returns which lines of turns a transcript has.
 fn detail_of(terminals: bool) -> Detail
     ensures { result ≡ detail_of terminals }
 {

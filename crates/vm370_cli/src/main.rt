@@ -1,11 +1,12 @@
-//! The program `vm370 [--frames N] [--slots N] [--save] DIRECTORY SCRIPT [VOLUME]...` (docs/FORMATS.md).
+//! The program `vm370 [--frames N] [--slots N] [--save] DIRECTORY SCRIPT [VOLUME]...`
+//! (docs/FORMATS.md).
 #![tactic(auto)]
 
-use programs::Ended;
+use programs::ProgramEnd;
 use std::io::IsTerminal;
 use vm370::program::program;
 
-fn main(rt: HostRuntime) -> Ended {
+fn main(rt: HostRuntime) -> ProgramEnd {
     let is_watched = rt.stdout().is_terminal();
     program(&rt, is_watched)
 }

@@ -1,9 +1,9 @@
-//! The programs of volumes, of which the first word says which is run: `mkvol OUT TEXT` (docs/FORMATS.md, "Volume
-//! texts") and `trackmap IMAGE` (docs/FORMATS.md, "Track maps").
+//! The programs of volumes, of which the first word says which is run: `mkvol OUT TEXT`
+//! (docs/FORMATS.md, "Volume texts") and `trackmap IMAGE` (docs/FORMATS.md, "Track maps").
 #![tactic(auto)]
 
-use ckd_text::{Ended, program};
+use ckd_text::{ToolEnd, program};
 
-fn main(rt: HostRuntime) -> Ended {
+fn main(rt: HostRuntime) -> ToolEnd {
     program(&rt)
 }

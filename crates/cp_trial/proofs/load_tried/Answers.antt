@@ -10,26 +10,38 @@ use Rattle.cp_dat.proofs.Copying.{came_more, came_nothing}
 use Rattle.cp_trial.proofs.Trying.{walk_for}
 use Rattle.cp_trial.proofs.load_tried.Goals as goal
 
-pub returns-in-Err-clause-came : goal.returns-in-Err-clause-came
-returns-in-Err-clause-came g c =
+pub returns-in-Err-clause-paged_in : goal.returns-in-Err-clause-paged_in
+returns-in-Err-clause-paged_in g c =
     let old = c.args.storage.now in
     let Flagged : ℕ → Type 0 = is_wanted (trial_flags c.args.tried.now) in
-    came_more old old c.place.new.self (is_wanted c.touched.result.now) Flagged (λ page it. ap (λ flags. slice_index_or flags page false) (sym c.touched.ensures.flags) ∙ it) (came_nothing old old Flagged c.requires.between (keeps_stored_same old)) c.place.ensures.came
+    came_more old old c.place.new.self (is_wanted c.touched.result.now) Flagged
+    (λ page it. ap (λ flags. slice_index_or flags page false) (sym c.touched.ensures.flags) ∙ it)
+    (came_nothing old old Flagged c.requires.between (keeps_stored_same old)) c.place.ensures.paged_in
 
-pub returns-in_default-clause-came : goal.returns-in_default-clause-came
-returns-in_default-clause-came g c =
+pub returns-in_default-clause-paged_in : goal.returns-in_default-clause-paged_in
+returns-in_default-clause-paged_in g c =
     let old = c.args.storage.now in
     let Flagged : ℕ → Type 0 = is_wanted (trial_flags c.args.tried.now) in
-    came_more old old c.place.new.self (is_wanted c.touched.result.now) Flagged (λ page it. ap (λ flags. slice_index_or flags page false) (sym c.touched.ensures.flags) ∙ it) (came_nothing old old Flagged c.requires.between (keeps_stored_same old)) c.place.ensures.came
+    came_more old old c.place.new.self (is_wanted c.touched.result.now) Flagged
+    (λ page it. ap (λ flags. slice_index_or flags page false) (sym c.touched.ensures.flags) ∙ it)
+    (came_nothing old old Flagged c.requires.between (keeps_stored_same old)) c.place.ensures.paged_in
 
-pub returns-clause-came : goal.returns-clause-came
-returns-clause-came g c =
+pub returns-clause-paged_in : goal.returns-clause-paged_in
+returns-clause-paged_in g c =
     let old = c.args.storage.now in
     let Flagged : ℕ → Type 0 = is_wanted (trial_flags c.args.tried.now) in
-    let placed = came_more old old c.place.new.self (is_wanted c.touched.result.now) Flagged (λ page it. ap (λ flags. slice_index_or flags page false) (sym c.touched.ensures.flags) ∙ it) (came_nothing old old Flagged c.requires.between (keeps_stored_same old)) c.place.ensures.came in
-    came_more old c.place.new.self c.put_back.new.self (is_wanted c.touched-2.result.now) Flagged (λ page it. ap (λ flags. slice_index_or flags page false) (sym c.touched-2.ensures.flags) ∙ it) placed c.put_back.ensures.came
+    let placed = came_more old old c.place.new.self (is_wanted c.touched.result.now) Flagged
+    (λ page it. ap (λ flags. slice_index_or flags page false) (sym c.touched.ensures.flags) ∙ it)
+    (came_nothing old old Flagged c.requires.between (keeps_stored_same old)) c.place.ensures.paged_in in
+    came_more old c.place.new.self c.put_back.new.self (is_wanted c.touched-2.result.now) Flagged
+    (λ page it. ap (λ flags. slice_index_or flags page false) (sym c.touched-2.ensures.flags) ∙ it) placed
+    c.put_back.ensures.paged_in
 
 pub returns-clause-walk : goal.returns-clause-walk
 returns-clause-walk g c =
-    walk_for (setting g.D.Device.machine loading_limits) (λ m. loading g.D.Device.machine m c.args.device.now) c.load_apart-ran.new.device (lent_memory c.args.storage.now) (lent_memory c.place.new.self) (lent_memory c.put_back.new.self) (trial_bytes c.args.tried.now) (trial_flags c.args.tried.now) c.in-Ok-ran.ending c.requires.tried c.place.ensures.memory c.in-Ok-ran.ensures.ends
-    (ap₂ memory_of (c.put_back.ensures.bytes ∙ c.bytes.ensures) (c.put_back.ensures.came.keys ∙ ap (λ (m : Memory). m.keys) c.place.ensures.memory))
+    walk_for (setting g.D.Device.machine loading_limits) (λ m. loading g.D.Device.machine m c.args.device.now)
+    c.load_apart-ran.new.device (lent_memory c.args.storage.now) (lent_memory c.place.new.self)
+    (lent_memory c.put_back.new.self) (trial_bytes c.args.tried.now) (trial_flags c.args.tried.now)
+    c.in-Ok-ran.ending c.requires.tried c.place.ensures.memory c.in-Ok-ran.ensures.ends
+    (ap₂ memory_of (c.put_back.ensures.bytes ∙ c.bytes.ensures)
+    (c.put_back.ensures.paged_in.keys ∙ ap (λ (m : Memory). m.keys) c.place.ensures.memory))

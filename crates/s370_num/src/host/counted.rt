@@ -10,9 +10,9 @@ use std::io::{BufWriter, ErrorKind, Read, Write};
 
 /// A file of the host or a standard stream, and how often it failed.
 ///
-/// A read or a write that was interrupted is made again, and is no failure. A write of nothing, where
-/// there was something to write, is one. A program reads `Counted::new(fs::open(rt, path)?)`, and writes
-/// to `Counted::new(BufWriter::new(alloc, file)?)`.
+/// A read or a write that was interrupted is made again, and is no failure. A write of nothing,
+/// where there was something to write, is one. A program reads `Counted::new(fs::open(rt, path)?)`,
+/// and writes to `Counted::new(BufWriter::new(alloc, file)?)`.
 #[derive(Drop)]
 pub struct Counted<F> {
     file: F,
@@ -20,7 +20,7 @@ pub struct Counted<F> {
 }
 
 impl<F> Counted<F> {
-    /// The file, of which no call has failed yet.
+    /// Returns the file, of which no call has failed yet.
     pub fn new(file: F) -> Counted<F>
         ensures file { file_of result ≡ file }
         ensures none { failures_of result ≡ 0 }
@@ -64,8 +64,8 @@ impl<R: Read> HostReader for Counted<R> {
     }
 }
 
-/// Of a buffer it is known what it holds back; of other writers of std it is not, nor of that which the
-/// buffer writes to, whose `flush` is called after the buffer is empty.
+/// Of a buffer it is known what it holds back; of other writers of std it is not, nor of that which
+/// the buffer writes to, whose `flush` is called after the buffer is empty.
 impl<W: Write + Drop, A: Allocator> HostWriter for Counted<BufWriter<W, A>> {
     ghost contents = { λ s. writer_contents W.contents s.file };
 

@@ -18,7 +18,7 @@ pub struct Failing<F> {
 }
 
 impl<F> Failing<F> {
-    /// A file of which the call after `left` more of them fails.
+    /// Returns a file of which the call after `left` more of them fails.
     pub fn new(file: F, left: u64) -> Failing<F>
         ensures file { result.file ≡ file }
         ensures left { result.left ≡ left }
@@ -31,7 +31,7 @@ impl<F> Failing<F> {
         }
     }
 
-    // Counts the call down, and tells whether it is the one that fails.
+    // Counts the call down, and says whether it is the one that fails.
     fn is_due(&mut self) -> bool
         ensures due { result ≡ (self.old.left == 0) }
         ensures file { self.new.file ≡ self.old.file }

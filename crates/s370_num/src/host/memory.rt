@@ -13,7 +13,7 @@ pub struct Bytes<'a> {
 }
 
 impl<'a> Bytes<'a> {
-    /// The bytes, of which none has been read yet.
+    /// Returns the bytes, of which none has been read yet.
     pub fn new(bytes: &'a [u8]) -> Bytes<'a>
         ensures { result.rest.now ≡ bytes.now }
     {
@@ -35,7 +35,8 @@ impl HostReader for Bytes<'_> {
     fn read(&mut self, buf: &mut [u8]) -> Result<usize, HostFault>
         ensures always { IsOk result }
         ensures bound { IfOk result (λ n. n ≤ length buf.new) }
-        ensures bytes { ReadConsumes (Some self.old.rest.now) (Some self.new.rest.now) result buf.new }
+        ensures bytes { ReadConsumes (Some self.old.rest.now) (Some self.new.rest.now) result
+            buf.new }
         ensures counts { Counts 0 0 result }
     {
         let count = buf.len().min(self.rest.len());

@@ -4,4 +4,5 @@ use Rattle.bare370.proofs.installation.disks_of.Given as goal
 
 -- with those of the volumes that are left, all are there
 abbrev pub invariant-loop-volume : goal.invariant-loop-volume
-invariant-loop-volume l = l.disks.items ++ disks_from l.address l.volume-iterator.rest.items ≡ disks_from 400 l.fn.volumes.items
+invariant-loop-volume l = l.disks.items
+    ++ disks_from l.address l.volume-iterator.rest.items ≡ disks_from 400 l.fn.volumes.items

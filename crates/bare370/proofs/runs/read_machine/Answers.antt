@@ -24,4 +24,5 @@ pub returns-clause-err : goal.returns-clause-err
 returns-clause-err g c =
     let deeds = g.F.FileStore.deeds in
     let paths = map (λ p. p.now) c.args.volumes.now in
-    on_err c.made.result (front_all (deeds c.args.files.now) (deeds c.read_images.new.files) (opens paths) c.in_ok-volumes.ensures.deeds)
+    on_err c.made.result (front_all (deeds c.args.files.now) (deeds c.read_images.new.files) (opens paths)
+    c.in_ok-volumes.ensures.deeds)

@@ -6,7 +6,8 @@ on_ok : {A E P Q : Type 0} (result : Result A E) → (P → Q) → OnOk result P
 on_ok (Ok a) f h = f h
 on_ok (Err e) f h = tt
 
-if_err : {A E : Type 0} {P Q : E → Type 0} (result : Result A E) → ((e : E) → P e → Q e) → IfErr result P → IfErr result Q
+if_err : {A E : Type 0} {P Q : E → Type 0} (result : Result A E) → ((e : E) → P e → Q e) → IfErr result P
+    → IfErr result Q
 if_err (Ok a) f h = tt
 if_err (Err e) f h = f e h
 

@@ -6,6 +6,11 @@ use Rattle.channel_trial.proofs.tried.try_loading.Goals as goal
 
 pub returns-in-Ok : goal.returns-in-Ok
 returns-in-Ok g c =
-    let came = c.load_supplied.ensures.came in
+    let paged_in = c.load_supplied.ensures.paged_in in
     let old = c.args.copy.now in
-    record { tried = tried_for (setting g.T.Device.machine loading_limits) (loading g.T.Device.machine (trial_memory old) c.args.trial.now) c.load_supplied.new.device c.in-Ok.field-0 old c.load_supplied.new.storage came.0 c.requires.untouched c.in-Ok.ensures.reaches came.1 came.2 c.load_supplied.ensures.keys }
+    record {
+      tried = tried_for (setting g.T.Device.machine loading_limits)
+          (loading g.T.Device.machine (trial_memory old) c.args.trial.now) c.load_supplied.new.device c.in-Ok.field-0 old
+          c.load_supplied.new.storage paged_in.0 c.requires.untouched c.in-Ok.ensures.reaches paged_in.1 paged_in.2
+          c.load_supplied.ensures.keys;
+    }

@@ -1,11 +1,12 @@
 use Rattle.std.proofs.Common.{ℕ, arith, subst, sym}
 use Rattle.cp_dat.specs.Lent.{lent_memory}
-use Rattle.cp_ccw.specs.Known.{ArePlaced}
+use Rattle.cp_ccw.specs.CachedPages.{ArePlaced}
 use Rattle.cp_ccw.proofs.Knowing.{data_held}
 use Rattle.cp_ccw.proofs.direct.know.Goals as goal
 
 pub places_of-requires : goal.places_of-requires
-places_of-requires c = λ page there inside. data_held c.args.dat.now c.args.caw.address c.args.pages.now page c.requires.held c.requires.pages_only there inside
+places_of-requires c = λ page there inside.
+    data_held c.args.dat.now c.args.caw.address c.args.pages.now page c.requires.held c.requires.pages_only there inside
 
 pub invariant_of-result : goal.invariant_of-result
 invariant_of-result c =
@@ -23,6 +24,7 @@ invariant_of-result c =
       text_only = c.requires.only;
       paged = c.requires.pages;
       paged_only = c.requires.pages_only;
-      placed = subst (λ (n : ℕ). ArePlaced n c.args.pages.now c.in_ok-held.held.items) (sym c.size.ensures.bytes) c.in_ok-held.ensures.placed;
+      placed = subst (λ (n : ℕ). ArePlaced n c.args.pages.now c.in_ok-held.held.items) (sym c.size.ensures.bytes)
+          c.in_ok-held.ensures.placed;
       placed_only = c.in_ok-held.ensures.only;
     }

@@ -1,7 +1,7 @@
 use Rattle.std.proofs.Common.{All, length, take}
 use Rattle.cp_dat.specs.Lent.{lent_bytes}
-use Rattle.cp_ccw.specs.Kept.{IsFrame}
-use Rattle.cp_ccw.specs.Known.{ArePlaced, ArePlacedOnly}
+use Rattle.cp_ccw.specs.CachedProgram.{IsFrame}
+use Rattle.cp_ccw.specs.CachedPages.{ArePlaced, ArePlacedOnly}
 use Rattle.cp_ccw.proofs.direct.places_of.Given as goal
 
 abbrev pub invariant-loop-page : goal.invariant-loop-page

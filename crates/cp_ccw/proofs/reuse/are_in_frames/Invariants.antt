@@ -1,5 +1,5 @@
 use Rattle.std.proofs.Common.{All, take}
-use Rattle.cp_ccw.specs.Kept.{IsFrame}
+use Rattle.cp_ccw.specs.CachedProgram.{IsFrame}
 use Rattle.cp_ccw.proofs.reuse.are_in_frames.Given as goal
 
 abbrev pub invariant-loop-one : goal.invariant-loop-one

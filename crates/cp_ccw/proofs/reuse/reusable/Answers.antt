@@ -1,5 +1,5 @@
 use Rattle.std.proofs.Common.{◌≡◌, ◌∙◌, subst, sym, true}
-use Rattle.cp_ccw.specs.Kept.{IsAtBase, KeptProgram}
+use Rattle.cp_ccw.specs.CachedProgram.{IsAtBase, KeptProgram}
 use Rattle.cp_ccw.proofs.reuse.reusable.Goals as goal
 
 pub returns-then-not-stands-clause-other : goal.returns-then-not-stands-clause-other

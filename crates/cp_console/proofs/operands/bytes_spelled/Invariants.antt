@@ -3,7 +3,7 @@ use Rattle.std.specs.Option.{option_map}
 use Rattle.cp_console.specs.Operands.{bytes_spelled}
 use Rattle.cp_console.proofs.operands.bytes_spelled.Given as goal
 
--- the bytes so far stand before those that are left
+-- the bytes so far are before those that are left
 abbrev pub invariant-pairs : goal.invariant-pairs
 invariant-pairs l = record {
   so_far : bytes_spelled l.word ≡ option_map (λ more. l.bytes ++ more) (bytes_spelled l.rest);

@@ -13,5 +13,6 @@ returns-in_err-number c =
     let rest = drop (c.loop-digit.digit-index + 1) c.args.word.now in
     let cut = drop_more c.args.word.now c.loop-digit.digit-index 0 c.loop-digit-test.true in
     let none : file_of c.args.word.now ≡ None =
-    c.loop-digit.invariant.so_far ∙ ap (λ digits. option_and_then in_64_bits (number_from number digits)) cut ∙ refused number digit rest (sym c.in_err-number.ensures) in
+    c.loop-digit.invariant.so_far ∙ ap (λ digits. option_and_then in_64_bits (number_from number digits)) cut ∙ refused
+    number digit rest (sym c.in_err-number.ensures) in
     c.from_residual.ensures ∙ sym none

@@ -23,4 +23,5 @@ returns-clause-items c =
       c.word_at-4.ensures,
       c.get.ensures.value,
     )
-    (nine c.args.text.now.items (address_text (c.args.address / 16 * 16)) (codes " ") (word_text (word_at b 0)) (word_text (word_at b 4)) (word_text (word_at b 8)) (word_text (word_at b 12)))
+    (nine c.args.text.now.items (address_text (c.args.address / 16 * 16)) (codes " ") (word_text (word_at b 0))
+    (word_text (word_at b 4)) (word_text (word_at b 8)) (word_text (word_at b 12)))

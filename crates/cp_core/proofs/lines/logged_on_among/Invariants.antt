@@ -1,5 +1,5 @@
 use Rattle.std.proofs.Common.{◌≡◌, map, take}
-use Rattle.machine_devices.specs.World.{is_logged_on}
+use Rattle.machine_devices.specs.UserDirectory.{is_logged_on}
 use Rattle.cp_core.proofs.lines.logged_on_among.Given as goal
 
 abbrev pub invariant-loop-user : goal.invariant-loop-user

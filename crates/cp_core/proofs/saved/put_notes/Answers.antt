@@ -6,4 +6,9 @@ use Rattle.cp_core.proofs.saved.put_notes.Goals as goal
 
 pub loop-note-preserved : goal.loop-note-preserved
 loop-note-preserved c =
-    grind (arith, common_steps, each_on note_bytes c.loop-note.out.items c.args.notes.now c.loop-note.note-index c.note-item.result c.loop-note-test.true)
+    grind (
+      arith,
+      common_steps,
+      each_on note_bytes c.loop-note.out.items c.args.notes.now c.loop-note.note-index c.note-item.result
+          c.loop-note-test.true,
+    )

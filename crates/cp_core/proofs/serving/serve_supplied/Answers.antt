@@ -8,5 +8,5 @@ use Rattle.s370_subchannels.specs.Programs.{program_of}
 use Rattle.cp_core.proofs.Reused.{none_starts}
 use Rattle.cp_core.proofs.serving.serve_supplied.Goals as goal
 
-pub returns-then-is_none-clause-came : goal.returns-then-is_none-clause-came
-returns-then-is_none-clause-came g c = ([], g.met.C.Channels.came_none c.args.storage.now c.requires.ready, tt)
+pub returns-then-is_none-clause-paged_in : goal.returns-then-is_none-clause-paged_in
+returns-then-is_none-clause-paged_in g c = ([], g.met.C.Channels.came_none c.args.storage.now c.requires.ready, tt)

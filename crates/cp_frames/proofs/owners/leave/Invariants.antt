@@ -7,5 +7,5 @@ abbrev pub invariant-loop-page : goal.invariant-loop-page
 invariant-loop-page l = record {
   owners : l.owners.items ≡ left_by l.user l.page l.initial.owners.items;
   mapped : IsMapped l.owners.items l.sizes l.tables.items;
-  looked : IsTabled frame_entry l.owners.items l.sizes l.looks.items;
+  looked : IsTabled frame_entry l.owners.items l.sizes l.lookup.items;
 }

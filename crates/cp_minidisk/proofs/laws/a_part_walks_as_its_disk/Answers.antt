@@ -4,5 +4,5 @@ use Rattle.cp_minidisk.proofs.laws.a_part_walks_as_its_disk.Goals as goal
 pub returns-clause-walks : goal.returns-clause-walks
 returns-clause-walks c = walks_as_its_disk
 
-pub returns-clause-neighbours : goal.returns-clause-neighbours
-returns-clause-neighbours c = leaves_its_neighbours
+pub returns-clause-other_disks : goal.returns-clause-other_disks
+returns-clause-other_disks c = leaves_its_neighbours

@@ -5,4 +5,5 @@ pub returns-clause-steady : goal.returns-clause-steady
 returns-clause-steady g c = λ h spot m d fixed. stays_as_begun h spot m d fixed
 
 pub returns-clause-enough : goal.returns-clause-enough
-returns-clause-enough g c = λ h present spot m d page fixed held stuck. never_stuck h present spot m d page fixed held stuck
+returns-clause-enough g c =
+    λ h present spot m d page fixed held stuck. never_stuck h present spot m d page fixed held stuck

@@ -11,19 +11,22 @@ returns-in-Ok-None-clause-marked g c =
     let m = g.S.Storage.memory c.args.storage.now in
     let w = c.args.word.now in
     let has : tracks.has_area w ≡ true = sym c.has_area.ensures ∙ c.if-not-has_area.false in
-    list_past m w c.blocks-2.byte _ _ _ has (omega (arith, c.blocks-2-test.true, c.blocks-2.invariant.counted)) (c.blocks-2.invariant.begun c.blocks-2-test.true) (sym c.in-Ok-None.ensures.said ∙ c.in-Ok-None.field-0-is)
+    list_past m w c.blocks-2.byte _ _ _ has (omega (arith, c.blocks-2-test.true, c.blocks-2.invariant.counted))
+    (c.blocks-2.invariant.begun c.blocks-2-test.true) (sym c.in-Ok-None.ensures.said ∙ c.in-Ok-None.field-0-is)
     c.blocks-2.invariant.marked c.in_ok-note_entry.ensures.marked
 
 pub returns-in-Ok-None-clause-stored : goal.returns-in-Ok-None-clause-stored
 returns-in-Ok-None-clause-stored g c =
     let m = g.S.Storage.memory c.args.storage.now in
     let w = c.args.word.now in
-    filled_past m w c.blocks-2.byte _ _ (c.blocks-2.invariant.begun c.blocks-2-test.true) (sym c.in-Ok-None.ensures.said ∙ c.in-Ok-None.field-0-is) c.blocks-2.invariant.stored
+    filled_past m w c.blocks-2.byte _ _ (c.blocks-2.invariant.begun c.blocks-2-test.true)
+    (sym c.in-Ok-None.ensures.said ∙ c.in-Ok-None.field-0-is) c.blocks-2.invariant.stored
 
 pub returns-in-Ok-None-clause-paged : goal.returns-in-Ok-None-clause-paged
 returns-in-Ok-None-clause-paged g c =
     let m = g.S.Storage.memory c.args.storage.now in
-    area_past m c.args.word.now c.blocks-2.byte _ _ (c.blocks-2.invariant.begun c.blocks-2-test.true) (sym c.in-Ok-None.ensures.said ∙ c.in-Ok-None.field-0-is) c.blocks-2.invariant.paged
+    area_past m c.args.word.now c.blocks-2.byte _ _ (c.blocks-2.invariant.begun c.blocks-2-test.true)
+    (sym c.in-Ok-None.ensures.said ∙ c.in-Ok-None.field-0-is) c.blocks-2.invariant.paged
 
 pub unreachable-requires : goal.unreachable-requires
 unreachable-requires g c =
@@ -31,7 +34,9 @@ unreachable-requires g c =
     let w = c.args.word.now in
     let has : tracks.has_area w ≡ true = sym c.has_area.ensures ∙ c.if-not-has_area.false in
     let page = c.in-Err.field-0.0 in
-    let asked = asked_of m w c.blocks-2.byte page has (omega (arith, c.blocks-2-test.true, c.blocks-2.invariant.counted)) (c.blocks-2.invariant.begun c.blocks-2-test.true) c.in-Err.ensures.asked in
+    let asked = asked_of m w c.blocks-2.byte page has
+    (omega (arith, c.blocks-2-test.true, c.blocks-2.invariant.counted))
+    (c.blocks-2.invariant.begun c.blocks-2-test.true) c.in-Err.ensures.asked in
     not_away _ (g.S.Storage.present c.args.storage.now) page (c.requires.here page asked) c.in-Err.ensures.away
 
 pub blocks-2-preserved : goal.blocks-2-preserved
@@ -46,17 +51,30 @@ blocks-2-preserved g c =
     record {
       counted = c.blocks-2.invariant.counted;
       within = omega (arith, part.within, c.blocks-2-test.true);
-      begun = λ more. begun_on (area_block m w) c.blocks-2.byte c.in-Ok-Some.start c.bytes_in_block-bytes.result begun said low part.some (part.whole (omega (arith, more)));
-      marked = list_on m w c.blocks-2.byte c.in-Ok-Some.start c.bytes_in_block-bytes.result _ _ _ has (omega (arith, c.blocks-2-test.true, c.blocks-2.invariant.counted)) part.some begun said low part.block c.blocks-2.invariant.marked c.in_ok-note_entry.ensures.marked;
-      stored = filled_on m w c.blocks-2.byte _ _ _ _ has (omega (arith, part.within, c.blocks-2-test.true, c.blocks-2.invariant.counted)) begun said low part.block c.blocks-2.invariant.stored c.in_ok-note_piece.ensures.stored;
-      paged = area_on m w c.blocks-2.byte c.in-Ok-Some.start c.bytes_in_block-bytes.result _ _ _ _ has (omega (arith, part.within, c.blocks-2-test.true, c.blocks-2.invariant.counted)) part.some begun said low part.block refl c.blocks-2.invariant.paged c.in_ok-push.ensures.items;
+      begun = λ more. begun_on (area_block m w) c.blocks-2.byte c.in-Ok-Some.start c.bytes_in_block-bytes.result begun
+          said low part.some (part.whole (omega (arith, more)));
+      marked = list_on m w c.blocks-2.byte c.in-Ok-Some.start c.bytes_in_block-bytes.result _ _ _ has
+          (omega (arith, c.blocks-2-test.true, c.blocks-2.invariant.counted)) part.some begun said low part.block
+          c.blocks-2.invariant.marked c.in_ok-note_entry.ensures.marked;
+      stored = filled_on m w c.blocks-2.byte _ _ _ _ has
+          (omega (arith, part.within, c.blocks-2-test.true, c.blocks-2.invariant.counted)) begun said low part.block
+          c.blocks-2.invariant.stored c.in_ok-note_piece.ensures.stored;
+      paged = area_on m w c.blocks-2.byte c.in-Ok-Some.start c.bytes_in_block-bytes.result _ _ _ _ has
+          (omega (arith, part.within, c.blocks-2-test.true, c.blocks-2.invariant.counted)) part.some begun said low
+          part.block refl c.blocks-2.invariant.paged c.in_ok-push.ensures.items;
     }
 
 pub returns-clause-marked : goal.returns-clause-marked
-returns-clause-marked g c = list_done _ c.args.word.now c.blocks-2.byte _ _ (omega (arith, c.blocks-2-test.false, c.blocks-2.invariant.counted)) c.blocks-2.invariant.marked
+returns-clause-marked g c =
+    list_done _ c.args.word.now c.blocks-2.byte _ _ (omega (arith, c.blocks-2-test.false, c.blocks-2.invariant.counted))
+    c.blocks-2.invariant.marked
 
 pub returns-clause-stored : goal.returns-clause-stored
-returns-clause-stored g c = filled_done _ c.args.word.now c.blocks-2.byte _ _ (omega (arith, c.blocks-2-test.false, c.blocks-2.invariant.counted)) c.blocks-2.invariant.stored
+returns-clause-stored g c =
+    filled_done _ c.args.word.now c.blocks-2.byte _ _
+    (omega (arith, c.blocks-2-test.false, c.blocks-2.invariant.counted)) c.blocks-2.invariant.stored
 
 pub returns-clause-paged : goal.returns-clause-paged
-returns-clause-paged g c = area_done _ c.args.word.now c.blocks-2.byte _ _ (omega (arith, c.blocks-2-test.false, c.blocks-2.invariant.counted)) c.blocks-2.invariant.paged
+returns-clause-paged g c =
+    area_done _ c.args.word.now c.blocks-2.byte _ _ (omega (arith, c.blocks-2-test.false, c.blocks-2.invariant.counted))
+    c.blocks-2.invariant.paged

@@ -11,9 +11,12 @@ invariant-blocks-2 g l = record {
   counted : l.count ≡ l.word.count;
   within : l.byte ≤ l.count;
   begun : l.byte < l.count → IsBegun (area_block (g.S.Storage.memory l.storage) l.word) l.byte;
-  marked : AreMarked (IsListBelow (g.S.Storage.memory l.storage) l.word l.byte) l.initial.notes.text.items l.notes.text.items;
-  stored : AreStored (IsFilledBelow (g.S.Storage.memory l.storage) l.word l.byte) l.initial.notes.filled.items l.notes.filled.items;
-  paged : ArePaged (IsAreaBelow (g.S.Storage.memory l.storage) l.word l.byte) l.initial.notes.pages.items l.notes.pages.items;
+  marked : AreMarked (IsListBelow (g.S.Storage.memory l.storage) l.word l.byte) l.initial.notes.text.items
+      l.notes.text.items;
+  stored : AreStored (IsFilledBelow (g.S.Storage.memory l.storage) l.word l.byte) l.initial.notes.filled.items
+      l.notes.filled.items;
+  paged : ArePaged (IsAreaBelow (g.S.Storage.memory l.storage) l.word l.byte) l.initial.notes.pages.items
+      l.notes.pages.items;
 }
 
 abbrev pub decreases-blocks-2 : goal.decreases-blocks-2

@@ -3,8 +3,12 @@ use Rattle.cp_needs.proofs.pages.absent_at.Goals as goal
 
 pub returns-in-Err-Addressing-clause-here : goal.returns-in-Err-Addressing-clause-here
 returns-in-Err-Addressing-clause-here g c = λ lt.
-    absurd (in_storage _ _ 0 _ (fault_verdict _ _ _ _ _ c.check.result c.in-Err-Addressing.field-0 _ c.in-Err-Addressing.is c.in-Err-Addressing.field-0-is c.check.ensures) lt)
+    absurd (in_storage _ _ 0 _
+    (fault_verdict _ _ _ _ _ c.check.result c.in-Err-Addressing.field-0 _ c.in-Err-Addressing.is
+    c.in-Err-Addressing.field-0-is c.check.ensures) lt)
 
 pub returns-in-Err-Protection-clause-here : goal.returns-in-Err-Protection-clause-here
 returns-in-Err-Protection-clause-here g c = λ lt.
-    absurd (zero_passes _ _ _ (fault_verdict _ _ _ _ _ c.check.result c.in-Err-Protection.field-0 _ c.in-Err-Protection.is c.in-Err-Protection.field-0-is c.check.ensures))
+    absurd (zero_passes _ _ _
+    (fault_verdict _ _ _ _ _ c.check.result c.in-Err-Protection.field-0 _ c.in-Err-Protection.is
+    c.in-Err-Protection.field-0-is c.check.ensures))

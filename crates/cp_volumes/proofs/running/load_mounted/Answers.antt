@@ -10,7 +10,8 @@ use Rattle.cp_volumes.proofs.running.load_mounted.Goals as goal
 pub load_tried-requires-clause-tried : goal.load_tried-requires-clause-tried
 load_tried-requires-clause-tried c =
     let m = lent_memory c.args.storage.now in
-    loaded_back part_machine disk_machine disk_seen m c.args.mounted.now (trial_bytes c.args.tried.now) (trial_flags c.args.tried.now) part_viewed c.requires.tried
+    loaded_back part_machine disk_machine disk_seen m c.args.mounted.now (trial_bytes c.args.tried.now)
+    (trial_flags c.args.tried.now) part_viewed c.requires.tried
 
 pub returns-clause-walk : goal.returns-clause-walk
 returns-clause-walk c =
@@ -22,4 +23,5 @@ pub returns-clause-volume : goal.returns-clause-volume
 returns-clause-volume c =
     let m = lent_memory c.args.storage.now in
     let n = lent_memory c.load_tried.new.storage in
-    load_keeps_ok m n c.args.mounted.now c.load_tried.new.device c.load_tried.result c.load_tried.ensures.walk (c.load_tried.ensures.spared (λ d o. refl)) (λ out. (c.load_tried.ensures.same out).1)
+    load_keeps_ok m n c.args.mounted.now c.load_tried.new.device c.load_tried.result c.load_tried.ensures.walk
+    (c.load_tried.ensures.spared (λ d o. refl)) (λ out. (c.load_tried.ensures.same out).1)

@@ -10,7 +10,8 @@ use Rattle.cp_volumes.proofs.running.run_mounted.Goals as goal
 pub run_tried-requires-clause-tried : goal.run_tried-requires-clause-tried
 run_tried-requires-clause-tried c =
     let m = lent_memory c.args.storage.now in
-    tried_back part_machine disk_machine disk_seen c.args.start m c.args.mounted.now (trial_bytes c.args.tried.now) (trial_flags c.args.tried.now) part_viewed c.requires.tried
+    tried_back part_machine disk_machine disk_seen c.args.start m c.args.mounted.now (trial_bytes c.args.tried.now)
+    (trial_flags c.args.tried.now) part_viewed c.requires.tried
 
 pub returns-clause-walk : goal.returns-clause-walk
 returns-clause-walk c =
@@ -22,4 +23,5 @@ pub returns-clause-volume : goal.returns-clause-volume
 returns-clause-volume c =
     let m = lent_memory c.args.storage.now in
     let n = lent_memory c.run_tried.new.storage in
-    keeps_ok c.args.start m n c.args.mounted.now c.run_tried.new.device c.run_tried.result c.run_tried.ensures.walk (c.run_tried.ensures.spared (λ d o. refl)) (λ out. (c.run_tried.ensures.same out).1)
+    keeps_ok c.args.start m n c.args.mounted.now c.run_tried.new.device c.run_tried.result c.run_tried.ensures.walk
+    (c.run_tried.ensures.spared (λ d o. refl)) (λ out. (c.run_tried.ensures.same out).1)

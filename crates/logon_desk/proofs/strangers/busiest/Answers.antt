@@ -14,21 +14,21 @@ loop-place-preserved c =
     let connections = c.args.connections.now in
     let here : get_or connections c.loop-place.place gone ≡ c.index-connections-place.result =
     read_there connections c.loop-place.place c.index-connections-place.result c.loop-place-test.true c.index-connections-place.is in
-    let told : is_stranger (get_or connections c.loop-place.place gone) ≡ c.is_stranger.result = ap is_stranger here ∙ sym c.is_stranger.ensures in
+    let reported : is_stranger (get_or connections c.loop-place.place gone) ≡ c.is_stranger.result = ap is_stranger here ∙ sym c.is_stranger.ensures in
     let from : strangers_from connections c.index-connections-place.result.address ≡ strangers_from connections (get_or connections c.loop-place.place gone).address =
     ap (λ (x : Connection). strangers_from connections x.address) (sym here) in
     elim c.if-is_stranger.branch [
       | then-is_stranger+then-goes_first w ↦
           renamed connections _ _ _ _ _ _ _ w.found-is w.most-is w.latest-is
           (found_more connections c.loop-place.place c.loop-place.found c.loop-place.most c.loop-place.latest w.strangers_from-count.result c.index-connections-place.result.patience.deadline
-          c.loop-place.invariant c.loop-place-test.true (told ∙ w.if-is_stranger.true) (w.strangers_from-count.ensures ∙ from) (w.goes_first.ensures.above w.if-goes_first.true))
+          c.loop-place.invariant c.loop-place-test.true (reported ∙ w.if-is_stranger.true) (w.strangers_from-count.ensures ∙ from) (w.goes_first.ensures.above w.if-goes_first.true))
       | then-is_stranger+else-goes_first w ↦
           renamed connections _ _ _ _ _ _ _ w.found-is w.most-is w.latest-is
           (kept_more connections c.loop-place.place c.loop-place.found c.loop-place.most c.loop-place.latest w.strangers_from-count.result c.loop-place.invariant
           (w.strangers_from-count.ensures ∙ from) (w.goes_first.ensures.below w.if-goes_first.false) (w.goes_first.ensures.some w.if-goes_first.false))
       | else-is_stranger w ↦
           renamed connections _ _ _ _ _ _ _ w.found-is w.most-is w.latest-is
-          (passed_more connections c.loop-place.place c.loop-place.found c.loop-place.most c.loop-place.latest c.loop-place.invariant (told ∙ w.if-is_stranger.false))
+          (passed_more connections c.loop-place.place c.loop-place.found c.loop-place.most c.loop-place.latest c.loop-place.invariant (reported ∙ w.if-is_stranger.false))
     ]
 
 none_at : (connections : List Connection) (place : ℕ) (found : Option ℕ) → length connections ≤ place → IfNone found ((k : ℕ) → k < place → is_stranger (get_or connections k gone) ≡ false)

@@ -11,4 +11,5 @@ loop-disk-preserved c =
     let k = c.loop-disk.disk-index in
     let x = get_or items k c.disk-item.result in
     let lt : k < length items = omega arith in
-    rw c.reset.ensures (map_over_more reset_disk xs items k x c.loop-disk-test.true c.loop-disk.invariant (get_or_default items k c.disk-item.result x lt))
+    rw c.reset.ensures (map_over_more reset_disk xs items k x c.loop-disk-test.true c.loop-disk.invariant
+    (get_or_default items k c.disk-item.result x lt))

@@ -8,7 +8,8 @@ use Rattle.machine_panel.proofs.commands.change_supplied.Given as goal
 abbrev pub invariant-loop-response : goal.invariant-loop-response
 invariant-loop-response g l = record {
   state : state_of l.cpu (g.S.Storage.memory l.storage) ≡ state_of l.fn.cpu (g.S.Storage.memory l.fn.storage);
-  supply : (pages : List ℕ) × g.S.Supply.Brought l.fn.storage pages l.storage × AllNeeded (Touches (touched l.fn.change_of)) pages;
+  supply : (pages : List ℕ) × g.S.Supply.Brought l.fn.storage pages l.storage
+      × AllNeeded (Touches (touched l.fn.change_of)) pages;
 }
 
 abbrev pub decreases-loop-response : goal.decreases-loop-response

@@ -5,8 +5,10 @@ use Rattle.machine_panel.proofs.tick.tick_supplied.Goals as goal
 pub returns-clause-frames : goal.returns-clause-frames
 returns-clause-frames g c =
     let s = c.bring_and_tick-ticked.ensures.supply in
-    lacking_on_error c.bring_and_tick-ticked.result (λ page. page ≡ 0) _ (g.S.Supply.IsShort c.bring_and_tick-ticked.new.storage) (g.S.UnitSupply.IsOut c.let_go.new.self)
-    (λ page short. g.met.S.UnitSupply.let_go_out _ _ _ s.0 page c.requires.between s.1 (omega (arith, s.3)) short c.let_go.ensures.let_go)
+    lacking_on_error c.bring_and_tick-ticked.result (λ page. page ≡ 0) _
+    (g.S.Supply.IsShort c.bring_and_tick-ticked.new.storage) (g.S.UnitSupply.IsOut c.let_go.new.self)
+    (λ page short. g.met.S.UnitSupply.let_go_out _ _ _ s.0 page c.requires.between s.1 (omega (arith, s.3)) short
+    c.let_go.ensures.let_go)
     c.bring_and_tick-ticked.ensures.frames
 
 pub returns-clause-supply : goal.returns-clause-supply

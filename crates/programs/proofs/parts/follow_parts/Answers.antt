@@ -5,7 +5,7 @@ use Rattle.sessions.proofs.Histories.{on_err}
 use Rattle.programs.specs.Faults.{play_failure}
 use Rattle.programs.specs.Parts.{Exchange, IsExchange}
 use Rattle.programs.specs.Requests.{end_line}
-use Rattle.programs.specs.declared.requests.Next.TheVariants as nexts
+use Rattle.programs.specs.declared.requests.NextRequest.TheVariants as nexts
 use Rattle.programs.proofs.Exchanges.{broken_off, closed_why, followed_to, is_next, so_far_more, so_far_none, why_of}
 use Rattle.programs.proofs.parts.follow_parts.Goals as goal
 
@@ -15,7 +15,9 @@ returns-in_err-follower-clause-err g c =
     let r = g.R.HostReader.remaining c.args.reader.now in
     let w = g.W.HostWriter.contents c.args.writer.now in
     let first = at_first i c.args.detail c.args.installation in
-    on_err c.from_residual.result (broken_off i c.args.detail c.args.installation first [] r r r w w w (so_far_none i first r w) (Consumes-nil r) (inl refl))
+    on_err c.from_residual.result
+    (broken_off i c.args.detail c.args.installation first [] r r r w w w (so_far_none i first r w) (Consumes-nil r)
+    (inl refl))
 
 pub returns-in_err-request-clause-err : goal.returns-in_err-request-clause-err
 returns-in_err-request-clause-err g c =
@@ -24,7 +26,9 @@ returns-in_err-request-clause-err g c =
     let w = g.W.HostWriter.contents c.args.writer.now in
     let x = g.W.HostWriter.contents c.loop.writer in
     let read = c.in_err-request.ensures.err in
-    on_err c.from_residual-in_err-request.result (broken_off i c.args.detail c.args.installation c.loop.follower read.0 (left c.args.reader.now) (left c.loop.reader) (left c.next_input.new.reader) w x x c.loop.invariant.so_far read.1 (inl refl))
+    on_err c.from_residual-in_err-request.result
+    (broken_off i c.args.detail c.args.installation c.loop.follower read.0 (left c.args.reader.now)
+    (left c.loop.reader) (left c.next_input.new.reader) w x x c.loop.invariant.so_far read.1 (inl refl))
 
 pub returns-in_err-follower-in-Asked-clause-err : goal.returns-in_err-follower-in-Asked-clause-err
 returns-in_err-follower-in-Asked-clause-err g c =
@@ -36,8 +40,11 @@ returns-in_err-follower-in-Asked-clause-err g c =
     let x = g.W.HostWriter.contents c.loop.writer in
     let y = g.W.HostWriter.contents c.answer.new.writer in
     let last = c.loop.follower in
-    let next = is_next c.in_ok-request.field-0 (nexts.Asked c.in-Asked.request) s t c.in-Asked.is c.in_ok-request.ensures.ok in
-    on_err c.from_residual-in_err-follower-in-Asked.result (broken_off i c.args.detail c.args.installation last next.0 (left c.args.reader.now) s t w x y c.loop.invariant.so_far next.2 (inr (inl (c.in-Asked.request, next.1, c.in_err-follower-in-Asked.ensures.err))))
+    let next = is_next c.in_ok-request.field-0 (nexts.Asked c.in-Asked.request) s t c.in-Asked.is
+    c.in_ok-request.ensures.ok in
+    on_err c.from_residual-in_err-follower-in-Asked.result
+    (broken_off i c.args.detail c.args.installation last next.0 (left c.args.reader.now) s t w x y
+    c.loop.invariant.so_far next.2 (inr (inl (c.in-Asked.request, next.1, c.in_err-follower-in-Asked.ensures.err))))
 
 pub returns-in_err-close-in-End-clause-err : goal.returns-in_err-close-in-End-clause-err
 returns-in_err-close-in-End-clause-err g c =
@@ -49,12 +56,17 @@ returns-in_err-close-in-End-clause-err g c =
     let x = g.W.HostWriter.contents c.loop.writer in
     let y = g.W.HostWriter.contents c.close.new.writer in
     let read = is_next c.in_ok-request.field-0 nexts.End s t c.in-End.is c.in_ok-request.ensures.ok in
-    on_err c.from_residual-in_err-close-in-End.result (broken_off i c.args.detail c.args.installation c.loop.follower end_line (left c.args.reader.now) s t w x y c.loop.invariant.so_far read (inr (inr (inl refl, c.in_err-close-in-End.ensures.err))))
+    on_err c.from_residual-in_err-close-in-End.result
+    (broken_off i c.args.detail c.args.installation c.loop.follower end_line (left c.args.reader.now) s t w x y
+    c.loop.invariant.so_far read (inr (inr (inl refl, c.in_err-close-in-End.ensures.err))))
 
 pub returns-in_err-close-in-End-clause-why : goal.returns-in_err-close-in-End-clause-why
 returns-in_err-close-in-End-clause-why g c =
     let e = c.in_err-close-in-End.field-0.0 in
-    why_of (play_failure e) c.from_residual-in_err-close-in-End.result _ _ _ _ c.from_residual-in_err-close-in-End.ensures.1 (closed_why g.row.I.Denot e _ _ _ _ _ (c.in_ok-request.ensures.why ∙ c.loop.invariant.read) c.loop.invariant.written (c.in_err-close-in-End.ensures.why true))
+    why_of (play_failure e) c.from_residual-in_err-close-in-End.result _ _ _ _
+    c.from_residual-in_err-close-in-End.ensures.1
+    (closed_why g.row.I.Denot e _ _ _ _ _ (c.in_ok-request.ensures.why ∙ c.loop.invariant.read)
+    c.loop.invariant.written (c.in_err-close-in-End.ensures.why true))
 
 pub returns-in-End-clause-ok : goal.returns-in-End-clause-ok
 returns-in-End-clause-ok g c =
@@ -66,11 +78,15 @@ returns-in-End-clause-ok g c =
     let x = g.W.HostWriter.contents c.loop.writer in
     let y = g.W.HostWriter.contents c.close.new.writer in
     let read = is_next c.in_ok-request.field-0 nexts.End s t c.in-End.is c.in_ok-request.ensures.ok in
-    followed_to i c.args.detail c.args.installation c.in_ok-close-in-End.field-0 c.loop.follower end_line (left c.args.reader.now) s t w x y c.loop.invariant.so_far c.in_ok-close-in-End.ensures.installation read c.in_ok-close-in-End.ensures.ok
+    followed_to i c.args.detail c.args.installation c.in_ok-close-in-End.field-0 c.loop.follower end_line
+    (left c.args.reader.now) s t w x y c.loop.invariant.so_far c.in_ok-close-in-End.ensures.installation read
+    c.in_ok-close-in-End.ensures.ok
 
 pub returns-in-End-clause-why : goal.returns-in-End-clause-why
-returns-in-End-clause-why g c =
-    (c.in_ok-request.ensures.why ∙ c.loop.invariant.read, (c.in_ok-close-in-End.ensures.why true).0 ∙ c.loop.invariant.written)
+returns-in-End-clause-why g c = (
+  c.in_ok-request.ensures.why ∙ c.loop.invariant.read,
+  (c.in_ok-close-in-End.ensures.why true).0 ∙ c.loop.invariant.written,
+)
 
 pub returns-in_err-close-in-Nothing-clause-err : goal.returns-in_err-close-in-Nothing-clause-err
 returns-in_err-close-in-Nothing-clause-err g c =
@@ -82,12 +98,17 @@ returns-in_err-close-in-Nothing-clause-err g c =
     let x = g.W.HostWriter.contents c.loop.writer in
     let y = g.W.HostWriter.contents c.close-in-Nothing.new.writer in
     let read = is_next c.in_ok-request.field-0 nexts.Nothing s t c.in-Nothing.is c.in_ok-request.ensures.ok in
-    on_err c.from_residual-in_err-close-in-Nothing.result (broken_off i c.args.detail c.args.installation c.loop.follower [] (left c.args.reader.now) s t w x y c.loop.invariant.so_far read.0 (inr (inr (inr refl, c.in_err-close-in-Nothing.ensures.err))))
+    on_err c.from_residual-in_err-close-in-Nothing.result
+    (broken_off i c.args.detail c.args.installation c.loop.follower [] (left c.args.reader.now) s t w x y
+    c.loop.invariant.so_far read.0 (inr (inr (inr refl, c.in_err-close-in-Nothing.ensures.err))))
 
 pub returns-in_err-close-in-Nothing-clause-why : goal.returns-in_err-close-in-Nothing-clause-why
 returns-in_err-close-in-Nothing-clause-why g c =
     let e = c.in_err-close-in-Nothing.field-0.0 in
-    why_of (play_failure e) c.from_residual-in_err-close-in-Nothing.result _ _ _ _ c.from_residual-in_err-close-in-Nothing.ensures.1 (closed_why g.row.I.Denot e _ _ _ _ _ (c.in_ok-request.ensures.why ∙ c.loop.invariant.read) c.loop.invariant.written (c.in_err-close-in-Nothing.ensures.why true))
+    why_of (play_failure e) c.from_residual-in_err-close-in-Nothing.result _ _ _ _
+    c.from_residual-in_err-close-in-Nothing.ensures.1
+    (closed_why g.row.I.Denot e _ _ _ _ _ (c.in_ok-request.ensures.why ∙ c.loop.invariant.read)
+    c.loop.invariant.written (c.in_err-close-in-Nothing.ensures.why true))
 
 pub returns-in-Nothing-clause-ok : goal.returns-in-Nothing-clause-ok
 returns-in-Nothing-clause-ok g c =
@@ -98,12 +119,18 @@ returns-in-Nothing-clause-ok g c =
     let w = g.W.HostWriter.contents c.args.writer.now in
     let x = g.W.HostWriter.contents c.loop.writer in
     let y = g.W.HostWriter.contents c.close-in-Nothing.new.writer in
-    let read = is_next c.in_ok-request.field-0 nexts.Nothing s t c.in-Nothing.is c.in_ok-request.ensures.ok in
-    (followed_to i c.args.detail c.args.installation c.in_ok-close-in-Nothing.field-0 c.loop.follower [] (left c.args.reader.now) s t w x y c.loop.invariant.so_far c.in_ok-close-in-Nothing.ensures.installation read.0 c.in_ok-close-in-Nothing.ensures.ok, read.1)
+    let read = is_next c.in_ok-request.field-0 nexts.Nothing s t c.in-Nothing.is c.in_ok-request.ensures.ok in (
+      followed_to i c.args.detail c.args.installation c.in_ok-close-in-Nothing.field-0 c.loop.follower []
+          (left c.args.reader.now) s t w x y c.loop.invariant.so_far c.in_ok-close-in-Nothing.ensures.installation read.0
+          c.in_ok-close-in-Nothing.ensures.ok,
+      read.1,
+    )
 
 pub returns-in-Nothing-clause-why : goal.returns-in-Nothing-clause-why
-returns-in-Nothing-clause-why g c =
-    (c.in_ok-request.ensures.why ∙ c.loop.invariant.read, (c.in_ok-close-in-Nothing.ensures.why true).0 ∙ c.loop.invariant.written)
+returns-in-Nothing-clause-why g c = (
+  c.in_ok-request.ensures.why ∙ c.loop.invariant.read,
+  (c.in_ok-close-in-Nothing.ensures.why true).0 ∙ c.loop.invariant.written,
+)
 
 pub loop-preserved : goal.loop-preserved
 loop-preserved g c =
@@ -116,12 +143,15 @@ loop-preserved g c =
     let y = g.W.HostWriter.contents c.answer.new.writer in
     let old = c.loop.follower in
     let new = c.in_ok-follower-in-Asked.follower in
-    let next = is_next c.in_ok-request.field-0 (nexts.Asked c.in-Asked.request) s t c.in-Asked.is c.in_ok-request.ensures.ok in
-    let told = c.in_ok-follower-in-Asked.ensures.ok in
-    let exchange : Exchange g.row.I.Denot = record { read = next.0; request = c.in-Asked.request; answer = told.0; left = new } in
-    let one : IsExchange i old exchange = record { asked = next.1; answered = told.1 } in
+    let next = is_next c.in_ok-request.field-0 (nexts.Asked c.in-Asked.request) s t c.in-Asked.is
+    c.in_ok-request.ensures.ok in
+    let reported = c.in_ok-follower-in-Asked.ensures.ok in
+    let exchange : Exchange g.row.I.Denot =
+    record { read = next.0; request = c.in-Asked.request; answer = reported.0; left = new } in
+    let one : IsExchange i old exchange = record { asked = next.1; answered = reported.1 } in
     record {
-      so_far = so_far_more i (at_first i c.args.detail c.args.installation) old (left c.args.reader.now) s t w x y exchange c.loop.invariant.so_far one next.2 told.2;
+      so_far = so_far_more i (at_first i c.args.detail c.args.installation) old (left c.args.reader.now) s t w x y
+          exchange c.loop.invariant.so_far one next.2 reported.2;
       detail = c.in_ok-follower-in-Asked.ensures.detail;
       read = c.in_ok-request.ensures.why ∙ c.loop.invariant.read;
       written = c.in_ok-follower-in-Asked.ensures.why ∙ c.loop.invariant.written;
@@ -133,4 +163,5 @@ returns-clause-err g c =
     let s = g.R.HostReader.remaining c.loop.reader in
     let w = g.W.HostWriter.contents c.args.writer.now in
     let x = g.W.HostWriter.contents c.loop.writer in
-    broken_off i c.args.detail c.args.installation c.loop.follower [] (g.R.HostReader.remaining c.args.reader.now) s s w x x c.loop.invariant.so_far (Consumes-nil s) (inl refl)
+    broken_off i c.args.detail c.args.installation c.loop.follower [] (g.R.HostReader.remaining c.args.reader.now) s s w
+    x x c.loop.invariant.so_far (Consumes-nil s) (inl refl)

@@ -17,10 +17,15 @@ returns g c =
     let files = lines_since Answer c.args.closed seen in
     let changes = changed_lines (names_of seen) c.args.modes.now (modes_of seen) in
     let idle = idle_lines c.args.detail (is_idle i new) in
-    let first = c.in_ok-told.told.items in
+    let first = c.in_ok-reported.reported.items in
     let second = c.extend_from_slice.new.self.items in
     let third = c.extend_from_slice-2.new.self.items in
     let fourth = c.extend_from_slice-3.new.self.items in
-    let with_changes : second ≡ first ++ ended changes = c.in_ok-extend_from_slice.ensures.items ∙ ap (λ (l : List ℕ). first ++ l) (c.deref.ensures.value ∙ c.in_ok-changes.ensures) in
-    let with_idle : third ≡ second ++ ended idle = c.in_ok-extend_from_slice-2.ensures.items ∙ ap (λ (l : List ℕ). second ++ l) (c.idle_line.ensures ∙ ap (λ (b : Bool). ended (idle_lines c.args.detail b)) c.is_idle.ensures) in
-    four_ended files changes idle (codes "> DONE" ∷ []) [] first second third fourth refl c.in_ok-told.ensures with_changes with_idle c.in_ok-extend_from_slice-3.ensures.items
+    let with_changes : second ≡ first
+    ++ ended changes = c.in_ok-extend_from_slice.ensures.items ∙ ap (λ (l : List ℕ). first ++ l)
+    (c.deref.ensures.value ∙ c.in_ok-changes.ensures) in
+    let with_idle : third ≡ second
+    ++ ended idle = c.in_ok-extend_from_slice-2.ensures.items ∙ ap (λ (l : List ℕ). second ++ l)
+    (c.idle_line.ensures ∙ ap (λ (b : Bool). ended (idle_lines c.args.detail b)) c.is_idle.ensures) in
+    four_ended files changes idle (codes "> DONE" ∷ []) [] first second third fourth refl c.in_ok-reported.ensures
+    with_changes with_idle c.in_ok-extend_from_slice-3.ensures.items

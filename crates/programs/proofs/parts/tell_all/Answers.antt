@@ -14,7 +14,8 @@ returns-in_err-write_all-2-clause-err g c =
     let b = is c.write_all.new.writer in
     let d = is c.write_all-2.new.writer in
     on_err c.from_residual-in_err-write_all-2.result
-    (front_of_first a d (first ++ second) third (front_after a b d first second c.in_ok-write_all.ensures.ok c.in_err-write_all-2.ensures.err))
+    (front_of_first a d (first ++ second) third
+    (front_after a b d first second c.in_ok-write_all.ensures.ok c.in_err-write_all-2.ensures.err))
 
 pub returns-clause-err : goal.returns-clause-err
 returns-clause-err g c =

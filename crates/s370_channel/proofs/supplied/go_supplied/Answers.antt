@@ -17,7 +17,7 @@ unit-init g c =
       ready = c.requires.ready;
       between = c.requires.between;
       ample = c.requires.ample;
-      came = ([], g.met.S.UnitSupply.came_none _ _ 0 c.requires.between (g.met.S.Keyed.rest_kept _ _ (g.met.S.Storage.keeps_same _)), tt);
+      paged_in = ([], g.met.S.UnitSupply.came_none _ _ 0 c.requires.between (g.met.S.Keyed.rest_kept _ _ (g.met.S.Storage.keeps_same _)), tt);
       keys = refl;
     }
 
@@ -25,12 +25,12 @@ pub returns-in-Err-clause-memory : goal.returns-in-Err-clause-memory
 returns-in-Err-clause-memory g c =
     memory_on guest_written (setting g.D.Device.machine c.args.limits.now) g.D.Device.needs_memory _ _ _ c.unit.invariant.reaches c.in-Err.ensures.memory
 
-pub returns-in-Err-clause-came : goal.returns-in-Err-clause-came
-returns-in-Err-clause-came g c =
+pub returns-in-Err-clause-paged_in : goal.returns-in-Err-clause-paged_in
+returns-in-Err-clause-paged_in g c =
     let h = setting g.D.Device.machine c.args.limits.now in
     let first = stands c.args.from (g.S.Storage.memory c.args.storage.now) c.args.device.now in
-    let s = c.unit.invariant.came in
-    let t = c.in-Err.ensures.came in (
+    let s = c.unit.invariant.paged_in in
+    let t = c.in-Err.ensures.paged_in in (
       s.0 ++ (t.0 ∷ []),
       g.met.S.UnitSupply.came_on _ _ _ s.0 (t.0 ∷ []) s.1 t.1,
       each_more (IsTouched guest_written h first) s.0 t.0 s.2 (all_touched guest_written h first _ t.0 c.unit.invariant.reaches t.2),
@@ -41,12 +41,12 @@ returns-in-Finished-clause-reaches g c =
     let h = setting g.D.Device.machine c.args.limits.now in
     reach_on (live guest_written) h c.unit.invariant.reaches (reach_finished guest_written h _ _ _ _ c.in-Finished.ending c.in-Finished.is c.in-Ok.ensures.reaches)
 
-pub returns-in-Finished-clause-came : goal.returns-in-Finished-clause-came
-returns-in-Finished-clause-came g c =
+pub returns-in-Finished-clause-paged_in : goal.returns-in-Finished-clause-paged_in
+returns-in-Finished-clause-paged_in g c =
     let h = setting g.D.Device.machine c.args.limits.now in
     let first = stands c.args.from (g.S.Storage.memory c.args.storage.now) c.args.device.now in
-    let s = c.unit.invariant.came in
-    let t = c.in-Ok.ensures.came in (
+    let s = c.unit.invariant.paged_in in
+    let t = c.in-Ok.ensures.paged_in in (
       s.0 ++ (t.0 ∷ []),
       g.met.S.UnitSupply.came_on _ _ _ s.0 (t.0 ∷ []) s.1 t.1,
       each_more (IsTouched guest_written h first) s.0 t.0 s.2 (all_touched guest_written h first _ t.0 c.unit.invariant.reaches t.2),
@@ -57,15 +57,15 @@ unit-preserved g c =
     let h = setting g.D.Device.machine c.args.limits.now in
     let first = stands c.args.from (g.S.Storage.memory c.args.storage.now) c.args.device.now in
     let before = c.unit.invariant in
-    let s = before.came in
-    let t = c.in-Ok.ensures.came in
+    let s = before.paged_in in
+    let t = c.in-Ok.ensures.paged_in in
     let further = is_further c.args.limits.now.commands c.unit.place _ c.in-Further.then c.in-Further.is c.in-Ok.ensures.farther in
     record {
       reaches = reach_on (live guest_written) h before.reaches (reach_further guest_written h _ _ _ _ c.in-Further.then c.in-Further.is c.in-Ok.ensures.reaches);
       ready = further.0;
       between = c.in-Ok.ensures.between;
       ample = c.in-Ok.ensures.ample;
-      came = (
+      paged_in = (
         s.0 ++ (t.0 ∷ []),
         g.met.S.UnitSupply.came_on _ _ _ s.0 (t.0 ∷ []) s.1 t.1,
         each_more (IsTouched guest_written h first) s.0 t.0 s.2 (all_touched guest_written h first _ t.0 before.reaches t.2),

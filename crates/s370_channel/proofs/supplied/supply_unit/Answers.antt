@@ -1,6 +1,6 @@
 use Rattle.std.proofs.Common.{◌<◌, ◌*◌, ℕ, ap, length, subst, sym}
 use Rattle.s370_store.specs.Memory.{Memory}
-use Rattle.s370_channel.specs.declared.supplied.Lack.TheVariants as lacks
+use Rattle.s370_channel.specs.declared.supplied.Shortage.TheVariants as lacks
 use Rattle.s370_channel.specs.Guest.{guest_written}
 use Rattle.s370_channel.specs.Halts.{stands}
 use Rattle.s370_channel.specs.Progress.{setting}
@@ -21,8 +21,8 @@ unreachable-requires g c =
     let inside : lack.0 * 4096 < length (g.S.Storage.memory c.let_go.new.self).bytes = subst (λ (n : ℕ). lack.0 * 4096 < n) (sym (ap (λ (m : Memory). length m.bytes) c.let_go.ensures.memory)) lack.1 in
     g.met.S.AmpleSupply.ample_out _ lack.0 ample inside out
 
-pub returns-in-Memory-clause-came : goal.returns-in-Memory-clause-came
-returns-in-Memory-clause-came g c =
+pub returns-in-Memory-clause-paged_in : goal.returns-in-Memory-clause-paged_in
+returns-in-Memory-clause-paged_in g c =
     let s = c.supply_step-gone.ensures.supply in
     (s.0, g.met.S.UnitSupply.let_go_came _ _ _ s.0 s.1 c.let_go.ensures.let_go, s.2.all)
 

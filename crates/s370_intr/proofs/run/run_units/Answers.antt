@@ -9,13 +9,13 @@ use Rattle.s370_intr.proofs.Runs.{all_done, does_many, does_more, each_more, eac
 use Rattle.s370_intr.proofs.Brings.{begun_all}
 use Rattle.s370_intr.proofs.run.run_units.Goals as goal
 
-pub returns-then-units-count-clause-told : goal.returns-then-units-count-clause-told
-returns-then-units-count-clause-told g c =
+pub returns-then-units-count-clause-reported : goal.returns-then-units-count-clause-reported
+returns-then-units-count-clause-reported g c =
     let n = c.go_quickly-went.result.units in
     let first = core_of (state_of c.args.cpu.now (g.S.Storage.memory c.args.storage.now)) c.args.pending.now c.args.subchannels.now in
     let now = core_of (state_of c.go_quickly-went.new.cpu (g.S.Storage.memory c.go_quickly-went.new.storage)) c.args.pending.now c.go_quickly-went.new.subchannels in
-    let told : Run = record { core = now; units = n; reason = Count } in
-    subst (λ (k : ℕ). run k first ≡ told) c.if-units-count.true c.go_quickly-went.ensures.done
+    let reported : Run = record { core = now; units = n; reason = Count } in
+    subst (λ (k : ℕ). run k first ≡ reported) c.if-units-count.true c.go_quickly-went.ensures.done
 
 pub returns-then-units-count-clause-supply : goal.returns-then-units-count-clause-supply
 returns-then-units-count-clause-supply g c =
@@ -39,8 +39,8 @@ loop-units-init g c =
       plain = c.go_quickly-went.ensures.plain;
     }
 
-pub returns-in-Stops-clause-told : goal.returns-in-Stops-clause-told
-returns-in-Stops-clause-told g c =
+pub returns-in-Stops-clause-reported : goal.returns-in-Stops-clause-reported
+returns-in-Stops-clause-reported g c =
     let k = c.loop-units.units in
     let first = core_of (state_of c.args.cpu.now (g.S.Storage.memory c.args.storage.now)) c.args.pending.now c.args.subchannels.now in
     let now = core_of (state_of c.loop-units.cpu (g.S.Storage.memory c.loop-units.storage)) c.loop-units.pending c.loop-units.subchannels in
@@ -63,7 +63,7 @@ returns-in-Err g c =
     let t = c.in-Err.ensures.supply in
     let needed : AllNeeded (NeedsAt (look now) now) t.0 = subst (λ (l : Next). AllNeeded (NeedsAt l now) t.0) e t.2 in
     record {
-      told = tells_cut k c.args.count first now _ c.next_of-next.result _ c.loop-units.invariant.ran c.loop-units-test.true e c.in-Err.ensures.unit.0 c.in-Err.ensures.unit.1;
+      reported = tells_cut k c.args.count first now _ c.next_of-next.result _ c.loop-units.invariant.ran c.loop-units-test.true e c.in-Err.ensures.unit.0 c.in-Err.ensures.unit.1;
       supply = (
         s.0 ++ t.0 ∷ [],
         g.met.S.UnitSupply.came_on _ _ _ s.0 (t.0 ∷ []) s.1 t.1,

@@ -24,5 +24,5 @@ returns-in-Err-clause-unit g c =
 pub returns-in-Err-clause-supply : goal.returns-in-Err-clause-supply
 returns-in-Err-clause-supply g c =
     let s = c.bring_for_unit.ensures.supply in
-    let came = g.met.S.UnitSupply.came_on _ _ _ [] (s.0 ∷ []) (g.met.S.UnitSupply.came_none _ _ 0 c.requires.between c.try_unit.ensures.rest) s.1 in
-    (s.0, came, subst (λ (x : Core). AllNeeded (NeedsAt c.args.said x) s.0) c.in-Err.ensures.unit.0 s.2, s.3)
+    let paged_in = g.met.S.UnitSupply.came_on _ _ _ [] (s.0 ∷ []) (g.met.S.UnitSupply.came_none _ _ 0 c.requires.between c.try_unit.ensures.rest) s.1 in
+    (s.0, paged_in, subst (λ (x : Core). AllNeeded (NeedsAt c.args.said x) s.0) c.in-Err.ensures.unit.0 s.2, s.3)

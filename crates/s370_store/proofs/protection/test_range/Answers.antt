@@ -18,23 +18,23 @@ returns-then-get-eq0 g c =
 
 pub returns : goal.returns
 returns g c =
-    let first_passes : is_passed c.args.access c.args.key (get_or (g.K.Keyring.of_blocks c.args.keys.now) (c.args.range.start / 2048) 0) ≡ true = cc in
-    let last_passes : is_passed c.args.access c.args.key (get_or (g.K.Keyring.of_blocks c.args.keys.now) ((c.args.range.start + (c.args.range.count - 1)) / 2048) 0) ≡ true = cc in
+    let first_passes : is_passed c.args.access c.args.key (get_or (g.K.KeyTable.of_blocks c.args.keys.now) (c.args.range.start / 2048) 0) ≡ true = cc in
+    let last_passes : is_passed c.args.access c.args.key (get_or (g.K.KeyTable.of_blocks c.args.keys.now) ((c.args.range.start + (c.args.range.count - 1)) / 2048) 0) ≡ true = cc in
     (one_fine _ _ _ _ (inside _ c.args.access c.args.range.start c.args.range.count (omega arith)) (permitted_is _ _ _ _ _ true (ends_permit _ _ _ _ _ (c.args.range.start + (c.args.range.count - 1)) (omega arith) (omega arith) first_passes last_passes)), (λ some. record { inside = omega arith; here = λ k h. refl }, tt))
 
 pub returns-then-not-block_passes : goal.returns-then-not-block_passes
 returns-then-not-block_passes g c =
-    let first_fails : is_passed c.args.access c.args.key (get_or (g.K.Keyring.of_blocks c.args.keys.now) ((c.args.range.start + 0) / 2048) 0) ≡ false = rw add-zero (cc) in
+    let first_fails : is_passed c.args.access c.args.key (get_or (g.K.KeyTable.of_blocks c.args.keys.now) ((c.args.range.start + 0) / 2048) 0) ≡ false = rw add-zero (cc) in
     one_forbidden _ _ _ _ (inside _ c.args.access c.args.range.start c.args.range.count (omega arith)) (permitted_is _ _ _ _ _ false (forbids _ _ _ _ _ 0 (omega arith) first_fails))
 
 pub returns-then-not-block_passes-2 : goal.returns-then-not-block_passes-2
 returns-then-not-block_passes-2 g c =
-    let last_fails : is_passed c.args.access c.args.key (get_or (g.K.Keyring.of_blocks c.args.keys.now) ((c.args.range.start + (c.args.range.count - 1)) / 2048) 0) ≡ false = cc in
+    let last_fails : is_passed c.args.access c.args.key (get_or (g.K.KeyTable.of_blocks c.args.keys.now) ((c.args.range.start + (c.args.range.count - 1)) / 2048) 0) ≡ false = cc in
     one_forbidden _ _ _ _ (inside _ c.args.access c.args.range.start c.args.range.count (omega arith)) (permitted_is _ _ _ _ _ false (forbids _ _ _ _ _ (c.args.range.count - 1) (omega arith) last_fails))
 
 pub returns-then-start-count-le2048 : goal.returns-then-start-count-le2048
 returns-then-start-count-le2048 g c =
-    let first_passes : is_passed c.args.access c.args.key (get_or (g.K.Keyring.of_blocks c.args.keys.now) (c.args.range.start / 2048) 0) ≡ true = cc in
+    let first_passes : is_passed c.args.access c.args.key (get_or (g.K.KeyTable.of_blocks c.args.keys.now) (c.args.range.start / 2048) 0) ≡ true = cc in
     let one_block : (c.args.range.start + (c.args.range.count - 1)) / 2048 ≡ c.args.range.start / 2048 = omega arith in
-    let last_passes : is_passed c.args.access c.args.key (get_or (g.K.Keyring.of_blocks c.args.keys.now) ((c.args.range.start + (c.args.range.count - 1)) / 2048) 0) ≡ true = rw one_block first_passes in
+    let last_passes : is_passed c.args.access c.args.key (get_or (g.K.KeyTable.of_blocks c.args.keys.now) ((c.args.range.start + (c.args.range.count - 1)) / 2048) 0) ≡ true = rw one_block first_passes in
     (one_fine _ _ _ _ (inside _ c.args.access c.args.range.start c.args.range.count (omega arith)) (permitted_is _ _ _ _ _ true (ends_permit _ _ _ _ _ (c.args.range.start + (c.args.range.count - 1)) (omega arith) (omega arith) first_passes last_passes)), (λ some. record { inside = omega arith; here = λ k h. refl }, tt))

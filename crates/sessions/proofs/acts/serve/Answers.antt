@@ -2,7 +2,8 @@ use Rattle.std.proofs.Common.{◌≡◌, ◌∙◌, None, ap, refl}
 use Rattle.cp_dispatch.specs.Policy.{Lines, always}
 use Rattle.cp_dispatch.specs.Turns.{IsDealt}
 use Rattle.sessions.specs.Schedule.{line_after}
-use Rattle.sessions.proofs.Histories.{both_ok, err_then, not_served, not_served_partly, ok_then, same_lines, served, served_partly}
+use Rattle.sessions.proofs.Histories.{both_ok, err_then, not_served, not_served_partly, ok_then, same_lines, served}
+use Rattle.sessions.proofs.Histories.{served_partly}
 use Rattle.sessions.proofs.Stated.{after_event, taken_stated, turned_stated, user_stated}
 use Rattle.sessions.proofs.acts.serve.Goals as goal
 
@@ -10,7 +11,8 @@ pub follow-requires : goal.follow-requires
 follow-requires g c =
     let users = (g.I.Installation.goes.seen c.args.installation.now).users in
     let program = c.in-Some.program in
-    let given = taken_stated users c.args.policy.now.programs c.serve.new.self.programs program c.in-Some.ensures.dealt c.requires.dealing.stated in
+    let given = taken_stated users c.args.policy.now.programs c.serve.new.self.programs program c.in-Some.ensures.dealt
+    c.requires.dealing.stated in
     record { user = user_stated users program given; device = rw c.get.ensures given; event = tt }
 
 pub returns-in-Some-clause-ok : goal.returns-in-Some-clause-ok
@@ -24,31 +26,45 @@ returns-in-Some-clause-ok g c =
     let turned = c.serve.new.self.programs in
     let lines = c.args.policy.now in
     let answered = rw c.get.ensures at c.follow.ensures.ok in
-    let stated = turned_stated before.users lines.programs turned program c.in-Some.ensures.dealt c.requires.dealing.stated in
+    let stated = turned_stated before.users lines.programs turned program c.in-Some.ensures.dealt
+    c.requires.dealing.stated in
     ok_then c.follow.result (λ h.
     let all : c.follow.new.policy ≡ record lines { programs = line_after before after program.user turned } =
-    h.1 ∙ ap (λ (p : Lines). record p { programs = line_after before after program.user turned }) c.serve.ensures.rest in
-    let dealing = after_event before after program.user lines turned c.follow.new.policy c.follow.ensures.users stated c.requires.dealing.seats (ap (λ (p : Lines). p.most_users) all) (ap (λ (p : Lines). p.programs) all) in
-    served i c.args.detail c.args.had_slice program turned c.args.installation.now c.follow.new.installation lines c.follow.new.policy old new c.in-Some.ensures.dealt h.0 all c.follow.ensures.users dealing) (both_ok _ _ c.follow.result answered c.follow.ensures.lined)
+    h.1 ∙ ap (λ (p : Lines). record p { programs = line_after before after program.user turned }) c.serve.ensures.rest
+    in
+    let dealing = after_event before after program.user lines turned c.follow.new.policy c.follow.ensures.users stated
+    c.requires.dealing.seats (ap (λ (p : Lines). p.most_users) all) (ap (λ (p : Lines). p.programs) all) in
+    served i c.args.detail c.args.had_slice program turned c.args.installation.now c.follow.new.installation lines
+    c.follow.new.policy old new c.in-Some.ensures.dealt h.0 all c.follow.ensures.users dealing)
+    (both_ok _ _ c.follow.result answered c.follow.ensures.lined)
 
 pub returns-in-Some-clause-err : goal.returns-in-Some-clause-err
 returns-in-Some-clause-err g c =
     let old = g.W.HostWriter.contents c.args.writer.now in
     let new = g.W.HostWriter.contents c.follow.new.writer in
     let failed = rw c.get.ensures at c.follow.ensures.err in
-    err_then c.follow.result (λ h. served_partly g.I.Installation.goes c.args.detail c.args.had_slice c.in-Some.program c.serve.new.self.programs c.args.installation.now c.follow.new.installation c.args.policy.now old new c.in-Some.ensures.dealt h) failed
+    err_then c.follow.result
+    (λ h. served_partly g.I.Installation.goes c.args.detail c.args.had_slice c.in-Some.program
+    c.serve.new.self.programs c.args.installation.now c.follow.new.installation c.args.policy.now old new
+    c.in-Some.ensures.dealt h) failed
 
 pub returns-in-None-clause-ok : goal.returns-in-None-clause-ok
 returns-in-None-clause-ok g c =
     let old = g.W.HostWriter.contents c.args.writer.now in
     let new = g.W.HostWriter.contents c.pass.new.writer in
     let stays = same_lines c.args.policy.now c.serve.new.self c.serve.ensures.rest c.in-None.ensures.dealt.1 in
-    let dealt : IsDealt always c.args.policy.now.programs None c.args.policy.now.programs = (c.in-None.ensures.dealt.0, refl) in
-    ok_then c.pass.result (λ w. not_served g.I.Installation.goes c.args.detail c.args.had_slice c.args.installation.now c.args.policy.now c.serve.new.self old new dealt stays w c.requires.dealing) c.pass.ensures.ok
+    let dealt : IsDealt always c.args.policy.now.programs None c.args.policy.now.programs =
+    (c.in-None.ensures.dealt.0, refl) in
+    ok_then c.pass.result (λ w.
+    not_served g.I.Installation.goes c.args.detail c.args.had_slice c.args.installation.now c.args.policy.now
+    c.serve.new.self old new dealt stays w c.requires.dealing) c.pass.ensures.ok
 
 pub returns-in-None-clause-err : goal.returns-in-None-clause-err
 returns-in-None-clause-err g c =
     let old = g.W.HostWriter.contents c.args.writer.now in
     let new = g.W.HostWriter.contents c.pass.new.writer in
-    let dealt : IsDealt always c.args.policy.now.programs None c.args.policy.now.programs = (c.in-None.ensures.dealt.0, refl) in
-    err_then c.pass.result (λ w. not_served_partly g.I.Installation.goes c.args.detail c.args.had_slice c.args.installation.now c.args.policy.now old new dealt w) c.pass.ensures.err
+    let dealt : IsDealt always c.args.policy.now.programs None c.args.policy.now.programs =
+    (c.in-None.ensures.dealt.0, refl) in
+    err_then c.pass.result (λ w.
+    not_served_partly g.I.Installation.goes c.args.detail c.args.had_slice c.args.installation.now c.args.policy.now
+    old new dealt w) c.pass.ensures.err

@@ -8,24 +8,43 @@ use Rattle.sessions.proofs.Told.{told_alike}
 use Rattle.sessions.proofs.answers.answer.Goals as goal
 
 pub returns-in_err-reply-clause-err : goal.returns-in_err-reply-clause-err
-returns-in_err-reply-clause-err g c = on_err c.from_residual.result (inl (record { left = c.in_err-reply.ensures.err; same = refl }))
+returns-in_err-reply-clause-err g c =
+    on_err c.from_residual.result (inl (record { left = c.in_err-reply.ensures.err; same = refl }))
 
 pub returns-in_err-lines-clause-err : goal.returns-in_err-lines-clause-err
 returns-in_err-lines-clause-err g c =
-    on_err c.from_residual-in_err-lines.result (inr (record { reply = c.in_ok-reply.reply; happened = c.in_ok-reply.ensures.ok; written = (0, omega arith, Appends-nil (g.W.HostWriter.contents c.args.writer.now)) }))
+    on_err c.from_residual-in_err-lines.result
+    (inr (record {
+      reply = c.in_ok-reply.reply;
+      happened = c.in_ok-reply.ensures.ok;
+      written = (0, omega arith, Appends-nil (g.W.HostWriter.contents c.args.writer.now));
+    }))
 
 pub returns-in_err-write_all-clause-err : goal.returns-in_err-write_all-clause-err
 returns-in_err-write_all-clause-err g c =
     let i = g.I.Installation.goes in
     let old = g.W.HostWriter.contents c.args.writer.now in
     let new = g.W.HostWriter.contents c.write_all.new.writer in
-    let lines = told_alike i c.args.detail (said c.args.event.now) c.args.installation.now c.happen.new.self c.in_ok-reply.reply c.user_in.result c.deref.result.now c.user_in.ensures c.happen.ensures.users (c.deref.ensures.value ∙ c.in_ok-lines.ensures) in
-    on_err c.from_residual-in_err-write_all.result (inr (record { reply = c.in_ok-reply.reply; happened = c.in_ok-reply.ensures.ok; written = subst (AppendsFront old new) lines c.in_err-write_all.ensures.err }))
+    let lines = told_alike i c.args.detail (said c.args.event.now) c.args.installation.now c.happen.new.self
+    c.in_ok-reply.reply c.user_in.result c.deref.result.now c.user_in.ensures c.happen.ensures.users
+    (c.deref.ensures.value ∙ c.in_ok-lines.ensures) in
+    on_err c.from_residual-in_err-write_all.result
+    (inr (record {
+      reply = c.in_ok-reply.reply;
+      happened = c.in_ok-reply.ensures.ok;
+      written = subst (AppendsFront old new) lines c.in_err-write_all.ensures.err;
+    }))
 
 pub returns-clause-ok : goal.returns-clause-ok
 returns-clause-ok g c =
     let i = g.I.Installation.goes in
     let old = g.W.HostWriter.contents c.args.writer.now in
     let new = g.W.HostWriter.contents c.write_all.new.writer in
-    let lines = told_alike i c.args.detail (said c.args.event.now) c.args.installation.now c.happen.new.self c.in_ok-reply.reply c.user_in.result c.deref.result.now c.user_in.ensures c.happen.ensures.users (c.deref.ensures.value ∙ c.in_ok-lines.ensures) in
-    record { reply = c.in_ok-reply.reply; happened = c.in_ok-reply.ensures.ok; written = subst (Appends old new) lines c.in_ok-write_all.ensures.ok }
+    let lines = told_alike i c.args.detail (said c.args.event.now) c.args.installation.now c.happen.new.self
+    c.in_ok-reply.reply c.user_in.result c.deref.result.now c.user_in.ensures c.happen.ensures.users
+    (c.deref.ensures.value ∙ c.in_ok-lines.ensures) in
+    record {
+      reply = c.in_ok-reply.reply;
+      happened = c.in_ok-reply.ensures.ok;
+      written = subst (Appends old new) lines c.in_ok-write_all.ensures.ok;
+    }

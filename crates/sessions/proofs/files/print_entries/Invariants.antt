@@ -5,4 +5,6 @@ use Rattle.sessions.proofs.files.print_entries.Given as goal
 
 -- with the lines of the entries that are left, all lines are there
 abbrev pub invariant-loop-entry : goal.invariant-loop-entry
-invariant-loop-entry l = l.out.items ++ ended (map (marked_entry l.telling l.kind) (drop l.entry-index l.entries)) ≡ l.fn.out.items ++ ended (map (marked_entry l.telling l.kind) l.entries)
+invariant-loop-entry l = l.out.items
+    ++ ended (map (marked_entry l.telling l.kind) (drop l.entry-index l.entries)) ≡ l.fn.out.items
+    ++ ended (map (marked_entry l.telling l.kind) l.entries)

@@ -5,5 +5,6 @@ use Rattle.sessions.proofs.files.print_files.Goals as goal
 pub loop-place-preserved : goal.loop-place-preserved
 loop-place-preserved g c =
     let seen = g.I.Installation.goes.seen c.args.installation.now in
-    note_more c.args.telling seen c.loop-place.text.items c.print_noted.new.out.items seen.files c.loop-place.place c.in-Some.note (sym c.in-Some.is ∙ c.file.ensures) c.in_ok-print_noted.ensures
+    note_more c.args.telling seen c.loop-place.text.items c.print_noted.new.out.items seen.files c.loop-place.place
+    c.in-Some.note (sym c.in-Some.is ∙ c.file.ensures) c.in_ok-print_noted.ensures
     ∙ c.loop-place.invariant

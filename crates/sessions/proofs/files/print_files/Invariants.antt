@@ -7,4 +7,5 @@ use Rattle.sessions.proofs.files.print_files.Given as goal
 abbrev pub invariant-loop-place : goal.invariant-loop-place
 invariant-loop-place g l =
     let seen = g.I.Installation.goes.seen l.installation in
-    l.text.items ++ ended (lines_from l.telling seen (l.place + 1) (drop l.place seen.files)) ≡ ended (lines_since l.telling l.since seen)
+    l.text.items ++ ended (lines_from l.telling seen (l.place + 1) (drop l.place seen.files))
+    ≡ ended (lines_since l.telling l.since seen)

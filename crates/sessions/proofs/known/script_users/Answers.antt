@@ -22,6 +22,8 @@ loop-number-preserved g c =
     let k = c.loop-number.number in
     let long = as_long (λ list. list.items) (λ user. user.devices) c.args.devices.now users c.requires in
     let inside : k < length users = omega (arith, long, c.loop-number-test.true) in
-    let had = c.deref.ensures.value ∙ devices_at (λ list. list.items) c.args.devices.now users k c.index-devices-number.result c.requires (omega (arith, c.loop-number-test.true)) c.index-devices-number.is in
+    let had = c.deref.ensures.value ∙ devices_at (λ list. list.items) c.args.devices.now users k
+    c.index-devices-number.result c.requires (omega (arith, c.loop-number-test.true)) c.index-devices-number.is in
     let named = c.name-name.ensures ∙ ap (name_of (names_of users)) c.new.ensures in
-    users_more users c.loop-number.known.items c.push.new.self.items k c.name-name.result.now c.deref.result.now inside c.in_ok-push.ensures.items c.loop-number.invariant named had
+    users_more users c.loop-number.known.items c.push.new.self.items k c.name-name.result.now c.deref.result.now inside
+    c.in_ok-push.ensures.items c.loop-number.invariant named had

@@ -7,5 +7,10 @@ use Rattle.sessions.proofs.news.print_changes.Goals as goal
 pub loop-place-preserved : goal.loop-place-preserved
 loop-place-preserved c =
     let k = c.loop-place.place in
-    let printed = subst (λ (name : List ℕ). c.print_change.new.out.items ≡ c.loop-place.text.items ++ ended (change_lines name c.mode_at-old.result c.mode_at-new.result)) c.deref.ensures.value c.in_ok-print_change.ensures in
-    change_more (λ name. name.items) c.loop-place.text.items c.print_change.new.out.items c.args.names.now c.args.olds.now c.args.news.now k c.index-names-place.result c.mode_at-old.result c.mode_at-new.result (omega (arith, c.loop-place-test.true)) c.index-names-place.is c.mode_at-old.ensures c.mode_at-new.ensures printed ∙ c.loop-place.invariant
+    let printed = subst (λ (name : List ℕ). c.print_change.new.out.items ≡ c.loop-place.text.items
+    ++ ended (change_lines name c.mode_at-old.result c.mode_at-new.result)) c.deref.ensures.value
+    c.in_ok-print_change.ensures in
+    change_more (λ name. name.items) c.loop-place.text.items c.print_change.new.out.items c.args.names.now
+    c.args.olds.now c.args.news.now k c.index-names-place.result c.mode_at-old.result c.mode_at-new.result
+    (omega (arith, c.loop-place-test.true)) c.index-names-place.is c.mode_at-old.ensures c.mode_at-new.ensures
+    printed ∙ c.loop-place.invariant

@@ -7,4 +7,5 @@ use Rattle.sessions.proofs.news.print_changes.Given as goal
 abbrev pub invariant-loop-place : goal.invariant-loop-place
 invariant-loop-place l =
     let names = map (λ name. name.items) l.names in
-    l.text.items ++ ended (changed_lines (drop l.place names) (drop l.place l.olds) (drop l.place l.news)) ≡ ended (changed_lines names l.olds l.news)
+    l.text.items ++ ended (changed_lines (drop l.place names) (drop l.place l.olds) (drop l.place l.news))
+    ≡ ended (changed_lines names l.olds l.news)

@@ -5,6 +5,7 @@ use Rattle.sessions.proofs.starts.join.Given as goal
 -- with those that are left, all have joined
 abbrev pub invariant-loop-d : goal.invariant-loop-d
 invariant-loop-d l = record {
-  joins : record l.policy { programs = joined l.user (drop l.d-index l.started) l.policy.programs } ≡ record l.fn.policy { programs = joined l.user l.started l.fn.policy.programs };
+  joins : record l.policy { programs = joined l.user (drop l.d-index l.started) l.policy.programs }
+      ≡ record l.fn.policy { programs = joined l.user l.started l.fn.policy.programs };
   rest : l.policy ≡ record l.fn.policy { programs = l.policy.programs };
 }

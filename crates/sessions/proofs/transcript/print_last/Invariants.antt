@@ -8,6 +8,7 @@ use Rattle.sessions.proofs.transcript.print_last.Given as goal
 abbrev pub invariant-loop-index : goal.invariant-loop-index
 invariant-loop-index g l =
     let seen = g.I.Installation.goes.seen l.installation in
-    let told = told_line (name_of (names_of seen) l.user) in
+    let reported = told_line (name_of (names_of seen) l.user) in
     let output = (machine_at seen l.user).output in
-    l.out.items ++ ended (map told (drop l.index output)) ≡ l.fn.out.items ++ ended (map told (last_lines l.count output))
+    l.out.items ++ ended (map reported (drop l.index output)) ≡ l.fn.out.items
+    ++ ended (map reported (last_lines l.count output))

@@ -9,6 +9,6 @@ abbrev pub invariant-loop-index : goal.invariant-loop-index
 invariant-loop-index g l =
     let seen = g.I.Installation.goes.seen l.installation in
     let names = names_of seen in
-    let told = queue_lines names (name_of names l.user) in
+    let reported = queue_lines names (name_of names l.user) in
     let decks = (user_at seen l.user).devices.reader.decks in
-    l.out.items ++ ended (told (drop l.index decks)) ≡ l.fn.out.items ++ ended (told decks)
+    l.out.items ++ ended (reported (drop l.index decks)) ≡ l.fn.out.items ++ ended (reported decks)

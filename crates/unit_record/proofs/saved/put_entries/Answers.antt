@@ -6,4 +6,9 @@ use Rattle.unit_record.proofs.saved.put_entries.Goals as goal
 
 pub loop-entry-preserved : goal.loop-entry-preserved
 loop-entry-preserved c =
-    grind (arith, common_steps, each_on entry_bytes c.loop-entry.out.items c.args.entries.now c.loop-entry.entry-index c.entry-item.result c.loop-entry-test.true)
+    grind (
+      arith,
+      common_steps,
+      each_on entry_bytes c.loop-entry.out.items c.args.entries.now c.loop-entry.entry-index c.entry-item.result
+          c.loop-entry-test.true,
+    )

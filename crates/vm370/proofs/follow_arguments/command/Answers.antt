@@ -9,7 +9,9 @@ returns c =
     let first = one_more _ _ _ _ _ (c.in_ok-arg.ensures.shape c.frames.ensures.local) none c.frames.ensures.rule in
     let second = one_more _ _ _ _ _ (c.in_ok-arg-2.ensures.shape c.slots.ensures.local) first c.slots.ensures.rule in
     let third = one_more _ _ _ _ _ (c.in_ok-arg-3.ensures.shape c.save.ensures.local) second c.save.ensures.rule in
-    let fourth = one_more _ _ _ _ _ (c.in_ok-arg-4.ensures.shape c.terminals.ensures.local) third c.terminals.ensures.rule in
+    let fourth = one_more _ _ _ _ _ (c.in_ok-arg-4.ensures.shape c.terminals.ensures.local) third
+    c.terminals.ensures.rule in
     let fifth = one_more _ _ _ _ _ (c.in_ok-arg-5.ensures.shape c.follow.ensures.local) fourth c.follow.ensures.rule in
-    let sixth = one_more _ _ _ _ _ (c.in_ok-arg-6.ensures.shape c.directory.ensures.local) fifth c.directory.ensures.rule in
+    let sixth = one_more _ _ _ _ _ (c.in_ok-arg-6.ensures.shape c.directory.ensures.local) fifth
+    c.directory.ensures.rule in
     one_more _ _ _ _ _ (c.in_ok-command.ensures.shape c.volumes.ensures.local) sixth c.volumes.ensures.rule

@@ -5,4 +5,5 @@ use Rattle.bare_installation.specs.Bare.{Bare}
 use Rattle.bare_installation.proofs.bare.Bare.is_ready.Goals as goal
 
 pub returns : goal.returns
-returns c = c.is_ready.ensures (plain_memory c.self.inside.storage) ∙ ap (λ (b : Bare). is_ready b.equipped.machine) c.self.view_is
+returns c = c.is_ready.ensures (plain_memory c.self.inside.storage) ∙ ap (λ (b : Bare). is_ready b.equipped.machine)
+    c.self.view_is

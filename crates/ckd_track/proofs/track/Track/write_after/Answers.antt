@@ -17,12 +17,12 @@ replace_after-requires-clause-within c =
 
 pub returns-then-not-has_room-clause-cases : goal.returns-then-not-has_room-clause-cases
 returns-then-not-has_room-clause-cases c =
-    let told : false ≡ (nat_le (length c.args.key.now) 255 && nat_le (total_cost (take c.args.i c.self.inside.entries.items) + record_cost (length c.args.key.now) (length c.args.content.now)) 13165)
+    let reported : false ≡ (nat_le (length c.args.key.now) 255 && nat_le (total_cost (take c.args.i c.self.inside.entries.items) + record_cost (length c.args.key.now) (length c.args.content.now)) 13165)
     = sym c.if-not-has_room.true ∙ c.has_room.ensures ∙ ap (λ l. nat_le (length c.args.key.now) 255 && nat_le (total_cost (take c.args.i l) + record_cost (length c.args.key.now) (length c.args.content.now)) 13165) c.deref.ensures.value in
-    rw (← c.self.view_is, cost_of_first c.self.inside.entries.items c.self.inside.area.items c.args.i c.self.invariant.0) told
+    rw (← c.self.view_is, cost_of_first c.self.inside.entries.items c.self.inside.area.items c.args.i c.self.invariant.0) reported
 
 pub returns-clause-cases : goal.returns-clause-cases
 returns-clause-cases c =
-    let told : true ≡ (nat_le (length c.args.key.now) 255 && nat_le (total_cost (take c.args.i c.self.inside.entries.items) + record_cost (length c.args.key.now) (length c.args.content.now)) 13165)
+    let reported : true ≡ (nat_le (length c.args.key.now) 255 && nat_le (total_cost (take c.args.i c.self.inside.entries.items) + record_cost (length c.args.key.now) (length c.args.content.now)) 13165)
     = sym c.if-not-has_room.false ∙ c.has_room.ensures ∙ ap (λ l. nat_le (length c.args.key.now) 255 && nat_le (total_cost (take c.args.i l) + record_cost (length c.args.key.now) (length c.args.content.now)) 13165) c.deref.ensures.value in
-    rw (← c.self.view_is, cost_of_first c.self.inside.entries.items c.self.inside.area.items c.args.i c.self.invariant.0) told
+    rw (← c.self.view_is, cost_of_first c.self.inside.entries.items c.self.inside.area.items c.args.i c.self.invariant.0) reported

@@ -6,4 +6,6 @@ use Rattle.cp_console.proofs.output.ConsoleOutput.is_empty.Goals as goal
 pub returns : goal.returns
 returns c =
     let i = c.self.inside in
-    c.is_empty.ensures ∙ ap (λ n. n == 0) (i.ends.ok.0 ∙ sym (lines_count 0 i.text.items i.ends.items) ∙ ap (λ (p : Printed). length p.lines) c.self.view_is)
+    c.is_empty.ensures ∙ ap (λ n. n == 0)
+    (i.ends.ok.0 ∙ sym (lines_count 0 i.text.items i.ends.items) ∙ ap (λ (p : Printed). length p.lines)
+    c.self.view_is)

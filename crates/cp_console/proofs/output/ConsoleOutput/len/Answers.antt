@@ -6,4 +6,5 @@ use Rattle.cp_console.proofs.output.ConsoleOutput.len.Goals as goal
 pub returns : goal.returns
 returns c =
     let i = c.self.inside in
-    c.len.ensures ∙ i.ends.ok.0 ∙ sym (lines_count 0 i.text.items i.ends.items) ∙ ap (λ (p : Printed). length p.lines) c.self.view_is
+    c.len.ensures ∙ i.ends.ok.0 ∙ sym (lines_count 0 i.text.items i.ends.items) ∙ ap (λ (p : Printed). length p.lines)
+    c.self.view_is

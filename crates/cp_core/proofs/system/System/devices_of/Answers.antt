@@ -9,9 +9,17 @@ use Rattle.cp_core.proofs.system.System.devices_of.Goals as goal
 
 pub index-requires : goal.index-requires
 index-requires c =
-    let inside = has_seat (seats_on c.self.inside.queues c.self.inside.users.items) c.self.inside.volumes c.self.inside.frames.storages c.self.inside.directory c.args.self.now.users c.args.user c.self.invariant.0.whole (ap (λ (s : SystemView). s.users) c.self.view_is) c.requires in omega (arith, inside, c.self.inside.users.ok.0, length-seats c.self.inside.queues c.self.inside.users.items)
+    let inside = has_seat (seats_on c.self.inside.queues c.self.inside.users.items) c.self.inside.volumes
+    c.self.inside.frames.storages c.self.inside.directory c.args.self.now.users c.args.user c.self.invariant.0.whole
+    (ap (λ (s : SystemView). s.users) c.self.view_is) c.requires in omega
+    (arith, inside, c.self.inside.users.ok.0, length-seats c.self.inside.queues c.self.inside.users.items)
 
 pub returns : goal.returns
 returns c =
-    let there = seat_is (seats_on c.self.inside.queues c.self.inside.users.items) c.self.inside.volumes c.self.inside.frames.storages c.self.inside.directory c.args.self.now.users c.args.user (seat_on c.self.inside.queues c.index.result.now) c.self.invariant.0.whole (ap (λ (s : SystemView). s.users) c.self.view_is) c.requires (seat_here c.self.inside.queues c.self.inside.users.items c.args.user c.index.result.now c.index.ensures) in
-    c.new.ensures ∙ ap (λ (u : SeatParts). devices_on u.devices c.self.inside.queues) c.behind-self.view_is ∙ sym (ap (λ (e : Equipped). e.devices) there)
+    let there = seat_is (seats_on c.self.inside.queues c.self.inside.users.items) c.self.inside.volumes
+    c.self.inside.frames.storages c.self.inside.directory c.args.self.now.users c.args.user
+    (seat_on c.self.inside.queues c.index.result.now) c.self.invariant.0.whole
+    (ap (λ (s : SystemView). s.users) c.self.view_is) c.requires
+    (seat_here c.self.inside.queues c.self.inside.users.items c.args.user c.index.result.now c.index.ensures) in
+    c.new.ensures ∙ ap (λ (u : SeatParts). devices_on u.devices c.self.inside.queues) c.behind-self.view_is ∙ sym
+    (ap (λ (e : Equipped). e.devices) there)

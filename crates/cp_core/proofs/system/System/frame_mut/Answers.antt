@@ -15,9 +15,13 @@ invariant_of-self-lent c =
     let users = c.self.inside.directory in
     let volumes = c.self.inside.volumes in
     let pool = c.self.inside.frames in
-    let fits : (p q : Pool) → p ≡ q → IsSystem seats volumes q users → IsSystem seats volumes p users × AreOwners c.self.inside.users.items c.self.inside.queues = λ p q e whole. (subst (λ (p : Pool). IsSystem seats volumes p users) (sym e) whole, c.self.invariant.1) in
+    let fits : (p q : Pool) → p ≡ q → IsSystem seats volumes q users
+    → IsSystem seats volumes p users
+    × AreOwners c.self.inside.users.items c.self.inside.queues =
+    λ p q e whole. (subst (λ (p : Pool). IsSystem seats volumes p users) (sym e) whole, c.self.invariant.1) in
     λ lent. (
-      λ w. fits (c.frame_mut.follows.lender w) _ (c.frame_mut.follows.holds w) (system_written seats volumes pool users c.args.frame.0 w c.self.invariant.0),
+      λ w. fits (c.frame_mut.follows.lender w) _ (c.frame_mut.follows.holds w)
+          (system_written seats volumes pool users c.args.frame.0 w c.self.invariant.0),
       fits c.frame_mut.follows.lender-at-none pool c.frame_mut.follows.holds-at-none c.self.invariant.0,
     )
 
@@ -34,12 +38,17 @@ returns c =
     let see = seen_with seats users c.self.inside.files.items volumes c.self.inside.is_spent in (
       (
         refl,
-        λ w. ap see (c.frame_mut.follows.holds w) ∙ (seen_written seats users c.self.inside.files.items volumes c.self.inside.is_spent pool c.args.frame.0 w ∙ ap (λ (s : SystemView). written_frame s c.args.frame.0 w) c.self.view_is),
+        λ w. ap see (c.frame_mut.follows.holds w) ∙
+            (seen_written seats users c.self.inside.files.items volumes c.self.inside.is_spent pool c.args.frame.0 w ∙
+            ap (λ (s : SystemView). written_frame s c.args.frame.0 w) c.self.view_is),
         ap see c.frame_mut.follows.holds-at-none ∙ c.self.view_is,
       ),
       record {
         writes_back = tt;
-        content = rw (← c.self.view_is) (some_so c.frame_mut.result _ _ (λ lent same. sym (seen_written seats users c.self.inside.files.items volumes c.self.inside.is_spent pool c.args.frame.0 lent.now) ∙ ap see same) c.frame_mut.ensures.content);
+        content = rw (← c.self.view_is)
+            (some_so c.frame_mut.result _ _
+            (λ lent same. sym (seen_written seats users c.self.inside.files.items volumes c.self.inside.is_spent pool
+            c.args.frame.0 lent.now) ∙ ap see same) c.frame_mut.ensures.content);
         some = rw (← c.self.view_is) c.frame_mut.ensures.some;
       },
     )

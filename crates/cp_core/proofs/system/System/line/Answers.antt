@@ -4,7 +4,7 @@ use Rattle.cp_core.specs.Histories.{IsReplied}
 use Rattle.cp_core.specs.Keeps.{HasKept, LineKeeps}
 use Rattle.cp_core.specs.System.{user_at, world_of}
 use Rattle.machine_devices.specs.Replies.{said_to_line}
-use Rattle.cp_core.specs.Work.{HasTyped}
+use Rattle.cp_core.specs.UserOp.{HasTyped}
 use Rattle.cp_core.specs.declared.events.Event.TheVariants.{Line}
 use Rattle.machine_devices.specs.declared.reply.Reply.{Reply}
 use Rattle.cp_core.proofs.Keeping.{kept_on}
@@ -15,34 +15,62 @@ pub returns-in_err-delivered-in-Ok-clause-cut : goal.returns-in_err-delivered-in
 returns-in_err-delivered-in-Ok-clause-cut c =
     let t = c.type_line.ensures in
     let f = c.in_err-delivered-in-Ok.ensures in
-    if_err c.from_residual.result _ (line_cut c.args.self.now c.type_line.new.self c.follow.new.self c.args.user c.args.typed c.in-Ok.told c.in-Ok.ensures.typed t.rest t.between_before t.between f.memory f.err c.follow.ensures.supply)
+    if_err c.from_residual.result _
+    (line_cut c.args.self.now c.type_line.new.self c.follow.new.self c.args.user c.args.typed c.in-Ok.reported
+    c.in-Ok.ensures.typed t.rest t.between_before t.between f.memory f.err c.follow.ensures.supply)
 
 pub returns-in_ok-delivered-in-Ok-clause-step : goal.returns-in_ok-delivered-in-Ok-clause-step
 returns-in_ok-delivered-in-Ok-clause-step c =
     let t = c.type_line.ensures in
     let f = c.in_ok-delivered-in-Ok.ensures in
-    line_done c.args.self.now c.type_line.new.self c.follow.new.self c.args.user c.args.typed c.in-Ok.told c.said_to_line.result c.saturating_sub.result c.in_ok-delivered-in-Ok.delivered c.in-Ok.ensures.typed t.rest t.between_before t.between
-    f.delivered f.files f.come f.deliveries c.follow.ensures.supply
-    (c.said_to_line.ensures ∙ ap (λ (n : ℕ). said_to_line n c.in-Ok.told) c.next_file-number.ensures.value)
+    line_done c.args.self.now c.type_line.new.self c.follow.new.self c.args.user c.args.typed c.in-Ok.reported
+    c.said_to_line.result c.saturating_sub.result c.in_ok-delivered-in-Ok.delivered c.in-Ok.ensures.typed t.rest
+    t.between_before t.between
+    f.delivered f.files f.come c.follow.ensures.supply
+    (c.said_to_line.ensures ∙ ap (λ (n : ℕ). said_to_line n c.in-Ok.reported) c.next_file-number.ensures.value)
     (omega (arith, c.saturating_sub.ensures, c.printed_by.ensures, c.printed_by-printed.ensures))
 
 pub returns-in-Err-FramesOut-clause-step : goal.returns-in-Err-FramesOut-clause-step
 returns-in-Err-FramesOut-clause-step c =
     let t = c.type_line.ensures in
-    subst (λ (reply : Reply). IsReplied c.args.self.now (record { event = Line c.args.user c.args.typed; reply = reply; seen = c.type_line.new.self })) (sym c.silent.ensures)
-    (line_out c.args.self.now c.type_line.new.self c.args.user c.args.typed (subst (λ (e : LineError). HasTyped (world_of c.args.self.now c.args.user) c.args.user c.args.typed.now (user_at c.args.self.now c.args.user) c.args.self.now.supply (Err e) (user_at c.type_line.new.self c.args.user) c.type_line.new.self.supply) c.in-Err-FramesOut.field-0-is c.in-Err-FramesOut.ensures.typed) t.rest t.between_before t.between)
+    subst (λ (reply : Reply).
+    IsReplied c.args.self.now
+    (record { event = Line c.args.user c.args.typed; reply = reply; seen = c.type_line.new.self }))
+    (sym c.silent.ensures)
+    (line_out c.args.self.now c.type_line.new.self c.args.user c.args.typed
+    (subst (λ (e : LineError).
+    HasTyped (world_of c.args.self.now c.args.user) c.args.user c.args.typed.now
+    (user_at c.args.self.now c.args.user) c.args.self.now.supply (Err e) (user_at c.type_line.new.self c.args.user)
+    c.type_line.new.self.supply) c.in-Err-FramesOut.field-0-is c.in-Err-FramesOut.ensures.typed) t.rest
+    t.between_before t.between)
 
-pub returns-in_err-delivered-in-Ok-clause-kept_without_memory : goal.returns-in_err-delivered-in-Ok-clause-kept_without_memory
+pub returns-in_err-delivered-in-Ok-clause-kept_without_memory :
+    goal.returns-in_err-delivered-in-Ok-clause-kept_without_memory
 returns-in_err-delivered-in-Ok-clause-kept_without_memory c =
-    let told = c.in-Ok.told in
+    let reported = c.in-Ok.reported in
     if_err c.from_residual.result _
-    (record { result = Ok told; kept = kept_on c.args.user c.args.self.now c.type_line.new.self c.follow.new.self (LineKeeps c.args.typed.now (user_at c.args.self.now c.args.user) (Ok told)) c.in-Ok.ensures.keeps c.follow.ensures.kept })
+    (record {
+      result = Ok reported;
+      kept = kept_on c.args.user c.args.self.now c.type_line.new.self c.follow.new.self
+          (LineKeeps c.args.typed.now (user_at c.args.self.now c.args.user) (Ok reported)) c.in-Ok.ensures.keeps
+          c.follow.ensures.kept;
+    })
 
 pub returns-in_ok-delivered-in-Ok-clause-kept : goal.returns-in_ok-delivered-in-Ok-clause-kept
 returns-in_ok-delivered-in-Ok-clause-kept c =
-    let told = c.in-Ok.told in
-    record { result = Ok told; ends = refl; kept = kept_on c.args.user c.args.self.now c.type_line.new.self c.follow.new.self (LineKeeps c.args.typed.now (user_at c.args.self.now c.args.user) (Ok told)) c.in-Ok.ensures.keeps c.follow.ensures.kept }
+    let reported = c.in-Ok.reported in
+    record {
+      result = Ok reported;
+      ends = refl;
+      kept = kept_on c.args.user c.args.self.now c.type_line.new.self c.follow.new.self
+          (LineKeeps c.args.typed.now (user_at c.args.self.now c.args.user) (Ok reported)) c.in-Ok.ensures.keeps
+          c.follow.ensures.kept;
+    }
 
 pub returns-in-Err-FramesOut-clause-kept : goal.returns-in-Err-FramesOut-clause-kept
 returns-in-Err-FramesOut-clause-kept c =
-    record { result = Err c.in-Err-FramesOut.field-0; ends = ap (λ (reply : Reply). reply.ended) c.silent.ensures; kept = c.in-Err-FramesOut.ensures.keeps }
+    record {
+      result = Err c.in-Err-FramesOut.field-0;
+      ends = ap (λ (reply : Reply). reply.ended) c.silent.ensures;
+      kept = c.in-Err-FramesOut.ensures.keeps;
+    }

@@ -8,4 +8,9 @@ use Rattle.cp_core.proofs.system.System.logged_on.Goals as goal
 pub returns : goal.returns
 returns c =
     let whole = c.self.invariant.0.whole in
-    rw (← ap (λ (s : SystemView). logged_on_of s.users) c.self.view_is, ← modes_of (seats_on c.self.inside.queues c.self.inside.users.items) c.self.inside.volumes c.self.inside.frames.storages (omega (arith, whole.seated, whole.stored)), modes_on c.self.inside.queues c.self.inside.users.items) (search rules)
+    rw (
+      ← ap (λ (s : SystemView). logged_on_of s.users) c.self.view_is,
+      ← modes_of (seats_on c.self.inside.queues c.self.inside.users.items) c.self.inside.volumes
+          c.self.inside.frames.storages (omega (arith, whole.seated, whole.stored)),
+      modes_on c.self.inside.queues c.self.inside.users.items,
+    ) (search rules)

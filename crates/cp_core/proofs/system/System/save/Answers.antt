@@ -20,10 +20,24 @@ returns c =
     let p = pool_bytes s.frames in
     let n = each note_bytes s.files.items in
     let users : each (seat_bytes s.queues) c.deref.result.now ≡ u =
-    ap (λ (us : List SeatParts). each (seat_bytes s.queues) us) c.deref.ensures.value ∙ each_mapped user_bytes (saved_user s.queues) s.users.items in
-    let notes : each note_bytes c.deref-2.result.now ≡ n = ap (λ (ns : List FileNote). each note_bytes ns) c.deref-2.ensures.value in
+    ap (λ (us : List SeatParts). each (seat_bytes s.queues) us) c.deref.ensures.value ∙ each_mapped user_bytes
+    (saved_user s.queues) s.users.items in
+    let notes : each note_bytes c.deref-2.result.now ≡ n =
+    ap (λ (ns : List FileNote). each note_bytes ns) c.deref-2.ensures.value in
     let one : c.put_volumes.new.out.items ≡ out ++ v = c.in_ok-put_volumes.ensures in
-    let two : c.put_users.new.out.items ≡ (out ++ v) ++ u = c.in_ok-put_users.ensures ∙ ap (λ (l : List ℕ). l ++ each (seat_bytes s.queues) c.deref.result.now) one ∙ ap (λ (l : List ℕ). (out ++ v) ++ l) users in
-    let three : c.save.new.out.items ≡ ((out ++ v) ++ u) ++ p = c.in_ok-save.ensures ∙ ap (λ (l : List ℕ). l ++ p) two in
-    let four : c.put_notes.new.out.items ≡ (((out ++ v) ++ u) ++ p) ++ n = c.in_ok-put_notes.ensures ∙ ap (λ (l : List ℕ). l ++ each note_bytes c.deref-2.result.now) three ∙ ap (λ (l : List ℕ). (((out ++ v) ++ u) ++ p) ++ l) notes in
-    on_ok c.put_flag.result _ _ (λ last. (system_bytes parts, saved_is s.queues s.users.items s.volumes s.frames s.directory s.files.items s.is_spent c.args.self.now (system_bytes parts) c.self.view_is refl, last ∙ ap (λ (l : List ℕ). l ++ flag s.is_spent) four ∙ as_whole out v u p n (flag s.is_spent))) c.put_flag.ensures
+    let two : c.put_users.new.out.items ≡ (out ++ v)
+    ++ u = c.in_ok-put_users.ensures ∙ ap (λ (l : List ℕ). l ++ each (seat_bytes s.queues) c.deref.result.now) one ∙
+    ap (λ (l : List ℕ). (out ++ v) ++ l) users in
+    let three : c.save.new.out.items ≡ ((out ++ v) ++ u)
+    ++ p = c.in_ok-save.ensures ∙ ap (λ (l : List ℕ). l ++ p) two in
+    let four : c.put_notes.new.out.items ≡ (((out ++ v) ++ u) ++ p)
+    ++ n = c.in_ok-put_notes.ensures ∙ ap (λ (l : List ℕ). l ++ each note_bytes c.deref-2.result.now) three ∙ ap
+    (λ (l : List ℕ). (((out ++ v) ++ u) ++ p) ++ l) notes in
+    on_ok c.put_flag.result _ _
+    (λ last. (
+      system_bytes parts,
+      saved_is s.queues s.users.items s.volumes s.frames s.directory s.files.items s.is_spent c.args.self.now
+          (system_bytes parts) c.self.view_is refl,
+      last ∙ ap (λ (l : List ℕ). l ++ flag s.is_spent) four ∙ as_whole out v u p n (flag s.is_spent),
+    ))
+    c.put_flag.ensures

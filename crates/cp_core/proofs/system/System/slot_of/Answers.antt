@@ -10,8 +10,10 @@ use Rattle.cp_core.proofs.system.System.slot_of.Goals as goal
 pub returns-then-not-has_page-clause-slot : goal.returns-then-not-has_page-clause-slot
 returns-then-not-has_page-clause-slot c =
     let bytes = (machine_at c.args.self.now c.args.user).core.processor.bytes in
-    let past : nat_lt (c.args.page.0 * 4096) (length bytes) ≡ false = sym c.has_page.ensures.inside ∙ c.if-not-has_page.true in
-    sym (told_past (nat_lt (c.args.page.0 * 4096) (length bytes)) (frame_of c.args.self.now.supply.slots c.args.user c.args.page.0) past)
+    let past : nat_lt (c.args.page.0 * 4096) (length bytes) ≡ false =
+    sym c.has_page.ensures.inside ∙ c.if-not-has_page.true in
+    sym (told_past (nat_lt (c.args.page.0 * 4096) (length bytes))
+    (frame_of c.args.self.now.supply.slots c.args.user c.args.page.0) past)
 
 pub returns-then-not-has_page-clause-zero : goal.returns-then-not-has_page-clause-zero
 returns-then-not-has_page-clause-zero c = λ nowhere. (
@@ -21,36 +23,55 @@ returns-then-not-has_page-clause-zero c = λ nowhere. (
 pub slot_of-requires : goal.slot_of-requires
 slot_of-requires c =
     let bytes = (machine_at c.args.self.now c.args.user).core.processor.bytes in
-    let inside : nat_lt (c.args.page.0 * 4096) (length bytes) ≡ true = sym c.has_page.ensures.inside ∙ c.if-not-has_page.false in
-    let stored = bytes_are (seats_on c.self.inside.queues c.self.inside.users.items) c.self.inside.volumes c.self.inside.frames.storages c.self.inside.directory c.args.self.now.users c.args.user c.self.invariant.0.whole (ap (λ (s : SystemView). s.users) c.self.view_is) (c.has_page.ensures.user c.if-not-has_page.false) in
+    let inside : nat_lt (c.args.page.0 * 4096) (length bytes) ≡ true =
+    sym c.has_page.ensures.inside ∙ c.if-not-has_page.false in
+    let stored = bytes_are (seats_on c.self.inside.queues c.self.inside.users.items) c.self.inside.volumes
+    c.self.inside.frames.storages c.self.inside.directory c.args.self.now.users c.args.user c.self.invariant.0.whole
+    (ap (λ (s : SystemView). s.users) c.self.view_is) (c.has_page.ensures.user c.if-not-has_page.false) in
     let less : c.args.page.0 * 4096 < length bytes = grind (arith, nat_tests) in
     omega (arith, less, ap (λ (xs : List ℕ). length xs) stored)
 
 pub returns-clause-slot : goal.returns-clause-slot
 returns-clause-slot c =
     let bytes = (machine_at c.args.self.now c.args.user).core.processor.bytes in
-    let inside : nat_lt (c.args.page.0 * 4096) (length bytes) ≡ true = sym c.has_page.ensures.inside ∙ c.if-not-has_page.false in
-    let there = c.slot_of.ensures.slot ∙ ap (λ (s : SystemView). frame_of s.supply.slots c.args.user c.args.page.0) c.self.view_is in
-    there ∙ sym (told_inside (nat_lt (c.args.page.0 * 4096) (length bytes)) (frame_of c.args.self.now.supply.slots c.args.user c.args.page.0) inside)
+    let inside : nat_lt (c.args.page.0 * 4096) (length bytes) ≡ true =
+    sym c.has_page.ensures.inside ∙ c.if-not-has_page.false in
+    let there = c.slot_of.ensures.slot ∙ ap (λ (s : SystemView). frame_of s.supply.slots c.args.user c.args.page.0)
+    c.self.view_is in
+    there ∙ sym (told_inside (nat_lt (c.args.page.0 * 4096) (length bytes))
+    (frame_of c.args.self.now.supply.slots c.args.user c.args.page.0) inside)
 
 pub returns-clause-apart : goal.returns-clause-apart
 returns-clause-apart c = λ some. (
     let bytes = (machine_at c.args.self.now c.args.user).core.processor.bytes in
-    let inside : nat_lt (c.args.page.0 * 4096) (length bytes) ≡ true = sym c.has_page.ensures.inside ∙ c.if-not-has_page.false in
+    let inside : nat_lt (c.args.page.0 * 4096) (length bytes) ≡ true =
+    sym c.has_page.ensures.inside ∙ c.if-not-has_page.false in
     let same = ap (λ (s : SystemView). frame_of s.supply.owners c.args.user c.args.page.0) c.self.view_is in
-    told_inside (nat_lt (c.args.page.0 * 4096) (length bytes)) (frame_of c.args.self.now.supply.owners c.args.user c.args.page.0) inside ∙ sym same ∙ c.slot_of.ensures.apart some)
+    told_inside (nat_lt (c.args.page.0 * 4096) (length bytes))
+    (frame_of c.args.self.now.supply.owners c.args.user c.args.page.0) inside ∙ sym same ∙ c.slot_of.ensures.apart
+    some)
 
 pub returns-clause-once : goal.returns-clause-once
 returns-clause-once c =
     let bytes = (machine_at c.args.self.now c.args.user).core.processor.bytes in
-    let inside : nat_lt (c.args.page.0 * 4096) (length bytes) ≡ true = sym c.has_page.ensures.inside ∙ c.if-not-has_page.false in
-    let there = c.slot_of.ensures.slot ∙ ap (λ (s : SystemView). frame_of s.supply.slots c.args.user c.args.page.0) c.self.view_is in
-    slot_once c.args.self.now c.args.user c.args.page.0 c.slot_of.result (there ∙ sym (told_inside (nat_lt (c.args.page.0 * 4096) (length bytes)) (frame_of c.args.self.now.supply.slots c.args.user c.args.page.0) inside))
+    let inside : nat_lt (c.args.page.0 * 4096) (length bytes) ≡ true =
+    sym c.has_page.ensures.inside ∙ c.if-not-has_page.false in
+    let there = c.slot_of.ensures.slot ∙ ap (λ (s : SystemView). frame_of s.supply.slots c.args.user c.args.page.0)
+    c.self.view_is in
+    slot_once c.args.self.now c.args.user c.args.page.0 c.slot_of.result
+    (there ∙ sym (told_inside (nat_lt (c.args.page.0 * 4096) (length bytes))
+    (frame_of c.args.self.now.supply.slots c.args.user c.args.page.0) inside))
 
 pub returns-clause-zero : goal.returns-clause-zero
 returns-clause-zero c =
     let bytes = (machine_at c.args.self.now c.args.user).core.processor.bytes in
-    let inside : nat_lt (c.args.page.0 * 4096) (length bytes) ≡ true = sym c.has_page.ensures.inside ∙ c.if-not-has_page.false in
+    let inside : nat_lt (c.args.page.0 * 4096) (length bytes) ≡ true =
+    sym c.has_page.ensures.inside ∙ c.if-not-has_page.false in
     let same = ap (λ (s : SystemView). frame_of s.supply.owners c.args.user c.args.page.0) c.self.view_is in
-    let stored = bytes_are (seats_on c.self.inside.queues c.self.inside.users.items) c.self.inside.volumes c.self.inside.frames.storages c.self.inside.directory c.args.self.now.users c.args.user c.self.invariant.0.whole (ap (λ (s : SystemView). s.users) c.self.view_is) (c.has_page.ensures.user c.if-not-has_page.false) in
-    none_so c.slot_of.result _ _ (λ zero nowhere. subst (λ (bs : List ℕ). IsZeroPage bs c.args.page.0) stored (zero (same ∙ sym (told_inside (nat_lt (c.args.page.0 * 4096) (length bytes)) (frame_of c.args.self.now.supply.owners c.args.user c.args.page.0) inside) ∙ nowhere))) c.slot_of.ensures.zero
+    let stored = bytes_are (seats_on c.self.inside.queues c.self.inside.users.items) c.self.inside.volumes
+    c.self.inside.frames.storages c.self.inside.directory c.args.self.now.users c.args.user c.self.invariant.0.whole
+    (ap (λ (s : SystemView). s.users) c.self.view_is) (c.has_page.ensures.user c.if-not-has_page.false) in
+    none_so c.slot_of.result _ _
+    (λ zero nowhere. subst (λ (bs : List ℕ). IsZeroPage bs c.args.page.0) stored
+    (zero (same ∙ sym (told_inside (nat_lt (c.args.page.0 * 4096) (length bytes))
+    (frame_of c.args.self.now.supply.owners c.args.user c.args.page.0) inside) ∙ nowhere))) c.slot_of.ensures.zero

@@ -5,4 +5,5 @@ use Rattle.cp_dat.proofs.dat.Dat.copy_bytes.Goals as goal
 
 pub returns : goal.returns
 returns c =
-    is_chunk (lent_bytes c.args.self.now) c.loop-index.into c.args.start c.requires.inside c.loop-index.invariant.long (λ k few. c.loop-index.invariant.copied k (search (rules, c.loop-index-test.false)))
+    is_chunk (lent_bytes c.args.self.now) c.loop-index.into c.args.start c.requires.inside c.loop-index.invariant.long
+    (λ k few. c.loop-index.invariant.copied k (search (rules, c.loop-index-test.false)))

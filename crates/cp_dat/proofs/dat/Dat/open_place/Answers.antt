@@ -4,7 +4,7 @@ use Rattle.s370_store.proofs.Verdicts.{inside, one_fine}
 use Rattle.cp_dat.specs.Lent.{is_lent_page}
 use Rattle.cp_dat.proofs.dat.Dat.open_place.Goals as goal
 
--- where a place was found the page stands in a frame
+-- where a place was found the page is in a frame
 found : (place frame : Option ℕ) → IsSome place → IfSome place (λ p. frame ≡ Some (p / 4096)) → is_some frame ≡ true
 found None frame some at = cc
 found (Some p) frame some at = ap (λ (o : Option ℕ). is_some o) at
@@ -17,4 +17,14 @@ returns-clause-granted c = λ some.
     let block = c.requires.one_block in
     let room : start + c.args.range.count ≤ d.size = omega (arith, d.whole, block) in
     let passes = sym c.passes_in_block.ensures in
-    rw (← d.sized) (one_fine _ _ _ _ (inside d.size c.args.access start c.args.range.count room) (rw c.if-not-passes_in_block.false at passes), (λ some. record { inside = room; here = λ k h. (let page : (start + k) / 4096 ≡ start / 4096 = omega (arith, block) in rw page there) }, tt))
+    rw (← d.sized) (
+      one_fine _ _ _ _ (inside d.size c.args.access start c.args.range.count room)
+          (rw c.if-not-passes_in_block.false at passes),
+      (
+        λ some. record {
+          inside = room;
+          here = λ k h. (let page : (start + k) / 4096 ≡ start / 4096 = omega (arith, block) in rw page there);
+        },
+        tt,
+      ),
+    )

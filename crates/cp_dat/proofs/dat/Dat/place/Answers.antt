@@ -8,10 +8,12 @@ use Rattle.cp_dat.proofs.dat.Dat.place.Goals as goal
 pub loop-page-init : goal.loop-page-init
 loop-page-init c = placed_none c.args.self.now c.args.wanted.now c.requires.between
 
-pub returns-in_err-fetch-clause-came : goal.returns-in_err-fetch-clause-came
-returns-in_err-fetch-clause-came c =
+pub returns-in_err-fetch-clause-paged_in : goal.returns-in_err-fetch-clause-paged_in
+returns-in_err-fetch-clause-paged_in c =
     let it : slice_index_or c.args.wanted.now c.loop-page.page false ≡ true = search (rules, c.if-wanted-page.true) in
-    came_more c.args.self.now c.loop-page.self c.fetch.new.self (λ other. other ≡ c.loop-page.page) (is_wanted c.args.wanted.now) (wanted_page c.args.wanted.now c.loop-page.page it) c.loop-page.invariant.came c.fetch.ensures.came
+    came_more c.args.self.now c.loop-page.self c.fetch.new.self (λ other. other ≡ c.loop-page.page)
+    (is_wanted c.args.wanted.now) (wanted_page c.args.wanted.now c.loop-page.page it) c.loop-page.invariant.paged_in
+    c.fetch.ensures.paged_in
 
 pub loop-page-preserved : goal.loop-page-preserved
 loop-page-preserved c =
@@ -19,6 +21,10 @@ loop-page-preserved c =
     elim c.if-wanted-page.branch [
       | then-wanted-page+in_ok-fetch w ↦ (
           let there = w.in_ok-fetch.ensures.there in
-          rw w.self-is (placed_page c.args.self.now c.args.wanted.now c.loop-page.page c.loop-page.self w.fetch.new.self low w.if-wanted-page.true c.loop-page.invariant there w.fetch.ensures.came w.fetch.ensures.between w.fetch.ensures.memory))
-      | else-wanted-page w ↦ rw w.self-is (placed_by c.args.self.now c.args.wanted.now c.loop-page.page c.loop-page.self low w.if-wanted-page.false c.loop-page.invariant)
+          rw w.self-is (placed_page c.args.self.now c.args.wanted.now c.loop-page.page c.loop-page.self w.fetch.new.self
+          low w.if-wanted-page.true c.loop-page.invariant there w.fetch.ensures.paged_in w.fetch.ensures.between
+          w.fetch.ensures.memory))
+      | else-wanted-page w ↦ rw w.self-is
+          (placed_by c.args.self.now c.args.wanted.now c.loop-page.page c.loop-page.self low w.if-wanted-page.false
+          c.loop-page.invariant)
     ]

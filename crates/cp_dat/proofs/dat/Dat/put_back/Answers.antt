@@ -12,34 +12,50 @@ loop-start-init c = back_none c.args.self.now c.args.from.now c.args.wanted.now 
 pub store-requires-clause-granted : goal.store-requires-clause-granted
 store-requires-clause-granted c =
     let before = c.loop-start.invariant in
-    let whole : length (lent_bytes c.args.self.now) % 4096 ≡ 0 = search (rules, c.args.self.now.whole, c.args.self.now.sized) in
+    let whole : length (lent_bytes c.args.self.now) % 4096 ≡ 0 =
+    search (rules, c.args.self.now.whole, c.args.self.now.sized) in
     let size : length (lent_bytes c.loop-start.self) ≡ length (lent_bytes c.args.self.now) = before.put.size in
-    let low : c.loop-start.start < length (lent_bytes c.args.self.now) = search (rules, c.loop-start-test.true, c.loop-start.self.sized, size) in
-    let within : c.loop-start.start + 256 ≤ length (lent_bytes c.args.self.now) = inside c.args.self.now c.args.from.now c.args.wanted.now c.loop-start.start c.loop-start.self whole low c.requires.long before in
+    let low : c.loop-start.start < length (lent_bytes c.args.self.now) =
+    search (rules, c.loop-start-test.true, c.loop-start.self.sized, size) in
+    let within : c.loop-start.start + 256 ≤ length (lent_bytes c.args.self.now) =
+    inside c.args.self.now c.args.from.now c.args.wanted.now c.loop-start.start c.loop-start.self whole low
+    c.requires.long before in
     let aligned = before.aligned in
-    let same : length (lent_bytes c.fetch.new.self) ≡ length (lent_bytes c.args.self.now) = ap (λ (m : Memory). length m.bytes) c.fetch.ensures.memory ∙ size in
+    let same : length (lent_bytes c.fetch.new.self) ≡ length (lent_bytes c.args.self.now) =
+    ap (λ (m : Memory). length m.bytes) c.fetch.ensures.memory ∙ size in
     let long = c.requires.long in
-    let count : length (slice_range c.args.from.now c.loop-start.start (c.loop-start.start + 256)) ≡ 256 = length-chunk c.args.from.now c.loop-start.start (omega (arith, long, within)) in
+    let count : length (slice_range c.args.from.now c.loop-start.start (c.loop-start.start + 256)) ≡ 256 =
+    length-chunk c.args.from.now c.loop-start.start (omega (arith, long, within)) in
     record {
       inside = omega (arith, count, same, within);
-      here = λ k few. (let page : (c.loop-start.start + k) / 4096 ≡ c.loop-start.start / 4096 = omega (arith, aligned, few, count) in
+      here = λ k few. (let page : (c.loop-start.start + k) / 4096
+          ≡ c.loop-start.start / 4096 = omega (arith, aligned, few, count) in
           ap (λ i. is_lent_page c.fetch.new.self i) page ∙ c.in-Ok.ensures.there);
     }
 
 pub loop-start-preserved : goal.loop-start-preserved
 loop-start-preserved c =
     let before = c.loop-start.invariant in
-    let whole : length (lent_bytes c.args.self.now) % 4096 ≡ 0 = search (rules, c.args.self.now.whole, c.args.self.now.sized) in
+    let whole : length (lent_bytes c.args.self.now) % 4096 ≡ 0 =
+    search (rules, c.args.self.now.whole, c.args.self.now.sized) in
     let size : length (lent_bytes c.loop-start.self) ≡ length (lent_bytes c.args.self.now) = before.put.size in
-    let low : c.loop-start.start < length (lent_bytes c.args.self.now) = search (rules, c.loop-start-test.true, c.loop-start.self.sized, size) in
+    let low : c.loop-start.start < length (lent_bytes c.args.self.now) =
+    search (rules, c.loop-start-test.true, c.loop-start.self.sized, size) in
     elim c.if-wanted-start.branch [
-      | then-wanted-start+in-Ok w ↦ rw w.self-is (back_on c.args.self.now c.args.from.now c.args.wanted.now c.loop-start.start c.loop-start.self whole low c.requires.long before w.fetch.new.self w.store.new.self w.if-wanted-start.true w.fetch.ensures.came w.fetch.ensures.between w.fetch.ensures.memory w.store.ensures.rest w.store.ensures.stored)
-      | else-wanted-start w ↦ rw w.self-is (back_by c.args.self.now c.args.from.now c.args.wanted.now c.loop-start.start c.loop-start.self whole low c.requires.long before c.requires.beside w.if-wanted-start.false)
+      | then-wanted-start+in-Ok w ↦ rw w.self-is
+          (back_on c.args.self.now c.args.from.now c.args.wanted.now c.loop-start.start c.loop-start.self whole low
+          c.requires.long before w.fetch.new.self w.store.new.self w.if-wanted-start.true w.fetch.ensures.paged_in
+          w.fetch.ensures.between w.fetch.ensures.memory w.store.ensures.rest w.store.ensures.stored)
+      | else-wanted-start w ↦ rw w.self-is
+          (back_by c.args.self.now c.args.from.now c.args.wanted.now c.loop-start.start c.loop-start.self whole low
+          c.requires.long before c.requires.other_users w.if-wanted-start.false)
     ]
 
 pub returns-clause-bytes : goal.returns-clause-bytes
 returns-clause-bytes c =
     let before = c.loop-start.invariant in
     let size : length (lent_bytes c.loop-start.self) ≡ length (lent_bytes c.args.self.now) = before.put.size in
-    let all : length (lent_bytes c.args.self.now) ≤ c.loop-start.start = search (rules, c.loop-start-test.false, c.loop-start.self.sized, size) in
-    put_all c.loop-start.start c.args.from.now (lent_bytes c.args.self.now) (lent_bytes c.loop-start.self) c.requires.long before.put all
+    let all : length (lent_bytes c.args.self.now) ≤ c.loop-start.start =
+    search (rules, c.loop-start-test.false, c.loop-start.self.sized, size) in
+    put_all c.loop-start.start c.args.from.now (lent_bytes c.args.self.now) (lent_bytes c.loop-start.self)
+    c.requires.long before.put all

@@ -18,7 +18,7 @@ of_first extent user users =
     ap (option_map (λ (d : Minidisk). d.line)) (find-append (λ (d : Minidisk). conflicts extent d.extent) user.minidisks (minidisks_of users))
     ∙ mapped_or (λ d. d.line) (find (λ (d : Minidisk). conflicts extent d.extent) user.minidisks) (find (λ (d : Minidisk). conflicts extent d.extent) (minidisks_of users))
 
--- the user at this place, and then those behind
+-- the user at this place, and then those after
 at_place : (extent : Extent) (users : List DirectoryUser) (i : ℕ) (user : DirectoryUser) (o : Option ℕ) → i < length users → user ≡ get_or users i user → o ≡ first_conflict extent user.minidisks
     → first_conflict extent (minidisks_of (drop i users)) ≡ option_or o (first_conflict extent (minidisks_of (drop (i + 1) users)))
 at_place extent users i user o within here found =
@@ -27,7 +27,7 @@ at_place extent users i user o within here found =
     ∙ of_first extent user (drop (i + 1) users)
     ∙ ap (λ (p : Option ℕ). option_or p (first_conflict extent (minidisks_of (drop (i + 1) users)))) (sym found)
 
--- where none before this user conflicts, what is told of the user is told first
+-- where none before this user conflicts, what is reported of the user is reported first
 on_user : (extent : Extent) (users items : List DirectoryUser) (i : ℕ) (user : DirectoryUser) (o p : Option ℕ) → items ≡ users → first_conflict extent (minidisks_of users) ≡ first_conflict extent (minidisks_of (drop i users))
     → i < length items → user ≡ get_or items i user → o ≡ first_conflict extent user.minidisks → o ≡ p → first_conflict extent (minidisks_of users) ≡ option_or p (first_conflict extent (minidisks_of (drop (i + 1) users)))
 on_user extent users items i user o p e so_far within here found is =

@@ -8,7 +8,7 @@ use Rattle.cp_directory.proofs.extent.Volser.new.Goals as goal
 is_short : (word : List ℕ) → is_volser word ≡ true → length word ≤ 6
 is_short word h = grind (arith, nat_tests)
 
--- the word with blanks behind it
+-- the word with blanks after it
 kept : (word : List ℕ) → is_volser word ≡ true
     → (length word ≤ 6) × (is_volser (take (length word) (word ++ drop (length word) (replicate 6 32))) ≡ true)
     × (word ++ drop (length word) (replicate 6 32) ≡ padded (take (length word) (word ++ drop (length word) (replicate 6 32))))

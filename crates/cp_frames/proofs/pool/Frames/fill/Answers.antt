@@ -17,8 +17,8 @@ note-requires-clause-tables c =
     let at = look_place_of_page f c.args.user c.args.page.0 c.self.invariant inside in
     omega (arith, at.of_user, at.of_page, c.self.invariant.mapped.room)
 
-pub note-requires-clause-looks : goal.note-requires-clause-looks
-note-requires-clause-looks c =
+pub note-requires-clause-lookup : goal.note-requires-clause-lookup
+note-requires-clause-lookup c =
     let f = c.self.inside in
     let inside : c.args.page.0 * 4096 < length (bytes_in f c.args.user) = rw (← c.self.view_is) at c.requires.inside in
     let at = look_place_of_page f c.args.user c.args.page.0 c.self.invariant inside in
@@ -36,23 +36,32 @@ invariant_of-self c =
     let nowhere = from_none f.owners.items f.slot_owners.items user page kept.whole.once absent no_slot in
     let within : frame < length f.owners.items = rw (← c.self.view_is) at c.requires.frame in
     let free : get_or f.owners.items frame None ≡ None = rw (← c.self.view_is) at c.requires.free in
-    let free_all : get_or (owners_in f) frame None ≡ None = get_or_append_left f.owners.items f.slot_owners.items None frame within ∙ free in
+    let free_all : get_or (owners_in f) frame None ≡ None =
+    get_or_append_left f.owners.items f.slot_owners.items None frame within ∙ free in
     let inside : page * 4096 < length (bytes_in f user) = rw (← c.self.view_is) at c.requires.inside in
     let at = look_place_of_page f user page kept inside in
     let long = length-bytes_of (places_in f) (owners_in f) f.sizes.items user in
-    let bytes_are = set-append_left f.frames.items f.slots.items frame c.clear.new.frame (omega (arith, kept.frame_room)) in
+    let bytes_are = set-append_left f.frames.items f.slots.items frame c.clear.new.frame
+    (omega (arith, kept.frame_room)) in
     let owners_are = set-append_left f.owners.items f.slot_owners.items frame (Some (owned user page)) within in
     let all_long : frame < length (owners_in f) = omega (arith, length-append f.owners.items f.slot_owners.items) in
     record {
       frame_room = rw (length-set, length-set) kept.frame_room;
       slot_room = kept.slot_room;
-      whole = rw (← bytes_are, ← owners_are) (whole-brought (places_in f) (set (places_in f) frame c.clear.new.frame) (owners_in f) f.sizes.items user page frame kept.whole (length-set (places_in f) frame c.clear.new.frame) nowhere all_long free_all (omega arith));
+      whole = rw (← bytes_are, ← owners_are)
+          (whole-brought (places_in f) (set (places_in f) frame c.clear.new.frame) (owners_in f) f.sizes.items user page
+          frame kept.whole (length-set (places_in f) frame c.clear.new.frame) nowhere all_long free_all (omega arith));
       mapped = rw c.note.ensures.tables (tables_filled f user page frame kept at.of_page absent within free);
-      looked = rw c.note.ensures.looks (looks_filled f user page frame kept at.of_page absent within free);
+      looked = rw c.note.ensures.lookup (looks_filled f user page frame kept at.of_page absent within free);
       slots_tabled = kept.slots_tabled;
-      ordered = ordered-set f.owners.items f.pins.items f.order.items frame (Some (owned user page)) kept.ordered (free_unpinned f.owners.items f.pins.items f.order.items frame kept.ordered free);
+      ordered = ordered-set f.owners.items f.pins.items f.order.items frame (Some (owned user page)) kept.ordered
+          (free_unpinned f.owners.items f.pins.items f.order.items frame kept.ordered free);
       unmarked = kept.unmarked;
-      sought = record { within = kept.sought.within; taken = taken-set f.owners.items (drop f.end f.order.items) frame (owned user page) within kept.sought.taken; before = kept.sought.before };
+      sought = record {
+        within = kept.sought.within;
+        taken = taken-set f.owners.items (drop f.end f.order.items) frame (owned user page) within kept.sought.taken;
+        before = kept.sought.before;
+      };
     }
 
 pub returns-clause-storages : goal.returns-clause-storages
@@ -67,9 +76,13 @@ returns-clause-storages c =
     let nowhere = from_none f.owners.items f.slot_owners.items user page kept.whole.once absent no_slot in
     let within : frame < length f.owners.items = rw (← c.self.view_is) at c.requires.frame in
     let free : get_or f.owners.items frame None ≡ None = rw (← c.self.view_is) at c.requires.free in
-    let free_all : get_or (owners_in f) frame None ≡ None = get_or_append_left f.owners.items f.slot_owners.items None frame within ∙ free in
-    let bytes_are = set-append_left f.frames.items f.slots.items frame c.clear.new.frame (omega (arith, kept.frame_room)) in
+    let free_all : get_or (owners_in f) frame None ≡ None =
+    get_or_append_left f.owners.items f.slot_owners.items None frame within ∙ free in
+    let bytes_are = set-append_left f.frames.items f.slots.items frame c.clear.new.frame
+    (omega (arith, kept.frame_room)) in
     let owners_are = set-append_left f.owners.items f.slot_owners.items frame (Some (owned user page)) within in
     let all_long : frame < length (owners_in f) = omega (arith, length-append f.owners.items f.slot_owners.items) in
     let room : frame < length (places_in f) = omega (arith, kept.whole.room, all_long) in
-    rw (← c.self.view_is, ← bytes_are, ← owners_are) (storages-brought (places_in f) (set (places_in f) frame c.clear.new.frame) (owners_in f) f.sizes.items user page frame nowhere all_long free_all (cleared_by (places_in f) frame c.clear.new.frame room c.clear.ensures))
+    rw (← c.self.view_is, ← bytes_are, ← owners_are)
+    (storages-brought (places_in f) (set (places_in f) frame c.clear.new.frame) (owners_in f) f.sizes.items user
+    page frame nowhere all_long free_all (cleared_by (places_in f) frame c.clear.new.frame room c.clear.ensures))

@@ -13,13 +13,30 @@ pub returns : goal.returns
 returns c =
     let f = c.self.inside in
     let i = c.args.frame.0 in
-    let supply : FrameSupply = record { owners = f.owners.items; slots = f.slot_owners.items; pins = f.pins.items; order = f.order.items; page_ins = f.page_ins } in
-    let over : List (List ℕ) → Pool = λ frames. record { storages = storages_of (frames ++ f.slots.items) (f.owners.items ++ f.slot_owners.items) f.sizes.items; supply = supply } in
-    let view : (w : List ℕ) → over (set f.frames.items i w) ≡ written_frame (over f.frames.items) i w = λ w. written-view f.frames.items f.slots.items f.owners.items f.slot_owners.items f.sizes.items i w supply c.self.invariant.whole c.self.invariant.frame_room refl in (
+    let supply : FrameSupply =
+    record {
+      owners = f.owners.items;
+      slots = f.slot_owners.items;
+      pins = f.pins.items;
+      order = f.order.items;
+      page_ins = f.page_ins;
+    } in
+    let over : List (List ℕ)
+    → Pool = λ frames. record {
+      storages = storages_of (frames ++ f.slots.items)
+          (f.owners.items ++ f.slot_owners.items) f.sizes.items;
+      supply = supply;
+    } in
+    let view : (w : List ℕ) → over (set f.frames.items i w) ≡ written_frame (over f.frames.items) i w =
+    λ w. written-view f.frames.items f.slots.items f.owners.items f.slot_owners.items f.sizes.items i w supply
+    c.self.invariant.whole c.self.invariant.frame_room refl in (
       (refl, λ w. view w ∙ ap (λ (g : Pool). written_frame g i w) c.self.view_is, c.self.view_is),
       record {
         writes_back = tt;
-        content = rw (← c.self.view_is) (some_so c.get_mut.result _ _ (λ lent same. sym (view lent.now) ∙ ap over (ap (set f.frames.items i) same ∙ set-get_or f.frames.items i lent.now)) c.get_mut.ensures.value);
+        content = rw (← c.self.view_is)
+            (some_so c.get_mut.result _ _
+            (λ lent same. sym (view lent.now) ∙ ap over
+            (ap (set f.frames.items i) same ∙ set-get_or f.frames.items i lent.now)) c.get_mut.ensures.value);
         some = rw (← c.self.view_is) (
           λ h. omega (arith, c.get_mut.ensures.variant.0 h, c.self.invariant.frame_room, c.self.inside.frames.ok.0),
           λ h. c.get_mut.ensures.variant.1 (omega (arith, c.self.invariant.frame_room, c.self.inside.frames.ok.0)),

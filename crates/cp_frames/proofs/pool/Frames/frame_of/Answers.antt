@@ -12,7 +12,7 @@ index-entry-requires c =
     let f = c.self.inside in
     let inside : c.args.page.0 * 4096 < length (bytes_in f c.args.user) = rw (← c.self.view_is) at c.requires in
     let at = look_place_of_page f c.args.user c.args.page.0 c.self.invariant inside in
-    omega (arith, at.room, f.looks.ok.0, c.entry_of.ensures)
+    omega (arith, at.room, f.lookup.ok.0, c.entry_of.ensures)
 
 pub frame_in-requires : goal.frame_in-requires
 frame_in-requires c =
@@ -28,14 +28,16 @@ returns-then-entry-eq-ABSENT c =
     let kept = c.self.invariant in
     let inside : page * 4096 < length (bytes_in f user) = rw (← c.self.view_is) at c.requires in
     let at = look_place_of_page f user page kept inside in
-    let read = get_or_read f.looks.items _ _ at.room (rw c.entry_of.ensures at c.index-entry.ensures) 0 in
-    let told = read ∙ kept.looked.agrees user page at.of_user at.of_page in
-    let none = frame_none (frame_of f.owners.items user page) c.index-entry.result.now page told c.if-entry-eq-ABSENT.true in
+    let read = get_or_read f.lookup.items _ _ at.room (rw c.entry_of.ensures at c.index-entry.ensures) 0 in
+    let reported = read ∙ kept.looked.agrees user page at.of_user at.of_page in
+    let none = frame_none (frame_of f.owners.items user page) c.index-entry.result.now page reported
+    c.if-entry-eq-ABSENT.true in
     rw (← c.self.view_is) (record {
       frame = sym none;
       within = tt;
       apart = λ some. cc;
-      zero = λ no_slot. absent-zero (places_in f) (owners_in f) f.sizes.items user page (from_none f.owners.items f.slot_owners.items user page kept.whole.once none no_slot);
+      zero = λ no_slot. absent-zero (places_in f) (owners_in f) f.sizes.items user page
+          (from_none f.owners.items f.slot_owners.items user page kept.whole.once none no_slot);
     })
 
 pub returns-else-entry-eq-ABSENT : goal.returns-else-entry-eq-ABSENT
@@ -46,10 +48,11 @@ returns-else-entry-eq-ABSENT c =
     let kept = c.self.invariant in
     let inside : page * 4096 < length (bytes_in f user) = rw (← c.self.view_is) at c.requires in
     let at = look_place_of_page f user page kept inside in
-    let read = get_or_read f.looks.items _ _ at.room (rw c.entry_of.ensures at c.index-entry.ensures) 0 in
-    let told = read ∙ kept.looked.agrees user page at.of_user at.of_page in
-    let found = tells f.owners.items user page c.index-entry.result.now (frame_of f.owners.items user page) refl kept.looked.few told c.if-entry-eq-ABSENT.false in
-    let frame = c.frame_in.ensures found.frame found.low found.told in
+    let read = get_or_read f.lookup.items _ _ at.room (rw c.entry_of.ensures at c.index-entry.ensures) 0 in
+    let reported = read ∙ kept.looked.agrees user page at.of_user at.of_page in
+    let found = tells f.owners.items user page c.index-entry.result.now (frame_of f.owners.items user page) refl
+    kept.looked.few reported c.if-entry-eq-ABSENT.false in
+    let frame = c.frame_in.ensures found.frame found.low found.reported in
     rw (← c.self.view_is, frame) (record {
       frame = sym found.there;
       within = (frame_found f.owners.items user page found.frame found.there).within;
@@ -65,9 +68,10 @@ overflow_cast-result c =
     let kept = c.self.invariant in
     let inside : page * 4096 < length (bytes_in f user) = rw (← c.self.view_is) at c.requires in
     let at = look_place_of_page f user page kept inside in
-    let read = get_or_read f.looks.items _ _ at.room (rw c.entry_of.ensures at c.index-entry.ensures) 0 in
-    let told = read ∙ kept.looked.agrees user page at.of_user at.of_page in
-    let found = tells f.owners.items user page c.index-entry.result.now (frame_of f.owners.items user page) refl kept.looked.few told c.if-entry-eq-ABSENT.false in
-    let frame = c.frame_in.ensures found.frame found.low found.told in
+    let read = get_or_read f.lookup.items _ _ at.room (rw c.entry_of.ensures at c.index-entry.ensures) 0 in
+    let reported = read ∙ kept.looked.agrees user page at.of_user at.of_page in
+    let found = tells f.owners.items user page c.index-entry.result.now (frame_of f.owners.items user page) refl
+    kept.looked.few reported c.if-entry-eq-ABSENT.false in
+    let frame = c.frame_in.ensures found.frame found.low found.reported in
     let low = found.low in
     omega (arith, frame, low)

@@ -5,7 +5,10 @@ use Rattle.cp_frames.proofs.Exchanges.{put_exchanged, put_filled}
 use Rattle.cp_frames.proofs.pool.Frames.put.Goals as goal
 
 pub returns-in-Some-clause-put : goal.returns-in-Some-clause-put
-returns-in-Some-clause-put c = rw c.exchange.ensures.supply (put_exchanged c.args.self.now.supply c.args.user c.args.page.0 c.args.frame c.in-Some.slot (sym c.in-Some.ensures.slot))
+returns-in-Some-clause-put c =
+    rw c.exchange.ensures.supply
+    (put_exchanged c.args.self.now.supply c.args.user c.args.page.0 c.args.frame c.in-Some.slot
+    (sym c.in-Some.ensures.slot))
 
 pub fill-requires-in-Some-free_slot-clause-absent : goal.fill-requires-in-Some-free_slot-clause-absent
 fill-requires-in-Some-free_slot-clause-absent c =
@@ -17,7 +20,8 @@ fill-requires-in-Some-free_slot-clause-absent c =
     let free : get_or s.slots slot None ≡ None = c.in-Some-free_slot.ensures.free in
     let within : slot < length s.slots = c.in-Some-free_slot.ensures.within in
     let nowhere : frame_of s.slots user page ≡ None = sym c.in-None.ensures.slot in
-    rw (c.exchange-in-Some-free_slot.ensures.supply, c.free_slot.ensures.same) (absent_set s.owners user page frame (get_or s.slots slot None) c.requires.absent (λ e. cc))
+    rw (c.exchange-in-Some-free_slot.ensures.supply, c.free_slot.ensures.same)
+    (absent_set s.owners user page frame (get_or s.slots slot None) c.requires.absent (λ e. cc))
 
 pub fill-requires-in-Some-free_slot-clause-nowhere : goal.fill-requires-in-Some-free_slot-clause-nowhere
 fill-requires-in-Some-free_slot-clause-nowhere c =
@@ -29,7 +33,9 @@ fill-requires-in-Some-free_slot-clause-nowhere c =
     let free : get_or s.slots slot None ≡ None = c.in-Some-free_slot.ensures.free in
     let within : slot < length s.slots = c.in-Some-free_slot.ensures.within in
     let nowhere : frame_of s.slots user page ≡ None = sym c.in-None.ensures.slot in
-    rw (c.exchange-in-Some-free_slot.ensures.supply, c.free_slot.ensures.same) (absent_set s.slots user page slot (get_or s.owners frame None) nowhere (λ e. not_held s.owners user page frame c.requires.absent e))
+    rw (c.exchange-in-Some-free_slot.ensures.supply, c.free_slot.ensures.same)
+    (absent_set s.slots user page slot (get_or s.owners frame None) nowhere
+    (λ e. not_held s.owners user page frame c.requires.absent e))
 
 pub returns-in-Some-free_slot-clause-put : goal.returns-in-Some-free_slot-clause-put
 returns-in-Some-free_slot-clause-put c =
@@ -41,4 +47,5 @@ returns-in-Some-free_slot-clause-put c =
     let free : get_or s.slots slot None ≡ None = c.in-Some-free_slot.ensures.free in
     let within : slot < length s.slots = c.in-Some-free_slot.ensures.within in
     let nowhere : frame_of s.slots user page ≡ None = sym c.in-None.ensures.slot in
-    rw (c.fill-in-Some-free_slot.ensures.supply, c.exchange-in-Some-free_slot.ensures.supply, c.free_slot.ensures.same) (put_filled s user page frame slot nowhere within free)
+    rw (c.fill-in-Some-free_slot.ensures.supply, c.exchange-in-Some-free_slot.ensures.supply, c.free_slot.ensures.same)
+    (put_filled s user page frame slot nowhere within free)

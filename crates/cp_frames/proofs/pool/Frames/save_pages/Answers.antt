@@ -10,7 +10,8 @@ loop-page-preserved c =
     let bytes = bytes_of c.args.self.now c.args.user in
     let page = c.loop-page.page in
     let lt : page < length bytes / 4096 = omega (arith, c.loop-page-test.true, c.size-count.ensures.bytes) in
-    ap (λ l. l ++ pages_bytes (length bytes / 4096 - (page + 1)) (drop ((page + 1) * 4096) bytes)) c.in_ok-save_page.ensures
+    ap (λ l. l ++ pages_bytes (length bytes / 4096 - (page + 1)) (drop ((page + 1) * 4096) bytes))
+    c.in_ok-save_page.ensures
     ∙ pages_on c.loop-page.out.items bytes (length bytes / 4096) page lt ∙ c.loop-page.invariant
 
 pub returns : goal.returns
@@ -19,5 +20,6 @@ returns c =
     let page = c.loop-page.page in
     let whole = c.size-count.ensures.whole in
     let many = c.size-count.ensures.bytes in
-    let none = pages_done bytes (length bytes / 4096) page (omega arith) (omega (arith, whole, many)) (omega (arith, c.loop-page-test.false, many)) in
+    let none = pages_done bytes (length bytes / 4096) page (omega arith) (omega (arith, whole, many))
+    (omega (arith, c.loop-page-test.false, many)) in
     sym (append-nil c.loop-page.out.items) ∙ ap (λ l. c.loop-page.out.items ++ l) (sym none) ∙ c.loop-page.invariant

@@ -6,4 +6,8 @@ use Rattle.cp_frames.proofs.pool.Frames.save_storages.Goals as goal
 
 pub loop-user-preserved : goal.loop-user-preserved
 loop-user-preserved c =
-    grind (arith, common_steps, each_on storage_bytes c.loop-user.out.items c.args.self.now.storages c.loop-user.user [] (omega arith))
+    grind (
+      arith,
+      common_steps,
+      each_on storage_bytes c.loop-user.out.items c.args.self.now.storages c.loop-user.user [] (omega arith),
+    )

@@ -6,11 +6,15 @@ use Rattle.cp_frames.proofs.pool.Frames.size.Goals as goal
 
 pub returns-then-user-len-clause-bytes : goal.returns-then-user-len-clause-bytes
 returns-then-user-len-clause-bytes c =
-    let long = length-bytes_of (places_in c.self.inside) (owners_in c.self.inside) c.self.inside.sizes.items c.args.user in
-    rw (← c.self.view_is, long) (ap (λ n. n * 4096) (get_or_read c.self.inside.sizes.items _ _ (omega arith) (rw c.index-user.ensures.value at c.index.ensures) 0))
+    let long = length-bytes_of (places_in c.self.inside) (owners_in c.self.inside) c.self.inside.sizes.items c.args.user
+    in
+    rw (← c.self.view_is, long)
+    (ap (λ n. n * 4096) (get_or_read c.self.inside.sizes.items _ _ (omega arith)
+    (rw c.index-user.ensures.value at c.index.ensures) 0))
 
 pub returns-else-user-len-clause-bytes : goal.returns-else-user-len-clause-bytes
 returns-else-user-len-clause-bytes c =
-    let long = length-bytes_of (places_in c.self.inside) (owners_in c.self.inside) c.self.inside.sizes.items c.args.user in
+    let long = length-bytes_of (places_in c.self.inside) (owners_in c.self.inside) c.self.inside.sizes.items c.args.user
+    in
     let none = get_or_past c.self.inside.sizes.items c.args.user 0 (omega arith) in
     rw (← c.self.view_is, long, none) refl

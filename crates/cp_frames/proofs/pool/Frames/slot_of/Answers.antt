@@ -23,13 +23,16 @@ returns-then-entry c =
     let at = slot_place_of_page f user page c.self.invariant inside in
     let read = get_or_read f.slot_table.items _ _ at.room (rw c.entry_of.ensures at c.index-entry.ensures) 0 in
     let tells = c.self.invariant.slots_tabled.agrees user page at.of_user at.of_page in
-    let few = low_place f.slot_owners.items user page (frame_of f.slot_owners.items user page) c.self.invariant.slots_tabled.few refl in
-    let nowhere = sym (slot_none (frame_of f.slot_owners.items user page) (get_or f.slot_table.items (user * 1024 + page) 0) page tells few (sym read ∙ c.if-entry.true)) in
+    let few = low_place f.slot_owners.items user page (frame_of f.slot_owners.items user page)
+    c.self.invariant.slots_tabled.few refl in
+    let nowhere = sym (slot_none (frame_of f.slot_owners.items user page)
+    (get_or f.slot_table.items (user * 1024 + page) 0) page tells few (sym read ∙ c.if-entry.true)) in
     rw (← c.self.view_is) (record {
       slot = nowhere;
       within = tt;
       apart = λ some. cc;
-      zero = λ no_frame. absent-zero (places_in f) (owners_in f) f.sizes.items user page (from_none f.owners.items f.slot_owners.items user page c.self.invariant.whole.once no_frame (sym nowhere));
+      zero = λ no_frame. absent-zero (places_in f) (owners_in f) f.sizes.items user page
+          (from_none f.owners.items f.slot_owners.items user page c.self.invariant.whole.once no_frame (sym nowhere));
     })
 
 pub returns-else-entry : goal.returns-else-entry
@@ -42,10 +45,12 @@ returns-else-entry c =
     let read = get_or_read f.slot_table.items _ _ at.room (rw c.entry_of.ensures at c.index-entry.ensures) 0 in
     let tells = c.self.invariant.slots_tabled.agrees user page at.of_user at.of_page in
     let there : Some c.index-entry.result.now ≡ frame_of f.slot_owners.items user page =
-    ap Some read ∙ sym (slot_some (frame_of f.slot_owners.items user page) (get_or f.slot_table.items (user * 1024 + page) 0) page tells (λ e. c.if-entry.false (read ∙ e))) in
+    ap Some read ∙ sym (slot_some (frame_of f.slot_owners.items user page)
+    (get_or f.slot_table.items (user * 1024 + page) 0) page tells (λ e. c.if-entry.false (read ∙ e))) in
     rw (← c.self.view_is) (record {
       slot = there;
       within = (frame_found f.slot_owners.items user page c.index-entry.result.now (sym there)).within;
-      apart = λ some. slot_apart f.owners.items f.slot_owners.items user page c.index-entry.result.now c.self.invariant.whole.once (sym there);
+      apart = λ some. slot_apart f.owners.items f.slot_owners.items user page c.index-entry.result.now
+          c.self.invariant.whole.once (sym there);
       zero = tt;
     })

@@ -10,8 +10,10 @@ use Rattle.cp_frames.proofs.pool.Frames.store_placed.Goals as goal
 pub index_mut-requires : goal.index_mut-requires
 index_mut-requires c =
     let f = c.self.inside in
-    let long : c.args.start + length c.args.from.now ≤ length (bytes_in f c.args._user) = rw (← c.self.view_is) at c.requires.within in
-    let there : frame_of f.owners.items c.args._user (c.args.start / 4096) ≡ Some (c.args.place / 4096) = rw (← c.self.view_is) at c.requires.there in
+    let long : c.args.start + length c.args.from.now ≤ length (bytes_in f c.args._user) =
+    rw (← c.self.view_is) at c.requires.within in
+    let there : frame_of f.owners.items c.args._user (c.args.start / 4096) ≡ Some (c.args.place / 4096) =
+    rw (← c.self.view_is) at c.requires.there in
     let slot = slot_in f c.args._user (c.args.start / 4096) (c.args.place / 4096) c.self.invariant there in
     omega (arith, slot.room, f.frames.ok.0)
 
@@ -26,26 +28,59 @@ returns-clause-fits c =
 pub returns-clause-bytes : goal.returns-clause-bytes
 returns-clause-bytes c =
     let f = c.self.inside in
-    let long : c.args.start + length c.args.from.now ≤ length (bytes_in f c.args._user) = rw (← c.self.view_is) at c.requires.within in
-    let there : frame_of f.owners.items c.args._user (c.args.start / 4096) ≡ Some (c.args.place / 4096) = rw (← c.self.view_is) at c.requires.there in
+    let long : c.args.start + length c.args.from.now ≤ length (bytes_in f c.args._user) =
+    rw (← c.self.view_is) at c.requires.within in
+    let there : frame_of f.owners.items c.args._user (c.args.start / 4096) ≡ Some (c.args.place / 4096) =
+    rw (← c.self.view_is) at c.requires.there in
     let slot = slot_in f c.args._user (c.args.start / 4096) (c.args.place / 4096) c.self.invariant there in
-    let page = get_or_read f.frames.items _ _ slot.room c.index_mut.ensures.value [] ∙ sym (get_or_append_left f.frames.items f.slots.items [] (c.args.place / 4096) slot.room) in
-    rw (← c.self.view_is, rw c.requires.offset at c.copy_in.ensures.part, ← set-append_left f.frames.items f.slots.items (c.args.place / 4096) (put c.index_mut.result.now (c.args.start % 4096) c.args.from.now) slot.room) (part_stored (places_in f) (owners_in f) f.sizes.items c.args._user c.args.start (c.args.place / 4096) c.args.from.now c.index_mut.result.now c.self.invariant.whole slot.there page c.copy_in.ensures.full c.requires.one_page long (of_user f c.args._user c.args.start long c.requires.some)).bytes
+    let page = get_or_read f.frames.items _ _ slot.room c.index_mut.ensures.value [] ∙ sym
+    (get_or_append_left f.frames.items f.slots.items [] (c.args.place / 4096) slot.room) in
+    rw (
+      ← c.self.view_is,
+      rw c.requires.offset at c.copy_in.ensures.part,
+      ← set-append_left f.frames.items f.slots.items (c.args.place / 4096)
+          (put c.index_mut.result.now (c.args.start % 4096) c.args.from.now) slot.room,
+    )
+    (part_stored (places_in f) (owners_in f) f.sizes.items c.args._user c.args.start (c.args.place / 4096)
+    c.args.from.now c.index_mut.result.now c.self.invariant.whole slot.there page c.copy_in.ensures.full
+    c.requires.one_page long (of_user f c.args._user c.args.start long c.requires.some)).bytes
 
 pub returns-clause-size : goal.returns-clause-size
 returns-clause-size c =
     let f = c.self.inside in
-    let long : c.args.start + length c.args.from.now ≤ length (bytes_in f c.args._user) = rw (← c.self.view_is) at c.requires.within in
-    let there : frame_of f.owners.items c.args._user (c.args.start / 4096) ≡ Some (c.args.place / 4096) = rw (← c.self.view_is) at c.requires.there in
+    let long : c.args.start + length c.args.from.now ≤ length (bytes_in f c.args._user) =
+    rw (← c.self.view_is) at c.requires.within in
+    let there : frame_of f.owners.items c.args._user (c.args.start / 4096) ≡ Some (c.args.place / 4096) =
+    rw (← c.self.view_is) at c.requires.there in
     let slot = slot_in f c.args._user (c.args.start / 4096) (c.args.place / 4096) c.self.invariant there in
-    let page = get_or_read f.frames.items _ _ slot.room c.index_mut.ensures.value [] ∙ sym (get_or_append_left f.frames.items f.slots.items [] (c.args.place / 4096) slot.room) in
-    rw (← c.self.view_is, rw c.requires.offset at c.copy_in.ensures.part, ← set-append_left f.frames.items f.slots.items (c.args.place / 4096) (put c.index_mut.result.now (c.args.start % 4096) c.args.from.now) slot.room) (part_stored (places_in f) (owners_in f) f.sizes.items c.args._user c.args.start (c.args.place / 4096) c.args.from.now c.index_mut.result.now c.self.invariant.whole slot.there page c.copy_in.ensures.full c.requires.one_page long (of_user f c.args._user c.args.start long c.requires.some)).size
+    let page = get_or_read f.frames.items _ _ slot.room c.index_mut.ensures.value [] ∙ sym
+    (get_or_append_left f.frames.items f.slots.items [] (c.args.place / 4096) slot.room) in
+    rw (
+      ← c.self.view_is,
+      rw c.requires.offset at c.copy_in.ensures.part,
+      ← set-append_left f.frames.items f.slots.items (c.args.place / 4096)
+          (put c.index_mut.result.now (c.args.start % 4096) c.args.from.now) slot.room,
+    )
+    (part_stored (places_in f) (owners_in f) f.sizes.items c.args._user c.args.start (c.args.place / 4096)
+    c.args.from.now c.index_mut.result.now c.self.invariant.whole slot.there page c.copy_in.ensures.full
+    c.requires.one_page long (of_user f c.args._user c.args.start long c.requires.some)).size
 
 pub returns-clause-others : goal.returns-clause-others
 returns-clause-others c =
     let f = c.self.inside in
-    let long : c.args.start + length c.args.from.now ≤ length (bytes_in f c.args._user) = rw (← c.self.view_is) at c.requires.within in
-    let there : frame_of f.owners.items c.args._user (c.args.start / 4096) ≡ Some (c.args.place / 4096) = rw (← c.self.view_is) at c.requires.there in
+    let long : c.args.start + length c.args.from.now ≤ length (bytes_in f c.args._user) =
+    rw (← c.self.view_is) at c.requires.within in
+    let there : frame_of f.owners.items c.args._user (c.args.start / 4096) ≡ Some (c.args.place / 4096) =
+    rw (← c.self.view_is) at c.requires.there in
     let slot = slot_in f c.args._user (c.args.start / 4096) (c.args.place / 4096) c.self.invariant there in
-    let page = get_or_read f.frames.items _ _ slot.room c.index_mut.ensures.value [] ∙ sym (get_or_append_left f.frames.items f.slots.items [] (c.args.place / 4096) slot.room) in
-    rw (← c.self.view_is, rw c.requires.offset at c.copy_in.ensures.part, ← set-append_left f.frames.items f.slots.items (c.args.place / 4096) (put c.index_mut.result.now (c.args.start % 4096) c.args.from.now) slot.room) (part_stored (places_in f) (owners_in f) f.sizes.items c.args._user c.args.start (c.args.place / 4096) c.args.from.now c.index_mut.result.now c.self.invariant.whole slot.there page c.copy_in.ensures.full c.requires.one_page long (of_user f c.args._user c.args.start long c.requires.some)).others
+    let page = get_or_read f.frames.items _ _ slot.room c.index_mut.ensures.value [] ∙ sym
+    (get_or_append_left f.frames.items f.slots.items [] (c.args.place / 4096) slot.room) in
+    rw (
+      ← c.self.view_is,
+      rw c.requires.offset at c.copy_in.ensures.part,
+      ← set-append_left f.frames.items f.slots.items (c.args.place / 4096)
+          (put c.index_mut.result.now (c.args.start % 4096) c.args.from.now) slot.room,
+    )
+    (part_stored (places_in f) (owners_in f) f.sizes.items c.args._user c.args.start (c.args.place / 4096)
+    c.args.from.now c.index_mut.result.now c.self.invariant.whole slot.there page c.copy_in.ensures.full
+    c.requires.one_page long (of_user f c.args._user c.args.start long c.requires.some)).others

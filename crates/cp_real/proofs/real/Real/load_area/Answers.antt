@@ -9,13 +9,17 @@ pub returns : goal.returns
 returns c =
     let d = c.args.self.now.dat.now in
     let f = length-framed (lent_bytes d) (lent_pool d).supply.owners (user_of d) in
-    let a = length-append (framed_bytes (lent_bytes d) (lent_pool d).supply.owners (user_of d)) c.args.self.now.area.now in
-    c.copy_from_slice.ensures.after ∙ area_range (framed_bytes (lent_bytes d) (lent_pool d).supply.owners (user_of d)) c.args.self.now.area.now (c.args.self.now.frames * 4096) c.args.start (length c.args.into.now)
-    (omega (arith, f, c.args.self.now.counted)) (omega arith) (omega (arith, f, a, c.args.self.now.counted, c.requires.inside))
+    let a = length-append (framed_bytes (lent_bytes d) (lent_pool d).supply.owners (user_of d)) c.args.self.now.area.now
+    in
+    c.copy_from_slice.ensures.after ∙ area_range (framed_bytes (lent_bytes d) (lent_pool d).supply.owners (user_of d))
+    c.args.self.now.area.now (c.args.self.now.frames * 4096) c.args.start (length c.args.into.now)
+    (omega (arith, f, c.args.self.now.counted)) (omega arith)
+    (omega (arith, f, a, c.args.self.now.counted, c.requires.inside))
 
 pub slice_bounds-copy_from_slice-end : goal.slice_bounds-copy_from_slice-end
 slice_bounds-copy_from_slice-end c =
     let d = c.args.self.now.dat.now in
     let f = length-framed (lent_bytes d) (lent_pool d).supply.owners (user_of d) in
-    let a = length-append (framed_bytes (lent_bytes d) (lent_pool d).supply.owners (user_of d)) c.args.self.now.area.now in
+    let a = length-append (framed_bytes (lent_bytes d) (lent_pool d).supply.owners (user_of d)) c.args.self.now.area.now
+    in
     omega (arith, f, a, c.args.self.now.counted, c.requires.inside)

@@ -6,5 +6,6 @@ use Rattle.cp_real.proofs.real.Real.load_part.Goals as goal
 pub returns-in-Some : goal.returns-in-Some
 returns-in-Some c =
     let d = c.args.self.now.dat.now in
-    c.load.ensures ∙ framed_range (lent_bytes d) c.args.self.now.area.now (lent_pool d).supply.owners (user_of d) c.args.start c.in-Some.page (length c.args.into.now)
+    c.load.ensures ∙ framed_range (lent_bytes d) c.args.self.now.area.now (lent_pool d).supply.owners (user_of d)
+    c.args.start c.in-Some.page (length c.args.into.now)
     (sym c.page_at.ensures.page ∙ c.in-Some.is) (omega (arith, c.args.self.now.counted)) c.requires.one_page

@@ -5,15 +5,18 @@ use Rattle.cp_real.proofs.real.Real.page_at.Goals as goal
 
 pub returns-then-page-size-clause-page : goal.returns-then-page-size-clause-page
 returns-then-page-size-clause-page c =
-    sym (page_at_some (lent_pool c.args.self.now.dat.now).supply.owners (user_of c.args.self.now.dat.now) (length (lent_bytes c.args.self.now.dat.now)) c.args.frame c.in-Some.page.0
+    sym (page_at_some (lent_pool c.args.self.now.dat.now).supply.owners (user_of c.args.self.now.dat.now)
+    (length (lent_bytes c.args.self.now.dat.now)) c.args.frame c.in-Some.page.0
     ((c.page_in-there.ensures.once c.in-Some.page).0 c.in-Some.is) (omega (arith, c.size-size.ensures.bytes)))
 
 pub returns-else-page-size-clause-page : goal.returns-else-page-size-clause-page
 returns-else-page-size-clause-page c =
-    sym (page_at_part (lent_pool c.args.self.now.dat.now).supply.owners (user_of c.args.self.now.dat.now) (length (lent_bytes c.args.self.now.dat.now)) c.args.frame c.in-Some.page.0
+    sym (page_at_part (lent_pool c.args.self.now.dat.now).supply.owners (user_of c.args.self.now.dat.now)
+    (length (lent_bytes c.args.self.now.dat.now)) c.args.frame c.in-Some.page.0
     ((c.page_in-there.ensures.once c.in-Some.page).0 c.in-Some.is) (omega (arith, c.size-size.ensures.bytes)))
 
 pub returns-in-None-clause-page : goal.returns-in-None-clause-page
 returns-in-None-clause-page c =
-    sym (page_at_none (lent_pool c.args.self.now.dat.now).supply.owners (user_of c.args.self.now.dat.now) (length (lent_bytes c.args.self.now.dat.now)) c.args.frame
+    sym (page_at_none (lent_pool c.args.self.now.dat.now).supply.owners (user_of c.args.self.now.dat.now)
+    (length (lent_bytes c.args.self.now.dat.now)) c.args.frame
     (λ p there. let found = (c.page_in-there.ensures.once p).1 there in let is = c.in-None.is in cc))

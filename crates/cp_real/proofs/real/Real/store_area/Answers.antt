@@ -10,7 +10,8 @@ pub put_at-requires : goal.put_at-requires
 put_at-requires c =
     let d = c.args.self.now.dat.now in
     let f = length-framed (lent_bytes d) (lent_pool d).supply.owners (user_of d) in
-    let a = length-append (framed_bytes (lent_bytes d) (lent_pool d).supply.owners (user_of d)) c.args.self.now.area.now in
+    let a = length-append (framed_bytes (lent_bytes d) (lent_pool d).supply.owners (user_of d)) c.args.self.now.area.now
+    in
     omega (arith, f, a, c.args.self.now.counted, c.requires.inside)
 
 pub returns-clause-stored : goal.returns-clause-stored
@@ -20,5 +21,8 @@ returns-clause-stored c =
     let f = length-framed (lent_bytes d) (lent_pool d).supply.owners (user_of d) in
     let a = length-append framed c.args.self.now.area.now in
     ap₂ memory_of (ap (λ (l : List ℕ). framed ++ l) c.put_at.ensures.bytes
-    ∙ sym (put_second framed c.args.self.now.area.now c.args.from.now (c.args.self.now.frames * 4096) c.args.start (omega (arith, f, c.args.self.now.counted)) (omega arith) (omega (arith, f, a, c.args.self.now.counted, c.requires.inside))))
-    (ap (λ (n : ℕ). real_keys (lent_bytes d) (lent_keys d) (lent_pool d).supply.owners (user_of d) n) c.put_at.ensures.size)
+    ∙ sym (put_second framed c.args.self.now.area.now c.args.from.now (c.args.self.now.frames * 4096) c.args.start
+    (omega (arith, f, c.args.self.now.counted)) (omega arith)
+    (omega (arith, f, a, c.args.self.now.counted, c.requires.inside))))
+    (ap (λ (n : ℕ). real_keys (lent_bytes d) (lent_keys d) (lent_pool d).supply.owners (user_of d) n)
+    c.put_at.ensures.size)

@@ -12,7 +12,8 @@ returns-in-Some-clause-rest c =
     record {
       lent = c.store.ensures.rest;
       away = λ a none. ap (λ (m : Memory). get_or m.bytes a 0) c.store.ensures.stored
-          ∙ away_put (lent_bytes d) c.args.from.now (lent_pool d).supply.owners (user_of d) c.args.start c.in-Some.page (sym c.page_at.ensures.page ∙ c.in-Some.is) c.requires.one_page a none;
+          ∙ away_put (lent_bytes d) c.args.from.now (lent_pool d).supply.owners (user_of d) c.args.start c.in-Some.page
+          (sym c.page_at.ensures.page ∙ c.in-Some.is) c.requires.one_page a none;
       same_dat = refl;
       same_area = refl;
       area = refl;
@@ -22,8 +23,11 @@ pub returns-in-Some-clause-stored : goal.returns-in-Some-clause-stored
 returns-in-Some-clause-stored c =
     let d = c.args.self.now.dat.now in
     let e = c.store.new.self in
-    ap₂ memory_of (real_put (lent_bytes d) (lent_bytes e) c.args.self.now.area.now c.args.from.now (lent_pool d).supply.owners (lent_pool e).supply.owners (user_of d) (user_of e) c.args.start c.in-Some.page
-    (sym c.page_at.ensures.page ∙ c.in-Some.is) (omega (arith, c.args.self.now.counted)) c.requires.one_page (ap (λ (m : Memory). m.bytes) c.store.ensures.stored) (ap (λ (s : FrameSupply). s.owners) c.store.ensures.rest.rest.same_supply) c.store.ensures.rest.rest.same_user)
+    ap₂ memory_of (real_put (lent_bytes d) (lent_bytes e) c.args.self.now.area.now c.args.from.now
+    (lent_pool d).supply.owners (lent_pool e).supply.owners (user_of d) (user_of e) c.args.start c.in-Some.page
+    (sym c.page_at.ensures.page ∙ c.in-Some.is) (omega (arith, c.args.self.now.counted)) c.requires.one_page
+    (ap (λ (m : Memory). m.bytes) c.store.ensures.stored)
+    (ap (λ (s : FrameSupply). s.owners) c.store.ensures.rest.rest.same_supply) c.store.ensures.rest.rest.same_user)
     (keeps_real_keys _ _ (returns-in-Some-clause-rest c))
 
 pub returns-in-Some-clause-size : goal.returns-in-Some-clause-size

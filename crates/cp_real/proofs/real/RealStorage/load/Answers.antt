@@ -20,10 +20,15 @@ returns-else-into-left c =
     let bytes = real_bytes_of c.args.self.now in
     let left = 4096 - c.args.start % 4096 in
     let n : length c.split_at_mut-first.result.0.now ≡ left = omega (arith, c.split_at_mut-first.ensures.front_len) in
-    let m : length c.split_at_mut-first.result.1.now ≡ length c.args.into.now - left = omega (arith, c.split_at_mut-first.ensures.back_len) in
-    let end : c.args.start + left + (length c.args.into.now - left) ≡ c.args.start + length c.args.into.now = omega arith in
+    let m : length c.split_at_mut-first.result.1.now ≡ length c.args.into.now - left =
+    omega (arith, c.split_at_mut-first.ensures.back_len) in
+    let end : c.args.start + left + (length c.args.into.now - left) ≡ c.args.start + length c.args.into.now =
+    omega arith in
     let first : c.load_part-else-into-left.new.into ≡ slice_range bytes c.args.start (c.args.start + left) =
     c.load_part-else-into-left.ensures ∙ ap (λ k. slice_range bytes c.args.start (c.args.start + k)) n in
-    let second : c.load_part-else-into-left-2.new.into ≡ slice_range bytes (c.args.start + left) (c.args.start + length c.args.into.now) =
-    c.load_part-else-into-left-2.ensures ∙ ap (λ k. slice_range bytes (c.args.start + left) (c.args.start + left + k)) m ∙ ap (λ k. slice_range bytes (c.args.start + left) k) end in
-    rw (first, second) (range_range bytes c.args.start (c.args.start + left) (c.args.start + length c.args.into.now) (omega arith) (omega arith))
+    let second : c.load_part-else-into-left-2.new.into
+    ≡ slice_range bytes (c.args.start + left) (c.args.start + length c.args.into.now) =
+    c.load_part-else-into-left-2.ensures ∙ ap (λ k. slice_range bytes (c.args.start + left) (c.args.start + left + k)) m
+    ∙ ap (λ k. slice_range bytes (c.args.start + left) k) end in
+    rw (first, second) (range_range bytes c.args.start (c.args.start + left) (c.args.start + length c.args.into.now)
+    (omega arith) (omega arith))

@@ -9,13 +9,16 @@ pub returns-clause-bytes : goal.returns-clause-bytes
 returns-clause-bytes c =
     let d = c.args.self.now.dat.now in
     let f = length-framed (lent_bytes d) (lent_pool d).supply.owners (user_of d) in
-    let a = length-append (framed_bytes (lent_bytes d) (lent_pool d).supply.owners (user_of d)) c.args.self.now.area.now in
+    let a = length-append (framed_bytes (lent_bytes d) (lent_pool d).supply.owners (user_of d)) c.args.self.now.area.now
+    in
     omega (arith, f, a, c.args.self.now.counted)
 
 pub returns-clause-keyed : goal.returns-clause-keyed
 returns-clause-keyed c =
     let d = c.args.self.now.dat.now in
     let f = length-framed (lent_bytes d) (lent_pool d).supply.owners (user_of d) in
-    let a = length-append (framed_bytes (lent_bytes d) (lent_pool d).supply.owners (user_of d)) c.args.self.now.area.now in
-    let k = length-keys (lent_bytes d) (c.args.self.now.dat.now.keys.now) (lent_pool d).supply.owners (user_of d) (length c.args.self.now.area.now) in
+    let a = length-append (framed_bytes (lent_bytes d) (lent_pool d).supply.owners (user_of d)) c.args.self.now.area.now
+    in
+    let k = length-keys (lent_bytes d) (c.args.self.now.dat.now.keys.now) (lent_pool d).supply.owners (user_of d)
+    (length c.args.self.now.area.now) in
     omega (arith, f, a, k)

@@ -11,8 +11,11 @@ pub returns-in-Some : goal.returns-in-Some
 returns-in-Some c =
     let queues = c.self.inside.users.items in
     let is = c.queue_at.ensures ∙ ap (λ (qs : List QueueKeys). queue_of qs c.args.user) c.deref.ensures.value in
-    let found : slice_get (queue_of queues c.args.user).printed c.args.index ≡ Some c.in-Some.key = ap (λ (q : QueueKeys). slice_get q.printed c.args.index) (sym is) ∙ sym c.printed.ensures.value ∙ c.in-Some.is in
-    let inside : c.args.index < length (queue_of queues c.args.user).printed = subst (λ (q : QueueKeys). c.args.index < length q.printed) is c.in-Some.ensures.inside in
+    let found : slice_get (queue_of queues c.args.user).printed c.args.index ≡ Some c.in-Some.key =
+    ap (λ (q : QueueKeys). slice_get q.printed c.args.index) (sym is) ∙ sym c.printed.ensures.value ∙ c.in-Some.is
+    in
+    let inside : c.args.index < length (queue_of queues c.args.user).printed =
+    subst (λ (q : QueueKeys). c.args.index < length q.printed) is c.in-Some.ensures.inside in
     ap (λ o. option_map closed_file o) c.get.ensures
     ∙ printed_found c.self.inside.files queues c.args.user c.args.index c.in-Some.key c.self.invariant inside found
     ∙ ap (λ (v : QueuesValue). slice_get ((files_of v.users c.args.user).printed) c.args.index) c.self.view_is
@@ -21,6 +24,8 @@ pub returns-in-None : goal.returns-in-None
 returns-in-None c =
     let queues = c.self.inside.users.items in
     let is = c.queue_at.ensures ∙ ap (λ (qs : List QueueKeys). queue_of qs c.args.user) c.deref.ensures.value in
-    let none : slice_get (queue_of queues c.args.user).printed c.args.index ≡ None = ap (λ (q : QueueKeys). slice_get q.printed c.args.index) (sym is) ∙ sym c.printed.ensures.value ∙ c.in-None.is in
+    let none : slice_get (queue_of queues c.args.user).printed c.args.index ≡ None =
+    ap (λ (q : QueueKeys). slice_get q.printed c.args.index) (sym is) ∙ sym c.printed.ensures.value ∙ c.in-None.is
+    in
     printed_none c.self.inside.files queues c.args.user c.args.index none
     ∙ ap (λ (v : QueuesValue). slice_get ((files_of v.users c.args.user).printed) c.args.index) c.self.view_is

@@ -5,4 +5,6 @@ use Rattle.cp_spool.specs.Saved.{deck_bytes}
 use Rattle.cp_spool.proofs.queues.Queues.put_decks.Given as goal
 
 abbrev pub invariant-loop-index : goal.invariant-loop-index
-invariant-loop-index l = l.out.items ++ each deck_bytes (drop l.index ((files_of l.fn.self.users l.user).decks)) ≡ l.fn.out.items ++ each deck_bytes ((files_of l.fn.self.users l.user).decks)
+invariant-loop-index l = l.out.items
+    ++ each deck_bytes (drop l.index ((files_of l.fn.self.users l.user).decks)) ≡ l.fn.out.items
+    ++ each deck_bytes ((files_of l.fn.self.users l.user).decks)

@@ -6,4 +6,6 @@ use Rattle.cp_spool.specs.File.{closed_file}
 use Rattle.cp_spool.proofs.queues.Queues.put_printed.Given as goal
 
 abbrev pub invariant-loop-index : goal.invariant-loop-index
-invariant-loop-index l = l.out.items ++ each file_bytes (drop l.index ((files_of l.fn.self.users l.user).printed)) ≡ l.fn.out.items ++ each file_bytes ((files_of l.fn.self.users l.user).printed)
+invariant-loop-index l = l.out.items
+    ++ each file_bytes (drop l.index ((files_of l.fn.self.users l.user).printed)) ≡ l.fn.out.items
+    ++ each file_bytes ((files_of l.fn.self.users l.user).printed)

@@ -8,4 +8,9 @@ use Rattle.cp_spool.proofs.queues.Queues.put_punched.Goals as goal
 
 pub loop-index-preserved : goal.loop-index-preserved
 loop-index-preserved c =
-    grind (arith, common_steps, each_got file_bytes c.loop-index.out.items ((files_of c.args.self.now.users c.args.user).punched) c.loop-index.index (closed_file c.in-Some.file.now) (sym c.in-Some.ensures))
+    grind (
+      arith,
+      common_steps,
+      each_got file_bytes c.loop-index.out.items ((files_of c.args.self.now.users c.args.user).punched)
+          c.loop-index.index (closed_file c.in-Some.file.now) (sym c.in-Some.ensures),
+    )

@@ -17,4 +17,5 @@ returns-then-index-len c =
     let queues = c.self.inside.users.items in
     ap (λ (qs : List QueueKeys). map (user_files files) qs) c.place_reader.ensures
     ∙ users_placed files queues c.args.user c.args.place
-    ∙ ap (λ (v : QueuesValue). with_files c.args.user (with_place c.args.place (files_of v.users c.args.user)) v.users) c.self.view_is
+    ∙ ap (λ (v : QueuesValue). with_files c.args.user (with_place c.args.place (files_of v.users c.args.user)) v.users)
+    c.self.view_is

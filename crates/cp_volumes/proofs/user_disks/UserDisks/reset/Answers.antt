@@ -2,34 +2,47 @@ use Rattle.std.proofs.Common.{◌≡◌, ◌∙◌, ap, arith, List, map, subst,
 use Rattle.std.specs.Vec.{with_items}
 use Rattle.std.proofs.lemmas.List.{with_items_is}
 use Rattle.machine_channels.specs.Disks.{reset_disk}
-use Rattle.cp_volumes.specs.Shared.{DisksValue, IsUsers, KeepsNeighbours, SharedMinidisk, Stand, reset_minidisk, disks_on, seen, stands_of}
-use Rattle.cp_volumes.proofs.Seats.{neighbours_still, reset_seen, reset_stands}
+use Rattle.cp_volumes.specs.Shared.{DisksValue, IsUsers, KeepsOtherDisks, SharedMinidisk, Placement, reset_minidisk}
+use Rattle.cp_volumes.specs.Shared.{disks_on, seen, placements_of}
+use Rattle.cp_volumes.proofs.Seats.{neighbours_still, reset_seen, reset_placements}
 use Rattle.cp_volumes.proofs.user_disks.UserDisks.reset.Goals as goal
 
 pub invariant_of-self : goal.invariant_of-self
 invariant_of-self c =
     let ds = c.self.inside.minidisks.items in
     let new = c.reset_each.new.minidisks in
-    let same : (with_items c.self.inside.minidisks new).items ≡ new = with_items_is c.self.inside.minidisks new (omega (arith, c.reset_each.auto.minidisks, c.deref_mut.ensures.len)) in
-    let whole : (with_items c.self.inside.minidisks new).items ≡ map reset_minidisk ds = same ∙ c.reset_each.ensures ∙ ap (map reset_minidisk) c.deref_mut.ensures.value in
-    subst (λ (xs : List SharedMinidisk). IsUsers c.self.inside.volumes (stands_of xs)) (sym whole) (subst (λ (s : List Stand). IsUsers c.self.inside.volumes s) (sym (reset_stands ds)) c.self.invariant)
+    let same : (with_items c.self.inside.minidisks new).items ≡ new =
+    with_items_is c.self.inside.minidisks new (omega (arith, c.reset_each.auto.minidisks, c.deref_mut.ensures.len))
+    in
+    let whole : (with_items c.self.inside.minidisks new).items ≡ map reset_minidisk ds =
+    same ∙ c.reset_each.ensures ∙ ap (map reset_minidisk) c.deref_mut.ensures.value in
+    subst (λ (xs : List SharedMinidisk). IsUsers c.self.inside.volumes (placements_of xs)) (sym whole)
+    (subst (λ (s : List Placement). IsUsers c.self.inside.volumes s) (sym (reset_placements ds)) c.self.invariant)
 
 pub returns-clause-reset : goal.returns-clause-reset
 returns-clause-reset c =
     let ds = c.self.inside.minidisks.items in
     let new = c.reset_each.new.minidisks in
-    let same : (with_items c.self.inside.minidisks new).items ≡ new = with_items_is c.self.inside.minidisks new (omega (arith, c.reset_each.auto.minidisks, c.deref_mut.ensures.len)) in
-    let whole : (with_items c.self.inside.minidisks new).items ≡ map reset_minidisk ds = same ∙ c.reset_each.ensures ∙ ap (map reset_minidisk) c.deref_mut.ensures.value in
-    ap (disks_on c.self.inside.volumes) whole ∙ reset_seen c.self.inside.volumes ds ∙ ap (λ (d : DisksValue). map reset_disk (seen d)) c.self.view_is
+    let same : (with_items c.self.inside.minidisks new).items ≡ new =
+    with_items_is c.self.inside.minidisks new (omega (arith, c.reset_each.auto.minidisks, c.deref_mut.ensures.len))
+    in
+    let whole : (with_items c.self.inside.minidisks new).items ≡ map reset_minidisk ds =
+    same ∙ c.reset_each.ensures ∙ ap (map reset_minidisk) c.deref_mut.ensures.value in
+    ap (disks_on c.self.inside.volumes) whole ∙ reset_seen c.self.inside.volumes ds ∙ ap
+    (λ (d : DisksValue). map reset_disk (seen d)) c.self.view_is
 
 pub returns-clause-others : goal.returns-clause-others
 returns-clause-others c =
     let ds = c.self.inside.minidisks.items in
     let new = c.reset_each.new.minidisks in
     let volumes = c.self.inside.volumes in
-    let same : (with_items c.self.inside.minidisks new).items ≡ new = with_items_is c.self.inside.minidisks new (omega (arith, c.reset_each.auto.minidisks, c.deref_mut.ensures.len)) in
-    let whole : (with_items c.self.inside.minidisks new).items ≡ map reset_minidisk ds = same ∙ c.reset_each.ensures ∙ ap (map reset_minidisk) c.deref_mut.ensures.value in
+    let same : (with_items c.self.inside.minidisks new).items ≡ new =
+    with_items_is c.self.inside.minidisks new (omega (arith, c.reset_each.auto.minidisks, c.deref_mut.ensures.len))
+    in
+    let whole : (with_items c.self.inside.minidisks new).items ≡ map reset_minidisk ds =
+    same ∙ c.reset_each.ensures ∙ ap (map reset_minidisk) c.deref_mut.ensures.value in
     let left : DisksValue = record { volumes = volumes; minidisks = (with_items c.self.inside.minidisks new).items } in
     let was : DisksValue = record { volumes = volumes; minidisks = ds } in
-    subst (λ (d : DisksValue). KeepsNeighbours d left) c.self.view_is
-    (subst (λ (xs : List SharedMinidisk). KeepsNeighbours was (record { volumes = volumes; minidisks = xs })) (sym whole) (neighbours_still volumes ds (map reset_minidisk ds) (reset_stands ds)))
+    subst (λ (d : DisksValue). KeepsOtherDisks d left) c.self.view_is
+    (subst (λ (xs : List SharedMinidisk). KeepsOtherDisks was (record { volumes = volumes; minidisks = xs }))
+    (sym whole) (neighbours_still volumes ds (map reset_minidisk ds) (reset_placements ds)))

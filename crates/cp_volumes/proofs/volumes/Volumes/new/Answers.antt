@@ -8,7 +8,8 @@ use Rattle.cp_volumes.proofs.volumes.Volumes.new.Goals as goal
 
 pub loop-volume-preserved : goal.loop-volume-preserved
 loop-volume-preserved c =
-    let some : 0 < length c.in-Some.volume.cylinders = omega (arith, c.count-cylinders.ensures.count, c.count-cylinders.ensures.some) in
+    let some : 0 < length c.in-Some.volume.cylinders =
+    omega (arith, c.count-cylinders.ensures.count, c.count-cylinders.ensures.some) in
     record {
       units = ap (λ (us : List (Option Disk)). map volume_in us) c.in_ok-push.ensures.items
           ∙ map-append volume_in c.loop-volume.units.items (Some c.in_ok-unit.unit ∷ [])

@@ -1,54 +1,85 @@
-use Rattle.std.proofs.Common.{ℕ}
+use Rattle.std.proofs.Common.{◌∙◌, ℕ, inr}
 use Rattle.s370_channel.specs.Guest.{guest_written}
 use Rattle.s370_channel.specs.Runs.{begun, limited}
 use Rattle.s370_channel.specs.Supplied.{IsTouched}
-use Rattle.channel_trial.specs.Trial.{trial_flags}
+use Rattle.channel_trial.specs.Trial.{trial_bytes, trial_flags}
 use Rattle.ckd_volume.specs.Unit.{disk_machine}
 use Rattle.cp_dat.specs.Copies.{is_wanted}
 use Rattle.cp_dat.specs.Lent.{keeps_stored_same, lent_memory}
 use Rattle.cp_dat.proofs.Copying.{came_more, came_nothing}
 use Rattle.cp_minidisk.specs.Minidisk.{users_disk}
 use Rattle.cp_volumes.specs.Shared.{volume_at}
-use Rattle.cp_volumes.proofs.Confined.{confined_by, same_by, stands_by}
+use Rattle.cp_volumes.proofs.Confined.{confined_by, same_by, placements_by}
 use Rattle.cp_volumes.proofs.volumes.Volumes.run.Goals as goal
 
-pub returns-in-Err-clause-came : goal.returns-in-Err-clause-came
-returns-in-Err-clause-came c =
+pub returns-in-Err-clause-paged_in : goal.returns-in-Err-clause-paged_in
+returns-in-Err-clause-paged_in c =
     let old = c.args.storage.now in
-    let Touched : ℕ → Type 0 = IsTouched guest_written (limited disk_machine c.args.start) (begun c.args.start (lent_memory old) (users_disk (volume_at c.args.self.now c.args.disk.now.volume) c.args.disk.now.minidisk)) in
+    let Touched : ℕ → Type 0 =
+    IsTouched guest_written (limited disk_machine c.args.start)
+    (begun c.args.start (lent_memory old)
+    (users_disk (volume_at c.args.self.now c.args.disk.now.volume) c.args.disk.now.minidisk)) in
     let nothing = came_nothing old old Touched c.requires.between (keeps_stored_same old) in
     nothing
 
-pub returns-in-Ok-run_mounted-clause-came : goal.returns-in-Ok-run_mounted-clause-came
-returns-in-Ok-run_mounted-clause-came c =
+pub returns-in-Ok-run_mounted-clause-paged_in : goal.returns-in-Ok-run_mounted-clause-paged_in
+returns-in-Ok-run_mounted-clause-paged_in c =
     let old = c.args.storage.now in
-    let Touched : ℕ → Type 0 = IsTouched guest_written (limited disk_machine c.args.start) (begun c.args.start (lent_memory old) (users_disk (volume_at c.args.self.now c.args.disk.now.volume) c.args.disk.now.minidisk)) in
+    let Touched : ℕ → Type 0 =
+    IsTouched guest_written (limited disk_machine c.args.start)
+    (begun c.args.start (lent_memory old)
+    (users_disk (volume_at c.args.self.now c.args.disk.now.volume) c.args.disk.now.minidisk)) in
     let nothing = came_nothing old old Touched c.requires.between (keeps_stored_same old) in
-    came_more old old c.run_mounted.new.storage (is_wanted (trial_flags c.in-Ok.tried)) Touched (λ page it. c.in-Ok.ensures.touches page it) nothing c.run_mounted.ensures.came
+    came_more old old c.run_mounted.new.storage (is_wanted (trial_flags c.in-Ok.tried)) Touched
+    (λ page it. c.in-Ok.ensures.touches page it) nothing c.run_mounted.ensures.paged_in
 
-pub returns-clause-came : goal.returns-clause-came
-returns-clause-came c =
+pub returns-clause-paged_in : goal.returns-clause-paged_in
+returns-clause-paged_in c =
     let old = c.args.storage.now in
-    let Touched : ℕ → Type 0 = IsTouched guest_written (limited disk_machine c.args.start) (begun c.args.start (lent_memory old) (users_disk (volume_at c.args.self.now c.args.disk.now.volume) c.args.disk.now.minidisk)) in
+    let Touched : ℕ → Type 0 =
+    IsTouched guest_written (limited disk_machine c.args.start)
+    (begun c.args.start (lent_memory old)
+    (users_disk (volume_at c.args.self.now c.args.disk.now.volume) c.args.disk.now.minidisk)) in
     let nothing = came_nothing old old Touched c.requires.between (keeps_stored_same old) in
-    came_more old old c.run_mounted.new.storage (is_wanted (trial_flags c.in-Ok.tried)) Touched (λ page it. c.in-Ok.ensures.touches page it) nothing c.run_mounted.ensures.came
+    came_more old old c.run_mounted.new.storage (is_wanted (trial_flags c.in-Ok.tried)) Touched
+    (λ page it. c.in-Ok.ensures.touches page it) nothing c.run_mounted.ensures.paged_in
 
 pub returns-in-Ok-run_mounted-clause-confined : goal.returns-in-Ok-run_mounted-clause-confined
 returns-in-Ok-run_mounted-clause-confined c =
-    confined_by c.args.self.now c.mount-mounted.new.self c.dismount.new.self c.args.disk.now c.mount-mounted.result c.run_mounted.new.mounted c.requires.seated c.mount-mounted.ensures.inside c.mount-mounted.ensures.mounted c.run_mounted.ensures.volume c.mount-mounted.ensures.away c.dismount.ensures.volumes
+    confined_by c.args.self.now c.mount-mounted.new.self c.dismount.new.self c.args.disk.now c.mount-mounted.result
+    c.run_mounted.new.mounted c.requires.seated c.mount-mounted.ensures.inside c.mount-mounted.ensures.mounted
+    c.run_mounted.ensures.volume c.mount-mounted.ensures.away c.dismount.ensures.volumes
 
 pub returns-clause-confined : goal.returns-clause-confined
 returns-clause-confined c =
-    confined_by c.args.self.now c.mount-mounted.new.self c.dismount-in-Err-run_mounted.new.self c.args.disk.now c.mount-mounted.result c.run_mounted.new.mounted c.requires.seated c.mount-mounted.ensures.inside c.mount-mounted.ensures.mounted c.run_mounted.ensures.volume c.mount-mounted.ensures.away c.dismount-in-Err-run_mounted.ensures.volumes
+    confined_by c.args.self.now c.mount-mounted.new.self c.dismount-in-Err-run_mounted.new.self c.args.disk.now
+    c.mount-mounted.result c.run_mounted.new.mounted c.requires.seated c.mount-mounted.ensures.inside
+    c.mount-mounted.ensures.mounted c.run_mounted.ensures.volume c.mount-mounted.ensures.away
+    c.dismount-in-Err-run_mounted.ensures.volumes
 
-pub returns-in-Ok-run_mounted-clause-stands : goal.returns-in-Ok-run_mounted-clause-stands
-returns-in-Ok-run_mounted-clause-stands c =
-    stands_by c.args.self.now c.args.disk.now c.dismount.new.disk c.mount-mounted.result c.run_mounted.new.mounted c.requires.seated c.mount-mounted.ensures.mounted c.run_mounted.ensures.volume c.dismount.ensures.disk
+pub returns-in-Ok-run_mounted-clause-placements : goal.returns-in-Ok-run_mounted-clause-placements
+returns-in-Ok-run_mounted-clause-placements c =
+    placements_by c.args.self.now c.args.disk.now c.dismount.new.disk c.mount-mounted.result c.run_mounted.new.mounted
+    c.requires.seated c.mount-mounted.ensures.mounted c.run_mounted.ensures.volume c.dismount.ensures.disk
 
-pub returns-clause-stands : goal.returns-clause-stands
-returns-clause-stands c =
-    stands_by c.args.self.now c.args.disk.now c.dismount-in-Err-run_mounted.new.disk c.mount-mounted.result c.run_mounted.new.mounted c.requires.seated c.mount-mounted.ensures.mounted c.run_mounted.ensures.volume c.dismount-in-Err-run_mounted.ensures.disk
+pub returns-clause-placements : goal.returns-clause-placements
+returns-clause-placements c =
+    placements_by c.args.self.now c.args.disk.now c.dismount-in-Err-run_mounted.new.disk c.mount-mounted.result
+    c.run_mounted.new.mounted c.requires.seated c.mount-mounted.ensures.mounted c.run_mounted.ensures.volume
+    c.dismount-in-Err-run_mounted.ensures.disk
 
 pub returns-clause-same : goal.returns-clause-same
 returns-clause-same c =
-    same_by c.args.self.now c.mount-mounted.new.self c.dismount-in-Err-run_mounted.new.self c.args.disk.now c.mount-mounted.result c.run_mounted.new.mounted c.requires.seated c.mount-mounted.ensures.inside c.mount-mounted.ensures.mounted c.in-Err-run_mounted.ensures.same c.mount-mounted.ensures.away c.dismount-in-Err-run_mounted.ensures.volumes
+    same_by c.args.self.now c.mount-mounted.new.self c.dismount-in-Err-run_mounted.new.self c.args.disk.now
+    c.mount-mounted.result c.run_mounted.new.mounted c.requires.seated c.mount-mounted.ensures.inside
+    c.mount-mounted.ensures.mounted c.in-Err-run_mounted.ensures.same c.mount-mounted.ensures.away
+    c.dismount-in-Err-run_mounted.ensures.volumes
+
+pub returns-clause-roomy : goal.returns-clause-roomy
+returns-clause-roomy c =
+    λ refused. inr (record {
+      bytes = trial_bytes c.in-Ok.tried;
+      flags = trial_flags c.in-Ok.tried;
+      tried = c.in-Ok.ensures;
+      stand = c.run_mounted.ensures.roomy (c.in-Err-run_mounted.is ∙ refused);
+    })

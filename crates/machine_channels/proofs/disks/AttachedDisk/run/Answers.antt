@@ -12,7 +12,8 @@ pub returns-clause-walk : goal.returns-clause-walk
 returns-clause-walk g c =
     let old = g.S.Storage.memory c.args.storage.now in
     let new = g.S.Storage.memory c.run_live.new.storage in
-    subst (λ (d : DiskAt). RestsAfter as_reached c.args.start old d c.in_ok-ending.ending new (at c.self.inside.address c.rest.new.self)) c.self.view_is
+    subst (λ (d : DiskAt). RestsAfter as_reached c.args.start old d c.in_ok-ending.ending new
+    (at c.self.inside.address c.rest.new.self)) c.self.view_is
     (record {
       unit = c.run_live.new.device;
       walk = c.in_ok-ending.ensures.walk;

@@ -11,9 +11,21 @@ use Rattle.machine_devices.proofs.devices.Devices.answer_close.Goals as goal
 
 pub returns-in-Some-Punch-clause-ok : goal.returns-in-Some-Punch-clause-ok
 returns-in-Some-Punch-clause-ok c = λ m disks. (
-    let before : Equipped = record { machine = m; devices = devices_on c.args.self.now c.args.queues.now; disks = disks } in
-    let after : Equipped = record { machine = m; devices = devices_on c.close_punched.new.self c.close_punched.new.queues; disks = disks } in
+    let before : Equipped = record {
+      machine = m;
+      devices = devices_on c.args.self.now c.args.queues.now;
+      disks = disks;
+    } in
+    let after : Equipped = record {
+      machine = m;
+      devices = devices_on c.close_punched.new.self c.close_punched.new.queues;
+      disks = disks;
+    } in
     let kind : part_at before.devices c.args.device ≡ Some kinds.Punch =
-    ap (place_at c.args.self.now.places) (sym c.get.ensures) ∙ (sym c.part_at.ensures ∙ (c.in-Some-Punch.is ∙ ap Some c.in-Some-Punch.field-0-is)) in
-    subst (λ (k : Option Kind). IfOk c.close_punched.result (λ told. outcome after told ≡ closed_at k before)) (sym kind)
-    (subst (λ (place : Option ℕ). IfOk c.close_punched.result (λ told. outcome after told ≡ punch_answered place before)) (ap (λ (files : ClosedFiles). files.punched) c.open_files-open.ensures) (c.close_punched.ensures.ok m disks)))
+    ap (place_at c.args.self.now.places) (sym c.get.ensures) ∙
+    (sym c.part_at.ensures ∙ (c.in-Some-Punch.is ∙ ap Some c.in-Some-Punch.field-0-is)) in
+    subst (λ (k : Option Kind). IfOk c.close_punched.result (λ reported. outcome after reported ≡ closed_at k before))
+    (sym kind)
+    (subst (λ (place : Option ℕ).
+    IfOk c.close_punched.result (λ reported. outcome after reported ≡ punch_answered place before))
+    (ap (λ (files : ClosedFiles). files.punched) c.open_files-open.ensures) (c.close_punched.ensures.ok m disks)))

@@ -9,10 +9,14 @@ use Rattle.machine_devices.specs.Lent.{devices_on}
 use Rattle.machine_devices.specs.Lines.{KindLoads}
 use Rattle.machine_devices.proofs.devices.Devices.ipl.Goals as goal
 
-pub returns-in-Some-Disk-clause-came : goal.returns-in-Some-Disk-clause-came
-returns-in-Some-Disk-clause-came g c =
+pub returns-in-Some-Disk-clause-paged_in : goal.returns-in-Some-Disk-clause-paged_in
+returns-in-Some-Disk-clause-paged_in g c =
     let memory = g.S.Storage.memory c.args.storage.now in
-    let before : Equipped = equipped c.args.machine.now (devices_on c.args.self.now c.args.queues.now) (g.C.Disks.disks c.args.channels.now) memory in
+    let before : Equipped = equipped c.args.machine.now (devices_on c.args.self.now c.args.queues.now)
+    (g.C.Disks.disks c.args.channels.now) memory in
     let kind : Option Kind = kind_at before.devices before.disks c.args.device in
-    let found : Some (kinds.Disk c.in-Some-Disk.index) ≡ kind = (let a = c.in-Some-Disk.is in let b = c.in-Some-Disk.field-0-is in let e = c.kind_at.ensures.kind in cc) in
-    subst (λ (k : Option Kind). Brings g.C.Channels.Came c.args.storage.now (KindLoads k before) c.load_disk.new.storage) found c.load_disk.ensures.came
+    let found : Some (kinds.Disk c.in-Some-Disk.index) ≡ kind =
+    (let a = c.in-Some-Disk.is in let b = c.in-Some-Disk.field-0-is in let e = c.kind_at.ensures.kind in cc) in
+    subst (λ (k : Option Kind).
+    Brings g.C.Channels.Came c.args.storage.now (KindLoads k before) c.load_disk.new.storage) found
+    c.load_disk.ensures.paged_in

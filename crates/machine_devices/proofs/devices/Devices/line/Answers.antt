@@ -9,9 +9,10 @@ use Rattle.machine_panel.specs.Machine.{machine_of}
 use Rattle.machine_devices.specs.Equipped.{Equipped, equipped}
 use Rattle.machine_devices.specs.Lent.{devices_on, devices_with}
 use Rattle.cp_spool.specs.Queues.{files_of}
-use Rattle.machine_devices.specs.Lines.{IsAnswered, MayTakeMemory, requested}
+use Rattle.machine_devices.specs.Comes.{MayTakeMemory}
+use Rattle.machine_devices.specs.Lines.{IsAnswered, requested}
 use Rattle.machine_devices.specs.Comes.{LoadWants}
-use Rattle.machine_channels.specs.Channels.{Brings, LacksRoom, NoRoom}
+use Rattle.machine_channels.specs.Channels.{Brings, IsOutOfFrames, NoRoom}
 use Rattle.machine_panel.specs.declared.line.LineError.TheVariants as errors
 use Rattle.machine_devices.proofs.Requested.{requested_is, typed_is}
 use Rattle.machine_devices.proofs.devices.Devices.line.Goals as goal
@@ -20,44 +21,73 @@ pub returns-in-Resets-clause-ok : goal.returns-in-Resets-clause-ok
 returns-in-Resets-clause-ok g c =
     let files = files_of c.args.queues.now.users c.args.self.now.user in
     let memory = g.S.Storage.memory c.args.storage.now in
-    let before : Equipped = equipped c.args.machine.now (devices_on c.args.self.now c.args.queues.now) (g.C.Disks.disks c.args.channels.now) memory in
+    let before : Equipped = equipped c.args.machine.now (devices_on c.args.self.now c.args.queues.now)
+    (g.C.Disks.disks c.args.channels.now) memory in
     let are = devices_are c.args.self.now c.reset_machine.new.self c.args.queues.now c.reset_machine.ensures.user in
-    let after : DevicesValue → Equipped = λ d. equipped c.reset_machine.new.machine d (g.C.Disks.disks c.reset_machine.new.disks) memory in
+    let after : DevicesValue
+    → Equipped = λ d. equipped c.reset_machine.new.machine d (g.C.Disks.disks c.reset_machine.new.disks) memory in
     let has = c.is_some-has_console.ensures ∙ ap (λ (p : Places). is_some p.console) c.places.ensures in
     let judged : requested c.args.typed.now before ≡ Resets =
-    requested_is Resets before c.args.typed.now c.as_slice.result.now c.mode.result c.is_some-has_console.result c.in-Resets.ensures c.mode.ensures has (c.as_slice.ensures.value ∙ c.new-text.ensures) in
-    subst (λ (d : DevicesValue). IfOk c.reset_machine.result (λ told. IsAnswered (requested c.args.typed.now before) (g.W.World.known c.args.world.now) c.args.typed.now before told (after d))) are
-    (subst (λ (q : Request). IfOk c.reset_machine.result (λ told. IsAnswered q (g.W.World.known c.args.world.now) c.args.typed.now before told (after (devices_with c.reset_machine.new.self files)))) (sym judged) (c.reset_machine.ensures.ok files memory))
+    requested_is Resets before c.args.typed.now c.as_slice.result.now c.mode.result c.is_some-has_console.result
+    c.in-Resets.ensures c.mode.ensures has (c.as_slice.ensures.value ∙ c.new-text.ensures) in
+    subst (λ (d : DevicesValue).
+    IfOk c.reset_machine.result
+    (λ reported. IsAnswered (requested c.args.typed.now before) (g.W.UserDirectory.known c.args.world.now)
+    c.args.typed.now before reported (after d))) are
+    (subst (λ (q : Request).
+    IfOk c.reset_machine.result
+    (λ reported. IsAnswered q (g.W.UserDirectory.known c.args.world.now) c.args.typed.now before reported
+    (after (devices_with c.reset_machine.new.self files)))) (sym judged) (c.reset_machine.ensures.ok files memory))
 
 pub returns-in-Resets-clause-err : goal.returns-in-Resets-clause-err
 returns-in-Resets-clause-err g c = λ other. (
     let files = files_of c.args.queues.now.users c.args.self.now.user in
     let memory = g.S.Storage.memory c.args.storage.now in
-    subst (λ (d : DevicesValue). OnErr c.reset_machine.result (equipped c.reset_machine.new.machine d (g.C.Disks.disks c.reset_machine.new.disks) memory ≡ equipped c.args.machine.now (devices_on c.args.self.now c.args.queues.now) (g.C.Disks.disks c.args.channels.now) memory))
-    (devices_are c.args.self.now c.reset_machine.new.self c.args.queues.now c.reset_machine.ensures.user) (c.reset_machine.ensures.err files memory))
+    subst (λ (d : DevicesValue).
+    OnErr c.reset_machine.result
+    (equipped c.reset_machine.new.machine d (g.C.Disks.disks c.reset_machine.new.disks) memory
+    ≡ equipped c.args.machine.now (devices_on c.args.self.now c.args.queues.now)
+    (g.C.Disks.disks c.args.channels.now) memory))
+    (devices_are c.args.self.now c.reset_machine.new.self c.args.queues.now c.reset_machine.ensures.user)
+    (c.reset_machine.ensures.err files memory))
 
 pub returns-in-Types-clause-ok : goal.returns-in-Types-clause-ok
 returns-in-Types-clause-ok g c =
     let files = files_of c.args.queues.now.users c.args.self.now.user in
     let memory = g.S.Storage.memory c.args.storage.now in
-    let before : Equipped = equipped c.args.machine.now (devices_on c.args.self.now c.args.queues.now) (g.C.Disks.disks c.args.channels.now) memory in
+    let before : Equipped = equipped c.args.machine.now (devices_on c.args.self.now c.args.queues.now)
+    (g.C.Disks.disks c.args.channels.now) memory in
     let are = devices_are c.args.self.now c.type_line.new.self c.args.queues.now c.type_line.ensures.user in
-    let after : DevicesValue → Equipped = λ d. equipped c.type_line.new.machine d (g.C.Disks.disks c.args.channels.now) memory in
+    let after : DevicesValue
+    → Equipped = λ d. equipped c.type_line.new.machine d (g.C.Disks.disks c.args.channels.now) memory in
     let left = devices_with c.type_line.new.self files in
     let has = c.is_some-has_console.ensures ∙ ap (λ (p : Places). is_some p.console) c.places.ensures in
     let judged : requested c.args.typed.now before ≡ Types =
-    requested_is Types before c.args.typed.now c.as_slice.result.now c.mode.result c.is_some-has_console.result c.in-Types.ensures c.mode.ensures has (c.as_slice.ensures.value ∙ c.new-text.ensures) in
-    let typed = typed_is c.type_line.result c.as_slice-in-Types.result.now c.args.typed.now before (after left) (c.as_slice-in-Types.ensures.value ∙ c.new-text.ensures) (c.type_line.ensures.ok files (g.C.Disks.disks c.args.channels.now) memory) in
-    subst (λ (d : DevicesValue). IfOk c.type_line.result (λ told. IsAnswered (requested c.args.typed.now before) (g.W.World.known c.args.world.now) c.args.typed.now before told (after d))) are
-    (subst (λ (q : Request). IfOk c.type_line.result (λ told. IsAnswered q (g.W.World.known c.args.world.now) c.args.typed.now before told (after left))) (sym judged) typed)
+    requested_is Types before c.args.typed.now c.as_slice.result.now c.mode.result c.is_some-has_console.result
+    c.in-Types.ensures c.mode.ensures has (c.as_slice.ensures.value ∙ c.new-text.ensures) in
+    let typed = typed_is c.type_line.result c.as_slice-in-Types.result.now c.args.typed.now before (after left)
+    (c.as_slice-in-Types.ensures.value ∙ c.new-text.ensures)
+    (c.type_line.ensures.ok files (g.C.Disks.disks c.args.channels.now) memory) in
+    subst (λ (d : DevicesValue).
+    IfOk c.type_line.result (λ reported.
+    IsAnswered (requested c.args.typed.now before) (g.W.UserDirectory.known c.args.world.now) c.args.typed.now
+    before reported (after d))) are
+    (subst (λ (q : Request).
+    IfOk c.type_line.result (λ reported.
+    IsAnswered q (g.W.UserDirectory.known c.args.world.now) c.args.typed.now before reported (after left)))
+    (sym judged) typed)
 
 pub returns-in-Types-clause-err : goal.returns-in-Types-clause-err
 returns-in-Types-clause-err g c = λ other. (
     let files = files_of c.args.queues.now.users c.args.self.now.user in
     let disks = g.C.Disks.disks c.args.channels.now in
     let memory = g.S.Storage.memory c.args.storage.now in
-    subst (λ (d : DevicesValue). OnErr c.type_line.result (equipped c.type_line.new.machine d disks memory ≡ equipped c.args.machine.now (devices_on c.args.self.now c.args.queues.now) disks memory))
-    (devices_are c.args.self.now c.type_line.new.self c.args.queues.now c.type_line.ensures.user) (c.type_line.ensures.err files disks memory))
+    subst (λ (d : DevicesValue).
+    OnErr c.type_line.result
+    (equipped c.type_line.new.machine d disks memory
+    ≡ equipped c.args.machine.now (devices_on c.args.self.now c.args.queues.now) disks memory))
+    (devices_are c.args.self.now c.type_line.new.self c.args.queues.now c.type_line.ensures.user)
+    (c.type_line.ensures.err files disks memory))
 
 pub returns-in-Asks-clause-ok : goal.returns-in-Asks-clause-ok
 returns-in-Asks-clause-ok g c =
@@ -67,39 +97,64 @@ returns-in-Asks-clause-ok g c =
     let after : Equipped = equipped c.args.machine.now (devices_on c.obey.new.self c.obey.new.queues) disks memory in
     let has = c.is_some-has_console.ensures ∙ ap (λ (p : Places). is_some p.console) c.places.ensures in
     let judged : requested c.args.typed.now before ≡ Asks c.in-Asks.command =
-    requested_is (Asks c.in-Asks.command) before c.args.typed.now c.as_slice.result.now c.mode.result c.is_some-has_console.result c.in-Asks.ensures c.mode.ensures has (c.as_slice.ensures.value ∙ c.new-text.ensures) in
-    subst (λ (q : Request). IfOk c.obey.result (λ told. IsAnswered q (g.W.World.known c.args.world.now) c.args.typed.now before told after)) (sym judged) (c.obey.ensures.ok (machine_of c.args.machine.now memory) disks)
+    requested_is (Asks c.in-Asks.command) before c.args.typed.now c.as_slice.result.now c.mode.result
+    c.is_some-has_console.result c.in-Asks.ensures c.mode.ensures has
+    (c.as_slice.ensures.value ∙ c.new-text.ensures) in
+    subst (λ (q : Request). IfOk c.obey.result
+    (λ reported. IsAnswered q (g.W.UserDirectory.known c.args.world.now) c.args.typed.now before reported after))
+    (sym judged) (c.obey.ensures.ok (machine_of c.args.machine.now memory) disks)
 
 pub returns-in-Loads-clause-ok : goal.returns-in-Loads-clause-ok
 returns-in-Loads-clause-ok g c =
-    let before : Equipped = equipped c.args.machine.now (devices_on c.args.self.now c.args.queues.now) (g.C.Disks.disks c.args.channels.now) (g.S.Storage.memory c.args.storage.now) in
+    let before : Equipped = equipped c.args.machine.now (devices_on c.args.self.now c.args.queues.now)
+    (g.C.Disks.disks c.args.channels.now) (g.S.Storage.memory c.args.storage.now) in
     let has = c.is_some-has_console.ensures ∙ ap (λ (p : Places). is_some p.console) c.places.ensures in
     let judged : requested c.args.typed.now before ≡ Loads c.in-Loads.device =
-    requested_is (Loads c.in-Loads.device) before c.args.typed.now c.as_slice.result.now c.mode.result c.is_some-has_console.result c.in-Loads.ensures c.mode.ensures has (c.as_slice.ensures.value ∙ c.new-text.ensures) in
-    let after : Equipped = equipped c.ipl.new.machine (devices_on c.ipl.new.self c.ipl.new.queues) (g.C.Disks.disks c.ipl.new.channels) (g.S.Storage.memory c.ipl.new.storage) in
-    subst (λ (q : Request). IfOk c.ipl.result (λ told. IsAnswered q (g.W.World.known c.args.world.now) c.args.typed.now before told after)) (sym judged) c.ipl.ensures.ok
+    requested_is (Loads c.in-Loads.device) before c.args.typed.now c.as_slice.result.now c.mode.result
+    c.is_some-has_console.result c.in-Loads.ensures c.mode.ensures has
+    (c.as_slice.ensures.value ∙ c.new-text.ensures) in
+    let after : Equipped = equipped c.ipl.new.machine (devices_on c.ipl.new.self c.ipl.new.queues)
+    (g.C.Disks.disks c.ipl.new.channels) (g.S.Storage.memory c.ipl.new.storage) in
+    subst (λ (q : Request). IfOk c.ipl.result
+    (λ reported. IsAnswered q (g.W.UserDirectory.known c.args.world.now) c.args.typed.now before reported after))
+    (sym judged) c.ipl.ensures.ok
 
 pub returns-in-Loads-clause-memory : goal.returns-in-Loads-clause-memory
 returns-in-Loads-clause-memory g c =
-    let before : Equipped = equipped c.args.machine.now (devices_on c.args.self.now c.args.queues.now) (g.C.Disks.disks c.args.channels.now) (g.S.Storage.memory c.args.storage.now) in
+    let before : Equipped = equipped c.args.machine.now (devices_on c.args.self.now c.args.queues.now)
+    (g.C.Disks.disks c.args.channels.now) (g.S.Storage.memory c.args.storage.now) in
     let has = c.is_some-has_console.ensures ∙ ap (λ (p : Places). is_some p.console) c.places.ensures in
     let judged : requested c.args.typed.now before ≡ Loads c.in-Loads.device =
-    requested_is (Loads c.in-Loads.device) before c.args.typed.now c.as_slice.result.now c.mode.result c.is_some-has_console.result c.in-Loads.ensures c.mode.ensures has (c.as_slice.ensures.value ∙ c.new-text.ensures) in
+    requested_is (Loads c.in-Loads.device) before c.args.typed.now c.as_slice.result.now c.mode.result
+    c.is_some-has_console.result c.in-Loads.ensures c.mode.ensures has
+    (c.as_slice.ensures.value ∙ c.new-text.ensures) in
     subst (λ (q : Request). c.ipl.result ≡ Err errors.Memory → MayTakeMemory q before) (sym judged) c.ipl.ensures.takes
 
 pub returns-in-Loads-clause-out : goal.returns-in-Loads-clause-out
 returns-in-Loads-clause-out g c = λ ipl. (
-    let before : Equipped = equipped c.args.machine.now (devices_on c.args.self.now c.args.queues.now) (g.C.Disks.disks c.args.channels.now) (g.S.Storage.memory c.args.storage.now) in
+    let before : Equipped = equipped c.args.machine.now (devices_on c.args.self.now c.args.queues.now)
+    (g.C.Disks.disks c.args.channels.now) (g.S.Storage.memory c.args.storage.now) in
     let has = c.is_some-has_console.ensures ∙ ap (λ (p : Places). is_some p.console) c.places.ensures in
     let judged : requested c.args.typed.now before ≡ Loads c.in-Loads.device =
-    requested_is (Loads c.in-Loads.device) before c.args.typed.now c.as_slice.result.now c.mode.result c.is_some-has_console.result c.in-Loads.ensures c.mode.ensures has (c.as_slice.ensures.value ∙ c.new-text.ensures) in
+    requested_is (Loads c.in-Loads.device) before c.args.typed.now c.as_slice.result.now c.mode.result
+    c.is_some-has_console.result c.in-Loads.ensures c.mode.ensures has
+    (c.as_slice.ensures.value ∙ c.new-text.ensures) in
     let size = length (g.S.Storage.memory c.args.storage.now).bytes in
-    subst (λ (q : Request). g.C.Channels.is_whole ≡ true → c.ipl.result ≡ Err errors.FramesOut → LacksRoom size (LoadWants q before) (NoRoom g.C.Channels.IsOut g.C.Channels.IsFilled g.S.Storage.present c.ipl.new.storage (LoadWants q before))) (sym judged) c.ipl.ensures.out)
+    subst (λ (q : Request). g.C.Channels.is_whole ≡ true → c.ipl.result ≡ Err errors.FramesOut
+    → IsOutOfFrames size (LoadWants q before)
+    (NoRoom g.C.Channels.IsOut g.C.Channels.IsFilled g.S.Storage.present c.ipl.new.storage (LoadWants q before)))
+    (sym judged) c.ipl.ensures.out)
 
-pub returns-in-Loads-clause-came : goal.returns-in-Loads-clause-came
-returns-in-Loads-clause-came g c = λ ipl. (
-    let before : Equipped = equipped c.args.machine.now (devices_on c.args.self.now c.args.queues.now) (g.C.Disks.disks c.args.channels.now) (g.S.Storage.memory c.args.storage.now) in
+pub returns-in-Loads-clause-paged_in : goal.returns-in-Loads-clause-paged_in
+returns-in-Loads-clause-paged_in g c = λ ipl. (
+    let before : Equipped = equipped c.args.machine.now (devices_on c.args.self.now c.args.queues.now)
+    (g.C.Disks.disks c.args.channels.now) (g.S.Storage.memory c.args.storage.now) in
     let has = c.is_some-has_console.ensures ∙ ap (λ (p : Places). is_some p.console) c.places.ensures in
     let judged : requested c.args.typed.now before ≡ Loads c.in-Loads.device =
-    requested_is (Loads c.in-Loads.device) before c.args.typed.now c.as_slice.result.now c.mode.result c.is_some-has_console.result c.in-Loads.ensures c.mode.ensures has (c.as_slice.ensures.value ∙ c.new-text.ensures) in
-    (subst (λ (q : Request). Brings g.C.Channels.Came c.args.storage.now (LoadWants q before) c.ipl.new.storage) (sym judged) c.ipl.ensures.came, c.ipl.ensures.ready))
+    requested_is (Loads c.in-Loads.device) before c.args.typed.now c.as_slice.result.now c.mode.result
+    c.is_some-has_console.result c.in-Loads.ensures c.mode.ensures has
+    (c.as_slice.ensures.value ∙ c.new-text.ensures) in (
+      subst (λ (q : Request). Brings g.C.Channels.Came c.args.storage.now (LoadWants q before) c.ipl.new.storage)
+          (sym judged) c.ipl.ensures.paged_in,
+      c.ipl.ensures.ready,
+    ))

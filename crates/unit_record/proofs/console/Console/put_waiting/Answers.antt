@@ -6,4 +6,9 @@ use Rattle.unit_record.proofs.console.Console.put_waiting.Goals as goal
 
 pub loop-index-preserved : goal.loop-index-preserved
 loop-index-preserved c =
-    grind (arith, common_steps, each_got bytes c.loop-index.out.items c.args.self.now.waiting c.loop-index.index c.in-Some.line.now (sym c.in-Some.ensures))
+    grind (
+      arith,
+      common_steps,
+      each_got bytes c.loop-index.out.items c.args.self.now.waiting c.loop-index.index c.in-Some.line.now
+          (sym c.in-Some.ensures),
+    )

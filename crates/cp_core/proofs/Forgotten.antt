@@ -1,0 +1,511 @@
+-- A step of a system is one of every system that has the same, but has printed lines before and keeps other programs.
+use Rattle.std.specs.Prelude.{ℕ, zero, suc, ◌≡◌, ◌++◌, ◌-◌, ◌⊎◌, ◌==◌, refl, if◌then◌else◌, Bool, List, [], ◌∷◌}
+use Rattle.std.specs.Prelude.{length, map, Option, Some, None}
+use Rattle.std.proofs.Common.{◌∙◌, ap, append-nil, append_assoc, arith, get_or, length-append, subst, sym}
+use Rattle.s370_store.specs.Access.{Touches}
+use Rattle.s370_channel.specs.Reading.{as_reached}
+use Rattle.s370_channel.specs.declared.words.Caw.{Caw}
+use Rattle.s370_subchannels.specs.Programs.{program_of}
+use Rattle.s370_channel.specs.Supplied.{EachSuch}
+use Rattle.s370_intr.specs.Run.{IsLacking}
+use Rattle.s370_intr.specs.declared.run.Ran.{Ran as RanUnits}
+use Rattle.cp_hold.specs.Holding.{HoldNeeds}
+use Rattle.cp_dat.specs.Supplied.{HasNoRoom}
+use Rattle.cp_resident.specs.Reuse.{ReuseValue}
+use Rattle.machine_panel.specs.Machine.{Machine}
+use Rattle.machine_panel.specs.Run.{MachineRun, TellsRun, notice_of}
+use Rattle.machine_panel.specs.Tick.{TickNeeds}
+use Rattle.machine_panel.proofs.Forgotten.{tells_run}
+use Rattle.machine_devices.specs.Comes.{is_ipl}
+use Rattle.machine_devices.specs.Devices.{kind_at}
+use Rattle.machine_devices.specs.Equipped.{Equipped, nobody}
+use Rattle.machine_devices.specs.Forgotten.{equipped_having_printed as having, unprinted}
+use Rattle.machine_devices.specs.Life.{Event as Local, Deck as Gets, Line as Types, Lives}
+use Rattle.machine_devices.specs.Lines.{IplNeeds, KindLoads, requested}
+use Rattle.machine_devices.specs.Notes.{closed_by, next_file}
+use Rattle.machine_devices.specs.Replies.{IsLineTold}
+use Rattle.machine_devices.specs.Comes.{LoadWants}
+use Rattle.machine_devices.specs.Requests.{needs_of, switches}
+use Rattle.machine_devices.specs.Serve.{IsServedAt, ServeNeeds, StartNeeds}
+use Rattle.machine_devices.specs.Spooling.{deck_punched}
+use Rattle.machine_devices.specs.UserDirectory.{UserDirectory, is_logged_on}
+use Rattle.machine_devices.specs.declared.files.FileNote.{FileNote}
+use Rattle.machine_devices.specs.declared.places.Kind.{Kind}
+use Rattle.machine_devices.specs.declared.places.Kind.TheVariants as kinds
+use Rattle.machine_devices.specs.declared.reply.Delivered.{Delivered}
+use Rattle.machine_devices.specs.declared.reply.Delivery.{Delivery}
+use Rattle.machine_devices.specs.declared.reply.Delivery.TheVariants as deliveries
+use Rattle.machine_devices.specs.declared.reply.Ended.{Ended}
+use Rattle.machine_devices.specs.declared.reply.Ended.TheVariants.{Ran, Served, Done, FramesOut}
+use Rattle.machine_devices.specs.declared.reply.Reply.{Reply}
+use Rattle.machine_devices.specs.declared.request.Request.{Request}
+use Rattle.machine_devices.specs.declared.request.Request.TheVariants.{LogsOn, LogsOff, Resets, Types as TypesText}
+use Rattle.machine_devices.specs.declared.request.Request.TheVariants.{Loads, Asks, Alone}
+use Rattle.machine_devices.proofs.Forgotten.{lives, served_so, told_so}
+use Rattle.unit_record.specs.Reader.{DeckValue}
+use Rattle.unit_record.specs.declared.reader.Sender.TheVariants as senders
+use Rattle.cp_core.specs.Forgotten.{GoesOnAs, StepsGoOn, forgotten, seat_unprinted, step_having_printed}
+use Rattle.cp_core.specs.Forgotten.{users_having_printed}
+use Rattle.cp_core.specs.Events.{user_of}
+use Rattle.cp_core.specs.Histories.{IsStep}
+use Rattle.cp_core.specs.Local.{IsApplied, Step, comes_to, coming, deck_by, local, local_event}
+use Rattle.cp_core.specs.Saved.{AgreeButKept, SeatBase, base_of}
+use Rattle.cp_core.specs.Supply.{IsBroughtBy, IsShort, IsSupplied, LineBrings, MayBring, OneBrings, RunBrings}
+use Rattle.cp_core.specs.Supply.{gives_back}
+use Rattle.cp_core.specs.System.{SystemView, kept_of, logged_on_of, machine_at, placements_among, user_at, users_of}
+use Rattle.cp_core.specs.System.{world_among}
+use Rattle.cp_core.specs.UserMachines.{SeatParts, seat_on, seats_on, user_with as user_with_volumes}
+use Rattle.cp_core.proofs.Systems.{seen}
+use Rattle.cp_directory.specs.Users.{DirectoryUser}
+use Rattle.cp_frames.specs.Layout.{FrameSupply}
+use Rattle.cp_spool.specs.Queues.{QueuesValue}
+use Rattle.cp_volumes.specs.Shared.{Placement, placements_of}
+use Rattle.ckd_volume.specs.Volume.{VolumeFormat}
+use Rattle.cp_core.specs.LineOutcome.{IsOut, IsReply, TellsOf, TellsOfDeck, TellsOfLine, TellsOfRun, TellsOfServe}
+use Rattle.cp_core.specs.LineOutcome.{TellsOfTick, noted_by}
+use Rattle.cp_core.specs.Wants.{DeviceNeeds, LineWants}
+use Rattle.cp_core.specs.declared.events.Event.{Event}
+use Rattle.cp_core.specs.declared.events.Event.TheVariants.{Run, Line, Tick, Deck, Serve}
+
+-- ---- which pages a machine needs
+
+module _ (gone : List (List ℕ)) (e : Equipped) where
+  loads_same : (kind : Option Kind) (P : (ℕ → Type 0) → Type 0) → P (KindLoads kind e)
+      → P (KindLoads kind (having gone e))
+  loads_same (Some kinds.Reader) P h = h
+  loads_same (Some (kinds.Disk index)) P h = h
+  loads_same (Some kinds.Console) P h = h
+  loads_same (Some kinds.Punch) P h = h
+  loads_same (Some kinds.Printer) P h = h
+  loads_same None P h = h
+
+  wants_same : (q : Request) (P : (ℕ → Type 0) → Type 0) → P (λ page. Touches (needs_of q) page ⊎ LoadWants q e page)
+      → P (λ page. Touches (needs_of q) page ⊎ LoadWants q (having gone e) page)
+  wants_same (Loads device) P h =
+      loads_same (kind_at e.devices e.disks device) (λ needs. P (λ page. Touches (needs_of
+      (Loads device)) page ⊎ needs page)) h
+  wants_same LogsOn P h = h
+  wants_same LogsOff P h = h
+  wants_same Resets P h = h
+  wants_same TypesText P h = h
+  wants_same (Asks command) P h = h
+  wants_same (Alone asked) P h = h
+
+  pub line_wants_same : (typed : List ℕ) (P : (ℕ → Type 0) → Type 0) → P (LineWants typed e)
+      → P (LineWants typed (having gone e))
+  line_wants_same typed P h = wants_same (requested typed e) P h
+
+  starts_same : (kind : Option Kind) (start : Option Caw) (P : (ℕ → Type 0) → Type 0)
+      → P (StartNeeds HoldNeeds kind start e)
+      → P (StartNeeds HoldNeeds kind start (having gone e))
+  starts_same None start P h = h
+  starts_same (Some kind) None P h = h
+  starts_same (Some kinds.Console) (Some start) P h = h
+  starts_same (Some kinds.Reader) (Some start) P h = h
+  starts_same (Some kinds.Punch) (Some start) P h = h
+  starts_same (Some kinds.Printer) (Some start) P h = h
+  starts_same (Some (kinds.Disk index)) (Some start) P h = h
+
+  pub device_needs_same : (device : ℕ) (P : (ℕ → Type 0) → Type 0) → P (DeviceNeeds device e)
+      → P (DeviceNeeds device (having gone e))
+  device_needs_same device P h =
+      starts_same (kind_at e.devices e.disks device) (program_of device e.machine.core.subchannels) P h
+
+-- ---- users who have printed lines before
+
+-- the lines that one of these users has printed before
+abbrev gone_at : List (List (List ℕ)) → List Equipped → ℕ → List (List ℕ)
+gone_at [] users user = []
+gone_at (lines ∷ more) [] user = []
+gone_at (lines ∷ more) (e ∷ users) zero = lines
+gone_at (lines ∷ more) (e ∷ users) (suc user) = gone_at more users user
+
+pub user_with : (gone : List (List (List ℕ))) (users : List Equipped) (user : ℕ)
+    → get_or (users_having_printed gone users) user nobody ≡ having (gone_at gone users user) (get_or users user nobody)
+user_with [] users user = refl
+user_with (lines ∷ more) [] user = refl
+user_with (lines ∷ more) (e ∷ users) zero = refl
+user_with (lines ∷ more) (e ∷ users) (suc user) = user_with more users user
+
+gone_same : (gone : List (List (List ℕ))) (users others : List Equipped) (user : ℕ) → length others ≡ length users
+    → gone_at gone others user ≡ gone_at gone users user
+gone_same [] users others user same = refl
+gone_same (lines ∷ more) [] [] user same = refl
+gone_same (lines ∷ more) [] (o ∷ others) user same = absurd (omega (arith, same))
+gone_same (lines ∷ more) (e ∷ users) [] user same = absurd (omega (arith, same))
+gone_same (lines ∷ more) (e ∷ users) (o ∷ others) zero same = refl
+gone_same (lines ∷ more) (e ∷ users) (o ∷ others) (suc user) same = gone_same more users others user (omega
+    (arith, same))
+
+pub as_many : (gone : List (List (List ℕ))) (users : List Equipped)
+    → length (users_having_printed gone users) ≡ length users
+as_many [] users = refl
+as_many (lines ∷ more) [] = refl
+as_many (lines ∷ more) (e ∷ users) = ap suc (as_many more users)
+
+on_same : (gone : List (List (List ℕ))) (users : List Equipped)
+    → logged_on_of (users_having_printed gone users) ≡ logged_on_of users
+on_same [] users = refl
+on_same (lines ∷ more) [] = refl
+on_same (lines ∷ more) (e ∷ users) = ap (λ (on : List Bool). is_logged_on e.machine.mode ∷ on) (on_same more users)
+
+-- ---- a step
+
+-- the system whose users have printed these lines before, and which keeps these programs
+abbrev wide : List (List (List ℕ)) → SystemView → List ReuseValue → SystemView
+wide gone s kept = record s { users = users_having_printed gone s.users; kept = kept }
+
+module _ (gone : List (List (List ℕ))) (s : SystemView) (kept : List ReuseValue) (t : SystemView)
+    (many : length t.users ≡ length s.users) where
+  abbrev whole : SystemView
+  whole = wide gone s kept
+
+  abbrev left : SystemView
+  left = wide gone t t.kept
+
+  abbrev gone_of : ℕ → List (List ℕ)
+  gone_of user = gone_at gone s.users user
+
+  old_is : (user : ℕ) → user_at whole user ≡ having (gone_of user) (user_at s user)
+  old_is user = user_with gone s.users user
+
+  new_is : (user : ℕ) → user_at left user ≡ having (gone_of user) (user_at t user)
+  new_is user =
+      user_with gone t.users user ∙ ap (λ (lines : List (List ℕ)). having lines (user_at t user))
+      (gone_same gone s.users t.users user many)
+
+  -- what is so of a user before, and after, with these lines
+  of_old : (user : ℕ) (P : Equipped → Type 0) → P (having (gone_of user) (user_at s user)) → P (user_at whole user)
+  of_old user P h = subst P (sym (old_is user)) h
+
+  of_both : (user : ℕ) (P : Equipped → Equipped → Type 0)
+      → P (having (gone_of user) (user_at s user)) (having (gone_of user) (user_at t user))
+      → P (user_at whole user) (user_at left user)
+  of_both user P h =
+      subst (λ (e : Equipped). P e (user_at left user)) (sym (old_is user))
+      (subst (λ (e : Equipped). P (having (gone_of user) (user_at s user)) e) (sym (new_is user)) h)
+
+  -- ---- what the event is to each user
+
+  event_same : (event : Event) (ended : Ended) → local_event whole event ended ≡ local_event s event ended
+  event_same (Run user asked) ended = refl
+  event_same (Line user typed) (Ran ran) = refl
+  event_same (Line user typed) (Served done) = refl
+  event_same (Line user typed) Done =
+      ap (λ (on : List Bool). Types (world_among s.directory user on) typed.now ∷ []) (on_same gone s.users)
+  event_same (Line user typed) FramesOut = refl
+  event_same (Tick user) ended = refl
+  event_same (Deck user cards) ended = refl
+  event_same (Serve user device) ended = refl
+
+  deck_same : (event : Event) (number : ℕ) → deck_by event whole left number ≡ deck_by event s t number
+  deck_same (Run user asked) number = refl
+  deck_same (Line user typed) number =
+      ap (λ (e : Equipped). deck_punched (user_at left user).devices (length e.devices.punched) number
+      (senders.User user)) (old_is user)
+      ∙ ap (λ (e : Equipped). deck_punched e.devices (length (user_at s user).devices.punched) number
+      (senders.User user)) (new_is user)
+  deck_same (Tick user) number = refl
+  deck_same (Deck user cards) number = refl
+  deck_same (Serve user device) number = refl
+
+  coming_same : (event : Event) (reply : Reply) (what : Delivery)
+      → (let one : Step = record { event = event; reply = reply; seen = left } in
+      let other : Step = record { event = event; reply = reply; seen = t } in coming whole one what ≡ coming s other
+      what)
+  coming_same event reply (deliveries.Message line) = refl
+  coming_same event reply (deliveries.Deck number) = ap (λ (d : DeckValue). Gets d) (deck_same event number)
+
+  comes_same : (user : ℕ) (event : Event) (reply : Reply) (delivered : Option Delivered)
+      → (let one : Step = record { event = event; reply = reply; seen = left } in
+      let other : Step = record { event = event; reply = reply; seen = t } in
+      comes_to user whole one delivered ≡ comes_to user s other delivered)
+  comes_same user event reply None = refl
+  comes_same user event reply (Some delivered) =
+      ap (λ (e : Local). if delivered.to == user then e ∷ [] else []) (coming_same event reply delivered.what)
+
+  local_same : (user : ℕ) (event : Event) (reply : Reply)
+      → (let one : Step = record { event = event; reply = reply; seen = left } in
+      let other : Step = record { event = event; reply = reply; seen = t } in local user whole one ≡ local user s other)
+  local_same user event reply =
+      rw (event_same event reply.ended, comes_same user event reply reply.delivered) refl
+
+  applied : (event : Event) (reply : Reply) → IsApplied s (record { event = event; reply = reply; seen = t })
+      → IsApplied whole (record { event = event; reply = reply; seen = left })
+  applied event reply h user =
+      let other : Step = record { event = event; reply = reply; seen = t } in
+      subst (λ (es : List Local). Lives as_reached es (user_at whole user) (user_at left user)) (sym
+      (local_same user event reply))
+      (of_both user (Lives as_reached (local user s other))
+      (lives (gone_of user) as_reached (local user s other) (user_at s user) (user_at t user) (h user)))
+
+  -- ---- what is reported
+
+  out : (needs more : ℕ → Type 0) (size length : ℕ) (reply : Reply) (is_short are_short : ℕ → Type 0)
+      → IsLacking more length are_short → IsOut needs size s reply t is_short
+      → IsOut more length whole reply left are_short
+  out needs more size length reply is_short are_short lacking h = record {
+    silent = h.silent;
+    none = h.none;
+    same = ap (λ (x : SystemView). wide gone x t.kept) h.same;
+    lacking = lacking;
+  }
+
+  run_tells : (user asked : ℕ) (reply : Reply) (ended : Ended) → TellsOfRun user asked s reply ended t
+      → TellsOfRun user asked whole reply ended left
+  run_tells user asked reply (Ran ran) tells =
+      let reported = λ (e : Equipped). let r : MachineRun = record {
+        machine = e.machine;
+        units = ran.units;
+        reason =
+            ran.reason;
+        notice = notice_of ran.reason;
+      } in r in
+      let short = HasNoRoom t.supply user in
+      let tells_of = tells_run (gone_of user) asked (machine_at s user) (reported (user_at t user)) short tells.0 in
+      (of_both user (λ (e f : Equipped). TellsRun asked e.machine (reported f) short) tells_of, tells.1, tells.2)
+  run_tells user asked reply (Served done) tells = tells
+  run_tells user asked reply Done tells = tells
+  run_tells user asked reply FramesOut tells = tells
+
+  abbrev Lacks : ℕ → (ℕ → Type 0) → (Equipped → ℕ → Type 0) → Equipped → Type 0
+  Lacks user short needs e = IsLacking (needs e) (length e.machine.core.processor.bytes) short
+
+  tick_tells : (user : ℕ) (reply : Reply) (ended : Ended) → TellsOfTick user s reply ended t
+      → TellsOfTick user whole reply ended left
+  tick_tells user reply (Ran ran) tells = tells
+  tick_tells user reply (Served done) tells = tells
+  tick_tells user reply Done tells = tells
+  tick_tells user reply FramesOut tells =
+      let short = HasNoRoom t.supply user in
+      let lacking = of_old user (Lacks user short (λ e. TickNeeds e.machine)) tells.lacking in
+      out _ _ _ _ reply _ _ lacking tells
+
+  line_tells : (user : ℕ) (typed : List ℕ) (reply : Reply) (ended : Ended) → TellsOfLine user typed s reply ended t
+      → TellsOfLine user typed whole reply ended left
+  line_tells user typed reply (Ran ran) tells = tells
+  line_tells user typed reply (Served done) tells = tells
+  line_tells user typed reply Done tells =
+      let w = λ (on : List Bool). world_among s.directory user on in
+      let number = next_file s.files in
+      let here = told_so (gone_of user) (w (logged_on_of s.users)) (length s.users) number typed
+      (user_at s user) reply tells in
+      let placed = of_old user (λ (e : Equipped). IsLineTold (w (logged_on_of s.users))
+      (length s.users) number typed e reply) here in
+      let counted = subst (λ (n : ℕ). IsLineTold (w (logged_on_of s.users)) n number typed
+      (user_at whole user) reply) (sym (as_many gone s.users)) placed in
+      subst (λ (on : List Bool). IsLineTold (w on) (length whole.users) number typed (user_at whole user) reply) (sym
+      (on_same gone s.users)) counted
+  line_tells user typed reply FramesOut tells =
+      let size = length (machine_at s user).core.processor.bytes in
+      let wanting = λ (needs : ℕ → Type 0). IsLacking needs size (IsShort t.supply user needs) in
+      let here = line_wants_same (gone_of user) (user_at s user) typed wanting tells.lacking in
+      let lacking = of_old user (λ (e : Equipped). IsLacking (LineWants typed e)
+      (length e.machine.core.processor.bytes) (IsShort t.supply user (LineWants typed e))) here in
+      out _ _ _ _ reply _ _ lacking tells
+
+  deck_tells : (user : ℕ) (cards : List (List ℕ)) (reply : Reply) (ended : Ended)
+      → TellsOfDeck user cards s reply ended → TellsOfDeck user cards whole reply ended
+  deck_tells user cards reply (Ran ran) tells = tells
+  deck_tells user cards reply (Served done) tells = tells
+  deck_tells user cards reply Done tells = tells
+  deck_tells user cards reply FramesOut tells = tells
+
+  serve_tells : (user device : ℕ) (reply : Reply) (ended : Ended) → TellsOfServe user device s reply ended t
+      → TellsOfServe user device whole reply ended left
+  serve_tells user device reply (Ran ran) tells = tells
+  serve_tells user device reply (Served done) tells =
+      let here = served_so (gone_of user) as_reached device (user_at s user) done (user_at t user) tells.0 in
+      (of_both user (λ (e f : Equipped). IsServedAt as_reached device e done f) here, tells.1, tells.2)
+  serve_tells user device reply Done tells = tells
+  serve_tells user device reply FramesOut tells =
+      let size = length (machine_at s user).core.processor.bytes in
+      let wanting = λ (needs : ℕ → Type 0). IsLacking needs size (IsShort t.supply user needs) in
+      let here = device_needs_same (gone_of user) (user_at s user) device wanting tells.lacking in
+      let lacking = of_old user (λ (e : Equipped). IsLacking (DeviceNeeds device e)
+      (length e.machine.core.processor.bytes) (IsShort t.supply user (DeviceNeeds device e))) here in
+      out _ _ _ _ reply _ _ lacking tells
+
+  tells_too : (event : Event) (reply : Reply) → TellsOf s event reply t → TellsOf whole event reply left
+  tells_too (Run user asked) reply tells = run_tells user asked reply reply.ended tells
+  tells_too (Line user typed) reply tells = line_tells user typed.now reply reply.ended tells
+  tells_too (Tick user) reply tells = tick_tells user reply reply.ended tells
+  tells_too (Deck user cards) reply tells = deck_tells user cards.now reply reply.ended tells
+  tells_too (Serve user device) reply tells = serve_tells user device reply reply.ended tells
+
+  notes_same : (event : Event) → noted_by event s t ≡ noted_by event whole left
+  notes_same (Run user asked) = refl
+  notes_same (Line user typed) = of_both user (λ (e f : Equipped). closed_by user (user_at s user)
+      (user_at t user) ≡ closed_by user e f) refl
+  notes_same (Tick user) = refl
+  notes_same (Deck user cards) = refl
+  notes_same (Serve user device) = refl
+
+  lines_told : (user lines : ℕ) → lines ≡ length (machine_at t user).output - length (machine_at s user).output
+      → lines ≡ length (machine_at left user).output - length (machine_at whole user).output
+  lines_told user lines h =
+      let before = length-append (gone_of user) (machine_at s user).output in
+      let after = length-append (gone_of user) (machine_at t user).output in
+      of_both user (λ (e f : Equipped). lines ≡ length f.machine.output - length e.machine.output) (omega
+      (arith, h, before, after))
+
+  reported : (event : Event) (reply : Reply) → IsReply s (record { event = event; reply = reply; seen = t })
+      → IsReply whole (record { event = event; reply = reply; seen = left })
+  reported event reply h = record {
+    tells = tells_too event reply h.tells;
+    lines = lines_told (user_of event) reply.lines h.lines;
+    files = h.files ∙ ap (λ (notes : List FileNote). s.files ++ notes) (notes_same event);
+  }
+
+  -- ---- what it does to the frames
+
+  gives_same : (event : Event) → gives_back s event ≡ gives_back whole event
+  gives_same (Run user asked) = refl
+  gives_same (Line user typed) =
+      of_old user (λ (e : Equipped). switches (requested typed.now (user_at s user)) ≡ switches
+      (requested typed.now e)) refl
+  gives_same (Tick user) = refl
+  gives_same (Deck user cards) = refl
+  gives_same (Serve user device) = refl
+
+  run_brings : (lines : List (List ℕ)) (m : Machine) (ended : Ended) (units : List (List ℕ)) → RunBrings m ended units
+      → RunBrings (record m { output = lines }) ended units
+  run_brings lines m (Ran ran) units h = h
+  run_brings lines m (Served done) units h = h
+  run_brings lines m Done units h = h
+  run_brings lines m FramesOut units h = h
+
+  brings_too : (event : Event) (ended : Ended) (units : List (List ℕ)) → MayBring s event ended units
+      → MayBring whole event ended units
+  brings_too (Run user asked) ended units may =
+      let m = machine_at s user in
+      of_old user (λ (e : Equipped). RunBrings e.machine ended units) (run_brings
+      (gone_of user ++ m.output) m ended units may)
+  brings_too (Line user typed) ended units may =
+      let brings = λ (needs : ℕ → Type 0). LineBrings (is_ipl (requested typed.now (user_at s user))) needs units in
+      let here = line_wants_same (gone_of user) (user_at s user) typed.now brings may in
+      of_old user (λ (e : Equipped). LineBrings (is_ipl (requested typed.now e)) (LineWants typed.now e) units) here
+  brings_too (Tick user) ended units may =
+      (of_old user (λ (e : Equipped). OneBrings (TickNeeds e.machine) units) may.0, may.1)
+  brings_too (Deck user cards) ended units may = may
+  brings_too (Serve user device) ended units may =
+      let brings = λ (needs : ℕ → Type 0). EachSuch needs units in
+      let here = device_needs_same (gone_of user) (user_at s user) device brings may in
+      of_old user (λ (e : Equipped). EachSuch (DeviceNeeds device e) units) here
+
+  brought_too : (event : Event) (ended : Ended) → IsBroughtBy s event ended t → IsBroughtBy whole event ended left
+  brought_too event ended (units, paged_in, may) = (units, paged_in, brings_too event ended units may)
+
+  supplied : (event : Event) (ended : Ended) → IsSupplied s event ended t → IsSupplied whole event ended left
+  supplied event ended h = record {
+    between_before = h.between_before;
+    between = h.between;
+    given_back = λ gives. h.given_back (gives_same event ∙ gives);
+    brought = λ gives. brought_too event ended (h.brought (gives_same event ∙ gives));
+  }
+
+step_with : (gone : List (List (List ℕ))) (s : SystemView) (kept : List ReuseValue) (step : Step) → IsStep s step
+    → IsStep (wide gone s kept) (step_having_printed gone step)
+step_with gone s kept step is = record {
+  replied = record {
+    applied = applied gone s kept step.seen is.users step.event step.reply is.replied.applied;
+    reported = reported gone s kept step.seen is.users step.event step.reply is.replied.reported;
+    supplied = supplied gone s kept step.seen is.users step.event step.reply.ended is.replied.supplied;
+  };
+  users = as_many gone step.seen.users ∙ is.users ∙ sym (as_many gone s.users);
+  directory = is.directory;
+  placements = is.placements;
+  confined = is.confined;
+}
+
+-- ---- systems that go on as others
+
+-- lines that were printed before those that were printed before
+abbrev both : List (List (List ℕ)) → List (List (List ℕ)) → List (List (List ℕ))
+both [] more = more
+both (lines ∷ gone) [] = lines ∷ gone
+both (lines ∷ gone) (others ∷ more) = (lines ++ others) ∷ both gone more
+
+both_printed : (gone more : List (List (List ℕ))) (users : List Equipped)
+    → users_having_printed gone (users_having_printed more users) ≡ users_having_printed (both gone more) users
+both_printed [] more users = refl
+both_printed (lines ∷ gone) [] users = refl
+both_printed (lines ∷ gone) (others ∷ more) [] = refl
+both_printed (lines ∷ gone) (others ∷ more) (e ∷ users) =
+    let first = λ (o : List (List ℕ)). let x : Equipped = record e { machine = record e.machine { output = o } } in x in
+    ap (λ (o : List (List ℕ)). first o ∷ users_having_printed gone (users_having_printed more users)) (sym
+    (append_assoc lines others e.machine.output))
+    ∙ ap (λ (us : List Equipped). having (lines ++ others) e ∷ us) (both_printed gone more users)
+
+abbrev outputs : List Equipped → List (List (List ℕ))
+outputs users = map (λ e. e.machine.output) users
+
+outputs_again : (users : List Equipped) → users ≡ users_having_printed (outputs users) (map unprinted users)
+outputs_again [] = refl
+outputs_again (e ∷ users) =
+    let first = λ (o : List (List ℕ)). let x : Equipped = record e { machine = record e.machine { output = o } } in x in
+    ap (λ (us : List Equipped). e ∷ us) (outputs_again users)
+    ∙ ap (λ (o : List (List ℕ)). first o ∷ users_having_printed (outputs users) (map unprinted users)) (sym
+    (append-nil e.machine.output))
+
+pub same_but_kept : (one other : SystemView) → AgreeButKept one other → GoesOnAs one other
+same_but_kept one other agree = record {
+  lines = [];
+  same = ap (λ (s : SystemView). record s { kept = one.kept })
+      (sym agree);
+}
+
+pub steps_go_on : StepsGoOn
+steps_go_on = record {
+  reflexive = λ one. record { lines = []; same = refl };
+  transitive = λ one other last h k. record {
+    lines = both h.lines k.lines;
+    same = h.same
+        ∙ (ap (λ (s : SystemView). record s { users = users_having_printed h.lines s.users; kept = one.kept }) k.same
+        ∙ ap (λ (us : List Equipped). record last { users = us; kept = one.kept })
+        (both_printed h.lines k.lines last.users));
+  };
+  steps = λ one other step same is.
+      subst (λ (s : SystemView). IsStep s (step_having_printed same.lines step)) (sym same.same)
+      (step_with same.lines other one.kept step is);
+  forgets = λ one. record {
+    lines = outputs one.users;
+    same = ap (λ (us : List Equipped). record one { users = us })
+        (outputs_again one.users);
+  };
+}
+
+-- ---- a system that has forgotten them
+
+pub bases_kept : (seats : List SeatParts) → map base_of (map seat_unprinted seats) ≡ map base_of seats
+bases_kept [] = refl
+bases_kept (s ∷ seats) = ap (λ (bases : List SeatBase). base_of s ∷ bases) (bases_kept seats)
+
+module _ (q : QueuesValue) where
+  users_unprinted : (seats : List SeatParts) (volumes : List VolumeFormat) (storages : List (List ℕ))
+      → users_of (seats_on q (map seat_unprinted seats)) volumes storages ≡ map unprinted (users_of
+      (seats_on q seats) volumes storages)
+  users_unprinted [] volumes storages = refl
+  users_unprinted (s ∷ seats) volumes [] = refl
+  users_unprinted (s ∷ seats) volumes (bytes ∷ storages) =
+      ap (λ (us : List Equipped). unprinted (user_with_volumes (seat_on q s) volumes bytes) ∷ us)
+      (users_unprinted seats volumes storages)
+
+  stands_unprinted : (seats : List SeatParts)
+      → placements_among (seats_on q (map seat_unprinted seats)) ≡ placements_among
+      (seats_on q seats)
+  stands_unprinted [] = refl
+  stands_unprinted (s ∷ seats) =
+      ap (λ (ss : List (List Placement)). placements_of s.minidisks ∷ ss) (stands_unprinted seats)
+
+  kept_unprinted : (seats : List SeatParts) → kept_of (seats_on q (map seat_unprinted seats)) ≡ kept_of
+      (seats_on q seats)
+  kept_unprinted [] = refl
+  kept_unprinted (s ∷ seats) = ap (λ (rs : List ReuseValue). s.reuse ∷ rs) (kept_unprinted seats)
+
+  pub seen_forgotten : (seats : List SeatParts) (volumes : List VolumeFormat) (storages : List (List ℕ))
+      (directory : List DirectoryUser) (supply : FrameSupply) (files : List FileNote) (is_spent : Bool)
+      → seen (seats_on q (map seat_unprinted seats)) volumes storages directory supply files is_spent
+      ≡ forgotten (seen (seats_on q seats) volumes storages directory supply files is_spent)
+  seen_forgotten seats volumes storages directory supply files is_spent =
+      rw (users_unprinted seats volumes storages, stands_unprinted seats, kept_unprinted seats) refl

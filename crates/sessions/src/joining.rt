@@ -1,0 +1,9 @@
+//! The order in which started programs join the line.
+ghost use Rattle.sessions.specs.Started.{StartsAreComplete, StartsAreInOrder};
+
+/// States which programs join the line after an event: those of the user's devices that work and
+/// were started since, each once, in the order of their starts.
+pub fn starts_are_in_order()
+    ensures ordered { StartsAreInOrder }
+    ensures complete { StartsAreComplete }
+{}
