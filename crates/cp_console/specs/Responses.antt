@@ -146,8 +146,3 @@ is_panel LineLost = true
 is_panel StoppedDisabledWait = true
 is_panel StoppedEcMode = true
 is_panel (Written line) = true
-
--- whether a program or another user said it
-abbrev pub is_written : Response → Bool
-is_written (Written line) = true
-is_written other = false

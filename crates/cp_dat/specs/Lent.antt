@@ -136,10 +136,6 @@ keeps_frames s t k = record {
   others = k.others;
 }
 
--- nothing changes between frames and themselves
-pub keeps_frames_same : (s : Dat) → KeepsFrames s s
-keeps_frames_same s = keeps_frames s s (keeps_rest_same s)
-
 -- two steps that keep other users' bytes keep them together
 pub keeps_frames_on : (s t u : Dat) → KeepsFrames s t → KeepsFrames t u → KeepsFrames s u
 keeps_frames_on s t u a b = record {

@@ -144,9 +144,7 @@ impl Devices {
         ensures asked { OnErr result (HasClosed (open_files (devices_on self.old queues.old))) }
         ensures other_users { KeepsOtherUsers self.old queues.old self.new queues.new }
     {
-        if self.make_room_for_open(queues).is_err() {
-            return Err(AllocError);
-        }
+        self.make_room_for_open(queues)?;
         self.close_punch_reserved(alloc, queues);
         self.close_printer_reserved(alloc, queues);
         self.put_back(queues);

@@ -24,10 +24,6 @@ pub record ConsoleState : Type 0 where
   -- the bytes that are still to be given
   pub giving : List ℕ
 
--- The line is finished.
-abbrev pub with_line_ended : ConsoleState → ConsoleState
-with_line_ended c = record c { lines = c.lines ++ c.unfinished ∷ []; unfinished = [] }
-
 -- A character joins the line. One that would be the 133rd ends the line first.
 abbrev pub with_character : ConsoleState → ℕ → ConsoleState
 with_character c character =

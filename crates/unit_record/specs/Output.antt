@@ -1,5 +1,5 @@
 -- What a punch or a printer has made: an open file, and closed ones.
-use Rattle.std.specs.Prelude.{ℕ, ◌==◌, Bool, not, List, [], ◌∷◌, ◌++◌, length}
+use Rattle.std.specs.Prelude.{ℕ, List, [], ◌∷◌, ◌++◌}
 use Rattle.unit_record.specs.declared.output.Target.{Target}
 
 -- An entry: the command that made it, and the bytes that it took.
@@ -16,10 +16,6 @@ pub record FileValue : Type 0 where
 pub record OutputValue : Type 0 where
   pub entries : List EntryValue
   pub room : ℕ
-
--- An open file without an entry is none.
-abbrev pub has_entries : List EntryValue → Bool
-has_entries entries = not (length entries == 0)
 
 -- The closed files, once the open one is closed too.
 abbrev pub closed_with : List FileValue → Target → List EntryValue → List FileValue
