@@ -5,8 +5,8 @@ use Rattle.std.proofs.Common.{arith, drop, length, length-append, subst, sym}
 use Rattle.machine_devices.specs.Equipped.{Equipped}
 use Rattle.bare_installation.specs.Bare.{Bare}
 use Rattle.bare_installation.specs.Forgotten.{PrintedLinesDoNotMatter, bare_having_printed, forgotten}
-use Rattle.bare_installation.specs.declared.happening.Happening.{Happening}
-use Rattle.bare_installation.specs.declared.happening.Happening.TheVariants as happenings
+use Rattle.bare_installation.specs.declared.happening.MachineEvent.{MachineEvent}
+use Rattle.bare_installation.specs.declared.happening.MachineEvent.TheVariants as happenings
 use Rattle.sessions.specs.Continuing.{HappensToo, IsToGoOn}
 use Rattle.sessions.specs.Installed.{Step, machine_at, user_at}
 use Rattle.sessions.specs.Schedule.{user_said}
@@ -24,7 +24,7 @@ last_same (line ∷ gone) lines count few =
     ap (λ (n : ℕ). drop n (line ∷ (gone ++ lines))) more ∙ last_same gone lines count few
 
 -- what was said names the one user
-user_same : (event : Happening) → user_said (as_said event) ≡ own
+user_same : (event : MachineEvent) → user_said (as_said event) ≡ own
 user_same (happenings.Run units) = refl
 user_same (happenings.Line typed) = refl
 user_same (happenings.Serve device) = refl

@@ -5,7 +5,7 @@ use Rattle.clap.specs.Words.{with_rule}
 use Rattle.programs.specs.Arguments.{IsFlag, follow_rule, save_rule, terminals_rule, texts_of}
 use Rattle.programs.specs.Arguments.{volume_rule}
 use Rattle.bare370.specs.Options.{storage_named, storage_rule}
-use Rattle.bare370.specs.declared.follow_arguments.FollowOptions.{FollowOptions}
+use Rattle.bare370.specs.declared.follow_arguments.MachineFollowOptions.{MachineFollowOptions}
 
 -- `PROGRAM [--save] [--terminals] --follow STORAGE [VOLUME]...`
 abbrev pub command_of : List ℕ → App
@@ -26,7 +26,7 @@ unfoldable pub HasNoFault : List ℕ → List (List ℕ) → Type 0
 HasNoFault program words = fault_of (command_of program) words ≡ []
 
 -- the options are what these words give
-pub record IsNamed (rows : List Row) (options : FollowOptions) : Type 0 where
+pub record IsNamed (rows : List Row) (options : MachineFollowOptions) : Type 0 where
   pub save : IsFlag (one_of (codes "save") rows) options.save
   pub terminals : IsFlag (one_of (codes "terminals") rows) options.terminals
   pub storage : storage_named rows ≡ Some options.storage

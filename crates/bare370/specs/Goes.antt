@@ -13,8 +13,8 @@ use Rattle.session_script.specs.declared.event.ScriptEvent.TheVariants as script
 use Rattle.bare_installation.specs.Bare.{Bare, bare}
 use Rattle.bare_installation.specs.Forgotten.{bare_having_printed}
 use Rattle.bare_installation.specs.Life.{IsApplied, LacksMemory, MayLackMemory}
-use Rattle.bare_installation.specs.declared.happening.Happening.{Happening}
-use Rattle.bare_installation.specs.declared.happening.Happening.TheVariants as happenings
+use Rattle.bare_installation.specs.declared.happening.MachineEvent.{MachineEvent}
+use Rattle.bare_installation.specs.declared.happening.MachineEvent.TheVariants as happenings
 use Rattle.sessions.specs.Installed.{Installation, Installed}
 
 -- the machine, and the addresses of its devices as scripts know them
@@ -35,7 +35,7 @@ seen_in a = record {
 }
 
 -- an event as a script names it
-abbrev pub as_said : Happening → Said
+abbrev pub as_said : MachineEvent → Said
 as_said (happenings.Run units) = Run own units
 as_said (happenings.Line typed) = Line own typed.now
 as_said (happenings.Serve device) = Serve own device
@@ -44,14 +44,14 @@ as_said (happenings.Deck cards) = Deck own cards.now
 
 -- the event that was said happened to the machine, and was answered so
 pub record HasHappened (old : Alone) (said : Said) (reply : Reply) (new : Alone) : Type 0 where
-  pub event : Happening
+  pub event : MachineEvent
   pub named : as_said event ≡ said
   pub applied : IsApplied old.machine event reply new.machine
   pub addresses : new.addresses ≡ old.addresses
 
 -- it may be refused memory by this machine, of which nothing is said then
 pub record MayLack (old : Alone) (said : Said) (new : Alone) : Type 0 where
-  pub event : Happening
+  pub event : MachineEvent
   pub named : as_said event ≡ said
   pub lacks : MayLackMemory old.machine event
 

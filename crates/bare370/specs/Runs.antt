@@ -13,7 +13,7 @@ use Rattle.programs.specs.Runs.{IsFailedFollowing, IsFailedRun, IsFollowing, IsR
 use Rattle.programs.specs.declared.faults.Failure.{Failure}
 use Rattle.bare370.specs.Goes.{Alone, disks_from, machine_goes, usual_places}
 use Rattle.bare370.specs.declared.arguments.BareOptions.{BareOptions}
-use Rattle.bare370.specs.declared.follow_arguments.FollowOptions.{FollowOptions}
+use Rattle.bare370.specs.declared.follow_arguments.MachineFollowOptions.{MachineFollowOptions}
 
 -- the volumes of its disks
 abbrev pub machine_volumes : Alone → List VolumeFormat
@@ -82,7 +82,7 @@ IsFailedWholeRun Gives remaining options deeds_old deeds_new writer_old writer_n
 -- a machine was made, the parts of a script were followed on that, and the images were saved if
 -- that was asked for, by the options and by the input
 pub record IsWholeFollowing {F : Type 0} (Gives : List ℕ → F → Type 0)
-    (remaining : F → Option (List ℕ)) (options : FollowOptions)
+    (remaining : F → Option (List ℕ)) (options : MachineFollowOptions)
     (deeds_old deeds_new : Option (List Deed))
     (reader_old reader_new writer_old writer_new : Option (List ℕ)) : Type 0 where
   pub first : Alone
@@ -96,7 +96,8 @@ pub record IsWholeFollowing {F : Type 0} (Gives : List ℕ → F → Type 0)
 
 -- what a run that followed parts has done when it fails
 abbrev pub IsFailedWholeFollowing : {F : Type 0} → (List ℕ → F → Type 0) → (F → Option (List ℕ))
-    → FollowOptions → Option (List Deed) → Option (List Deed) → Option (List ℕ) → Option (List ℕ)
+    → MachineFollowOptions → Option (List Deed) → Option (List Deed) → Option (List ℕ)
+    → Option (List ℕ)
     → Option (List ℕ) → Option (List ℕ) → Failure → Type 0
 IsFailedWholeFollowing Gives remaining options deeds_old deeds_new reader_old reader_new writer_old
     writer_new failure =

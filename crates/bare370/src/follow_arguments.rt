@@ -16,7 +16,7 @@ use std::convert::AsStr;
 /// What the words of the program name: `bare370 [--save] [--terminals] --follow STORAGE
 /// [VOLUME]...`.
 #[derive(Drop)]
-pub struct FollowOptions<'a> {
+pub struct MachineFollowOptions<'a> {
     /// The images of the volumes are written back at the end.
     pub save: bool,
     /// How turns ended is left out.
@@ -37,7 +37,7 @@ pub fn follow_arguments<'a, S: AsStr>(
     alloc: Global,
     program: &'a str,
     words: &'a [S],
-) -> Result<FollowOptions<'a>, UsageError>
+) -> Result<MachineFollowOptions<'a>, UsageError>
     ensures ok { IfOk result (IsNamed (rows_named program.entry.now (map S.text words.entry.now))) }
     ensures few { IfOk result (λ options. length options.volumes.items ≤ MOST_VOLUMES) }
     ensures taken { OnOk result (HasNoFault program.entry.now (map S.text words.entry.now)) }
@@ -52,7 +52,10 @@ pub fn follow_arguments<'a, S: AsStr>(
 }
 
 /// Returns the options that were found in the words.
-fn options_in<'a>(alloc: Global, matches: &ArgMatches<'a>) -> Result<FollowOptions<'a>, UsageError>
+fn options_in<'a>(
+    alloc: Global,
+    matches: &ArgMatches<'a>,
+) -> Result<MachineFollowOptions<'a>, UsageError>
     ensures ok { IfOk result (IsNamed (rows_of (found_of matches.now))) }
     ensures few { IfOk result (λ options. length options.volumes.items ≤ MOST_VOLUMES) }
     ensures err { (pages : ℕ) → storage_named (rows_of (found_of matches.now)) ≡ Some pages →
@@ -70,7 +73,7 @@ fn options_in<'a>(alloc: Global, matches: &ArgMatches<'a>) -> Result<FollowOptio
     if volumes.len() > MOST_VOLUMES {
         return Err(usage(alloc, "a machine has at most 16 volumes\n"));
     }
-    Ok(FollowOptions {
+    Ok(MachineFollowOptions {
         save: is_given(matches, "save"),
         terminals: is_given(matches, "terminals"),
         storage,

@@ -9,11 +9,11 @@ ghost use Rattle.s370_subchannels.specs.declared.subchannel.Subchannel.{Subchann
 ghost use Rattle.machine_devices.specs.Devices.{AreAttached, can_attach, devices_new, places_of};
 ghost use Rattle.session_script.specs.Script.{Deck, said, user_of_event};
 ghost use Rattle.bare_installation.specs.Life.{IsApplied, MayLackMemory};
-ghost use Rattle.bare_installation.specs.declared.happening.Happening.{Happening};
+ghost use Rattle.bare_installation.specs.declared.happening.MachineEvent.{MachineEvent};
 ghost use Rattle.bare370.specs.Goes.{IsWhole, addresses_of, as_said, disks_from, first_disk};
 ghost use Rattle.bare370.specs.Goes.{machine_goes, usual_places};
 
-use bare_installation::{BARE, Bare, Happening, printed_lines_do_not_matter};
+use bare_installation::{BARE, Bare, MachineEvent, printed_lines_do_not_matter};
 use ckd_volume::{Arm, Sense, Unit, Volume};
 use machine_channels::AttachedDisk;
 use machine_devices::{AttachError, FileNote, Places, Reply, SeenDevices};
@@ -143,7 +143,7 @@ impl Installation for OneMachine {
         self.machine.files().get(place).copied()
     }
 
-    fn happen(&mut self, alloc: Global, event: &ScriptEvent<'_>) -> Result<Reply, Refused> {
+    fn apply_event(&mut self, alloc: Global, event: &ScriptEvent<'_>) -> Result<Reply, Refused> {
         match event {
             ScriptEvent::Deck(_, cards) => {
                 let Ok(cards) = cards.to_vec(alloc) else {
@@ -194,10 +194,10 @@ fn has_address(addresses: &[u16], address: u16) -> bool
 
 /// The operator gives a deck of these cards.
 fn give(alloc: Global, machine: &mut Bare, cards: &[Card]) -> Result<Reply, Refused>
-    ensures ok { IfOk result (λ reply. (event : Happening) × (as_said event ≡ Deck 0 cards.now)
+    ensures ok { IfOk result (λ reply. (event : MachineEvent) × (as_said event ≡ Deck 0 cards.now)
         × IsApplied machine.old event reply machine.new) }
     ensures err { IfErr result
-        (λ error. (error ≡ Refused.Memory) × (event : Happening)
+        (λ error. (error ≡ Refused.Memory) × (event : MachineEvent)
         × (as_said event ≡ Deck 0 cards.now)
         × MayLackMemory machine.old event) }
 {
@@ -211,10 +211,10 @@ fn give(alloc: Global, machine: &mut Bare, cards: &[Card]) -> Result<Reply, Refu
 }
 
 /// That the operator gives these cards.
-fn deck<'a>(cards: &'a [Card]) -> Happening<'a>
+fn deck<'a>(cards: &'a [Card]) -> MachineEvent<'a>
     ensures { as_said result ≡ Deck 0 cards.now }
 {
-    Happening::Deck(cards)
+    MachineEvent::Deck(cards)
 }
 
 /// Lets an event happen that a script says with all that it has.
@@ -222,10 +222,10 @@ fn ask(alloc: Global, machine: &mut Bare, event: &ScriptEvent<'_>) -> Result<Rep
     requires user { IfSome (user_of_event event.now) (λ user. user < 1) }
     requires event { IsWhole event.now }
     ensures ok { IfOk result
-        (λ reply. (happening : Happening) × (as_said happening ≡ said event.now)
+        (λ reply. (happening : MachineEvent) × (as_said happening ≡ said event.now)
         × IsApplied machine.old happening reply machine.new) }
     ensures err { IfErr result
-        (λ error. (error ≡ Refused.Memory) × (happening : Happening)
+        (λ error. (error ≡ Refused.Memory) × (happening : MachineEvent)
         × (as_said happening ≡ said event.now)
         × MayLackMemory machine.old happening) }
 {
@@ -239,16 +239,16 @@ fn ask(alloc: Global, machine: &mut Bare, event: &ScriptEvent<'_>) -> Result<Rep
 }
 
 /// Returns what a line of a script says with all that it has.
-fn happening<'a>(event: &ScriptEvent<'a>) -> Happening<'a>
+fn happening<'a>(event: &ScriptEvent<'a>) -> MachineEvent<'a>
     requires user { IfSome (user_of_event event.now) (λ user. user < 1) }
     requires event { IsWhole event.now }
     ensures { as_said result ≡ said event.now }
 {
     match *event {
-        ScriptEvent::Run(_, units) => Happening::Run(units),
-        ScriptEvent::Line(_, typed) => Happening::Line(typed),
-        ScriptEvent::Tick(_) => Happening::Tick,
-        ScriptEvent::Serve(_, device) => Happening::Serve(DevAddr::new(device)),
+        ScriptEvent::Run(_, units) => MachineEvent::Run(units),
+        ScriptEvent::Line(_, typed) => MachineEvent::Line(typed),
+        ScriptEvent::Tick(_) => MachineEvent::Tick,
+        ScriptEvent::Serve(_, device) => MachineEvent::Serve(DevAddr::new(device)),
         ScriptEvent::Deck(_, _) | ScriptEvent::Auto(_) => unreachable!(),
     }
 }

@@ -7,7 +7,7 @@ ghost use Rattle.bare370.specs.Runs.{IsWholeFollowing, IsWholeRun, blocks_of, de
 ghost use Rattle.bare370.specs.Runs.{machine_volumes};
 
 use crate::arguments::BareOptions;
-use crate::follow_arguments::FollowOptions;
+use crate::follow_arguments::MachineFollowOptions;
 use crate::installation::{OneMachine, machine_of};
 use ckd_volume::Volume;
 use cp_directory::StorageSize;
@@ -66,7 +66,7 @@ pub fn run_files<F: FileStore, W: HostWriter>(
 pub fn follow_machine<F: FileStore, R: HostReader, W: HostWriter>(
     alloc: Global,
     files: &mut F,
-    options: &FollowOptions<'_>,
+    options: &MachineFollowOptions<'_>,
     reader: &mut R,
     writer: &mut W,
 ) -> Result<(), Failure>

@@ -21,8 +21,8 @@ use Rattle.machine_devices.proofs.Forgotten.{delivered_so, line_so, lives, serve
 use Rattle.bare_installation.specs.Bare.{Bare, IsTyped, with_deck, world_of}
 use Rattle.bare_installation.specs.Forgotten.{PrintedLinesDoNotMatter, bare_having_printed}
 use Rattle.bare_installation.specs.Life.{IsAnswer, IsApplied, IsDone, IsGiven, IsRun, IsService, IsTicked}
-use Rattle.bare_installation.specs.declared.happening.Happening.{Happening}
-use Rattle.bare_installation.specs.declared.happening.Happening.TheVariants as happenings
+use Rattle.bare_installation.specs.declared.happening.MachineEvent.{MachineEvent}
+use Rattle.bare_installation.specs.declared.happening.MachineEvent.TheVariants as happenings
 
 module _ (gone : List (List ℕ)) where
   abbrev wide : Bare → Bare
@@ -103,7 +103,7 @@ module _ (gone : List (List ℕ)) where
   given_so cards old new reply (Served done) h = absurd h
   given_so cards old new reply FramesOut h = absurd h
 
-  done_so : (event : Happening) (old new : Bare) (reply : Reply) → IsDone old event reply new
+  done_so : (event : MachineEvent) (old new : Bare) (reply : Reply) → IsDone old event reply new
       → IsDone (wide old) event reply (wide new)
   done_so (happenings.Run count) old new reply h = run_so count old new reply reply.ended h
   done_so (happenings.Line typed) old new reply h = answer_so typed.now old new reply reply.ended h

@@ -16,8 +16,8 @@ use Rattle.machine_devices.specs.Coming.{comes_by_line, comes_from_operator, com
 use Rattle.machine_devices.specs.Equipped.{Equipped}
 use Rattle.machine_devices.specs.Life.{Event as Local, Units, Serve as Serves, Line as Types, Tick as Ticks}
 use Rattle.machine_devices.specs.Life.{Deck as Gets, Leaves, Lives}
-use Rattle.bare_installation.specs.declared.happening.Happening.{Happening}
-use Rattle.bare_installation.specs.declared.happening.Happening.TheVariants as happenings
+use Rattle.bare_installation.specs.declared.happening.MachineEvent.{MachineEvent}
+use Rattle.bare_installation.specs.declared.happening.MachineEvent.TheVariants as happenings
 use Rattle.bare_installation.specs.Bare.{Bare, IsTyped, world_of}
 use Rattle.bare_installation.specs.Life.{AttentionAgreesThroughout, EachIsLife, IsDone, IsAnswer, IsGiven, IsRun}
 use Rattle.bare_installation.specs.Life.{IsService, IsTicked, coming, happens, own}
@@ -63,7 +63,7 @@ paged_in index (Some d) a b h =
 
 -- ---- one event
 
-abbrev Once : Bare → Happening → Reply → Bare → Type 0
+abbrev Once : Bare → MachineEvent → Reply → Bare → Type 0
 Once old event reply new =
     Lives as_reached (happens old event ++ coming_of (coming old event new) reply.delivered) old.equipped new.equipped
 
@@ -124,7 +124,7 @@ deck_once cards old new reply (Ran ran) h = absurd h
 deck_once cards old new reply (Served done) h = absurd h
 deck_once cards old new reply FramesOut h = absurd h
 
-once : (old new : Bare) (event : Happening) (reply : Reply) → IsDone old event reply new → Once old event reply new
+once : (old new : Bare) (event : MachineEvent) (reply : Reply) → IsDone old event reply new → Once old event reply new
 once old new (happenings.Run count) reply h = run_once count old new reply reply.ended h
 once old new (happenings.Line typed) reply h = line_once typed.now old new reply reply.ended h
 once old new (happenings.Serve device) reply h = serve_once device old new reply reply.ended h

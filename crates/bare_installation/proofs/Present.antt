@@ -19,8 +19,8 @@ use Rattle.unit_record.specs.Printer.{printer_machine, printer_needs_memory}
 use Rattle.s370_subchannels.specs.Programs.{program_of}
 use Rattle.machine_channels.specs.Channels.{StopsDisk}
 use Rattle.machine_channels.specs.Disks.{DiskAt}
-use Rattle.machine_devices.specs.declared.places.Kind.{Kind}
-use Rattle.machine_devices.specs.declared.places.Kind.TheVariants as kinds
+use Rattle.machine_devices.specs.declared.places.AttachedDevice.{AttachedDevice}
+use Rattle.machine_devices.specs.declared.places.AttachedDevice.TheVariants as kinds
 use Rattle.machine_devices.specs.Devices.{kind_at}
 use Rattle.machine_devices.specs.Equipped.{Equipped, storage_in}
 use Rattle.machine_devices.specs.Stopped.{StopsAt, StopsKind, StopsProgram}
@@ -37,7 +37,7 @@ of_disk : (start : Caw) (m : Memory) (disk : Option DiskAt) (page : Page)
 of_disk start m None page h = h
 of_disk start m (Some disk) page h = never_stuck disk_machine nothing_needed start m disk.unit page h
 
-of_kind : (reads : Reading) (kind : Kind) (start : Caw) (e : Equipped) (page : Page)
+of_kind : (reads : Reading) (kind : AttachedDevice) (start : Caw) (e : Equipped) (page : Page)
     → StopsKind reads all_there kind start e (errors.Absent page) → ⊥
 of_kind reads kinds.Console start e page (inl h) =
     never_stuck console_machine console_needs_memory start (storage_in e.machine) e.devices.console page h
@@ -50,7 +50,7 @@ of_kind reads kinds.Printer start e page h =
     never_stuck printer_machine printer_needs_memory start (storage_in e.machine) e.devices.printer page h
 of_kind reads (kinds.Disk index) start e page h = of_disk start (storage_in e.machine) (slice_get e.disks index) page h
 
-of_program : (reads : Reading) (kind : Option Kind) (start : Option Caw) (e : Equipped) (page : Page)
+of_program : (reads : Reading) (kind : Option AttachedDevice) (start : Option Caw) (e : Equipped) (page : Page)
     → StopsProgram reads all_there kind start e (errors.Absent page) → ⊥
 of_program reads None start e page h = h
 of_program reads (Some kind) None e page h = h

@@ -8,7 +8,7 @@ use Rattle.machine_panel.specs.Tick.{ticked}
 use Rattle.machine_devices.specs.Comes.{LineMay}
 use Rattle.machine_devices.specs.Attention.{AttentionAgrees}
 use Rattle.machine_devices.specs.Coming.{comes_by_line, comes_from_operator, coming_of}
-use Rattle.machine_devices.specs.declared.reply.Saying.TheVariants.{Nothing}
+use Rattle.machine_devices.specs.declared.reply.UserResponse.TheVariants.{Nothing}
 use Rattle.machine_devices.specs.declared.reply.Delivery.{Delivery}
 use Rattle.machine_devices.specs.declared.reply.Ended.{Ended}
 use Rattle.machine_devices.specs.declared.reply.Ended.TheVariants.{Ran, Served, Done}
@@ -19,8 +19,8 @@ use Rattle.machine_devices.specs.Notes.{next_file}
 use Rattle.machine_devices.specs.Replies.{given, saying}
 use Rattle.machine_devices.specs.Serve.{IsServedAt}
 use Rattle.machine_devices.specs.Stopped.{StopsAt}
-use Rattle.bare_installation.specs.declared.happening.Happening.{Happening}
-use Rattle.bare_installation.specs.declared.happening.Happening.TheVariants as happenings
+use Rattle.bare_installation.specs.declared.happening.MachineEvent.{MachineEvent}
+use Rattle.bare_installation.specs.declared.happening.MachineEvent.TheVariants as happenings
 use Rattle.bare_installation.specs.Bare.{Bare, IsTyped, with_deck, world_of}
 
 -- ---- what an event leaves, and what is reported
@@ -73,7 +73,7 @@ IsGiven cards old reply Done new =
 IsGiven cards old reply other new = ⊥
 
 -- each event ends in its own way
-abbrev pub IsDone : Bare → Happening → Reply → Bare → Type 0
+abbrev pub IsDone : Bare → MachineEvent → Reply → Bare → Type 0
 IsDone old (happenings.Run count) reply new = IsRun count old reply reply.ended new
 IsDone old (happenings.Line typed) reply new = IsAnswer typed.now old reply reply.ended new
 IsDone old (happenings.Serve device) reply new = IsService device old reply reply.ended new
@@ -81,7 +81,7 @@ IsDone old happenings.Tick reply new = IsTicked old reply reply.ended new
 IsDone old (happenings.Deck cards) reply new = IsGiven cards.now old reply reply.ended new
 
 -- and the reply says how many lines have joined the console
-pub record IsApplied (old : Bare) (event : Happening) (reply : Reply) (new : Bare) : Type 0 where
+pub record IsApplied (old : Bare) (event : MachineEvent) (reply : Reply) (new : Bare) : Type 0 where
   pub does : IsDone old event reply new
   pub lines : reply.lines ≡ length new.equipped.machine.output - length old.equipped.machine.output
 
@@ -94,7 +94,7 @@ LacksMemory device old = StopsAt as_reached (λ page. true) device old.equipped 
 
 -- a run and a tick take no memory; a line takes some only where one to a machine with devices may,
 -- and cards where there are any
-abbrev pub MayLackMemory : Bare → Happening → Type 0
+abbrev pub MayLackMemory : Bare → MachineEvent → Type 0
 MayLackMemory old (happenings.Run count) = ⊥
 MayLackMemory old (happenings.Line typed) = LineMay typed.now old.equipped
 MayLackMemory old (happenings.Serve device) = LacksMemory device old
@@ -105,7 +105,7 @@ MayLackMemory old (happenings.Deck cards) = 0 < length cards.now
 
 -- an event, its reply, and the machine that it leaves
 pub record Step : Type 0 where
-  pub event : Happening
+  pub event : MachineEvent
   pub reply : Reply
   pub left : Bare
 
@@ -119,7 +119,7 @@ IsHistory first (step ∷ steps) last = IsApplied first step.event step.reply st
 -- user by it
 
 -- of a deck only that it comes
-abbrev pub happens : Bare → Happening → List Local
+abbrev pub happens : Bare → MachineEvent → List Local
 happens old (happenings.Run count) = Units count ∷ []
 happens old (happenings.Line typed) = Types (world_of old) typed.now ∷ []
 happens old (happenings.Serve device) = Serves device ∷ []
@@ -127,7 +127,7 @@ happens old happenings.Tick = Ticks ∷ []
 happens old (happenings.Deck cards) = []
 
 -- the file that the punch closed is the first after those of before
-abbrev pub coming : Bare → Happening → Bare → Delivery → Local
+abbrev pub coming : Bare → MachineEvent → Bare → Delivery → Local
 coming old (happenings.Line typed) left =
     comes_by_line 0 (length old.equipped.devices.punched) left.equipped
 coming old (happenings.Deck cards) left = comes_from_operator cards.now

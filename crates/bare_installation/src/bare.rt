@@ -21,13 +21,13 @@ ghost use Rattle.bare_installation.specs.Bare.{with_deck};
 ghost use Rattle.bare_installation.specs.Life.{AttentionAgreesThroughout, EachIsLife, IsApplied};
 ghost use Rattle.bare_installation.specs.Life.{LacksMemory, MayLackMemory};
 
-use crate::happening::Happening;
+use crate::happening::MachineEvent;
 use cp_console::responses::Response;
 use cp_spool::Queues;
 use machine_channels::{AttachedDisk, DedicatedChannels};
 use machine_devices::{
-    AttachError, Delivered, Delivery, Devices, Ended, FileKind, FileNote, Places, Reply, Saying,
-    SeenDevices, copy_of,
+    AttachError, Delivered, Delivery, Devices, Ended, FileKind, FileNote, Places, Reply,
+    SeenDevices, UserResponse, copy_of,
 };
 use machine_panel::{Machine, MachineRan, Mode};
 use s370_channel::ChannelError;
@@ -173,36 +173,36 @@ impl Bare {
     /// # Errors
     ///
     /// `AllocError` if memory is refused; what this is then is not specified.
-    pub fn apply(&mut self, alloc: Global, event: Happening<'_>) -> Result<Reply, AllocError>
+    pub fn apply(&mut self, alloc: Global, event: MachineEvent<'_>) -> Result<Reply, AllocError>
         ensures applied { IfOk result (λ reply. IsApplied self.old event.entry reply self.new) }
         ensures memory { OnErr result (MayLackMemory self.old event.entry) }
     {
         let printed = self.printed();
         match event {
-            Happening::Run(count) => {
+            MachineEvent::Run(count) => {
                 let reported = self.units(count);
                 Ok(self.reply(
                     printed,
                     Ended::Ran(reported.ran),
-                    Saying::of(reported.notice),
+                    UserResponse::of(reported.notice),
                 ))
             }
-            Happening::Line(typed) => self.line(alloc, typed),
-            Happening::Serve(device) => match self.serve(device) {
-                Ok(done) => Ok(self.reply(printed, Ended::Served(done), Saying::Nothing)),
+            MachineEvent::Line(typed) => self.line(alloc, typed),
+            MachineEvent::Serve(device) => match self.serve(device) {
+                Ok(done) => Ok(self.reply(printed, Ended::Served(done), UserResponse::Nothing)),
                 Err(error) => Err(error),
             },
-            Happening::Tick => {
+            MachineEvent::Tick => {
                 self.tick();
-                Ok(self.reply(printed, Ended::Done, Saying::Nothing))
+                Ok(self.reply(printed, Ended::Done, UserResponse::Nothing))
             }
-            Happening::Deck(cards) => self.give(alloc, cards),
+            MachineEvent::Deck(cards) => self.give(alloc, cards),
         }
     }
 
     /// Returns the reply of an event that delivered nothing and says this, if the console had
     /// printed so many lines before it.
-    pub(crate) fn reply(&self, printed: usize, ended: Ended, said: Saying) -> Reply
+    pub(crate) fn reply(&self, printed: usize, ended: Ended, said: UserResponse) -> Reply
         ensures { result ≡ record {
           ended = ended;
           said = said;
@@ -225,7 +225,7 @@ impl Bare {
         ensures reply { IfOk result
             (λ reply. reply ≡ record {
               ended = Ended.Done;
-              said = Saying.Nothing;
+              said = UserResponse.Nothing;
               lines = length self.new.equipped.machine.output - length
                   self.old.equipped.machine.output;
               delivered = given 0 (next_file self.old.files) cards.now;
@@ -235,10 +235,10 @@ impl Bare {
         let printed = self.printed();
         let number = self.next_file();
         if cards.is_empty() {
-            return Ok(self.reply(printed, Ended::Done, Saying::Nothing));
+            return Ok(self.reply(printed, Ended::Done, UserResponse::Nothing));
         }
         self.deck(copy_of(alloc, cards)?)?;
-        let reply = self.reply(printed, Ended::Done, Saying::Nothing);
+        let reply = self.reply(printed, Ended::Done, UserResponse::Nothing);
         Ok(Reply {
             delivered: Some(Delivered {
                 to: UserNo::new(0),

@@ -5,7 +5,7 @@ use unit_record::Card;
 
 /// What can happen to the machine.
 #[derive(Clone, Copy)]
-pub enum Happening<'a> {
+pub enum MachineEvent<'a> {
     /// It is let run for at most so many units.
     Run(u32),
     /// A line is typed.

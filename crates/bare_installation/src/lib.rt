@@ -11,11 +11,11 @@
 //! ```
 //! use bare_installation::Bare;
 //! use cp_console::responses::Response;
-//! use machine_devices::Saying;
+//! use machine_devices::UserResponse;
 //! use s370_store::PlainStorage;
 //!
 //! let mut machine = Bare::without_devices(alloc, PlainStorage::new(alloc, 4)?)?;
-//! assert_eq!(rt; machine.line(alloc, b"LOGON")?.said, Saying::Said(Response::LogonOk));
+//! assert_eq!(rt; machine.line(alloc, b"LOGON")?.said, UserResponse::Said(Response::LogonOk));
 //! machine.line(alloc, b"STORE 100 47F00100")?; // a branch to itself
 //! machine.line(alloc, b"BEGIN 100")?;
 //! assert_eq!(rt; machine.units(100).ran.units, 100);
@@ -33,4 +33,4 @@ mod line;
 pub use alone::BARE;
 pub use bare::{Bare, attention_agrees_throughout, each_is_life};
 pub use forgetting::printed_lines_do_not_matter;
-pub use happening::Happening;
+pub use happening::MachineEvent;

@@ -1,7 +1,7 @@
 -- Runs of a copied program.
 use Rattle.std.specs.Prelude.{ℕ, List, Option}
 use Rattle.std.proofs.Common.{ap, ◌∙◌, sym}
-use Rattle.channel_laws.specs.declared.places.Place.{Place}
+use Rattle.channel_laws.specs.declared.places.CcwLocation.{CcwLocation}
 use Rattle.s370_walk.specs.declared.parts.NextCcw.{NextCcw}
 use Rattle.s370_walk.specs.declared.parts.Ending.{Ending}
 use Rattle.channel_laws.specs.Tracks.{IsTracked}
@@ -16,7 +16,7 @@ use Rattle.channel_laws.specs.Mapped.{Program, Named, IsPaged, IsMapped, copied_
 use Rattle.channel_laws.proofs.Mapping.{real_end}
 use Rattle.channel_laws.specs.Copy.{guest_of, IsPlace, IsCopyOf, MeetsFrozen}
 
-pub frozen_end : {D : Type 0} (real : ℕ → Option ℕ) (c : Program) (places : List Place) (form : Form) (m0 : Memory) (h : Setting D) (spot : NextCcw) (m n : Memory) (d e : D) (end : Ending) (n' : Memory)
+pub frozen_end : {D : Type 0} (real : ℕ → Option ℕ) (c : Program) (places : List CcwLocation) (form : Form) (m0 : Memory) (h : Setting D) (spot : NextCcw) (m n : Memory) (d e : D) (end : Ending) (n' : Memory)
     → IsCopyOf places c form m0 → IsPlace places (form.text m0) spot.at → IsPaged real → IsMapped real (Named c) m n → Reaches (real_form real c) h (Fetching spot n d) (Over end n' e)
     → MeetsFrozen real c (words_frozen form m0) h (renamed_spot (guest_of places) spot) m d (renamed_ending (guest_of places) end) n' e
 frozen_end {D = D} real c places form m0 h spot m n d e end n' copy there paged map to =
@@ -26,7 +26,7 @@ frozen_end {D = D} real c places form m0 h spot m n d e end n' copy there paged 
     record { storage = met.storage; reaches = record { steps = met.reaches.steps; comes = sym same ∙ ap (renamed (guest_of places)) met.reaches.comes }; mapped = met.mapped; kept = met.kept }
 
 -- and so does the guest's own walk, if the program is steady
-pub steady_end : {D : Type 0} (real : ℕ → Option ℕ) (c : Program) (places : List Place) (form : Form) (m0 : Memory) (h : Setting D) (spot : NextCcw) (m n : Memory) (d e : D) (end : Ending) (n' : Memory)
+pub steady_end : {D : Type 0} (real : ℕ → Option ℕ) (c : Program) (places : List CcwLocation) (form : Form) (m0 : Memory) (h : Setting D) (spot : NextCcw) (m n : Memory) (d e : D) (end : Ending) (n' : Memory)
     → IsCopyOf places c form m0 → IsPlace places (form.text m0) spot.at → IsPaged real → IsMapped real (Named c) m n → Reaches (real_form real c) h (Fetching spot n d) (Over end n' e)
     → IsSteady form h m0 (Fetching (renamed_spot (guest_of places) spot) m d)
     → MeetsFrozen real c form h (renamed_spot (guest_of places) spot) m d (renamed_ending (guest_of places) end) n' e

@@ -17,8 +17,8 @@ use Rattle.std.specs.Prelude.{◌^◌, ◌%◌, ◌==◌, nat_lt}
 use Rattle.std.proofs.lemmas.Bool.{lt-ltb}
 use Rattle.std.proofs.lemmas.Bool.Decides.{nat_tests}
 use Rattle.s370_walk.specs.Blocks.{block_number, after, served}
-use Rattle.s370_walk.specs.declared.parts.Kind.{Kind}
-use Rattle.s370_walk.specs.declared.parts.Kind.TheVariants.{Gives, Takes, TakesUpTo}
+use Rattle.s370_walk.specs.declared.parts.Direction.{Direction}
+use Rattle.s370_walk.specs.declared.parts.Direction.TheVariants.{Gives, Takes, TakesUpTo}
 use Rattle.s370_store.specs.Memory.{Memory}
 use Rattle.s370_walk.specs.Hardware.{fault_of, area, put_byte, byte_at}
 use Rattle.s370_walk.specs.Walk.{Setting, State, Fetching, Moving, Over, walk, Reaches, byte_moved, given_to, given_at, taken_from, taken_at, stepped, skips, index_of, order_of}
@@ -160,7 +160,7 @@ module _ {D : Type 0} (real : ℕ → Option ℕ) (c : Program) (old : Memory) (
       by_real (Some r) e = rw (map.0.tests Fetch h.key a r e) (taken_at_mapped a r load load' (same a r e) e (fault_of n h.key (area Fetch r 1)))
 
   -- One byte moves alike.
-  pub byte_mapped : (place : Option ℕ) (load load' : ℕ → ℕ) (kind : Kind) → ((a r : ℕ) → real a ≡ Some r → load a ≡ load' r) → IsKnown real c place
+  pub byte_mapped : (place : Option ℕ) (load load' : ℕ → ℕ) (kind : Direction) → ((a r : ℕ) → real a ≡ Some r → load a ≡ load' r) → IsKnown real c place
       → Related (mapped_pair real c old) (byte_moved h p place load kind m d) (byte_moved h (moved_to p b) (real_place real place) load' kind n d)
   byte_mapped place load load' Gives same names = by_skip (skips p.word)
     where

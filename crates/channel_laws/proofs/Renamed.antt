@@ -7,8 +7,8 @@ use Rattle.s370_walk.specs.declared.parts.NextCcw.{NextCcw}
 use Rattle.s370_walk.specs.declared.parts.Position.{Position}
 use Rattle.s370_walk.specs.declared.parts.Ccw.{Ccw}
 use Rattle.s370_walk.specs.declared.parts.Progress.TheVariants.{At, Ended}
-use Rattle.s370_walk.specs.declared.parts.Kind.{Kind}
-use Rattle.s370_walk.specs.declared.parts.Kind.TheVariants.{Gives, Takes, TakesUpTo}
+use Rattle.s370_walk.specs.declared.parts.Direction.{Direction}
+use Rattle.s370_walk.specs.declared.parts.Direction.TheVariants.{Gives, Takes, TakesUpTo}
 use Rattle.s370_walk.specs.declared.parts.Answer.{Answer}
 use Rattle.s370_walk.specs.declared.parts.Answer.TheVariants as answers
 use Rattle.s370_store.specs.Memory.{Memory}
@@ -101,7 +101,7 @@ module _ {D : Type 0} (guest : ℕ → ℕ) (h : Setting D) where
   taken_renamed p None load m d = refl
   taken_renamed p (Some a) load m d = taken_at_renamed p a load (fault_of m h.key (area Fetch a 1)) m d
 
-  byte_renamed : (p : Position) (place : Option ℕ) (load : ℕ → ℕ) (kind : Kind) (m : Memory) (d : D) → renamed guest (byte_moved h p place load kind m d) ≡ byte_moved h (renamed_position guest p) place load kind m d
+  byte_renamed : (p : Position) (place : Option ℕ) (load : ℕ → ℕ) (kind : Direction) (m : Memory) (d : D) → renamed guest (byte_moved h p place load kind m d) ≡ byte_moved h (renamed_position guest p) place load kind m d
   byte_renamed p place load Gives m d = by_skip (skips p.word)
     where
       by_skip : (skips : Bool) → renamed guest (if skips then Moving (stepped p p.before) m (h.machine.gave d) else given_to h p place m d)
@@ -204,7 +204,7 @@ module _ {D : Type 0} (inside : ℕ → Type 0) (tracks : Position → Type 0) (
   step_at : (p : Position) (b : Option ℕ) → IsAt inside tracks copied p → tracks (stepped p b) → IsAt inside tracks copied (stepped p b)
   step_at p b x t = record { there = x.there; word = x.word; leads = x.leads; tracked = t }
 
-  byte_inside : (p : Position) (place : Option ℕ) (load : ℕ → ℕ) (kind : Kind) (m : Memory) (d : D) → (is_skipped p kind ≡ true → IsAt inside tracks copied (stepped p p.before))
+  byte_inside : (p : Position) (place : Option ℕ) (load : ℕ → ℕ) (kind : Direction) (m : Memory) (d : D) → (is_skipped p kind ≡ true → IsAt inside tracks copied (stepped p p.before))
       → (is_skipped p kind ≡ false → (a : ℕ) → place ≡ Some a → IsAt inside tracks copied (stepped p (Some a))) → IsInside inside tracks copied (byte_moved h p place load kind m d)
   byte_inside p place load Gives m d over steps = by_skip (skips p.word) over steps
     where

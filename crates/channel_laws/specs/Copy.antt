@@ -2,7 +2,7 @@
 -- guest's own.
 use Rattle.std.specs.Prelude.{false, ◌≤◌, ◌-◌, ◌⊎◌, slice_index_or, ℕ, ◌<◌, ◌≡◌, List, length}
 use Rattle.std.specs.Prelude.{Option, None}
-use Rattle.channel_laws.specs.declared.places.Place.{Place}
+use Rattle.channel_laws.specs.declared.places.CcwLocation.{CcwLocation}
 use Rattle.s370_walk.specs.declared.parts.NextCcw.{NextCcw}
 use Rattle.s370_walk.specs.declared.parts.Ending.{Ending}
 use Rattle.s370_walk.specs.declared.parts.Ccw.{Ccw}
@@ -14,20 +14,20 @@ use Rattle.channel_laws.specs.Frozen.{words_frozen}
 use Rattle.channel_laws.specs.Mapped.{Program, Named, IsMapped, IsKept, copied_form}
 
 -- places past those of the copy stand for addresses at which the guest has no word
-abbrev pub past : ℕ → Place
+abbrev pub past : ℕ → CcwLocation
 past a = record { address = a - 0x80000000; continues = false }
 
 -- the guest's address of a place of the copy
-abbrev pub guest_of : List Place → ℕ → ℕ
+abbrev pub guest_of : List CcwLocation → ℕ → ℕ
 guest_of places a = (slice_index_or places a (past a)).address
 
 -- a place of the copy, or one past them for an address at which there is no word
-abbrev pub IsPlace : List Place → (ℕ → Option Ccw) → ℕ → Type 0
+abbrev pub IsPlace : List CcwLocation → (ℕ → Option Ccw) → ℕ → Type 0
 IsPlace places text a = (a < length places)
     ⊎ ((length places ≤ a) × (text (guest_of places a) ≡ None))
 
 -- a copy of the words that a program can reach, as they were in m0
-abbrev pub IsCopyOf : List Place → Program → Form → Memory → Type 0
+abbrev pub IsCopyOf : List CcwLocation → Program → Form → Memory → Type 0
 IsCopyOf places c form m0 =
     IsCopy (guest_of places) (IsPlace places (form.text m0)) (IsTracked c.lists) (copied_form c)
     (words_frozen form m0)

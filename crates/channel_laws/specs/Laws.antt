@@ -6,7 +6,7 @@ use Rattle.s370_walk.specs.Frozen.{IsSteady}
 use Rattle.s370_store.specs.Memory.{Memory}
 use Rattle.s370_walk.specs.Stuck.{IsStuck}
 use Rattle.s370_walk.specs.Walk.{Form, Setting, State, Fetching, Over, Reaches}
-use Rattle.channel_laws.specs.declared.places.Place.{Place}
+use Rattle.channel_laws.specs.declared.places.CcwLocation.{CcwLocation}
 use Rattle.channel_laws.specs.Copy.{guest_of, IsPlace, IsCopyOf, MeetsFrozen}
 use Rattle.channel_laws.specs.Frozen.{words_frozen}
 use Rattle.channel_laws.specs.Mapped.{Program, Named, IsMapped, IsPaged, MeetsEnd, real_form}
@@ -26,7 +26,7 @@ EndsAsTheCopy D =
 -- Then so does the guest's own program, with the words and lists as they were when it was copied.
 abbrev pub EndsAsTheFrozen : Type 0 → Type 0
 EndsAsTheFrozen D =
-    (real : ℕ → Option ℕ) (c : Program) (places : List Place) (form : Form) (m0 : Memory)
+    (real : ℕ → Option ℕ) (c : Program) (places : List CcwLocation) (form : Form) (m0 : Memory)
     (h : Setting D) (spot : NextCcw)
     (m n : Memory) (d e : D) (end : Ending) (n' : Memory)
     → IsCopyOf places c form m0 → IsPlace places (form.text m0) spot.at → IsPaged real
@@ -38,7 +38,7 @@ EndsAsTheFrozen D =
 -- And so it does as it goes, if it is steady.
 abbrev pub EndsAsTheSteady : Type 0 → Type 0
 EndsAsTheSteady D =
-    (real : ℕ → Option ℕ) (c : Program) (places : List Place) (form : Form) (m0 : Memory)
+    (real : ℕ → Option ℕ) (c : Program) (places : List CcwLocation) (form : Form) (m0 : Memory)
     (h : Setting D) (spot : NextCcw)
     (m n : Memory) (d e : D) (end : Ending) (n' : Memory)
     → IsCopyOf places c form m0 → IsPlace places (form.text m0) spot.at → IsPaged real

@@ -8,7 +8,7 @@
 //! ([`prefixed_walks_are_walks`]), and over addresses that are present it never needs a page that
 //! is not ([`real_walks_are_never_stuck`]).
 //!
-//! A walk is that of `s370_walk`, and so is a program that is steady; [`Place`] is what a copy has
+//! A walk is that of `s370_walk`, and so is a program that is steady; [`CcwLocation`] is what a copy has
 //! in the place of an address of the guest. Two walks are compared step by step, by a `Pairing` of
 //! their storages and devices that each step keeps.
 #![tactic(auto)]
@@ -20,4 +20,4 @@ pub use laws::{
     prefixed_walks_are_walks, real_walks_are_never_stuck, real_walks_are_the_copys,
     real_walks_are_the_guests,
 };
-pub use places::Place;
+pub use places::CcwLocation;

@@ -52,7 +52,7 @@ pub(crate) fn run<R: AllocGlobal + Files + Env + Eprint>(rt: &R) -> Result<(), T
 }
 
 /// Where an image goes: something that makes the writer when it is asked to, and not before.
-pub trait Output {
+pub trait ImageOutput {
     /// What the image is written to.
     type Writer: HostWriter + Drop;
 
@@ -80,7 +80,7 @@ pub trait Output {
 ///
 /// A `ToolFailure`: the first fault of the text or the image, a failure of a file, or refused
 /// memory.
-pub fn make_image<O: Output>(
+pub fn make_image<O: ImageOutput>(
     alloc: Global,
     text: &[u8],
     output: &mut O,
@@ -105,7 +105,7 @@ struct OutputFile<'a, R> {
     path: &'a str,
 }
 
-impl<R: AllocGlobal + Files> Output for OutputFile<'_, R> {
+impl<R: AllocGlobal + Files> ImageOutput for OutputFile<'_, R> {
     type Writer = Counted<io::BufWriter<R::File, Global>>;
 
     ghost makes = { λ _ writer. failures_of writer ≡ 0 };

@@ -16,7 +16,7 @@ const DIGITS: usize = 7;
 
 /// What the first line states: a volume without records.
 #[derive(Clone, Copy)]
-pub struct Header {
+pub struct StatedVolume {
     /// The serial number, with blanks after it.
     pub serial: [u8; 6],
     /// How many cylinders, 1 to 808.
@@ -25,7 +25,7 @@ pub struct Header {
 
 /// A cylinder and a head, and the words that follow them.
 #[derive(Clone, Copy)]
-pub struct Place<'a> {
+pub struct TrackOperands<'a> {
     pub cylinder: u32,
     pub head: u32,
     pub rest: &'a [u8],
@@ -49,7 +49,7 @@ pub enum VolumeStatement {
 }
 
 /// Returns what the first line states.
-pub fn read_header(line: &[u8]) -> Option<Header>
+pub fn read_header(line: &[u8]) -> Option<StatedVolume>
     ensures { option_map blank_of result ≡ first_of line.now }
 {
     let (verb, operands) = cut_word(line);
@@ -61,14 +61,14 @@ pub fn read_header(line: &[u8]) -> Option<Header>
 }
 
 /// `VOLUME serial cylinders`, after its first word.
-fn read_volume(operands: &[u8]) -> Option<Header>
+fn read_volume(operands: &[u8]) -> Option<StatedVolume>
     ensures { option_map blank_of result ≡ volume_by operands.now }
 {
     let (serial, digits) = cut_word(operands);
     let serial = serial_of(serial)?;
     let cylinders = decimal_of(DIGITS, digits?)?;
     if 1 <= cylinders && cylinders <= u32::from(MOST_CYLINDERS) {
-        Some(Header {
+        Some(StatedVolume {
             serial,
             cylinders: cylinders as u16,
         })
@@ -113,7 +113,7 @@ fn read_operands(
 }
 
 /// Returns the first two words, which are a cylinder and a head.
-fn read_place(operands: &[u8]) -> Option<Place<'_>>
+fn read_place(operands: &[u8]) -> Option<TrackOperands<'_>>
     ensures { option_map placed result ≡ placed_of operands.now }
 {
     let (cylinder, more) = cut_word(operands);
@@ -121,7 +121,7 @@ fn read_place(operands: &[u8]) -> Option<Place<'_>>
     let (head, rest) = cut_word(more?);
     let head = decimal_of(DIGITS, head)?;
     let rest = rest?;
-    Some(Place {
+    Some(TrackOperands {
         cylinder,
         head,
         rest,
@@ -129,7 +129,7 @@ fn read_place(operands: &[u8]) -> Option<Place<'_>>
 }
 
 /// `HOME cylinder head address`, after its place.
-fn read_home(place: Place<'_>) -> Option<VolumeStatement>
+fn read_home(place: TrackOperands<'_>) -> Option<VolumeStatement>
     ensures { option_map stated result ≡ home_by (placed place.entry) }
 {
     let home = five_of(place.rest)?;
@@ -137,7 +137,7 @@ fn read_home(place: Place<'_>) -> Option<VolumeStatement>
 }
 
 /// `REC cylinder head id key data`, after its place.
-fn read_add(alloc: Global, place: Place<'_>) -> Result<Option<VolumeStatement>, AllocError>
+fn read_add(alloc: Global, place: TrackOperands<'_>) -> Result<Option<VolumeStatement>, AllocError>
     ensures { IfOk result (λ found. option_map stated found ≡ add_by (placed place.entry)) }
 {
     match read_record(alloc, place.rest)? {

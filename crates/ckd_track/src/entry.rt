@@ -6,14 +6,14 @@ ghost use Rattle.ckd_track.specs.Laid.{total, total_cost, entry_at, records_of, 
 
 /// A record's id and how long its key and data are.
 #[derive(Clone, Copy, Debug, PartialEq, Eq)]
-pub struct Entry {
+pub struct CountArea {
     pub id: [u8; 5],
     pub key: u8,
     pub content: u16,
 }
 
 /// Returns the bytes of so many records.
-pub fn spread(entries: &[Entry]) -> usize
+pub fn spread(entries: &[CountArea]) -> usize
     requires { total entries.now ≤ 13165 }
     ensures sum { result ≡ total entries.now }
     ensures small { result ≤ 13165 }
@@ -26,7 +26,7 @@ pub fn spread(entries: &[Entry]) -> usize
 }
 
 /// Returns what they take of the track.
-pub fn cost_of(entries: &[Entry]) -> usize
+pub fn cost_of(entries: &[CountArea]) -> usize
     requires { total_cost entries.now ≤ 13165 }
     ensures sum { result ≡ total_cost entries.now }
     ensures small { result ≤ 13165 }
@@ -56,7 +56,7 @@ pub fn record_cost(key: usize, content: usize) -> usize
 }
 
 /// Where the bytes of a record begin.
-pub fn start_of(entries: &[Entry], i: usize) -> usize
+pub fn start_of(entries: &[CountArea], i: usize) -> usize
     requires fits { total_cost entries.now ≤ 13165 }
     requires within { i ≤ length entries.now }
     ensures sum { result ≡ total (take i entries.now) }
@@ -66,7 +66,7 @@ pub fn start_of(entries: &[Entry], i: usize) -> usize
 }
 
 /// Returns whether there is room for a record after the first `i`.
-pub fn has_room(entries: &[Entry], i: usize, key: usize, content: usize) -> bool
+pub fn has_room(entries: &[CountArea], i: usize, key: usize, content: usize) -> bool
     requires fits { total_cost entries.now ≤ 13165 }
     requires within { i ≤ length entries.now }
     ensures { result ≡ (nat_le key 255 && nat_le
@@ -82,7 +82,13 @@ pub fn has_room(entries: &[Entry], i: usize, key: usize, content: usize) -> bool
 }
 
 /// Adds a record, for which there is room.
-pub fn append(entries: &mut Vec<Entry>, area: &mut Vec<u8>, id: [u8; 5], key: &[u8], content: &[u8])
+pub fn append(
+    entries: &mut Vec<CountArea>,
+    area: &mut Vec<u8>,
+    id: [u8; 5],
+    key: &[u8],
+    content: &[u8],
+)
     requires key { length key.now ≤ 255 }
     requires content { length content.now ≤ 13030 }
     requires entries { length entries.old.items < vec_capacity entries.old }
@@ -94,7 +100,7 @@ pub fn append(entries: &mut Vec<Entry>, area: &mut Vec<u8>, id: [u8; 5], key: &[
     ensures more_entries { vec_capacity entries.old ≤ vec_capacity entries.new }
     ensures more_text { vec_capacity area.old ≤ vec_capacity area.new }
 {
-    let entry = Entry {
+    let entry = CountArea {
         id,
         key: key.len() as u8,
         content: content.len() as u16,
@@ -121,7 +127,7 @@ pub struct Span {
     pub end: usize,
 }
 
-pub fn span_of(entries: &[Entry], i: usize) -> Span
+pub fn span_of(entries: &[CountArea], i: usize) -> Span
     requires fits { total_cost entries.now ≤ 13165 }
     requires within { i < length entries.now }
     ensures start { result.start ≡ total (take i entries.now) }
@@ -145,7 +151,7 @@ pub struct Record<'a> {
     pub content: &'a [u8],
 }
 
-pub fn part<'a>(entries: &[Entry], area: &'a [u8], i: usize) -> Record<'a>
+pub fn part<'a>(entries: &[CountArea], area: &'a [u8], i: usize) -> Record<'a>
     requires fits { total_cost entries.now ≤ 13165 }
     requires whole { length area.now ≡ total entries.now }
     requires within { i < length entries.now }
@@ -169,7 +175,7 @@ pub fn part<'a>(entries: &[Entry], area: &'a [u8], i: usize) -> Record<'a>
 
 /// Puts a record after the first `i`, which there is room for; all later ones are erased.
 pub fn replace_after(
-    entries: &mut Vec<Entry>,
+    entries: &mut Vec<CountArea>,
     area: &mut Vec<u8>,
     i: usize,
     id: [u8; 5],
@@ -198,7 +204,7 @@ pub fn replace_after(
 }
 
 /// Writes the data of a record.
-pub fn put_content(entries: &[Entry], area: &mut [u8], i: usize, bytes: &[u8])
+pub fn put_content(entries: &[CountArea], area: &mut [u8], i: usize, bytes: &[u8])
     requires laid { IsLaid entries.now area.old }
     requires within { i < length entries.now }
     requires long { length bytes.now ≡ (entry_at entries.now i).content }
@@ -216,7 +222,7 @@ pub fn put_content(entries: &[Entry], area: &mut [u8], i: usize, bytes: &[u8])
 }
 
 /// Writes key and data of a record, which are one after the other.
-pub fn put_both(entries: &[Entry], area: &mut [u8], i: usize, bytes: &[u8])
+pub fn put_both(entries: &[CountArea], area: &mut [u8], i: usize, bytes: &[u8])
     requires laid { IsLaid entries.now area.old }
     requires within { i < length entries.now }
     requires long { length bytes.now

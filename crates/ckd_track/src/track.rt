@@ -5,7 +5,7 @@ ghost use Rattle.std.specs.Result.{is_ok};
 ghost use Rattle.ckd_track.specs.Track as room;
 ghost use Rattle.ckd_track.specs.Track.{record_in, with_record, with_last};
 
-use crate::entry::{Entry, Record, has_room, part, put_both, put_content, replace_after};
+use crate::entry::{CountArea, Record, has_room, part, put_both, put_content, replace_after};
 use std::alloc::{AllocError, Global};
 use std::marker::Model;
 use thiserror::Error;
@@ -25,7 +25,7 @@ pub struct TrackFull;
 #[derive(Drop)]
 pub struct Track {
     home: [u8; 5],
-    entries: Vec<Entry>,
+    entries: Vec<CountArea>,
     area: Vec<u8>,
 }
 

@@ -4,8 +4,8 @@ use Rattle.s370_walk.specs.declared.bits.UnitStatus.{UnitStatus}
 use Rattle.s370_walk.specs.declared.parts.Answer.{Answer}
 use Rattle.s370_walk.specs.declared.parts.Answer.TheVariants.{Refused, Input, Output}
 use Rattle.ckd_track.specs.Track.{Record}
-use Rattle.ckd_volume.specs.declared.parts.Place.{Place}
-use Rattle.ckd_volume.specs.declared.parts.Place.TheVariants.{Index}
+use Rattle.ckd_volume.specs.declared.parts.Orientation.{Orientation}
+use Rattle.ckd_volume.specs.declared.parts.Orientation.TheVariants.{Index}
 use Rattle.ckd_volume.specs.declared.parts.WriteAccess.{WriteAccess}
 use Rattle.ckd_volume.specs.declared.parts.WriteAccess.TheVariants as rights
 use Rattle.ckd_volume.specs.declared.parts.PendingCommand.{PendingCommand}
@@ -84,7 +84,7 @@ abbrev pub takes : Front → ℕ → PendingCommand → Begun
 takes f count job = record { answer = Output count; front = record f { job = job } }
 
 -- the arm has this head, and is at this place after so many index points
-abbrev pub at : Front → ℕ → ℕ → Place → Front
+abbrev pub at : Front → ℕ → ℕ → Orientation → Front
 at f head points place = record f { head = head; place = place; points = points }
 
 -- A record without data is a unit exception: after the bytes before its data, or at the start where

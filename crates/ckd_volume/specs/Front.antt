@@ -4,8 +4,8 @@
 use Rattle.std.specs.Prelude.{ℕ, ◌+◌, ◌<◌, ◌==◌, Bool, nat_lt, true, List, [], length, slice_index}
 use Rattle.std.specs.Prelude.{slice_index_or}
 use Rattle.ckd_track.specs.Track.{Record, TrackFormat, no_record}
-use Rattle.ckd_volume.specs.declared.parts.Place.{Place}
-use Rattle.ckd_volume.specs.declared.parts.Place.TheVariants.{Index, Gap, Count, Key}
+use Rattle.ckd_volume.specs.declared.parts.Orientation.{Orientation}
+use Rattle.ckd_volume.specs.declared.parts.Orientation.TheVariants.{Index, Gap, Count, Key}
 use Rattle.ckd_volume.specs.declared.parts.WriteAccess.{WriteAccess}
 use Rattle.ckd_volume.specs.declared.parts.PendingCommand.{PendingCommand}
 use Rattle.ckd_volume.specs.declared.parts.Sense.{Sense}
@@ -20,7 +20,7 @@ pub record Front : Type 0 where
   pub writable : Bool
   -- the head of the arm, and where it is on the track
   pub head : ℕ
-  pub place : Place
+  pub place : Orientation
   pub mask : ℕ
   -- the index points that were passed since the last seek, head switch, read or write
   pub points : ℕ
@@ -55,21 +55,21 @@ abbrev pub record_at : Cylinder → ℕ → ℕ → Record
 record_at cylinder head i = slice_index_or (records_at cylinder head) i no_record
 
 -- the record that is next at a place, if the track has it
-abbrev pub next_at : Place → ℕ
+abbrev pub next_at : Orientation → ℕ
 next_at Index = 0
 next_at (Gap i) = i
 next_at (Count i) = i + 1
 next_at (Key i) = i + 1
 
 -- the record whose count or key was just passed, else the next
-abbrev pub here_at : Place → ℕ
+abbrev pub here_at : Orientation → ℕ
 here_at Index = 0
 here_at (Gap i) = i
 here_at (Count i) = i
 here_at (Key i) = i
 
 -- the record whose count was just passed, else the next
-abbrev pub counted_at : Place → ℕ
+abbrev pub counted_at : Orientation → ℕ
 counted_at Index = 0
 counted_at (Gap i) = i
 counted_at (Count i) = i

@@ -2,8 +2,8 @@
 use Rattle.std.specs.Prelude.{ℕ, zero, suc, ◌+◌, ◌-◌, ◌==◌, Bool, nat_le, if◌then◌else◌, List, []}
 use Rattle.std.specs.Prelude.{◌∷◌, drop, Option, None, Some, bit_and}
 use Rattle.ckd_track.specs.Track.{Record}
-use Rattle.ckd_volume.specs.declared.parts.Place.{Place}
-use Rattle.ckd_volume.specs.declared.parts.Place.TheVariants.{Index, Gap, Count, Key}
+use Rattle.ckd_volume.specs.declared.parts.Orientation.{Orientation}
+use Rattle.ckd_volume.specs.declared.parts.Orientation.TheVariants.{Index, Gap, Count, Key}
 use Rattle.ckd_volume.specs.declared.parts.Found.{Found}
 use Rattle.ckd_volume.specs.declared.parts.Found.TheVariants.{There, Lost}
 use Rattle.ckd_volume.specs.Front.{Front, Cylinder, records_at}
@@ -98,7 +98,7 @@ abbrev pub over_index : ℕ → Front → Found
 over_index code f = if is_multitrack code then index_switched f else index_passed f
 
 -- the index point for a command at a place of the track
-abbrev pub to_index : ℕ → Front → Place → Found
+abbrev pub to_index : ℕ → Front → Orientation → Found
 to_index code f Index = There f.head 0 f.points
 to_index code f (Gap i) = over_index code f
 to_index code f (Count i) = over_index code f

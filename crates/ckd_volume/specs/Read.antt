@@ -2,7 +2,7 @@
 use Rattle.std.specs.Prelude.{ℕ, ◌+◌, ◌++◌, List, if◌then◌else◌}
 use Rattle.s370_walk.specs.declared.parts.Order.{Order}
 use Rattle.ckd_track.specs.Track.{Record, count_bytes}
-use Rattle.ckd_volume.specs.declared.parts.Place.TheVariants.{Gap, Count}
+use Rattle.ckd_volume.specs.declared.parts.Orientation.TheVariants.{Gap, Count}
 use Rattle.ckd_volume.specs.declared.parts.Found.{Found}
 use Rattle.ckd_volume.specs.declared.parts.Found.TheVariants.{There, Lost}
 use Rattle.ckd_volume.specs.Front.{Front, Cylinder, track_at, record_at}

@@ -4,7 +4,7 @@ use Rattle.std.specs.declared.cmp.Ordering.{Ordering}
 use Rattle.std.specs.declared.cmp.Ordering.TheVariants as orders
 use Rattle.std.specs.Ordering.{nat_cmp}
 use Rattle.std.specs.Cmp.Lexicographic.{slice_cmp}
-use Rattle.ckd_volume.specs.declared.parts.Place.TheVariants.{Gap, Count, Key}
+use Rattle.ckd_volume.specs.declared.parts.Orientation.TheVariants.{Gap, Count, Key}
 use Rattle.ckd_volume.specs.declared.parts.WriteAccess.{WriteAccess}
 use Rattle.ckd_volume.specs.declared.parts.WriteAccess.TheVariants as rights
 use Rattle.ckd_volume.specs.declared.parts.Comparison.{Comparison}

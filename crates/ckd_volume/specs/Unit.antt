@@ -6,7 +6,7 @@ use Rattle.s370_walk.specs.declared.bits.UnitStatus.{UnitStatus}
 use Rattle.s370_walk.specs.declared.parts.Order.{Order}
 use Rattle.s370_walk.specs.Hardware.{Machine}
 use Rattle.ckd_track.specs.Track.{TrackFormat}
-use Rattle.ckd_volume.specs.declared.parts.Place.TheVariants.{Index}
+use Rattle.ckd_volume.specs.declared.parts.Orientation.TheVariants.{Index}
 use Rattle.ckd_volume.specs.declared.parts.PendingCommand.{PendingCommand}
 use Rattle.ckd_volume.specs.declared.parts.PendingCommand.TheVariants as jobs
 use Rattle.ckd_volume.specs.declared.parts.WriteAccess.TheVariants as rights

@@ -3,7 +3,7 @@ use Rattle.std.specs.Prelude.{ℕ, ◌+◌, ◌*◌, ◌==◌, Bool, true, false
 use Rattle.std.specs.Prelude.{if◌then◌else◌, List, length, take, drop, slice_index, bit_and}
 use Rattle.s370_walk.specs.declared.parts.Answer.TheVariants.{Refused}
 use Rattle.ckd_track.specs.Track.{Record, TrackFormat, with_record, with_last, has_room}
-use Rattle.ckd_volume.specs.declared.parts.Place.TheVariants.{Gap}
+use Rattle.ckd_volume.specs.declared.parts.Orientation.TheVariants.{Gap}
 use Rattle.ckd_volume.specs.declared.parts.WriteAccess.{WriteAccess}
 use Rattle.ckd_volume.specs.declared.parts.WriteAccess.TheVariants as rights
 use Rattle.ckd_volume.specs.declared.parts.PendingCommand.{PendingCommand}

@@ -4,11 +4,11 @@ ghost use Rattle.ckd_volume.specs.Begin as begin;
 ghost use Rattle.ckd_volume.specs.Control as table;
 ghost use Rattle.ckd_volume.specs.End as table_end;
 ghost use Rattle.ckd_volume.specs.Unit as unit;
-ghost use Rattle.ckd_volume.specs.declared.parts.Place.TheVariants as places;
+ghost use Rattle.ckd_volume.specs.declared.parts.Orientation.TheVariants as places;
 
 use crate::cylinder::HEADS;
 use crate::panel::ControlUnit;
-use crate::parts::{PendingCommand, Place};
+use crate::parts::{Orientation, PendingCommand};
 use s370_walk::{Answer, Order, UnitStatus};
 
 /// A track, as a seek names it.
@@ -133,7 +133,7 @@ impl ControlUnit {
         ensures after { self.new ≡ table_end.resting
             (record (self.old) { head = head; place = places.Index; points = 0 }) }
     {
-        self.go(head, 0, Place::Index);
+        self.go(head, 0, Orientation::Index);
         self.end(UnitStatus::NONE)
     }
 

@@ -7,7 +7,7 @@ ghost use Rattle.ckd_volume.specs.declared.parts.Wanted.TheVariants as wanted;
 
 use crate::cylinder::Cylinder;
 use crate::panel::ControlUnit;
-use crate::parts::{Found, Place, Wanted};
+use crate::parts::{Found, Orientation, Wanted};
 use ckd_track::{Record, Track};
 
 /// Second sense byte of what is not found.
@@ -18,40 +18,40 @@ const FILE_PROTECTED: u8 = 0x04;
 const END_OF_CYLINDER: u8 = 0x20;
 
 /// Returns the record that is next at a place, if the track has it.
-pub(crate) fn next_at(place: Place) -> usize
+pub(crate) fn next_at(place: Orientation) -> usize
     requires { front.next_at place ≤ 97 }
     ensures { result ≡ front.next_at place }
 {
     match place {
-        Place::Index => 0,
-        Place::Gap(i) => i,
-        Place::Count(i) => i + 1,
-        Place::Key(i) => i + 1,
+        Orientation::Index => 0,
+        Orientation::Gap(i) => i,
+        Orientation::Count(i) => i + 1,
+        Orientation::Key(i) => i + 1,
     }
 }
 
 /// Returns the record whose count or key was just passed, else the next.
-pub(crate) fn here_at(place: Place) -> usize
+pub(crate) fn here_at(place: Orientation) -> usize
     ensures { result ≡ front.here_at place }
 {
     match place {
-        Place::Index => 0,
-        Place::Gap(i) => i,
-        Place::Count(i) => i,
-        Place::Key(i) => i,
+        Orientation::Index => 0,
+        Orientation::Gap(i) => i,
+        Orientation::Count(i) => i,
+        Orientation::Key(i) => i,
     }
 }
 
 /// Returns the record whose count was just passed, else the next.
-pub(crate) fn counted_at(place: Place) -> usize
+pub(crate) fn counted_at(place: Orientation) -> usize
     requires { front.next_at place ≤ 97 }
     ensures { result ≡ front.counted_at place }
 {
     match place {
-        Place::Index => 0,
-        Place::Gap(i) => i,
-        Place::Count(i) => i,
-        Place::Key(i) => i + 1,
+        Orientation::Index => 0,
+        Orientation::Gap(i) => i,
+        Orientation::Count(i) => i,
+        Orientation::Key(i) => i + 1,
     }
 }
 
@@ -164,7 +164,7 @@ impl ControlUnit {
         ensures found { result ≡ orientation.to_index code self.now self.now.place }
         ensures head { front.head_of result < 19 }
     {
-        if self.place == Place::Index {
+        if self.place == Orientation::Index {
             return Found::There(self.head, 0, self.points);
         }
         if code < 128 {

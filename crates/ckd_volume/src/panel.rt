@@ -4,14 +4,14 @@ ghost use Rattle.std.specs.Prelude.{◌≡◌, ◌≤◌, ◌<◌, ◌+◌, ◌+
 ghost use Rattle.std.specs.Prelude.{IfOk};
 ghost use Rattle.s370_walk.specs.declared.parts.Answer.TheVariants as answers;
 ghost use Rattle.ckd_volume.specs.declared.parts.PendingCommand.TheVariants as jobs;
-ghost use Rattle.ckd_volume.specs.declared.parts.Place.TheVariants as places;
+ghost use Rattle.ckd_volume.specs.declared.parts.Orientation.TheVariants as places;
 ghost use Rattle.ckd_volume.specs.declared.parts.WriteAccess.TheVariants as rights;
 ghost use Rattle.ckd_volume.specs.Front as front;
 ghost use Rattle.ckd_volume.specs.Begin as table;
 ghost use Rattle.ckd_volume.specs.End as table_end;
 ghost use Rattle.ckd_volume.specs.Unit as unit;
 
-use crate::parts::{PendingCommand, Place, Sense, WriteAccess};
+use crate::parts::{Orientation, PendingCommand, Sense, WriteAccess};
 use s370_walk::{Answer, UnitStatus};
 use std::alloc::{AllocError, Global};
 use std::marker::Model;
@@ -24,7 +24,7 @@ pub(crate) const LONGEST: usize = 65798;
 pub struct ControlUnit {
     pub(crate) writable: bool,
     pub(crate) head: usize,
-    pub(crate) place: Place,
+    pub(crate) place: Orientation,
     pub(crate) mask: u8,
     pub(crate) points: u8,
     pub(crate) right: WriteAccess,
@@ -86,7 +86,7 @@ impl ControlUnit {
         Ok(ControlUnit {
             writable,
             head,
-            place: Place::Index,
+            place: Orientation::Index,
             mask: 0,
             points: 0,
             right: WriteAccess::Nothing,
@@ -102,7 +102,7 @@ impl ControlUnit {
         ensures { self.new ≡ table.starting self.old first }
     {
         if first {
-            self.place = Place::Index;
+            self.place = Orientation::Index;
             self.mask = 0;
             self.points = 0;
         }
@@ -163,7 +163,7 @@ impl ControlUnit {
     }
 
     /// The arm has this head, and is at this place.
-    pub(crate) fn go(&mut self, head: usize, points: u8, place: Place)
+    pub(crate) fn go(&mut self, head: usize, points: u8, place: Orientation)
         requires head { head < 19 }
         requires place { front.next_at place ≤ 97 }
         ensures { self.new ≡ table.at self.old head points place }

@@ -4,7 +4,7 @@ use s370_walk::UnitStatus;
 
 /// Where the head is on the track.
 #[derive(Clone, Copy, Debug, PartialEq, Eq)]
-pub enum Place {
+pub enum Orientation {
     /// At the index point.
     Index,
     /// Before this record.

@@ -7,7 +7,7 @@ ghost use Rattle.ckd_volume.specs.Read as table;
 
 use crate::cylinder::Cylinder;
 use crate::panel::ControlUnit;
-use crate::parts::{Found, Place};
+use crate::parts::{Found, Orientation};
 use ckd_track::Record;
 use s370_walk::{Answer, Order, UnitStatus};
 
@@ -49,7 +49,7 @@ impl ControlUnit {
             Found::Lost(head, second) => self.lose(head, second),
             Found::There(head, _, _) => {
                 let home = cylinder.track(head).home();
-                self.go(head, 0, Place::Gap(0));
+                self.go(head, 0, Orientation::Gap(0));
                 self.hold(&home);
                 self.give_held(UnitStatus::NONE)
             }
@@ -69,7 +69,7 @@ impl ControlUnit {
                 let there = cylinder.track(head).record(i);
                 let id = there.id;
                 let lengths = lengths(there);
-                self.go(head, 0, Place::Count(i));
+                self.go(head, 0, Orientation::Count(i));
                 self.hold(&id);
                 self.hold(&lengths);
                 self.give_held(UnitStatus::NONE)
@@ -88,7 +88,7 @@ impl ControlUnit {
             Found::Lost(head, second) => self.lose(head, second),
             Found::There(head, i, _) => {
                 let content = cylinder.track(head).record(i).content;
-                self.go(head, 0, Place::Gap(i + 1));
+                self.go(head, 0, Orientation::Gap(i + 1));
                 self.hold(content);
                 self.give_data_held(exception(content))
             }
@@ -106,7 +106,7 @@ impl ControlUnit {
             Found::Lost(head, second) => self.lose(head, second),
             Found::There(head, i, _) => {
                 let there = cylinder.track(head).record(i);
-                self.go(head, 0, Place::Gap(i + 1));
+                self.go(head, 0, Orientation::Gap(i + 1));
                 self.hold(there.key);
                 self.hold(there.content);
                 self.give_data_held(exception(there.content))
@@ -128,7 +128,7 @@ impl ControlUnit {
                 let there = cylinder.track(head).record(i);
                 let id = there.id;
                 let lengths = lengths(there);
-                self.go(head, 0, Place::Gap(i + 1));
+                self.go(head, 0, Orientation::Gap(i + 1));
                 self.hold(&id);
                 self.hold(&lengths);
                 self.hold(there.key);

@@ -6,7 +6,7 @@ ghost use Rattle.ckd_volume.specs.Search as table;
 
 use crate::cylinder::Cylinder;
 use crate::panel::ControlUnit;
-use crate::parts::{Comparison, Found, PendingCommand, Place, WriteAccess};
+use crate::parts::{Comparison, Found, Orientation, PendingCommand, WriteAccess};
 use s370_walk::{Answer, UnitStatus};
 
 impl ControlUnit {
@@ -19,7 +19,7 @@ impl ControlUnit {
         match found {
             Found::Lost(head, second) => self.lose(head, second),
             Found::There(head, _, points) => {
-                self.go(head, points, Place::Gap(0));
+                self.go(head, points, Orientation::Gap(0));
                 self.take_for(4, PendingCommand::SearchHome)
             }
         }
@@ -40,7 +40,7 @@ impl ControlUnit {
             Found::Lost(head, second) => self.lose(head, second),
             Found::There(head, i, points) => {
                 let _few = cylinder.track(head).len();
-                self.go(head, points, Place::Count(i));
+                self.go(head, points, Orientation::Count(i));
                 self.take_for(5, PendingCommand::SearchId(comparison, i))
             }
         }
@@ -56,7 +56,7 @@ impl ControlUnit {
             Found::Lost(head, second) => self.lose(head, second),
             Found::There(head, i, points) => {
                 let key = cylinder.track(head).record(i).key;
-                self.go(head, points, Place::Key(i));
+                self.go(head, points, Orientation::Key(i));
                 self.take_for(key.len() as u32, PendingCommand::SearchKey(i))
             }
         }

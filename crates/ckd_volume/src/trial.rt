@@ -63,7 +63,8 @@ fn copy_cylinder(
     requires inside { index < length copies.old.items }
     requires room { length copies.old.items ≡ length own.now }
     ensures copied { OnOk result (IsSome (slice_index_or copies.new.items index None)) }
-    ensures same { overlaid own.now copies.new.items ≡ overlaid own.now copies.old.items }
+    ensures overlay_unchanged { overlaid own.now copies.new.items ≡ overlaid own.now
+        copies.old.items }
     ensures room { length copies.new.items ≡ length own.now }
     ensures err { OnErr result (copies.new.items ≡ copies.old.items) }
 {

@@ -3,13 +3,13 @@ ghost use Rattle.std.specs.Prelude.{◌≡◌, ◌≤◌, ◌<◌, [], length, �
 ghost use Rattle.std.specs.Prelude.{slice_index, slice_index_or, IsOk, IfOk, OnOk};
 ghost use Rattle.ckd_volume.specs.Front as front;
 ghost use Rattle.ckd_volume.specs.Control.{halfword, sought};
-ghost use Rattle.ckd_volume.specs.declared.parts.Place.TheVariants as places;
+ghost use Rattle.ckd_volume.specs.declared.parts.Orientation.TheVariants as places;
 ghost use Rattle.ckd_volume.specs.declared.parts.WriteAccess.TheVariants as rights;
 ghost use Rattle.ckd_volume.specs.declared.parts.PendingCommand.TheVariants as jobs;
 
 use crate::cylinder::HEADS;
 use crate::panel::ControlUnit;
-use crate::parts::{PendingCommand, Place, Sense};
+use crate::parts::{Orientation, PendingCommand, Sense};
 use crate::volume::Volume;
 use s370_walk::{Answer, Device, Order, UnitStatus};
 use std::alloc::{AllocError, Global};

@@ -6,12 +6,12 @@ ghost use Rattle.ckd_volume.specs.End as table_end;
 ghost use Rattle.ckd_volume.specs.End.{stands};
 ghost use Rattle.ckd_volume.specs.Write as table;
 ghost use Rattle.ckd_volume.specs.Begin as begin;
-ghost use Rattle.ckd_volume.specs.declared.parts.Place.TheVariants as places;
+ghost use Rattle.ckd_volume.specs.declared.parts.Orientation.TheVariants as places;
 ghost use Rattle.ckd_volume.specs.declared.parts.WriteAccess.TheVariants as rights;
 
 use crate::cylinder::Cylinder;
 use crate::panel::{ControlUnit, LONGEST};
-use crate::parts::{PendingCommand, Place, WriteAccess};
+use crate::parts::{Orientation, PendingCommand, WriteAccess};
 use crate::read::exception;
 use s370_walk::{Answer, UnitStatus};
 
@@ -74,7 +74,7 @@ impl ControlUnit {
         }
         let count = track.record(i).content.len();
         let head = self.head;
-        self.go(head, 0, Place::Gap(i + 1));
+        self.go(head, 0, Orientation::Gap(i + 1));
         if count == 0 {
             return Answer::Refused(UnitStatus::UNIT_EXCEPTION);
         }
@@ -107,7 +107,7 @@ impl ControlUnit {
         let there = track.record(i);
         let count = there.key.len() + there.content.len();
         let head = self.head;
-        self.go(head, 0, Place::Gap(i + 1));
+        self.go(head, 0, Orientation::Gap(i + 1));
         if count == 0 {
             return Answer::Refused(UnitStatus::UNIT_EXCEPTION);
         }
@@ -227,7 +227,7 @@ impl ControlUnit {
         ensures after { self.new ≡ table_end.resting
             (record (self.old) { place = places.Gap next; points = 0; right = rights.Record }) }
     {
-        self.place = Place::Gap(next);
+        self.place = Orientation::Gap(next);
         self.points = 0;
         self.right = WriteAccess::Record;
         self.end(UnitStatus::NONE)

@@ -12,7 +12,7 @@ use Rattle.s370_channel.specs.Guest.{guest_text, guest_written}
 use Rattle.s370_channel.specs.declared.running.ChannelError.{ChannelError}
 use Rattle.s370_channel.specs.declared.running.ChannelError.TheVariants as errors
 use Rattle.s370_walk.specs.Stuck.{IsStuck}
-use Rattle.channel_laws.specs.declared.places.Place.{Place}
+use Rattle.channel_laws.specs.declared.places.CcwLocation.{CcwLocation}
 use Rattle.channel_laws.specs.Frozen.{words_frozen}
 use Rattle.s370_walk.specs.Frozen.{IsSteady}
 use Rattle.channel_laws.specs.Renaming.{renamed_ending}
@@ -63,7 +63,7 @@ pub lent_in : (r : Real) → length (lent_bytes r.dat.now) ≤ 4294967295
 lent_in r small = lent (lent_bytes r.dat.now) (lent_keys r.dat.now) r.area.now (lent_pool r.dat.now).supply.owners
     (user_of r.dat.now) small (few_frames r)
 
-module _ {D : Type 0} (h : Setting D) (places : List Place) (nodes : List Node) (start : ℕ) (m0 : Memory) (r : Real)
+module _ {D : Type 0} (h : Setting D) (places : List CcwLocation) (nodes : List Node) (start : ℕ) (m0 : Memory) (r : Real)
     (d : D) (t : IsTranslatedFor r.dat.now places nodes m0) (small : length (lent_bytes r.dat.now) ≤ 4294967295)
     (whole : length (lent_bytes r.dat.now) % 4096 ≡ 0) where
   written_is : table_written nodes ≡ real_written (real_in r.dat.now) t.guests
@@ -160,7 +160,7 @@ same_there old new kept page =
     (λ u. is_there (lent_pool old).supply.owners u page) kept.same_user
 
 -- a run leaves a program that is as well translated for what it leaves
-pub kept_translated : (r s : Real) (places : List Place) (nodes : List Node) (m0 : Memory) → KeepsReal r s
+pub kept_translated : (r s : Real) (places : List CcwLocation) (nodes : List Node) (m0 : Memory) → KeepsReal r s
     → IsTranslatedFor r.dat.now places nodes m0 → IsTranslatedFor s.dat.now places nodes m0
 kept_translated r s places nodes m0 kept t = record {
   guests = t.guests;

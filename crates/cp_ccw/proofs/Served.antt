@@ -5,7 +5,7 @@ use Rattle.std.specs.List.{slice_range}
 use Rattle.std.proofs.Common.{◌∙◌, sym, subst, inl, inr, arith}
 use Rattle.std.proofs.lemmas.Bool.{true≢false}
 use Rattle.std.proofs.lemmas.Bool.Decides.{nat_tests}
-use Rattle.s370_store.specs.Access.{IsAway}
+use Rattle.s370_store.specs.Access.{IsAbsent}
 use Rattle.s370_channel.specs.Guest.{area_block, guest_text, list_of, list_word, later, said_by, word_at}
 use Rattle.s370_channel.specs.Words.{ccw_of}
 use Rattle.s370_walk.specs.declared.parts.Ccw.{Ccw}
@@ -127,7 +127,7 @@ word_page m address page (inr (w, text, asked)) =
 
 -- where the pages that the program needs are held, the copy asks for none
 pub none_is_served : (m : Memory) (start page : ℕ) (present : ℕ → Bool) → IsHeld m start present
-    → IsAway (length m.bytes) present page → IsServed m start page → ⊥
+    → IsAbsent (length m.bytes) present page → IsServed m start page → ⊥
 none_is_served m start page present held away served =
     let needed : IsProgramPage m start page =
     needed_page m start served.place.address page present (served.place.continues, served.reached)

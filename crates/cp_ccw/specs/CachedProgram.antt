@@ -5,7 +5,7 @@ use Rattle.s370_channel.specs.Guest.{guest_text, guest_written}
 use Rattle.s370_channel.specs.declared.words.Caw.{Caw}
 use Rattle.s370_store.specs.Memory.{Memory}
 use Rattle.s370_walk.specs.Walk.{live}
-use Rattle.channel_laws.specs.declared.places.Place.{Place}
+use Rattle.channel_laws.specs.declared.places.CcwLocation.{CcwLocation}
 use Rattle.channel_laws.specs.Copy.{guest_of, IsCopyOf, IsPlace}
 use Rattle.channel_laws.specs.Mapped.{Program}
 use Rattle.cp_graph.specs.declared.program.Node.{Node}
@@ -58,7 +58,7 @@ Grows old new = (h : PageInFrame) → Contains old h → Contains new h
 -- It is a copy of a fixed program whose words and lists are these, for whoever's storage has this
 -- size, and these pages in these frames.
 pub record IsMade (start size : ℕ) (text : List WordAt) (held : List PageInFrame)
-    (places : List Place) (nodes : List Node) (first : ℕ) : Type 0 where
+    (places : List CcwLocation) (nodes : List Node) (first : ℕ) : Type 0 where
   pub memory : Memory
   pub fixed : IsFixed memory start
   pub sized : length memory.bytes ≡ size
@@ -79,7 +79,7 @@ pub record KeptProgram : Type 0 where
   pub size : ℕ
   pub text : List WordAt
   pub held : List PageInFrame
-  pub places : List Place
+  pub places : List CcwLocation
   pub nodes : List Node
   pub first : ℕ
 

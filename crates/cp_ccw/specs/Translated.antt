@@ -3,7 +3,7 @@ use Rattle.std.specs.Prelude.{◌≡◌, ℕ, List, [], length}
 use Rattle.s370_store.specs.Memory.{Memory}
 use Rattle.s370_walk.specs.Walk.{Written, live}
 use Rattle.s370_channel.specs.Guest.{guest_written}
-use Rattle.channel_laws.specs.declared.places.Place.{Place}
+use Rattle.channel_laws.specs.declared.places.CcwLocation.{CcwLocation}
 use Rattle.channel_laws.specs.Mapped.{Program, real_place}
 use Rattle.channel_laws.specs.Copy.{IsCopyOf}
 use Rattle.cp_graph.specs.declared.program.Node.{Node}
@@ -24,7 +24,7 @@ table_written nodes = record {
 
 -- for one user, the nodes are the copy of the program that was in m0, with the addresses of his
 -- frames in place of his own
-pub record IsTranslatedFor (d : Dat) (places : List Place) (nodes : List Node)
+pub record IsTranslatedFor (d : Dat) (places : List CcwLocation) (nodes : List Node)
     (m0 : Memory) : Type 0 where
   -- the copy with the guest's addresses
   pub guests : Program

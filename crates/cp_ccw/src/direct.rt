@@ -87,7 +87,7 @@ pub fn know(
 
 /// Returns whether all that is known of a program is as it was, for this address word.
 fn is_as_cached(known: &CachedPages, dat: &Dat, caw: Caw) -> bool
-    ensures same { result ≡ true → IsAsKnown known.now dat.now caw }
+    ensures as_cached { result ≡ true → IsAsKnown known.now dat.now caw }
     ensures other { IsAsKnown known.now dat.now caw → result ≡ true }
 {
     // Exhaustive: a new field fails to compile here.
@@ -113,7 +113,7 @@ fn is_as_cached(known: &CachedPages, dat: &Dat, caw: Caw) -> bool
 /// where all that is known of it is as it was: the address word, the words and lists, each on a
 /// page that is in a frame, and the frames of its areas.
 pub fn is_valid(known: &CachedPages, dat: &Dat, caw: Caw) -> bool
-    ensures same { result ≡ true → IsAsKnown known.now dat.now caw }
+    ensures as_cached { result ≡ true → IsAsKnown known.now dat.now caw }
     ensures other { IsAsKnown known.now dat.now caw → result ≡ true }
     ensures still { result ≡ true
         → IsFixedStill (lent_memory dat.now) (is_lent_page dat.now) caw.address }

@@ -83,7 +83,7 @@ fn frames_of(alloc: Global, dat: &Dat, nodes: &[Node]) -> Result<Vec<PageInFrame
 
 /// Returns whether a page is in the frame in which it was.
 fn is_in_frame(dat: &Dat, held: &PageInFrame) -> bool
-    ensures same { result ≡ true → IsFrame dat.now held.now }
+    ensures in_frame { result ≡ true → IsFrame dat.now held.now }
     ensures other { IsFrame dat.now held.now → result ≡ true }
 {
     // Exhaustive: a new field fails to compile here.
@@ -99,7 +99,7 @@ fn is_in_frame(dat: &Dat, held: &PageInFrame) -> bool
 
 /// Returns whether each of these pages is in the frame in which it was.
 pub(crate) fn are_in_frames(dat: &Dat, held: &[PageInFrame]) -> bool
-    ensures same { result ≡ true → All (IsFrame dat.now) held.now }
+    ensures in_frames { result ≡ true → All (IsFrame dat.now) held.now }
     ensures other { All (IsFrame dat.now) held.now → result ≡ true }
 {
     for one in held {
@@ -158,7 +158,7 @@ pub fn cache_program(
 /// that it was copied from is as it was: the address word, the words and lists, each on a page that
 /// is in a frame, and the frames of its data.
 pub fn reusable(kept: &CachedProgram, dat: &Dat, caw: Caw) -> bool
-    ensures same { result ≡ true → IsAtBase kept.now dat.now caw }
+    ensures at_base { result ≡ true → IsAtBase kept.now dat.now caw }
     ensures other { IsAtBase kept.now dat.now caw → result ≡ true }
 {
     // Exhaustive: a new field fails to compile here.

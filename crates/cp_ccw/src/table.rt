@@ -5,7 +5,7 @@ ghost use Rattle.cp_real.specs.Layout.{real_in};
 ghost use Rattle.cp_ccw.specs.Moved.{AreReal, AreRealNodes};
 ghost use Rattle.cp_ccw.specs.Translated.{table_written};
 
-use channel_laws::Place;
+use channel_laws::CcwLocation;
 use cp_dat::Dat;
 use cp_graph::Node;
 use s370_store::{Page, Storage};
@@ -17,7 +17,7 @@ pub struct Table {
     /// The place of the first word.
     pub start: u32,
     /// The guest's address of each place.
-    pub places: Vec<Place>,
+    pub places: Vec<CcwLocation>,
     /// The words, and the real addresses that serve their bytes.
     pub nodes: Vec<Node>,
 }

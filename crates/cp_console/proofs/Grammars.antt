@@ -10,8 +10,8 @@ use Rattle.cp_console.specs.DeviceCommands.{device_command_named}
 use Rattle.cp_console.specs.Commands.{place_of, logon_of, logoff_of, begin_of, system_of, external_of, display_of}
 use Rattle.cp_console.specs.Commands.{change_of, store_of, command_by}
 use Rattle.cp_console.specs.Grammar.{following_of, Begins, ReadsGrammar, Spells, SpellsStore, Tells}
-use Rattle.cp_console.specs.declared.commands.Place.{Place}
-use Rattle.cp_console.specs.declared.commands.Place.TheVariants as places
+use Rattle.cp_console.specs.declared.commands.DisplayItem.{DisplayItem}
+use Rattle.cp_console.specs.declared.commands.DisplayItem.TheVariants as places
 use Rattle.cp_console.specs.declared.commands.Change.{Change}
 use Rattle.cp_console.specs.declared.commands.Change.TheVariants as changes
 use Rattle.cp_console.specs.declared.commands.Command.TheVariants.{Logon, Logoff, Begin, SystemReset, External, Display}
@@ -220,7 +220,7 @@ tells_external following (word ∷ words) =
       stops = never (codes "EXTERNAL" ∷ word ∷ []) (Operand 1) (λ rest other. refl);
     }
 
-display_on : (following : List ℕ) → (word : List ℕ) (words : List (List ℕ)) (o : Option Place) → place_of word ≡ o
+display_on : (following : List ℕ) → (word : List ℕ) (words : List (List ℕ)) (o : Option DisplayItem) → place_of word ≡ o
     → Tells (codes "DISPLAY" ∷ word ∷ words) following (operand_read 1 o (λ place. ended 2 (Display place) words))
 display_on following word words None h =
     record {
@@ -332,7 +332,7 @@ left_on following word left (right ∷ words) (Some high) p h =
     right_on following word left right words high (contents_of right) p h refl
 
 -- the word after a place's, which this rule reads as what the place is given
-given_on : (following : List ℕ) → {A : Type 0} (rule : List ℕ → Option A) (place : Place) (change : A → Change)
+given_on : (following : List ℕ) → {A : Type 0} (rule : List ℕ → Option A) (place : DisplayItem) (change : A → Change)
     → ((words : List (List ℕ)) → change_of place words ≡ operand 2 rule words (λ a. ended 3 (Store (change a))))
     → ((words : List (List ℕ)) (a : A) → SpellsStore rule words place a → Spells words following (Store (change a)))
     → (word digits : List ℕ) (words : List (List ℕ)) (o : Option A) → Begins (codes "STORE" ∷ word ∷ [])
@@ -364,7 +364,7 @@ given_on following rule place change reads spells word digits (more ∷ words) (
           (λ rest other. rw (p, reads (digits ∷ more ∷ rest), h) refl);
     }
 
-given : (following : List ℕ) → {A : Type 0} (rule : List ℕ → Option A) (place : Place) (change : A → Change)
+given : (following : List ℕ) → {A : Type 0} (rule : List ℕ → Option A) (place : DisplayItem) (change : A → Change)
     → ((words : List (List ℕ)) → change_of place words ≡ operand 2 rule words (λ a. ended 3 (Store (change a))))
     → ((words : List (List ℕ)) (a : A) → SpellsStore rule words place a → Spells words following (Store (change a)))
     → (word : List ℕ) (words : List (List ℕ)) → Begins (codes "STORE" ∷ word ∷ []) → place_of word ≡ Some place
@@ -381,7 +381,7 @@ given following rule place change reads spells word [] begins p =
 given following rule place change reads spells word (digits ∷ words) begins p =
     given_on following rule place change reads spells word digits words (rule digits) begins p refl
 
-change_on : (following : List ℕ) → (word : List ℕ) (words : List (List ℕ)) (place : Place) → place_of word ≡ Some place
+change_on : (following : List ℕ) → (word : List ℕ) (words : List (List ℕ)) (place : DisplayItem) → place_of word ≡ Some place
     → Tells (codes "STORE" ∷ word ∷ words) following (change_of place words)
 change_on following word [] places.Psw p =
     record {
@@ -418,7 +418,7 @@ change_on following word words (places.Storage address) p =
     given following bytes_of (places.Storage address) (λ bytes. changes.Storage address bytes) (λ ws. refl)
     (λ ws a h. h) word words (storage_begins word address p) p
 
-store_on : (following : List ℕ) → (word : List ℕ) (words : List (List ℕ)) (o : Option Place) → place_of word ≡ o
+store_on : (following : List ℕ) → (word : List ℕ) (words : List (List ℕ)) (o : Option DisplayItem) → place_of word ≡ o
     → Tells (codes "STORE" ∷ word ∷ words) following (operand_read 1 o (λ place. change_of place words))
 store_on following word words None h =
     record {

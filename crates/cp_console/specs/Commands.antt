@@ -7,8 +7,8 @@ use Rattle.text_words.specs.Words.{after_first_word, words_of}
 use Rattle.cp_console.specs.Operands.{address_of, register_of, contents_of, bytes_of}
 use Rattle.cp_console.specs.Reading.{operand, ended, keyword}
 use Rattle.cp_console.specs.DeviceCommands.{device_command_named, message_text}
-use Rattle.cp_console.specs.declared.commands.Place.{Place}
-use Rattle.cp_console.specs.declared.commands.Place.TheVariants as places
+use Rattle.cp_console.specs.declared.commands.DisplayItem.{DisplayItem}
+use Rattle.cp_console.specs.declared.commands.DisplayItem.TheVariants as places
 use Rattle.cp_console.specs.declared.commands.Change.TheVariants as changes
 use Rattle.cp_console.specs.declared.commands.Command.{Command}
 use Rattle.cp_console.specs.declared.commands.Command.TheVariants.{Nothing, Logon, Logoff, Begin}
@@ -18,7 +18,7 @@ use Rattle.cp_console.specs.declared.commands.CommandError.{CommandError}
 use Rattle.cp_console.specs.declared.commands.CommandError.TheVariants.{Operand}
 
 -- `G` or `X` and a register's number, `K` and an address, or an address of storage
-abbrev pub numbered_place : List ℕ → Option Place
+abbrev pub numbered_place : List ℕ → Option DisplayItem
 numbered_place [] = None
 numbered_place (c ∷ cs) =
     if c == 71 then option_map places.General (register_of cs)
@@ -27,7 +27,7 @@ numbered_place (c ∷ cs) =
     else option_map places.Storage (address_of (c ∷ cs))
 
 -- what is displayed or changed: `PSW`, a register, a key or storage
-abbrev pub place_of : List ℕ → Option Place
+abbrev pub place_of : List ℕ → Option DisplayItem
 place_of word = if bytes_eq word (codes "PSW") then Some places.Psw else numbered_place word
 
 -- `LOGON`
@@ -58,7 +58,7 @@ display_of words = operand 1 place_of words (λ place. ended 2 (Display place))
 
 -- what a place is given: the PSW its two halves, a general register its contents, storage some
 -- bytes from the address on; control registers and keys are not stored
-abbrev pub change_of : Place → List (List ℕ) → Result Command CommandError
+abbrev pub change_of : DisplayItem → List (List ℕ) → Result Command CommandError
 change_of places.Psw words =
     operand 2 contents_of words
     (λ left rest. operand 3 contents_of rest

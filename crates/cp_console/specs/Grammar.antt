@@ -5,8 +5,8 @@ use Rattle.text_words.specs.Words.{after_first_word, words_of}
 use Rattle.cp_console.specs.Operands.{address_of, contents_of, bytes_of, device_of, file_of}
 use Rattle.cp_console.specs.DeviceCommands.{message_text}
 use Rattle.cp_console.specs.Commands.{command_of, place_of}
-use Rattle.cp_console.specs.declared.commands.Place.{Place}
-use Rattle.cp_console.specs.declared.commands.Place.TheVariants as places
+use Rattle.cp_console.specs.declared.commands.DisplayItem.{DisplayItem}
+use Rattle.cp_console.specs.declared.commands.DisplayItem.TheVariants as places
 use Rattle.cp_console.specs.declared.commands.Change.TheVariants as changes
 use Rattle.cp_console.specs.declared.commands.Command.{Command}
 use Rattle.cp_console.specs.declared.commands.Command.TheVariants.{Nothing, Logon, Logoff, Begin}
@@ -26,7 +26,7 @@ pub record SpellsBegin (words : List (List ℕ)) (address : ℕ) : Type 0 where
   pub read : address_of word ≡ Some address
 
 -- `DISPLAY` and the word of a place
-pub record SpellsDisplay (words : List (List ℕ)) (place : Place) : Type 0 where
+pub record SpellsDisplay (words : List (List ℕ)) (place : DisplayItem) : Type 0 where
   pub word : List ℕ
   pub spelled : words ≡ codes "DISPLAY" ∷ word ∷ []
   pub read : place_of word ≡ Some place
@@ -46,7 +46,7 @@ pub record SpellsPsw (words : List (List ℕ)) (psw : ℕ) : Type 0 where
 
 -- `STORE`, the word of a place and what the place is given, a word read by this rule
 pub record SpellsStore {A : Type 0} (rule : List ℕ → Option A) (words : List (List ℕ))
-    (place : Place) (given : A) : Type 0 where
+    (place : DisplayItem) (given : A) : Type 0 where
   pub word : List ℕ
   pub digits : List ℕ
   pub spelled : words ≡ codes "STORE" ∷ word ∷ digits ∷ []

@@ -16,7 +16,7 @@ use thiserror::Error;
 
 /// What of a machine is displayed or changed.
 #[derive(Clone, Copy, Debug, PartialEq, Eq)]
-pub enum Place {
+pub enum DisplayItem {
     /// The PSW.
     Psw,
     /// A general register.
@@ -56,7 +56,7 @@ pub enum Command<'a> {
     /// `EXTERNAL`: the interrupt key is pressed.
     External,
     /// `DISPLAY`.
-    Display(Place),
+    Display(DisplayItem),
     /// `STORE`.
     Store(Change),
     /// `IPL`: the machine is loaded from the device of this address.
@@ -161,16 +161,16 @@ fn read_store(operands: &[u8]) -> Result<Command<'_>, CommandError>
     let (word, rest) = operand(1, operands)?;
     let place = place_of(word).ok_or(CommandError::Operand(1))?;
     match place {
-        Place::Psw => read_psw(rest),
-        Place::General(register) => read_general(register, rest),
-        Place::Control(_) | Place::Key(_) => Err(CommandError::Operand(1)),
-        Place::Storage(address) => read_storage(address, rest),
+        DisplayItem::Psw => read_psw(rest),
+        DisplayItem::General(register) => read_general(register, rest),
+        DisplayItem::Control(_) | DisplayItem::Key(_) => Err(CommandError::Operand(1)),
+        DisplayItem::Storage(address) => read_storage(address, rest),
     }
 }
 
 /// Returns the two halves that the PSW is given.
 fn read_psw(operands: &[u8]) -> Result<Command<'_>, CommandError>
-    ensures { result ≡ change_of Place.Psw (words_of operands.now) }
+    ensures { result ≡ change_of DisplayItem.Psw (words_of operands.now) }
 {
     let (word, rest) = operand(2, operands)?;
     let left = contents_of(word).ok_or(CommandError::Operand(2))?;
@@ -182,7 +182,7 @@ fn read_psw(operands: &[u8]) -> Result<Command<'_>, CommandError>
 
 /// Returns the contents that a register is given.
 fn read_general(register: Register, operands: &[u8]) -> Result<Command<'_>, CommandError>
-    ensures { result ≡ change_of (Place.General register) (words_of operands.now) }
+    ensures { result ≡ change_of (DisplayItem.General register) (words_of operands.now) }
 {
     let (word, rest) = operand(2, operands)?;
     let contents = contents_of(word).ok_or(CommandError::Operand(2))?;
@@ -191,7 +191,7 @@ fn read_general(register: Register, operands: &[u8]) -> Result<Command<'_>, Comm
 
 /// Returns the bytes that storage is given from an address on.
 fn read_storage(address: Addr24, operands: &[u8]) -> Result<Command<'_>, CommandError>
-    ensures { result ≡ change_of (Place.Storage address) (words_of operands.now) }
+    ensures { result ≡ change_of (DisplayItem.Storage address) (words_of operands.now) }
 {
     let (word, rest) = operand(2, operands)?;
     let bytes = bytes_of(word).ok_or(CommandError::Operand(2))?;
@@ -199,16 +199,16 @@ fn read_storage(address: Addr24, operands: &[u8]) -> Result<Command<'_>, Command
 }
 
 /// Returns what is displayed or changed: `PSW`, a register, a key or storage.
-fn place_of(word: &[u8]) -> Option<Place>
+fn place_of(word: &[u8]) -> Option<DisplayItem>
     ensures { result ≡ place_of word.now }
 {
     if word == b"PSW".as_slice() {
-        return Some(Place::Psw);
+        return Some(DisplayItem::Psw);
     }
     match word {
-        [b'G', number @ ..] => Some(Place::General(register_of(number)?)),
-        [b'X', number @ ..] => Some(Place::Control(register_of(number)?)),
-        [b'K', address @ ..] => Some(Place::Key(address_of(address)?)),
-        _ => Some(Place::Storage(address_of(word)?)),
+        [b'G', number @ ..] => Some(DisplayItem::General(register_of(number)?)),
+        [b'X', number @ ..] => Some(DisplayItem::Control(register_of(number)?)),
+        [b'K', address @ ..] => Some(DisplayItem::Key(address_of(address)?)),
+        _ => Some(DisplayItem::Storage(address_of(word)?)),
     }
 }

@@ -9,7 +9,7 @@
 //! ([`printing::reply`]).
 //!
 //! ```
-//! use cp_console::commands::{Command, CommandError, Place, read_command};
+//! use cp_console::commands::{Command, CommandError, DisplayItem, read_command};
 //! use cp_console::lines::{Asked, ConsoleText, asked_of};
 //! use cp_console::printing::reply;
 //! use cp_console::responses::Response;
@@ -17,7 +17,7 @@
 //!
 //! let line = ConsoleText::new(b"#CP DISPLAY 20");
 //! assert!(rt; asked_of(line.as_slice()) == Asked::Command(b"DISPLAY 20"));
-//! let place = Place::Storage(Addr24::wrapping(0x20));
+//! let place = DisplayItem::Storage(Addr24::wrapping(0x20));
 //! assert_eq!(rt; read_command(b"DISPLAY 20"), Ok(Command::Display(place)));
 //! assert_eq!(rt; read_command(b"DISPLAY G16"), Err(CommandError::Operand(1)));
 //! assert_eq!(rt; reply(alloc, &Response::BadOperand(1))?.as_slice(), b"BAD OPERAND 1".as_slice());

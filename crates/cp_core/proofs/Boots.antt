@@ -25,10 +25,10 @@ use Rattle.cp_core.specs.declared.events.BootError.TheVariants as errors
 use Rattle.cp_core.specs.Boot.{AreNewUsers, IsNewUser, boot_error, free_supply, places_in}
 use Rattle.cp_core.specs.System.{SystemView, kept_of, placements_among, users_of}
 use Rattle.cp_volumes.specs.Shared.{AllLeaveBe, IsUsers, SharedMinidisk, Placement, disks_on, placements_of}
-use Rattle.cp_seating.specs.Seating.{AreDisks, AreLawful, IsLawful, minidisks_at, seats_of, user_is_past, user_lacks}
-use Rattle.cp_seating.proofs.Seated.{are_disks, is_users, users_apart}
+use Rattle.cp_placement.specs.Seating.{AreDisks, AreLawful, IsLawful, minidisks_at, seats_of, user_is_past, user_lacks}
+use Rattle.cp_placement.proofs.Seated.{are_disks, is_users, users_apart}
 use Rattle.cp_directory.specs.Users.{AreApart, addresses_of}
-use Rattle.cp_directory.specs.declared.minidisk.Minidisk.{Minidisk}
+use Rattle.cp_directory.specs.declared.minidisk.MinidiskStatement.{MinidiskStatement}
 use Rattle.std.specs.List.{find, position}
 use Rattle.cp_core.specs.Whole.{AreNew, AreSeated, IsNew, IsWhole, no_user}
 
@@ -57,8 +57,8 @@ lawful_attach user h =
     few_true : (n : ℕ) → n ≤ 32 → nat_le n 32 ≡ true
     few_true n h = grind (arith, nat_tests)
 
-pub seat_addresses : (volumes : List VolumeFormat) (ms : List Minidisk)
-    → map (λ (d : SharedMinidisk). d.address) (seats_of volumes ms) ≡ map (λ (m : Minidisk). m.address) ms
+pub seat_addresses : (volumes : List VolumeFormat) (ms : List MinidiskStatement)
+    → map (λ (d : SharedMinidisk). d.address) (seats_of volumes ms) ≡ map (λ (m : MinidiskStatement). m.address) ms
 seat_addresses volumes [] = refl
 seat_addresses volumes (m ∷ ms) = ap (λ (xs : List ℕ). m.address ∷ xs) (seat_addresses volumes ms)
 

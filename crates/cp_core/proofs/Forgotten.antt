@@ -30,8 +30,8 @@ use Rattle.machine_devices.specs.Serve.{IsServedAt, ServeNeeds, StartNeeds}
 use Rattle.machine_devices.specs.Spooling.{deck_punched}
 use Rattle.machine_devices.specs.UserDirectory.{UserDirectory, is_logged_on}
 use Rattle.machine_devices.specs.declared.files.FileNote.{FileNote}
-use Rattle.machine_devices.specs.declared.places.Kind.{Kind}
-use Rattle.machine_devices.specs.declared.places.Kind.TheVariants as kinds
+use Rattle.machine_devices.specs.declared.places.AttachedDevice.{AttachedDevice}
+use Rattle.machine_devices.specs.declared.places.AttachedDevice.TheVariants as kinds
 use Rattle.machine_devices.specs.declared.reply.Delivered.{Delivered}
 use Rattle.machine_devices.specs.declared.reply.Delivery.{Delivery}
 use Rattle.machine_devices.specs.declared.reply.Delivery.TheVariants as deliveries
@@ -70,7 +70,7 @@ use Rattle.cp_core.specs.declared.events.Event.TheVariants.{Run, Line, Tick, Dec
 -- ---- which pages a machine needs
 
 module _ (gone : List (List ℕ)) (e : Equipped) where
-  loads_same : (kind : Option Kind) (P : (ℕ → Type 0) → Type 0) → P (KindLoads kind e)
+  loads_same : (kind : Option AttachedDevice) (P : (ℕ → Type 0) → Type 0) → P (KindLoads kind e)
       → P (KindLoads kind (having gone e))
   loads_same (Some kinds.Reader) P h = h
   loads_same (Some (kinds.Disk index)) P h = h
@@ -95,7 +95,7 @@ module _ (gone : List (List ℕ)) (e : Equipped) where
       → P (LineWants typed (having gone e))
   line_wants_same typed P h = wants_same (requested typed e) P h
 
-  starts_same : (kind : Option Kind) (start : Option Caw) (P : (ℕ → Type 0) → Type 0)
+  starts_same : (kind : Option AttachedDevice) (start : Option Caw) (P : (ℕ → Type 0) → Type 0)
       → P (StartNeeds HoldNeeds kind start e)
       → P (StartNeeds HoldNeeds kind start (having gone e))
   starts_same None start P h = h

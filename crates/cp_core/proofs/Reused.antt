@@ -2,8 +2,8 @@
 use Rattle.std.proofs.Common.{◌≡◌, ap, refl, ℕ, Bool, true, false, Option, None, Some}
 use Rattle.s370_channel.specs.declared.words.Caw.{Caw}
 use Rattle.machine_channels.specs.declared.channels.UnitRecord.{UnitRecord}
-use Rattle.machine_devices.specs.declared.places.Kind.{Kind}
-use Rattle.machine_devices.specs.declared.places.Kind.TheVariants as kinds
+use Rattle.machine_devices.specs.declared.places.AttachedDevice.{AttachedDevice}
+use Rattle.machine_devices.specs.declared.places.AttachedDevice.TheVariants as kinds
 use Rattle.machine_devices.specs.declared.request.Request.{Request}
 use Rattle.machine_devices.specs.declared.request.Request.TheVariants.{LogsOn, LogsOff, Resets, Types, Loads, Asks}
 use Rattle.machine_devices.specs.declared.request.Request.TheVariants.{Alone}
@@ -24,7 +24,7 @@ UnitReuses r d start unit done s = HasReused (reuse_of r) d start unit done (reu
 abbrev pub DiskReuses : GuestChannels → Dat → Caw → ℕ → Bool → GuestChannels → Type 0
 DiskReuses r d start index done s = HasReusedDisk (reuse_of r) d start index done (reuse_of s)
 
-pub starts : (r s : GuestChannels) (d : Dat) (kind : Option Kind) (start : Option Caw) (done : Bool)
+pub starts : (r s : GuestChannels) (d : Dat) (kind : Option AttachedDevice) (start : Option Caw) (done : Bool)
     → StartReuses UnitReuses DiskReuses r d s kind start done → Starts (reuse_of r) d (reuse_of s) kind start done
 starts r s d None start done same = ap reuse_of same
 starts r s d (Some kind) None done same = ap reuse_of same
@@ -51,7 +51,7 @@ forgets r s (Alone asked) e left = ap reuse_of left
 
 -- where a device has no program, all is as it was
 pub none_starts : {C S : Type 0} (Reuses : C → S → Caw → UnitRecord → Bool → C → Type 0)
-    (ReusesDisk : C → S → Caw → ℕ → Bool → C → Type 0) (c : C) (s : S) (kind : Option Kind) (done : Bool)
+    (ReusesDisk : C → S → Caw → ℕ → Bool → C → Type 0) (c : C) (s : S) (kind : Option AttachedDevice) (done : Bool)
     → StartReuses Reuses ReusesDisk c s c kind None done
 none_starts Reuses ReusesDisk c s None done = refl
 none_starts Reuses ReusesDisk c s (Some kind) done = refl

@@ -26,8 +26,8 @@ use Rattle.machine_panel.specs.Machine.{Machine}
 use Rattle.machine_panel.specs.Run.{MachineRun, TellsRun, notice_of, run}
 use Rattle.machine_panel.specs.Tick.{ticked, ticked_in}
 use Rattle.machine_devices.specs.declared.line.LineOutcome.{LineOutcome}
-use Rattle.machine_devices.specs.declared.reply.Saying.{Saying}
-use Rattle.machine_devices.specs.declared.reply.Saying.TheVariants.{Nothing}
+use Rattle.machine_devices.specs.declared.reply.UserResponse.{UserResponse}
+use Rattle.machine_devices.specs.declared.reply.UserResponse.TheVariants.{Nothing}
 use Rattle.machine_devices.specs.declared.files.FileKind.TheVariants as kinds
 use Rattle.machine_devices.specs.Equipped.{Equipped, nobody}
 use Rattle.machine_devices.specs.Life.{Event as Local, Units, Serve as Serves, Line as Types, Tick as Ticks}
@@ -115,7 +115,7 @@ run_lives asked user old new before after ran h = (
   refl,
 )
 
-pub run_step : (old new : SystemView) (user asked : ℕ) (ran : RanUnits) (reported : Saying) (lines : ℕ)
+pub run_step : (old new : SystemView) (user asked : ℕ) (ran : RanUnits) (reported : UserResponse) (lines : ℕ)
     → HasRun asked user (user_at old user) old.supply ran (user_at new user) new.supply → IsLent old user new
     → IsBetweenUnits old.supply → IsBetweenUnits new.supply → reported ≡ saying (notice_of ran.reason)
     → lines ≡ length (machine_at new user).output - length (machine_at old user).output
@@ -240,7 +240,7 @@ noted_same user old e e' r s =
     ++ note_where (nat_lt b (length x)) user (kinds.Printer b)) s
 
 pub line_done : (old middle new : SystemView) (user : ℕ) (typed : Bor (List ℕ)) (reported : LineOutcome)
-    (said' : Saying) (lines : ℕ) (delivered : Option Delivered)
+    (said' : UserResponse) (lines : ℕ) (delivered : Option Delivered)
     → HasTyped (world_of old user) user typed.now (user_at old user) old.supply (Ok reported) (user_at middle user)
     middle.supply
     → IsLent old user middle → IsBetweenUnits old.supply → IsBetweenUnits middle.supply

@@ -19,7 +19,7 @@ use Rattle.ckd_volume.specs.Volume.{VolumeFormat}
 use Rattle.cp_volumes.specs.Shared.{Placement, placements_of}
 use Rattle.cp_resident.specs.Reuse.{kept_none}
 use Rattle.cp_core.specs.System.{SystemView, placements_at}
-use Rattle.cp_seating.specs.Seating.{AreDisks, minidisks_at, seats_of}
+use Rattle.cp_placement.specs.Seating.{AreDisks, minidisks_at, seats_of}
 
 -- ---- a user
 

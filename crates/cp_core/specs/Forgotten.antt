@@ -27,8 +27,7 @@ users_having_printed (lines ∷ more) (e ∷ users) =
     equipped_having_printed lines e ∷ users_having_printed more users
 
 -- one system goes on as another: all is the same, but its users have printed these lines before,
--- and
--- it may keep other programs
+-- and it may keep other programs
 pub record GoesOnAs (one other : SystemView) : Type 0 where
   pub lines : List (List (List ℕ))
   pub same : one ≡ record other { users = users_having_printed lines other.users; kept = one.kept }

@@ -14,7 +14,7 @@ use Rattle.machine_devices.specs.Reuses.{LineForgets, StartReuses}
 use Rattle.machine_devices.specs.declared.line.LineOutcome.{LineOutcome}
 use Rattle.machine_devices.specs.declared.reply.Ended.{Ended}
 use Rattle.machine_devices.specs.declared.reply.Ended.TheVariants as ends
-use Rattle.machine_devices.specs.declared.places.Kind.{Kind}
+use Rattle.machine_devices.specs.declared.places.AttachedDevice.{AttachedDevice}
 use Rattle.cp_frames.specs.Layout.{FrameSupply}
 use Rattle.cp_dat.specs.declared.dat.Dat.{Dat}
 use Rattle.cp_dat.specs.Lent.{lent_memory, lent_pool, user_of}
@@ -43,7 +43,8 @@ pub record IsLentSo (d : Dat) (user : ℕ) (e : Equipped) (supply : FrameSupply)
 
 -- the program of a device, where it works on one, runs again where the one that is kept may, over
 -- that storage
-abbrev pub Starts : ReuseValue → Dat → ReuseValue → Option Kind → Option Caw → Bool → Type 0
+abbrev pub Starts : ReuseValue → Dat → ReuseValue → Option AttachedDevice → Option Caw → Bool
+    → Type 0
 Starts old d new kind start done = StartReuses HasReused HasReusedDisk old d new kind start done
 
 -- what a serve does to the user's cached programs

@@ -5,7 +5,7 @@ use Rattle.s370_intr.specs.Run.{IsLacking}
 use Rattle.cp_dat.specs.Supplied.{HasNoRoom}
 use Rattle.machine_panel.specs.Run.{TellsRun, notice_of}
 use Rattle.machine_panel.specs.Tick.{TickNeeds}
-use Rattle.machine_devices.specs.declared.reply.Saying.TheVariants.{Nothing}
+use Rattle.machine_devices.specs.declared.reply.UserResponse.TheVariants.{Nothing}
 use Rattle.machine_devices.specs.Serve.{IsServedAt}
 use Rattle.cp_core.specs.Events.{user_of}
 use Rattle.machine_devices.specs.Notes.{closed_by, deck_noted, next_file}

@@ -11,7 +11,7 @@ use Rattle.machine_devices.specs.Devices.{devices_new, no_places}
 use Rattle.cp_resident.specs.Reuse.{kept_none}
 use Rattle.cp_core.specs.UserMachines.{UserParts, Fits, user_with}
 use Rattle.cp_volumes.specs.Shared.{AllLeaveBe, AreThere, IsUsers, Placement, placements_of}
-use Rattle.cp_seating.specs.Seating.{seats_of}
+use Rattle.cp_placement.specs.Seating.{seats_of}
 use Rattle.cp_core.specs.Boot.{IsNewUser}
 
 -- the machine of nobody, but for its storage

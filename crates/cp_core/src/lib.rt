@@ -14,7 +14,7 @@
 //! ```
 //! use cp_console::responses::Response;
 //! use cp_core::{Event, Sizes, System};
-//! use machine_devices::Saying;
+//! use machine_devices::UserResponse;
 //! use cp_directory::read_directory;
 //! use user_names::UserNo;
 //!
@@ -23,7 +23,7 @@
 //! let mut system = System::boot(alloc, directory, Vec::new(alloc), sizes)?;
 //! let (a, b) = (UserNo::new(0), UserNo::new(1));
 //! let reply = system.apply(Event::Line(a, b"LOGON"))?;
-//! assert_eq!(rt; reply.said, Saying::Said(Response::LogonOk));
+//! assert_eq!(rt; reply.said, UserResponse::Said(Response::LogonOk));
 //! system.apply(Event::Line(b, b"LOGON"))?;
 //! system.apply(Event::Line(a, b"STORE G1 0000002A"))?;
 //! let first = |user| system.registers(user).map(|general| general[1]);

@@ -26,7 +26,7 @@ use crate::user_machine::UserMachine;
 use crate::work::Line;
 use arrayvec::ArrayVec;
 use machine_devices::{
-    ClosedFiles, Delivered, Delivery, Ended, FileKind, LineOutcome, Reply, Saying, copy_of,
+    ClosedFiles, Delivered, Delivery, Ended, FileKind, LineOutcome, Reply, UserResponse, copy_of,
     is_logged_on, said_to_line,
 };
 use machine_panel::LineError;
@@ -262,7 +262,7 @@ impl System {
         let delivered = self.give(user, number, cards)?;
         Ok(Reply {
             ended: Ended::Done,
-            said: Saying::Nothing,
+            said: UserResponse::Nothing,
             lines: 0,
             delivered: Some(delivered),
         })

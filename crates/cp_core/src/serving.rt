@@ -47,7 +47,8 @@ pub(crate) fn serve_supplied<S: Storage, C: Channels<S>>(
         (C.Disks.disks channels.new)
         (S.memory storage.new) in
         IfOk result (λ done. IsServedAt C.reads device before done after) }
-    ensures same { let before = equipped machine.old (devices_on devices.old queues.old)
+    ensures unchanged_without_frames { let before = equipped machine.old
+        (devices_on devices.old queues.old)
         (C.Disks.disks channels.old)
         (S.memory storage.old) in
         let after = equipped machine.new (devices_on devices.new queues.new)
@@ -119,7 +120,8 @@ pub(crate) fn type_supplied<W: UserDirectory>(
         let after = equipped machine.new (devices_on devices.new queues.new) (disks_on channels.new)
         (lent_memory storage.new) in
         IfOk result (λ reported. IsLine (W.known world.now) typed.now before reported after) }
-    ensures same { let before = equipped machine.old (devices_on devices.old queues.old)
+    ensures unchanged_without_frames { let before = equipped machine.old
+        (devices_on devices.old queues.old)
         (disks_on channels.old)
         (lent_memory storage.old) in
         let after = equipped machine.new (devices_on devices.new queues.new) (disks_on channels.new)

@@ -29,7 +29,7 @@ use cp_directory::Directory;
 use cp_frames::Frames;
 use cp_spool::Queues;
 use cp_volumes::Volumes;
-use machine_devices::{Ended, FileKind, FileNote, Reply, Saying, SeenDevices};
+use machine_devices::{Ended, FileKind, FileNote, Reply, SeenDevices, UserResponse};
 use machine_panel::{LineError, notice_of};
 use s370_num::DevAddr;
 use std::alloc::{AllocError, Global};
@@ -311,14 +311,14 @@ impl System {
     /// use cp_console::responses::Response;
     /// use cp_core::{CpError, Event, Sizes, System};
     /// use cp_directory::read_directory;
-    /// use machine_devices::Saying;
+    /// use machine_devices::UserResponse;
     /// use user_names::UserNo;
     ///
     /// let directory = read_directory(alloc, b"USER A PW 8K\n")?;
     /// let sizes = Sizes::new(16, 0).ok_or("too many frames")?;
     /// let mut system = System::boot(alloc, directory, Vec::new(alloc), sizes)?;
     /// let reply = system.apply(Event::Line(UserNo::new(0), b"LOGON"))?;
-    /// assert_eq!(rt; reply.said, Saying::Said(Response::LogonOk));
+    /// assert_eq!(rt; reply.said, UserResponse::Said(Response::LogonOk));
     /// let nobody = system.apply(Event::Tick(UserNo::new(7))).err();
     /// assert_eq!(rt; nobody, Some(CpError::NoSuchUser));
     /// ```
@@ -460,7 +460,7 @@ impl System {
         let ran = self.with_user(user, &Units(units));
         Reply {
             ended: Ended::Ran(ran),
-            said: Saying::of(notice_of(ran.reason)),
+            said: UserResponse::of(notice_of(ran.reason)),
             lines: self.printed_by(user).saturating_sub(before),
             delivered: None,
         }
@@ -509,7 +509,7 @@ impl System {
         match self.with_user(user, &service) {
             Ok(done) => Ok(Reply {
                 ended: Ended::Served(done),
-                said: Saying::Nothing,
+                said: UserResponse::Nothing,
                 lines: self.printed_by(user).saturating_sub(before),
                 delivered: None,
             }),

@@ -7,12 +7,12 @@ use Rattle.std.proofs.lemmas.List.Quantifiers.{all_pairs_push}
 use Rattle.cp_directory.specs.Extents.{conflicts}
 use Rattle.cp_directory.specs.Users.{AreApart, DirectoryUser, first_conflict, last_user, minidisks_of, new_user, with_device, with_last, with_minidisk}
 use Rattle.cp_directory.specs.declared.devices.DeviceKind.{DeviceKind}
-use Rattle.cp_directory.specs.declared.minidisk.Minidisk.{Minidisk}
+use Rattle.cp_directory.specs.declared.minidisk.MinidiskStatement.{MinidiskStatement}
 use Rattle.cp_directory.proofs.Attached.{disk_last, kept_disks}
 use Rattle.cp_directory.proofs.Conflicts.{conflict_turned, none_found, taken}
 
 -- two minidisks do not conflict
-abbrev Apart : Minidisk → Minidisk → Type 0
+abbrev Apart : MinidiskStatement → MinidiskStatement → Type 0
 Apart one other = conflicts one.extent other.extent ≡ false
 
 -- what is true of the users of every directory
@@ -30,7 +30,7 @@ device_more kind address users n user new h here is =
     same_disks users n new (ap (λ (u : DirectoryUser). minidisks_of (set users n u)) made ∙ kept_disks (with_device kind address) (λ u. refl) users n user) h
 
 -- a minidisk more that conflicts with none
-apart_more : (disk : Minidisk) (disks : List Minidisk) → AllPairs Apart disks → first_conflict disk.extent disks ≡ None → AllPairs Apart (disks ++ disk ∷ [])
+apart_more : (disk : MinidiskStatement) (disks : List MinidiskStatement) → AllPairs Apart disks → first_conflict disk.extent disks ≡ None → AllPairs Apart (disks ++ disk ∷ [])
 apart_more disk disks apart none =
     let free = none_found disk.extent disks none in
     all_pairs_push Apart disks disk apart (λ k d less.
@@ -38,14 +38,14 @@ apart_more disk disks apart none =
     taken other.extent disk.extent (λ c. free k d less (conflict_turned other.extent disk.extent c)) (conflicts other.extent disk.extent) refl)
 
 -- the last user with a minidisk more, which conflicts with none
-last_more : (disk : Minidisk) (users : List DirectoryUser) (new : DirectoryUser) → Holds users → 0 < length users → first_conflict disk.extent (minidisks_of users) ≡ None → new ≡ with_minidisk disk (last_user users)
+last_more : (disk : MinidiskStatement) (users : List DirectoryUser) (new : DirectoryUser) → Holds users → 0 < length users → first_conflict disk.extent (minidisks_of users) ≡ None → new ≡ with_minidisk disk (last_user users)
     → Holds (set users (length users - 1) new)
 last_more disk users new h some none is =
     let disks : minidisks_of (set users (length users - 1) new) ≡ minidisks_of users ++ disk ∷ [] = ap (λ (u : DirectoryUser). minidisks_of (set users (length users - 1) u)) is ∙ disk_last disk users some in
     (omega (arith, h.0, length-set users (length users - 1) new), subst (AllPairs Apart) (sym disks) (apart_more disk (minidisks_of users) h.1 none))
 
 -- the same where the growth may be refused, which leaves the user as it was
-pub disk_more : {T E : Type 0} (disk : Minidisk) (users : List DirectoryUser) (user new : DirectoryUser) (r : Result T E) → Holds users → 0 < length users → first_conflict disk.extent (minidisks_of users) ≡ None
+pub disk_more : {T E : Type 0} (disk : MinidiskStatement) (users : List DirectoryUser) (user new : DirectoryUser) (r : Result T E) → Holds users → 0 < length users → first_conflict disk.extent (minidisks_of users) ≡ None
     → user ≡ get_or users (length users - 1) user → IfOk r (λ _. new ≡ with_minidisk disk user) → OnErr r (new ≡ user) → Holds (set users (length users - 1) new)
 disk_more disk users user new (Ok x) h some none here ok err =
     let last : user ≡ last_user users = here ∙ get_or_default users (length users - 1) user (new_user [] 0) (omega arith) in

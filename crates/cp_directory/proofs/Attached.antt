@@ -11,7 +11,7 @@ use Rattle.cp_directory.specs.Users.{DirectoryUser, addresses_of, has_device, mi
 use Rattle.cp_directory.specs.Grammar.{AreDifferent, HasLawfulDevices}
 use Rattle.cp_directory.specs.declared.devices.DeviceKind.{DeviceKind}
 use Rattle.cp_directory.specs.declared.devices.DeviceKind.TheVariants.{Console, Reader, Punch, Printer}
-use Rattle.cp_directory.specs.declared.minidisk.Minidisk.{Minidisk}
+use Rattle.cp_directory.specs.declared.minidisk.MinidiskStatement.{MinidiskStatement}
 
 -- ---- a number put among others
 
@@ -79,13 +79,13 @@ device_more Console address user none =
     let d = user.devices in
     record {
       before = [];
-      after = (option_to_list d.reader ++ (option_to_list d.punch ++ option_to_list d.printer)) ++ map (λ (disk : Minidisk). disk.address) user.minidisks;
+      after = (option_to_list d.reader ++ (option_to_list d.punch ++ option_to_list d.printer)) ++ map (λ (disk : MinidiskStatement). disk.address) user.minidisks;
       old = rw none refl;
       new = refl;
     }
 device_more Reader address user none =
     let d = user.devices in
-    let disks = map (λ (disk : Minidisk). disk.address) user.minidisks in
+    let disks = map (λ (disk : MinidiskStatement). disk.address) user.minidisks in
     record {
       before = option_to_list d.console;
       after = (option_to_list d.punch ++ option_to_list d.printer) ++ disks;
@@ -94,7 +94,7 @@ device_more Reader address user none =
     }
 device_more Punch address user none =
     let d = user.devices in
-    let disks = map (λ (disk : Minidisk). disk.address) user.minidisks in
+    let disks = map (λ (disk : MinidiskStatement). disk.address) user.minidisks in
     record {
       before = option_to_list d.console ++ option_to_list d.reader;
       after = option_to_list d.printer ++ disks;
@@ -103,7 +103,7 @@ device_more Punch address user none =
     }
 device_more Printer address user none =
     let d = user.devices in
-    let disks = map (λ (disk : Minidisk). disk.address) user.minidisks in
+    let disks = map (λ (disk : MinidiskStatement). disk.address) user.minidisks in
     record {
       before = option_to_list d.console ++ (option_to_list d.reader ++ option_to_list d.punch);
       after = disks;
@@ -111,19 +111,19 @@ device_more Printer address user none =
       new = four_of (option_to_list d.console) (option_to_list d.reader) (option_to_list d.punch) (address ∷ []) disks;
     }
 
-disk_more : (disk : Minidisk) (user : DirectoryUser) → OneMore user (with_minidisk disk user) disk.address
+disk_more : (disk : MinidiskStatement) (user : DirectoryUser) → OneMore user (with_minidisk disk user) disk.address
 disk_more disk user = record {
   before = addresses_of user;
   after = [];
   old = sym (append-nil (addresses_of user));
-  new = ap (λ (l : List ℕ). places_of user.devices ++ l) (map-append (λ (d : Minidisk). d.address) user.minidisks (disk ∷ [])) ∙ sym (append_assoc (places_of user.devices) (map (λ (d : Minidisk). d.address) user.minidisks) (disk.address ∷ []));
+  new = ap (λ (l : List ℕ). places_of user.devices ++ l) (map-append (λ (d : MinidiskStatement). d.address) user.minidisks (disk ∷ [])) ∙ sym (append_assoc (places_of user.devices) (map (λ (d : MinidiskStatement). d.address) user.minidisks) (disk.address ∷ []));
 }
 
 pub lawful_device : (kind : DeviceKind) (address : ℕ) (user : DirectoryUser) → HasLawfulDevices user → place_of user.devices kind ≡ None → length (addresses_of user) < 32 → has_device address user ≡ false → address ≤ 0x5FF
     → HasLawfulDevices (with_device kind address user)
 lawful_device kind address user l none room new low = lawful_one_more user (with_device kind address user) address (device_more kind address user none) l room new low
 
-pub lawful_disk : (disk : Minidisk) (user : DirectoryUser) → HasLawfulDevices user → length (addresses_of user) < 32 → has_device disk.address user ≡ false → disk.address ≤ 0x5FF → HasLawfulDevices (with_minidisk disk user)
+pub lawful_disk : (disk : MinidiskStatement) (user : DirectoryUser) → HasLawfulDevices user → length (addresses_of user) < 32 → has_device disk.address user ≡ false → disk.address ≤ 0x5FF → HasLawfulDevices (with_minidisk disk user)
 lawful_disk disk user l room new low = lawful_one_more user (with_minidisk disk user) disk.address (disk_more disk user) l room new low
 
 -- ---- a user changed among users
@@ -139,23 +139,23 @@ kept f change same (u ∷ us) (suc n) (suc k) e d = kept f change same us n k e 
 
 pub kept_disks : (change : DirectoryUser → DirectoryUser) → ((u : DirectoryUser) → (change u).minidisks ≡ u.minidisks) → (users : List DirectoryUser) (n : ℕ) (e : DirectoryUser) → minidisks_of (set users n (change (get_or users n e))) ≡ minidisks_of users
 kept_disks change same [] n e = refl
-kept_disks change same (u ∷ us) zero e = ap (λ (l : List Minidisk). l ++ minidisks_of us) (same u)
-kept_disks change same (u ∷ us) (suc n) e = ap (λ (l : List Minidisk). u.minidisks ++ l) (kept_disks change same us n e)
+kept_disks change same (u ∷ us) zero e = ap (λ (l : List MinidiskStatement). l ++ minidisks_of us) (same u)
+kept_disks change same (u ∷ us) (suc n) e = ap (λ (l : List MinidiskStatement). u.minidisks ++ l) (kept_disks change same us n e)
 
 -- a first user stays where there is another
 with_rest : (change : DirectoryUser → DirectoryUser) (u v : DirectoryUser) (us : List DirectoryUser) → with_last change (u ∷ v ∷ us) ≡ u ∷ with_last change (v ∷ us)
 with_rest change u v us = let e : length (u ∷ v ∷ us) - 1 ≡ suc (length (v ∷ us) - 1) = omega arith in rw e refl
 
 -- a minidisk of the last user is the last of all
-pub disk_last : (disk : Minidisk) (users : List DirectoryUser) → 0 < length users → minidisks_of (with_last (with_minidisk disk) users) ≡ minidisks_of users ++ disk ∷ []
+pub disk_last : (disk : MinidiskStatement) (users : List DirectoryUser) → 0 < length users → minidisks_of (with_last (with_minidisk disk) users) ≡ minidisks_of users ++ disk ∷ []
 disk_last disk [] h = absurd (omega arith)
-disk_last disk (u ∷ []) h = append-nil (u.minidisks ++ disk ∷ []) ∙ ap (λ (l : List Minidisk). l ++ disk ∷ []) (sym (append-nil u.minidisks))
+disk_last disk (u ∷ []) h = append-nil (u.minidisks ++ disk ∷ []) ∙ ap (λ (l : List MinidiskStatement). l ++ disk ∷ []) (sym (append-nil u.minidisks))
 disk_last disk (u ∷ v ∷ us) h =
     ap minidisks_of (with_rest (with_minidisk disk) u v us)
-    ∙ ap (λ (l : List Minidisk). u.minidisks ++ l) (disk_last disk (v ∷ us) (omega arith))
+    ∙ ap (λ (l : List MinidiskStatement). u.minidisks ++ l) (disk_last disk (v ∷ us) (omega arith))
     ∙ sym (append_assoc u.minidisks (minidisks_of (v ∷ us)) (disk ∷ []))
 
 -- a new user has no minidisk
 pub disks_kept : (name : List ℕ) (pages : ℕ) (users : List DirectoryUser) → minidisks_of (users ++ new_user name pages ∷ []) ≡ minidisks_of users
 disks_kept name pages [] = refl
-disks_kept name pages (u ∷ us) = ap (λ (l : List Minidisk). u.minidisks ++ l) (disks_kept name pages us)
+disks_kept name pages (u ∷ us) = ap (λ (l : List MinidiskStatement). u.minidisks ++ l) (disks_kept name pages us)

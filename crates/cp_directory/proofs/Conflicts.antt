@@ -11,7 +11,7 @@ use Rattle.cp_directory.specs.Users.{first_conflict}
 use Rattle.cp_directory.specs.Grammar.{Conflicts, IsFirstConflict}
 use Rattle.cp_directory.specs.declared.extent.DiskMode.{DiskMode}
 use Rattle.cp_directory.specs.declared.extent.DiskMode.TheVariants.{ReadOnly, Writable}
-use Rattle.cp_directory.specs.declared.minidisk.Minidisk.{Minidisk}
+use Rattle.cp_directory.specs.declared.minidisk.MinidiskStatement.{MinidiskStatement}
 
 pub all_three : (a b c : Bool) → (a && b && c) ≡ true → (a ≡ true) × (b ≡ true) × (c ≡ true)
 all_three true true true h = (refl, refl, refl)
@@ -77,15 +77,15 @@ pub taken : (one other : Extent) → (Conflicts one other → ⊥) → (b : Bool
 taken one other h true e = absurd (h (conflict_found one other e))
 taken one other h false e = refl
 
-first_on : (extent : Extent) (disk : Minidisk) (disks : List Minidisk) (line : ℕ) (b : Bool) → conflicts extent disk.extent ≡ b → (first_conflict extent disks ≡ Some line → IsFirstConflict extent disks line)
-    → option_map (λ (d : Minidisk). d.line) (cond b (Some disk) (find (λ (d : Minidisk). conflicts extent d.extent) disks)) ≡ Some line → IsFirstConflict extent (disk ∷ disks) line
+first_on : (extent : Extent) (disk : MinidiskStatement) (disks : List MinidiskStatement) (line : ℕ) (b : Bool) → conflicts extent disk.extent ≡ b → (first_conflict extent disks ≡ Some line → IsFirstConflict extent disks line)
+    → option_map (λ (d : MinidiskStatement). d.line) (cond b (Some disk) (find (λ (d : MinidiskStatement). conflicts extent d.extent) disks)) ≡ Some line → IsFirstConflict extent (disk ∷ disks) line
 first_on extent disk disks line true e hyp h =
     record {
       before = [];
       disk = disk;
       after = disks;
       split = refl;
-      free = All-nil (λ (d : Minidisk). Conflicts extent d.extent → ⊥);
+      free = All-nil (λ (d : MinidiskStatement). Conflicts extent d.extent → ⊥);
       conflicts = conflict_found extent disk.extent e;
       reported = cc;
     }
@@ -95,41 +95,41 @@ first_on extent disk disks line false e hyp h =
       before = disk ∷ r.before;
       disk = r.disk;
       after = r.after;
-      split = ap (λ (l : List Minidisk). disk ∷ l) r.split;
-      free = All-cons (λ (d : Minidisk). Conflicts extent d.extent → ⊥) disk r.before (free extent disk.extent e) r.free;
+      split = ap (λ (l : List MinidiskStatement). disk ∷ l) r.split;
+      free = All-cons (λ (d : MinidiskStatement). Conflicts extent d.extent → ⊥) disk r.before (free extent disk.extent e) r.free;
       conflicts = r.conflicts;
       reported = r.reported;
     }
 
 -- the line that is reported is that of the first
-pub first_found : (extent : Extent) (disks : List Minidisk) (line : ℕ) → first_conflict extent disks ≡ Some line → IsFirstConflict extent disks line
+pub first_found : (extent : Extent) (disks : List MinidiskStatement) (line : ℕ) → first_conflict extent disks ≡ Some line → IsFirstConflict extent disks line
 first_found extent [] line h = cc
 first_found extent (disk ∷ disks) line h = first_on extent disk disks line (conflicts extent disk.extent) refl (first_found extent disks line) h
 
-again_on : (extent : Extent) (before : List Minidisk) (disk : Minidisk) (after : List Minidisk) → All (λ (d : Minidisk). Conflicts extent d.extent → ⊥) before → Conflicts extent disk.extent
+again_on : (extent : Extent) (before : List MinidiskStatement) (disk : MinidiskStatement) (after : List MinidiskStatement) → All (λ (d : MinidiskStatement). Conflicts extent d.extent → ⊥) before → Conflicts extent disk.extent
     → first_conflict extent (before ++ disk ∷ after) ≡ Some disk.line
 again_on extent [] disk after h k = rw (conflict_again extent disk.extent k) refl
 again_on extent (one ∷ before) disk after h k =
-    let P : Minidisk → Type 0 = λ d. Conflicts extent d.extent → ⊥ in
+    let P : MinidiskStatement → Type 0 = λ d. Conflicts extent d.extent → ⊥ in
     rw (taken extent one.extent (All-head P one before h) (conflicts extent one.extent) refl) (again_on extent before disk after (All-tail P one before h) k)
 
 -- the line of the first is reported
-pub first_again : (extent : Extent) (disks : List Minidisk) (line : ℕ) → IsFirstConflict extent disks line → first_conflict extent disks ≡ Some line
+pub first_again : (extent : Extent) (disks : List MinidiskStatement) (line : ℕ) → IsFirstConflict extent disks line → first_conflict extent disks ≡ Some line
 first_again extent disks line h = ap (first_conflict extent) h.split ∙ again_on extent h.before h.disk h.after h.free h.conflicts ∙ ap Some (sym h.reported)
 
-none_on : (extent : Extent) (disk : Minidisk) (disks : List Minidisk) (b : Bool) → conflicts extent disk.extent ≡ b → (first_conflict extent disks ≡ None → All (λ (d : Minidisk). Conflicts extent d.extent → ⊥) disks)
-    → option_map (λ (d : Minidisk). d.line) (cond b (Some disk) (find (λ (d : Minidisk). conflicts extent d.extent) disks)) ≡ None → All (λ (d : Minidisk). Conflicts extent d.extent → ⊥) (disk ∷ disks)
+none_on : (extent : Extent) (disk : MinidiskStatement) (disks : List MinidiskStatement) (b : Bool) → conflicts extent disk.extent ≡ b → (first_conflict extent disks ≡ None → All (λ (d : MinidiskStatement). Conflicts extent d.extent → ⊥) disks)
+    → option_map (λ (d : MinidiskStatement). d.line) (cond b (Some disk) (find (λ (d : MinidiskStatement). conflicts extent d.extent) disks)) ≡ None → All (λ (d : MinidiskStatement). Conflicts extent d.extent → ⊥) (disk ∷ disks)
 none_on extent disk disks true e hyp h = cc
-none_on extent disk disks false e hyp h = All-cons (λ (d : Minidisk). Conflicts extent d.extent → ⊥) disk disks (free extent disk.extent e) (hyp h)
+none_on extent disk disks false e hyp h = All-cons (λ (d : MinidiskStatement). Conflicts extent d.extent → ⊥) disk disks (free extent disk.extent e) (hyp h)
 
-pub none_found : (extent : Extent) (disks : List Minidisk) → first_conflict extent disks ≡ None → All (λ (d : Minidisk). Conflicts extent d.extent → ⊥) disks
-none_found extent [] h = All-nil (λ (d : Minidisk). Conflicts extent d.extent → ⊥)
+pub none_found : (extent : Extent) (disks : List MinidiskStatement) → first_conflict extent disks ≡ None → All (λ (d : MinidiskStatement). Conflicts extent d.extent → ⊥) disks
+none_found extent [] h = All-nil (λ (d : MinidiskStatement). Conflicts extent d.extent → ⊥)
 none_found extent (disk ∷ disks) h = none_on extent disk disks (conflicts extent disk.extent) refl (none_found extent disks) h
 
-all_free_on : (extent : Extent) (disks : List Minidisk) (o : Option ℕ) → first_conflict extent disks ≡ o → ((line : ℕ) → IsFirstConflict extent disks line → ⊥) → All (λ (d : Minidisk). Conflicts extent d.extent → ⊥) disks
+all_free_on : (extent : Extent) (disks : List MinidiskStatement) (o : Option ℕ) → first_conflict extent disks ≡ o → ((line : ℕ) → IsFirstConflict extent disks line → ⊥) → All (λ (d : MinidiskStatement). Conflicts extent d.extent → ⊥) disks
 all_free_on extent disks None e h = none_found extent disks e
 all_free_on extent disks (Some line) e h = absurd (h line (first_found extent disks line e))
 
 -- where there is no first conflict there is none
-pub all_free : (extent : Extent) (disks : List Minidisk) → ((line : ℕ) → IsFirstConflict extent disks line → ⊥) → All (λ (d : Minidisk). Conflicts extent d.extent → ⊥) disks
+pub all_free : (extent : Extent) (disks : List MinidiskStatement) → ((line : ℕ) → IsFirstConflict extent disks line → ⊥) → All (λ (d : MinidiskStatement). Conflicts extent d.extent → ⊥) disks
 all_free extent disks h = all_free_on extent disks (first_conflict extent disks) refl h

@@ -21,7 +21,7 @@ use Rattle.cp_directory.specs.Grammar.{Breaks, Conflicts, Continues, HasLawfulDe
 use Rattle.cp_directory.specs.declared.devices.DeviceKind.{DeviceKind}
 use Rattle.cp_directory.specs.declared.devices.DeviceKind.TheVariants.{Console, Reader, Punch, Printer}
 use Rattle.cp_directory.specs.declared.faults.LineFault.TheVariants.{Syntax, DuplicateUser, DuplicateDevice, BadStorage, BadExtent, Overlap, TooMany}
-use Rattle.cp_directory.specs.declared.minidisk.Minidisk.{Minidisk}
+use Rattle.cp_directory.specs.declared.minidisk.MinidiskStatement.{MinidiskStatement}
 use Rattle.cp_directory.proofs.Attached.{disk_last, disks_kept, kept, kept_disks, lawful_device, lawful_disk, none_there}
 use Rattle.cp_directory.proofs.Conflicts.{all_free, conflict_turned}
 use Rattle.cp_directory.proofs.Grammars.{reads}
@@ -41,14 +41,14 @@ abbrev IsSized : DirectoryUser → Type 0
 IsSized user = (2 ≤ user.pages) × (user.pages ≤ 1024)
 
 -- two minidisks do not conflict
-abbrev AreApart : Minidisk → Minidisk → Type 0
+abbrev AreApart : MinidiskStatement → MinidiskStatement → Type 0
 AreApart one other = Conflicts one.extent other.extent → ⊥
 
-abbrev AreOrdered : Minidisk → Minidisk → Type 0
+abbrev AreOrdered : MinidiskStatement → MinidiskStatement → Type 0
 AreOrdered one other = one.line < other.line
 
 -- what is lawful of minidisks, before the line of this number
-record DisksBefore (number : ℕ) (disks : List Minidisk) : Type 0 where
+record DisksBefore (number : ℕ) (disks : List MinidiskStatement) : Type 0 where
   extents : All HasLawfulExtent disks
   apart : AllPairs AreApart disks
   ordered : AllPairs AreOrdered disks
@@ -66,12 +66,12 @@ record Before (number : ℕ) (users : List DirectoryUser) : Type 0 where
   users_so_far : UsersSoFar users
   disks : DisksBefore number (minidisks_of users)
 
-disks_later : (number : ℕ) (disks : List Minidisk) → DisksBefore number disks → DisksBefore (number + 1) disks
+disks_later : (number : ℕ) (disks : List MinidiskStatement) → DisksBefore number disks → DisksBefore (number + 1) disks
 disks_later number disks h = record {
   extents = h.extents;
   apart = h.apart;
   ordered = h.ordered;
-  earlier = All-weaker (λ (d : Minidisk). d.line < number) (λ (d : Minidisk). d.line < number + 1) (λ d less. omega arith) disks h.earlier;
+  earlier = All-weaker (λ (d : MinidiskStatement). d.line < number) (λ (d : MinidiskStatement). d.line < number + 1) (λ d less. omega arith) disks h.earlier;
 }
 
 later : (number : ℕ) (users : List DirectoryUser) → Before number users → Before (number + 1) users
@@ -145,28 +145,28 @@ device_more number before line kind address b h =
 
 -- ---- a minidisk more
 
-lawful_extent : (disk : Minidisk) → ((disk.extent.count ≡ 0) ⊎ (808 < disk.extent.start + disk.extent.count) → ⊥) → is_volser disk.extent.volser ≡ true → HasLawfulExtent disk
+lawful_extent : (disk : MinidiskStatement) → ((disk.extent.count ≡ 0) ⊎ (808 < disk.extent.start + disk.extent.count) → ⊥) → is_volser disk.extent.volser ≡ true → HasLawfulExtent disk
 lawful_extent disk h named = record {
   some = let none : disk.extent.count ≡ 0 → ⊥ = λ k. h (inl k) in omega arith;
   within = let past : 808 < disk.extent.start + disk.extent.count → ⊥ = λ k. h (inr k) in omega arith;
   named = named;
 }
 
-disks_more : (number : ℕ) (disks : List Minidisk) (disk : Minidisk) → DisksBefore number disks → HasLawfulExtent disk → All (λ other. Conflicts disk.extent other.extent → ⊥) disks → disk.line ≡ number → DisksBefore (number + 1) (disks ++ disk ∷ [])
+disks_more : (number : ℕ) (disks : List MinidiskStatement) (disk : MinidiskStatement) → DisksBefore number disks → HasLawfulExtent disk → All (λ other. Conflicts disk.extent other.extent → ⊥) disks → disk.line ≡ number → DisksBefore (number + 1) (disks ++ disk ∷ [])
 disks_more number disks disk b lawful free placed =
     let l = disks_later number disks b in
     record {
       extents = All-push HasLawfulExtent disks disk b.extents lawful;
       apart = all_pairs_push AreApart disks disk b.apart (λ k d less c. free k d less (conflict_turned (get_or disks k d).extent disk.extent c));
       ordered = all_pairs_push AreOrdered disks disk b.ordered (λ k d less. let early = b.earlier k d less in omega arith);
-      earlier = All-push (λ (d : Minidisk). d.line < number + 1) disks disk l.earlier (omega arith);
+      earlier = All-push (λ (d : MinidiskStatement). d.line < number + 1) disks disk l.earlier (omega arith);
     }
 
 disk_more : (number : ℕ) (before : List DirectoryUser) (line : List ℕ) (address : ℕ) (extent : Extent) → Before number before → States before line (Disk address extent) → Before (number + 1) (added number before (Disk address extent))
 disk_more number before line address extent b h =
     let some : 0 < length before = some_user before (h.right Syntax) in
     let user : DirectoryUser = last_user before in
-    let disk : Minidisk = record { line = number; address = address; extent = extent } in
+    let disk : MinidiskStatement = record { line = number; address = address; extent = extent } in
     let room : length (addresses_of user) < 32 = let full : 32 ≤ length (addresses_of user) → ⊥ = h.right TooMany in omega arith in
     let new = never (has_device address user) (h.right DuplicateDevice) in
     let free = all_free extent (minidisks_of before) (λ first. h.right (Overlap first)) in
@@ -218,7 +218,7 @@ no_disk = record {
   extents = All-nil HasLawfulExtent;
   apart = λ i j d less there. absurd (omega arith);
   ordered = λ i j d less there. absurd (omega arith);
-  earlier = All-nil (λ (d : Minidisk). d.line < 1);
+  earlier = All-nil (λ (d : MinidiskStatement). d.line < 1);
 }
 
 pub lawful : (text : List ℕ) (users : List DirectoryUser) → directory_of text ≡ Ok users → IsLawful users

@@ -23,7 +23,7 @@ use Rattle.cp_directory.specs.declared.faults.LineFault.TheVariants.{UnknownStat
 use Rattle.cp_directory.specs.declared.faults.LineFault.TheVariants.{DuplicateUser, DuplicateDevice}
 use Rattle.cp_directory.specs.declared.faults.LineFault.TheVariants.{BadStorage, BadExtent, Overlap}
 use Rattle.cp_directory.specs.declared.faults.LineFault.TheVariants.{TooMany}
-use Rattle.cp_directory.specs.declared.minidisk.Minidisk.{Minidisk}
+use Rattle.cp_directory.specs.declared.minidisk.MinidiskStatement.{MinidiskStatement}
 
 -- ---- what the words of a line say
 
@@ -98,10 +98,11 @@ pub record Conflicts (one other : Extent) : Type 0 where
   pub written : (one.mode ≡ Writable) ⊎ (other.mode ≡ Writable)
 
 -- the first of these minidisks with which the extent conflicts is on this line
-pub record IsFirstConflict (extent : Extent) (disks : List Minidisk) (line : ℕ) : Type 0 where
-  pub before : List Minidisk
-  pub disk : Minidisk
-  pub after : List Minidisk
+pub record IsFirstConflict (extent : Extent) (disks : List MinidiskStatement)
+    (line : ℕ) : Type 0 where
+  pub before : List MinidiskStatement
+  pub disk : MinidiskStatement
+  pub after : List MinidiskStatement
   pub split : disks ≡ before ++ disk ∷ after
   pub free : All (λ other. Conflicts extent other.extent → ⊥) before
   pub conflicts : Conflicts extent disk.extent
@@ -240,7 +241,7 @@ pub record HasLawfulDevices (user : DirectoryUser) : Type 0 where
   pub low : All (λ address. address ≤ 0x5FF) (addresses_of user)
 
 -- a minidisk has a cylinder, and none that no volume has, of a volume with a serial number
-pub record HasLawfulExtent (disk : Minidisk) : Type 0 where
+pub record HasLawfulExtent (disk : MinidiskStatement) : Type 0 where
   pub some : 1 ≤ disk.extent.count
   pub within : disk.extent.start + disk.extent.count ≤ 808
   pub named : is_volser disk.extent.volser ≡ true

@@ -7,7 +7,7 @@ use Rattle.cp_directory.specs.Devices.{places_of, with_place}
 use Rattle.cp_directory.specs.Extents.{Extent, conflicts}
 use Rattle.cp_directory.specs.declared.devices.DeviceKind.{DeviceKind}
 use Rattle.cp_directory.specs.declared.devices.UserDevices.{UserDevices}
-use Rattle.cp_directory.specs.declared.minidisk.Minidisk.{Minidisk}
+use Rattle.cp_directory.specs.declared.minidisk.MinidiskStatement.{MinidiskStatement}
 
 -- a user: the name, the pages of 4096 bytes that its storage has, its devices that are no disks,
 -- and its minidisks in the order of their lines
@@ -15,7 +15,7 @@ pub record DirectoryUser : Type 0 where
   pub name : List ℕ
   pub pages : ℕ
   pub devices : UserDevices
-  pub minidisks : List Minidisk
+  pub minidisks : List MinidiskStatement
 
 -- no device
 abbrev pub no_devices : UserDevices
@@ -42,7 +42,7 @@ abbrev pub with_device : DeviceKind → ℕ → DirectoryUser → DirectoryUser
 with_device kind address user = record user { devices = with_place user.devices kind address }
 
 -- the user with one minidisk more
-abbrev pub with_minidisk : Minidisk → DirectoryUser → DirectoryUser
+abbrev pub with_minidisk : MinidiskStatement → DirectoryUser → DirectoryUser
 with_minidisk disk user = record user { minidisks = user.minidisks ++ disk ∷ [] }
 
 -- the last user, to whom device statements belong
@@ -54,15 +54,16 @@ abbrev pub with_last : (DirectoryUser → DirectoryUser) → List DirectoryUser 
 with_last change users = slice_set users (length users - 1) (change (last_user users))
 
 -- the minidisks of all users, in the order of their lines
-abbrev pub minidisks_of : List DirectoryUser → List Minidisk
+abbrev pub minidisks_of : List DirectoryUser → List MinidiskStatement
 minidisks_of users = flat_map (λ user. user.minidisks) users
 
 -- the line of the first of these minidisks with which an extent conflicts
-abbrev pub first_conflict : Extent → List Minidisk → Option ℕ
+abbrev pub first_conflict : Extent → List MinidiskStatement → Option ℕ
 first_conflict extent disks =
     option_map (λ disk. disk.line) (find (λ disk. conflicts extent disk.extent) disks)
 
 -- no two minidisks of the users conflict
 abbrev pub AreApart : List DirectoryUser → Type 0
-AreApart users = AllPairs (λ (one other : Minidisk). conflicts one.extent other.extent ≡ false)
+AreApart users = AllPairs (λ (one other : MinidiskStatement). conflicts one.extent other.extent
+    ≡ false)
     (minidisks_of users)

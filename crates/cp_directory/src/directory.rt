@@ -9,7 +9,7 @@ ghost use Rattle.cp_directory.specs.Users.{new_user, with_device, with_last, wit
 
 use crate::devices::{DeviceKind, UserDevices};
 use crate::extent::DiskExtent;
-use crate::minidisk::Minidisk;
+use crate::minidisk::MinidiskStatement;
 use crate::name::UserName;
 use crate::storage::StorageSize;
 use s370_num::DevAddr;
@@ -26,7 +26,7 @@ pub struct User {
     name: UserName,
     storage: StorageSize,
     devices: UserDevices,
-    minidisks: Vec<Minidisk>,
+    minidisks: Vec<MinidiskStatement>,
 }
 
 impl Model for User {
@@ -84,7 +84,7 @@ impl User {
     }
 
     /// Returns the minidisks, in the order of their lines.
-    pub fn minidisks(&self) -> &[Minidisk]
+    pub fn minidisks(&self) -> &[MinidiskStatement]
         ensures { result.now ≡ self.now.minidisks }
     {
         self.minidisks.as_slice()
@@ -110,7 +110,7 @@ impl User {
     {
         for disk in &self.minidisks {
             // Exhaustive: a new field fails to compile here.
-            let Minidisk {
+            let MinidiskStatement {
                 line,
                 address: _,
                 extent: other,
@@ -130,7 +130,7 @@ impl User {
     }
 
     /// Adds a minidisk after the others. If the growth is refused, nothing is added.
-    fn add_minidisk(&mut self, disk: Minidisk) -> Result<(), AllocError>
+    fn add_minidisk(&mut self, disk: MinidiskStatement) -> Result<(), AllocError>
         ensures ok { IfOk result (λ _. self.new ≡ with_minidisk disk self.old) }
         ensures err { OnErr result (self.new ≡ self.old) }
     {
@@ -243,7 +243,7 @@ impl Directory {
 
     /// Gives the last user one minidisk more, which conflicts with no other. If the growth is
     /// refused, nothing is added.
-    pub(crate) fn add_minidisk(&mut self, disk: Minidisk) -> Result<(), AllocError>
+    pub(crate) fn add_minidisk(&mut self, disk: MinidiskStatement) -> Result<(), AllocError>
         requires some { 0 < length self.old }
         requires free { first_conflict disk.extent (minidisks_of self.old) ≡ None }
         ensures ok { IfOk result (λ _. self.new ≡ with_last (with_minidisk disk) self.old) }

@@ -45,7 +45,7 @@ pub use devices::{DeviceKind, UserDevices};
 pub use directory::{Directory, MOST_DEVICES, User};
 pub use extent::{DiskExtent, DiskMode, MOST_CYLINDERS, SpelledExtent, Volser};
 pub use faults::DirError;
-pub use minidisk::Minidisk;
+pub use minidisk::MinidiskStatement;
 pub use name::UserName;
 pub use reader::{read_directory, reads_grammar};
 pub use spelling::storage_of;

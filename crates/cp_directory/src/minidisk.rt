@@ -4,7 +4,7 @@ use s370_num::DevAddr;
 
 /// A disk of a user: an extent of a volume, at an address.
 #[derive(Clone, Copy, Debug, PartialEq, Eq)]
-pub struct Minidisk {
+pub struct MinidiskStatement {
     /// The number of the line that states it, from 1.
     pub line: usize,
     /// Where the user's machine finds it.

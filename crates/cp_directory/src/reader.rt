@@ -10,7 +10,7 @@ use crate::devices::DeviceKind;
 use crate::directory::{Directory, User};
 use crate::extent::{DiskExtent, SpelledExtent};
 use crate::faults::{DirError, LineFault, StatementError};
-use crate::minidisk::Minidisk;
+use crate::minidisk::MinidiskStatement;
 use crate::name::UserName;
 use crate::spelling::{SpelledSize, Statement, read_statement, size_of};
 use s370_num::DevAddr;
@@ -169,7 +169,7 @@ fn place_minidisk(
     if is_full {
         return Err(StatementError::Fault(LineFault::TooMany));
     }
-    let disk = Minidisk {
+    let disk = MinidiskStatement {
         line,
         address,
         extent,

@@ -143,7 +143,7 @@ impl Frames {
 
     /// Returns a free slot, from which the next search begins.
     fn free_slot(&mut self) -> Option<usize>
-        ensures same { self.new ≡ self.old }
+        ensures unchanged { self.new ≡ self.old }
         ensures within { IfSome result (λ slot. slot < length self.old.supply.slots) }
         ensures free { IfSome result
             (λ slot. slice_index_or self.old.supply.slots slot None ≡ None) }

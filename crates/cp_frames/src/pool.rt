@@ -375,7 +375,7 @@ impl Frames {
               slots = cleared_of user self.old.supply.slots;
               pins = replicate (length self.old.supply.pins) false;
             } }
-        ensures gone { (page : ℕ) → frame_of self.new.supply.owners user page ≡ None }
+        ensures unmapped { (page : ℕ) → frame_of self.new.supply.owners user page ≡ None }
         ensures gone_slots { (page : ℕ) → frame_of self.new.supply.slots user page ≡ None }
     {
         self.unpin_all();

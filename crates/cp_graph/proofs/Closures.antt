@@ -2,13 +2,13 @@
 use Rattle.std.specs.Prelude.{List, [], ◌∷◌, ℕ, ◌+◌, ◌/◌, ◌%◌, ◌<◌, ◌≡◌, ◌==◌, Bool, true, false, ◌||◌, ◌&&◌, not, Option, None, Some, is_some, refl, if◌then◌else◌}
 use Rattle.std.specs.List.{All}
 use Rattle.s370_store.specs.declared.Access.TheVariants.{Fetch}
-use Rattle.s370_store.specs.Access.{Touches, IsAway}
+use Rattle.s370_store.specs.Access.{Touches, IsAbsent}
 use Rattle.s370_walk.specs.declared.parts.Ccw.{Ccw}
 use Rattle.s370_store.specs.Memory.{Memory}
 use Rattle.s370_walk.specs.Hardware.{area}
 use Rattle.s370_walk.specs.Walk.{is_jump, chains_command, chains_data}
 use Rattle.s370_channel.specs.Guest.{area_block, guest_text}
-use Rattle.channel_laws.specs.declared.places.Place.{Place}
+use Rattle.channel_laws.specs.declared.places.CcwLocation.{CcwLocation}
 use Rattle.channel_laws.specs.Tracks.{has_area}
 use Rattle.std.specs.Prelude.{◌≤◌, ◌-◌, ◌≢◌, ◌++◌, length, slice_index_or}
 use Rattle.std.proofs.Common.{sym, ◌∙◌, ap, arith, inl, inr, length-append}
@@ -55,8 +55,8 @@ begun_on list new o is begun some = rw is (λ i lt. elim (at_or_before i (length
 
 -- ---- What the program can reach
 
-module _ (m : Memory) (start : ℕ) (place : Place) (w : Ccw) (text : guest_text m place.address ≡ Some w) (reached : IsReachedPlace m start place) where
-  pub next_reached : (next : Place) → next.address ≡ w.next → next.continues ≡ role_after w place.continues → leads_next w ≡ true → IsReachedPlace m start next
+module _ (m : Memory) (start : ℕ) (place : CcwLocation) (w : Ccw) (text : guest_text m place.address ≡ Some w) (reached : IsReachedPlace m start place) where
+  pub next_reached : (next : CcwLocation) → next.address ≡ w.next → next.continues ≡ role_after w place.continues → leads_next w ≡ true → IsReachedPlace m start next
   next_reached next at role leads = rw (at, role) (by_jump (is_jump w) (chains_data w) (chains_command w) refl refl refl leads)
     where
       by_jump : (goes more command : Bool) → is_jump w ≡ goes → chains_data w ≡ more → chains_command w ≡ command → (if goes then (w.address % 8 == 0) else (more || command)) ≡ true
@@ -76,15 +76,15 @@ module _ (m : Memory) (start : ℕ) (place : Place) (w : Ccw) (text : guest_text
       by_jump true command more j c d on = cc
 
 -- where a word leads there, each place that is added is reached
-pub followed_reached : (m : Memory) (start : ℕ) (leads : Bool) (place : Place) (old new : List Place) → IsFollowed leads place old new → (leads ≡ true → IsReachedPlace m start place) → All (IsReachedPlace m start) old
+pub followed_reached : (m : Memory) (start : ℕ) (leads : Bool) (place : CcwLocation) (old new : List CcwLocation) → IsFollowed leads place old new → (leads ≡ true → IsReachedPlace m start place) → All (IsReachedPlace m start) old
     → All (IsReachedPlace m start) new
 followed_reached m start leads place old new (inl same) there all = rw same all
 followed_reached m start leads place old new (inr (on, is)) there all = rw is (All-push (IsReachedPlace m start) old place all (there on))
 
-pub first_reached : (m : Memory) (start : ℕ) (old new : List Place) → old ≡ [] → IsFollowed true (record { address = start; continues = false }) old new → All (IsReachedPlace m start) new
+pub first_reached : (m : Memory) (start : ℕ) (old new : List CcwLocation) → old ≡ [] → IsFollowed true (record { address = start; continues = false }) old new → All (IsReachedPlace m start) new
 first_reached m start old new none followed = followed_reached m start true _ old new followed (λ e. starts) (rw none (All-nil (IsReachedPlace m start)))
 
-pub absent_served : (m : Memory) (size : ℕ) (present : ℕ → Bool) (start : ℕ) (place : Place) (e : CopyError) → IsReachedPlace m start place → IfAbsent (λ page. IsAway size present page × IsWordPage m place.address page) e
-    → IfAbsent (λ page. IsAway size present page × IsServed m start page) e
+pub absent_served : (m : Memory) (size : ℕ) (present : ℕ → Bool) (start : ℕ) (place : CcwLocation) (e : CopyError) → IsReachedPlace m start place → IfAbsent (λ page. IsAbsent size present page × IsWordPage m place.address page) e
+    → IfAbsent (λ page. IsAbsent size present page × IsServed m start page) e
 absent_served m size present start place errors.Memory reached x = tt
 absent_served m size present start place (errors.Absent page) reached x = (x.0, record { place = place; reached = reached; touched = x.1 })

@@ -7,7 +7,7 @@ use Rattle.std.proofs.lemmas.List.{get_or_append_left, get_or-set_same, get_or-s
 use Rattle.std.specs.Prelude.{replicate}
 use Rattle.std.proofs.lemmas.List.Sums.{sum_by-set, sum_by-cons}
 use Rattle.std.proofs.lemmas.Bool.Decides.{nat_tests}
-use Rattle.channel_laws.specs.declared.places.Place.{Place}
+use Rattle.channel_laws.specs.declared.places.CcwLocation.{CcwLocation}
 use Rattle.channel_laws.specs.Copy.{past}
 use Rattle.cp_graph.specs.Marks.{slot_of, is_free, unmarked, IsAtSlot, IsIndexed}
 
@@ -26,13 +26,13 @@ marked index i v lt zero_is some =
     let is : is_free v ≡ 0 = not_free v some in
     omega (arith, e, was, is)
 
-place_same : (p q : Place) → p.address ≡ q.address → p.continues ≡ q.continues → p ≡ q
+place_same : (p q : CcwLocation) → p.address ≡ q.address → p.continues ≡ q.continues → p ≡ q
 place_same p q a c =
-    let at : ℕ → Place = λ x. record { address = x; continues = p.continues } in
-    let as_role : Bool → Place = λ y. record { address = q.address; continues = y } in
+    let at : ℕ → CcwLocation = λ x. record { address = x; continues = p.continues } in
+    let as_role : Bool → CcwLocation = λ y. record { address = q.address; continues = y } in
     ap at a ∙ ap as_role c
 
-slot_even : (p q : Place) → p.address % 8 ≡ 0 → q.address % 8 ≡ 0 → slot_of p ≡ slot_of q → p ≡ q
+slot_even : (p q : CcwLocation) → p.address % 8 ≡ 0 → q.address % 8 ≡ 0 → slot_of p ≡ slot_of q → p ≡ q
 slot_even p q x y e = by_roles p.continues q.continues refl refl e
   where
     by_roles : (b c : Bool) → p.continues ≡ b → q.continues ≡ c → p.address / 8 * 2 + (if b then 1 else 0) ≡ q.address / 8 * 2 + (if c then 1 else 0) → p ≡ q
@@ -42,14 +42,14 @@ slot_even p q x y e = by_roles p.continues q.continues refl refl e
     by_roles false true f g e = (let no : ⊥ = omega (arith, e) in absurd no)
 
 -- a place that the index reports is the one
-pub indexed_place : (places : List Place) (index : List ℕ) (place : Place) (number : ℕ) → IsIndexed places index → place.address % 8 ≡ 0 → slice_index index (slot_of place) ≢ 0 → number ≡ slice_index index (slot_of place) - 1
+pub indexed_place : (places : List CcwLocation) (index : List ℕ) (place : CcwLocation) (number : ℕ) → IsIndexed places index → place.address % 8 ≡ 0 → slice_index index (slot_of place) ≢ 0 → number ≡ slice_index index (slot_of place) - 1
     → (number < length places) × (slice_index_or places number (past number) ≡ place)
 indexed_place places index place number known even some is =
     let x = known.all (slot_of place) some in
     rw is (x.within, slot_even _ place x.even even x.is)
 
 -- one more place is reported of
-pub indexed_push : (places : List Place) (index : List ℕ) (place : Place) (v : ℕ) → IsIndexed places index → slot_of place < length index → place.address % 8 ≡ 0 → v ≡ length places + 1 → IsIndexed (places ++ place ∷ []) (slice_set index (slot_of place) v)
+pub indexed_push : (places : List CcwLocation) (index : List ℕ) (place : CcwLocation) (v : ℕ) → IsIndexed places index → slot_of place < length index → place.address % 8 ≡ 0 → v ≡ length places + 1 → IsIndexed (places ++ place ∷ []) (slice_set index (slot_of place) v)
 indexed_push places index place v known room even is = record { all = λ slot some. by_slot slot some (same_or_not slot (slot_of place)); even = λ i lt. by_place i lt (at_or_before i (length places) (omega (arith, lt, longer))) }
   where
     longer : length (places ++ place ∷ []) ≡ length places + 1

@@ -22,7 +22,7 @@ use Rattle.s370_channel.specs.Guest.{guest_text, guest_written, area_block, word
 use Rattle.s370_channel.specs.declared.words.StoredCcw.{StoredCcw}
 use Rattle.s370_channel.specs.Words.{ccw_of}
 use Rattle.std.specs.List.{slice_range}
-use Rattle.channel_laws.specs.declared.places.Place.{Place}
+use Rattle.channel_laws.specs.declared.places.CcwLocation.{CcwLocation}
 use Rattle.channel_laws.specs.Renaming.{renamed_found, LeadsFrom}
 use Rattle.channel_laws.specs.Mapped.{Named}
 use Rattle.s370_walk.specs.Blocks.{straight}
@@ -30,17 +30,17 @@ use Rattle.channel_laws.specs.Tracks.{has_area, IsListOf}
 use Rattle.channel_laws.proofs.Tracked.{tracks_begin, tracks_skip, tracks_on, tracks_place}
 use Rattle.channel_laws.specs.Copy.{past, guest_of, IsPlace, IsCopyOf}
 use Rattle.cp_graph.specs.declared.program.Node.{Node}
-use Rattle.cp_graph.specs.Table.{word_in, entry_in, program_of, IsLink, HasLinks, IsGood, IsCopied, HasListOf, IsRow, AreRows, Grows, IsFollowed, IsLinked, leads_next, leads_skipped, IsJumpPlain, IsPart, IsHere, AreHere, AreHeldRows}
+use Rattle.cp_graph.specs.Table.{word_in, entry_in, program_of, IsLink, HasLinks, IsGood, IsCopied, HasListOf, IsRow, AreRows, Grows, IsFollowed, IsLinked, leads_next, leads_skipped, IsJumpPlain, IsPart, IsPresent, AllPresent, AreHeldRows}
 
-module _ (old rest : List Place) (room : length (old ++ rest) ≤ 2147483648) where
+module _ (old rest : List CcwLocation) (room : length (old ++ rest) ≤ 2147483648) where
   longer : length old ≤ length (old ++ rest)
   longer = omega (arith, length-append old rest)
 
   link_same : (a : ℕ) → IsLink old a → guest_of (old ++ rest) a ≡ guest_of old a
-  link_same a (inl lt) = ap (λ (p : Place). p.address) (get_or_append_left old rest (past a) a lt)
+  link_same a (inl lt) = ap (λ (p : CcwLocation). p.address) (get_or_append_left old rest (past a) a lt)
   link_same a (inr high) =
       let here : length (old ++ rest) ≤ a = omega (arith, high, room) in let there : length old ≤ a = omega (arith, high, room, longer) in
-      ap (λ (p : Place). p.address) (get_or_past (old ++ rest) a (past a) here ∙ sym (get_or_past old a (past a) there))
+      ap (λ (p : CcwLocation). p.address) (get_or_past (old ++ rest) a (past a) here ∙ sym (get_or_past old a (past a) there))
 
   link_more : (a : ℕ) → IsLink old a → IsLink (old ++ rest) a
   link_more a (inl lt) = inl (omega (arith, longer, lt))
@@ -77,22 +77,22 @@ module _ (old rest : List Place) (room : length (old ++ rest) ≤ 2147483648) wh
         links = links_more found c.links;
       }
 
-pub copied_grown : (old new : List Place) (text : ℕ → Option Ccw) (address : ℕ) (found : Option Ccw) → Grows old new → length new ≤ 2147483648 → IsCopied old text address found → IsCopied new text address found
+pub copied_grown : (old new : List CcwLocation) (text : ℕ → Option Ccw) (address : ℕ) (found : Option Ccw) → Grows old new → length new ≤ 2147483648 → IsCopied old text address found → IsCopied new text address found
 copied_grown old new text address found grown room c =
-    let P : List Place → Type 0 = λ xs. length xs ≤ 2147483648 → IsCopied xs text address found in
+    let P : List CcwLocation → Type 0 = λ xs. length xs ≤ 2147483648 → IsCopied xs text address found in
     subst P (sym grown.is) (λ fits. copied_more old grown.rest fits text address found c) room
 
-pub guest_grown : (old new : List Place) (i : ℕ) → Grows old new → i < length old → guest_of new i ≡ guest_of old i
-guest_grown old new i grown lt = rw grown.is (ap (λ (p : Place). p.address) (get_or_append_left old grown.rest (past i) i lt))
+pub guest_grown : (old new : List CcwLocation) (i : ℕ) → Grows old new → i < length old → guest_of new i ≡ guest_of old i
+guest_grown old new i grown lt = rw grown.is (ap (λ (p : CcwLocation). p.address) (get_or_append_left old grown.rest (past i) i lt))
 
-pub grown_length : (old new : List Place) → Grows old new → length old ≤ length new
+pub grown_length : (old new : List CcwLocation) → Grows old new → length old ≤ length new
 grown_length old new grown = rw grown.is (omega (arith, length-append old grown.rest))
 
-pub followed_grows : (leads : Bool) (place : Place) (old new : List Place) → IsFollowed leads place old new → Grows old new
+pub followed_grows : (leads : Bool) (place : CcwLocation) (old new : List CcwLocation) → IsFollowed leads place old new → Grows old new
 followed_grows leads place old new (inl same) = record { rest = []; is = same ∙ sym (append-nil old) }
 followed_grows leads place old new (inr (on, is)) = record { rest = place ∷ []; is = is }
 
-pub grown_on : (a b c : List Place) → Grows a b → Grows b c → Grows a c
+pub grown_on : (a b c : List CcwLocation) → Grows a b → Grows b c → Grows a c
 grown_on a b c one two = record { rest = one.rest ++ two.rest; is = two.is ∙ ap (λ xs. xs ++ two.rest) one.is ∙ append_assoc a one.rest two.rest }
 
 word_plain : (a : ℕ) (c : StoredCcw) → IsJumpPlain (word_at a c)
@@ -110,7 +110,7 @@ text_plain m a w = by_in (is_in m a 8)
     by_in false e = cc
 
 -- A word whose links were made, one after the other, is copied.
-copied_word : (first rest : List Place) (m : Memory) (address : ℕ) (w : Ccw) (n s : ℕ) → length (first ++ rest) ≤ 2147483648 → guest_text m address ≡ Some w
+copied_word : (first rest : List CcwLocation) (m : Memory) (address : ℕ) (w : Ccw) (n s : ℕ) → length (first ++ rest) ≤ 2147483648 → guest_text m address ≡ Some w
     → IsLinked first (guest_text m) (leads_next w) w.next n → IsLinked (first ++ rest) (guest_text m) (leads_skipped w) w.skipped s
     → IsCopied (first ++ rest) (guest_text m) address (Some (record { command = w.command; address = w.address; flags = w.flags; count = w.count; next = n; skipped = s }))
 copied_word first rest m address w n s room is next skipped =
@@ -146,15 +146,15 @@ copied_word first rest m address w n s room is next skipped =
     by_skip false false false e f plain = e
 
 -- The same, for places that grew.
-pub copied_by : (first second : List Place) (m : Memory) (address : ℕ) (w : Ccw) (n s : ℕ) → Grows first second → length second ≤ 2147483648 → guest_text m address ≡ Some w
+pub copied_by : (first second : List CcwLocation) (m : Memory) (address : ℕ) (w : Ccw) (n s : ℕ) → Grows first second → length second ≤ 2147483648 → guest_text m address ≡ Some w
     → IsLinked first (guest_text m) (leads_next w) w.next n → IsLinked second (guest_text m) (leads_skipped w) w.skipped s
     → IsCopied second (guest_text m) address (Some (record { command = w.command; address = w.address; flags = w.flags; count = w.count; next = n; skipped = s }))
 copied_by first second m address w n s grown room is next skipped =
-    let P : List Place → Type 0 = λ xs. length xs ≤ 2147483648 → IsLinked xs (guest_text m) (leads_skipped w) w.skipped s → IsCopied xs (guest_text m) address (Some (record { command = w.command; address = w.address; flags = w.flags; count = w.count; next = n; skipped = s })) in
+    let P : List CcwLocation → Type 0 = λ xs. length xs ≤ 2147483648 → IsLinked xs (guest_text m) (leads_skipped w) w.skipped s → IsCopied xs (guest_text m) address (Some (record { command = w.command; address = w.address; flags = w.flags; count = w.count; next = n; skipped = s })) in
     subst P (sym grown.is) (λ fits linked. copied_word first grown.rest m address w n s fits is next linked) room skipped
 
 -- One more node.
-pub rows_push : (old new : List Place) (nodes : List Node) (m : Memory) (node : Node) → Grows old new → length new ≤ 2147483648 → length nodes < length old
+pub rows_push : (old new : List CcwLocation) (nodes : List Node) (m : Memory) (node : Node) → Grows old new → length new ≤ 2147483648 → length nodes < length old
     → AreRows old nodes m → IsRow new m (guest_of old (length nodes)) node → AreRows new (nodes ++ node ∷ []) m
 rows_push old new nodes m node grown room behind all one i n found =
     elim (before_or_at i (length nodes) (let k = length-append nodes (node ∷ []) in let w = slice_get_within (nodes ++ node ∷ []) i n found in omega (arith, w, k))) [
@@ -182,11 +182,11 @@ rows_push old new nodes m node grown room behind all one i n found =
     some_same : (r s : Node) → Some r ≡ Some s → r ≡ s
     some_same r s e = cc
 
-good_place : (places : List Place) (text : ℕ → Option Ccw) (a : ℕ) → length places ≤ 2147483648 → IsGood places text a → IsPlace places text a
+good_place : (places : List CcwLocation) (text : ℕ → Option Ccw) (a : ℕ) → length places ≤ 2147483648 → IsGood places text a → IsPlace places text a
 good_place places text a room (inl lt) = inl lt
 good_place places text a room (inr (high, none)) =
     let out : length places ≤ a = omega (arith, room, high) in
-    inr (out, ap text (ap (λ (p : Place). p.address) (get_or_past places a (past a) out)) ∙ none)
+    inr (out, ap text (ap (λ (p : CcwLocation). p.address) (get_or_past places a (past a) out)) ∙ none)
 
 not_here : (xs : List Node) (i : ℕ) → i < length xs → slice_get xs i ≡ None → ⊥
 not_here [] i lt e = (let no : ⊥ = omega (arith, lt) in no)
@@ -194,7 +194,7 @@ not_here (x ∷ xs) zero lt e = cc
 not_here (x ∷ xs) (suc i) lt e = not_here xs i (omega (arith, lt)) e
 
 -- The rows of all places are a copy.
-pub copy_of : (places : List Place) (nodes : List Node) (m : Memory) → length places ≤ 2147483648 → length nodes ≡ length places → AreRows places nodes m → IsCopyOf places (program_of nodes) (live guest_written) m
+pub copy_of : (places : List CcwLocation) (nodes : List Node) (m : Memory) → length places ≤ 2147483648 → length nodes ≡ length places → AreRows places nodes m → IsCopyOf places (program_of nodes) (live guest_written) m
 copy_of places nodes m room whole all =
     record {
       words = λ n a there. by_place a there;
@@ -240,7 +240,7 @@ copy_of places nodes m room whole all =
         by_node None e is = cc
         by_node (Some node) e is = by_word node node.word is (all p.at node e).list
 
-pub none_here : (size : ℕ) (present : ℕ → Bool) → AreHere size present []
+pub none_here : (size : ℕ) (present : ℕ → Bool) → AllPresent size present []
 none_here size present j a e = cc
 
 pub at_or_before : (i n : ℕ) → i < n + 1 → (i < n) ⊎ (i ≡ n)
@@ -255,7 +255,7 @@ part_push list f o part is =
       ];
     }
 
-pub here_push : (size : ℕ) (present : ℕ → Bool) (list : List (Option ℕ)) (o : Option ℕ) → AreHere size present list → IsHere size present o → AreHere size present (list ++ o ∷ [])
+pub here_push : (size : ℕ) (present : ℕ → Bool) (list : List (Option ℕ)) (o : Option ℕ) → AllPresent size present list → IsPresent size present o → AllPresent size present (list ++ o ∷ [])
 here_push size present list o here one j a e lt =
     elim (place_of j (length list)) [
       | inl before ↦ here j a (sym (get_or_append_left list (o ∷ []) None j before) ∙ e) lt
@@ -368,17 +368,17 @@ skipped_even m a w e even = by_in (is_in m a 8) e
     by_in false e = cc
 
 -- a link past the places
-pub linked_past : (places : List Place) (m : Memory) (leads : Bool) (address : ℕ) → length places ≤ 2147483648 → (leads ≡ true → length m.bytes < address + 8) → IsLinked places (guest_text m) leads address (2147483648 + address)
+pub linked_past : (places : List CcwLocation) (m : Memory) (leads : Bool) (address : ℕ) → length places ≤ 2147483648 → (leads ≡ true → length m.bytes < address + 8) → IsLinked places (guest_text m) leads address (2147483648 + address)
 linked_past places m leads address few out =
     let back : 2147483648 + address - 2147483648 ≡ address = omega arith in
     record {
       link = inr (omega arith);
-      same = ap (λ (p : Place). p.address) (get_or_past places (2147483648 + address) (past (2147483648 + address)) (omega (arith, few))) ∙ back;
+      same = ap (λ (p : CcwLocation). p.address) (get_or_past places (2147483648 + address) (past (2147483648 + address)) (omega (arith, few))) ∙ back;
       good = λ e. inr (omega arith, ap (guest_text m) back ∙ text_past m address (out e));
     }
 
-pub linked_place : (places : List Place) (m : Memory) (leads : Bool) (place : Place) (number : ℕ) → number < length places → slice_index_or places number (past number) ≡ place → IsLinked places (guest_text m) leads place.address number
-linked_place places m leads place number lt found = record { link = inl lt; same = ap (λ (p : Place). p.address) found; good = λ e. inl lt }
+pub linked_place : (places : List CcwLocation) (m : Memory) (leads : Bool) (place : CcwLocation) (number : ℕ) → number < length places → slice_index_or places number (past number) ≡ place → IsLinked places (guest_text m) leads place.address number
+linked_place places m leads place number lt found = record { link = inl lt; same = ap (λ (p : CcwLocation). p.address) found; good = λ e. inl lt }
 
 pub in_storage : (size : ℕ) (keys : List ℕ) (key a : ℕ) → first_fault size keys key (area Fetch a 1 ∷ []) ≡ Some Addressing → a < size → ⊥
 unfolding is_addressable
@@ -396,7 +396,7 @@ fault_verdict size keys present key t r f g e is v = let P : Result ⊤ Fault �
 pub part_on : (list new : List (Option ℕ)) (f : ℕ → Option ℕ) (o : Option ℕ) → new ≡ list ++ o ∷ [] → IsPart list f → o ≡ f (length list) → IsPart new f
 part_on list new f o is part said = rw is (part_push list f o part said)
 
-pub here_on : (size : ℕ) (present : ℕ → Bool) (list new : List (Option ℕ)) (o : Option ℕ) → new ≡ list ++ o ∷ [] → AreHere size present list → IsHere size present o → AreHere size present new
+pub here_on : (size : ℕ) (present : ℕ → Bool) (list new : List (Option ℕ)) (o : Option ℕ) → new ≡ list ++ o ∷ [] → AllPresent size present list → IsPresent size present o → AllPresent size present new
 here_on size present list new o is here one = rw is (here_push size present list o here one)
 
 pub first_on : (list new : List (Option ℕ)) (o : Option ℕ) (start : ℕ) → new ≡ list ++ o ∷ [] → 0 < length list → slice_index_or list 0 None ≡ Some start → slice_index_or new 0 None ≡ Some start
@@ -408,24 +408,24 @@ failed_on m w list new o is part said none =
     rw (is, none) (list_failed m w list w.count whole)
 
 -- a link stays one when places are added
-pub linked_grown : (old new : List Place) (m : Memory) (leads : Bool) (address number : ℕ) → Grows old new → length new ≤ 2147483648 → IsLinked old (guest_text m) leads address number → IsLinked new (guest_text m) leads address number
+pub linked_grown : (old new : List CcwLocation) (m : Memory) (leads : Bool) (address number : ℕ) → Grows old new → length new ≤ 2147483648 → IsLinked old (guest_text m) leads address number → IsLinked new (guest_text m) leads address number
 linked_grown old new m leads address number grown room l =
-    let P : List Place → Type 0 = λ xs. length xs ≤ 2147483648 → IsLinked xs (guest_text m) leads address number in
+    let P : List CcwLocation → Type 0 = λ xs. length xs ≤ 2147483648 → IsLinked xs (guest_text m) leads address number in
     subst P (sym grown.is) (λ fits. record { link = link_more old grown.rest fits number l.link; same = link_same old grown.rest fits number l.link ∙ l.same; good = λ e. good_more old grown.rest fits (guest_text m) number (l.good e) }) room
 
-pub linked_is_place : (places : List Place) (m : Memory) (address number : ℕ) → length places ≤ 2147483648 → IsLinked places (guest_text m) true address number → IsPlace places (guest_text m) number
+pub linked_is_place : (places : List CcwLocation) (m : Memory) (address number : ℕ) → length places ≤ 2147483648 → IsLinked places (guest_text m) true address number → IsPlace places (guest_text m) number
 linked_is_place places m address number room l = good_place places (guest_text m) number room (l.good refl)
 
 pub held_none : (size : ℕ) (present : ℕ → Bool) → AreHeldRows [] size present
 held_none size present = record { held = λ i node e. cc }
 
-pub rows_none : (places : List Place) (m : Memory) → AreRows places [] m
+pub rows_none : (places : List CcwLocation) (m : Memory) → AreRows places [] m
 rows_none places m = λ i node e. cc
 
-pub held_push : (nodes new : List Node) (node : Node) (size : ℕ) (present : ℕ → Bool) → new ≡ nodes ++ node ∷ [] → AreHeldRows nodes size present → AreHere size present node.list.items → AreHeldRows new size present
+pub held_push : (nodes new : List Node) (node : Node) (size : ℕ) (present : ℕ → Bool) → new ≡ nodes ++ node ∷ [] → AreHeldRows nodes size present → AllPresent size present node.list.items → AreHeldRows new size present
 held_push nodes new node size present is all one = rw is (record { held = by_list nodes all.held })
   where
-    by_list : (xs : List Node) → ((i : ℕ) (n : Node) → slice_get xs i ≡ Some n → AreHere size present n.list.items) → (i : ℕ) (n : Node) → slice_get (xs ++ node ∷ []) i ≡ Some n → AreHere size present n.list.items
+    by_list : (xs : List Node) → ((i : ℕ) (n : Node) → slice_get xs i ≡ Some n → AllPresent size present n.list.items) → (i : ℕ) (n : Node) → slice_get (xs ++ node ∷ []) i ≡ Some n → AllPresent size present n.list.items
     by_list [] before zero n e = (let same : node ≡ n = cc in rw (← same) one)
     by_list [] before (suc i) n e = cc
     by_list (x ∷ xs) before zero n e = before zero n e
@@ -438,7 +438,7 @@ held_named nodes size present all a (at, j, e) lt = by_node (slice_get nodes at)
     by_node None is e = cc
     by_node (Some node) is e = all.held at node is j a e lt
 
-pub rows_on : (old new : List Place) (nodes after : List Node) (m : Memory) (address : ℕ) (node : Node) → after ≡ nodes ++ node ∷ [] → Grows old new → length new ≤ 2147483648 → length nodes < length old
+pub rows_on : (old new : List CcwLocation) (nodes after : List Node) (m : Memory) (address : ℕ) (node : Node) → after ≡ nodes ++ node ∷ [] → Grows old new → length new ≤ 2147483648 → length nodes < length old
     → address ≡ guest_of old (length nodes) → AreRows old nodes m → IsRow new m address node → AreRows new after m
 rows_on old new nodes after m address node is grown room behind at all one = rw is (rows_push old new nodes m node grown room behind all (rw at at one))
 

@@ -8,7 +8,7 @@ use Rattle.s370_store.specs.Memory.{Memory}
 use Rattle.s370_walk.specs.Hardware.{area}
 use Rattle.s370_walk.specs.Walk.{is_jump, chains_data, chains_command}
 use Rattle.s370_channel.specs.Guest.{guest_text, area_block, block_asks}
-use Rattle.channel_laws.specs.declared.places.Place.{Place}
+use Rattle.channel_laws.specs.declared.places.CcwLocation.{CcwLocation}
 use Rattle.channel_laws.specs.Tracks.{has_area}
 use Rattle.cp_graph.specs.declared.program.CopyError.{CopyError}
 use Rattle.cp_graph.specs.declared.program.CopyError.TheVariants as errors
@@ -31,7 +31,7 @@ pub data InProgram (text : ℕ → Option Ccw) (start : ℕ) : ℕ → Bool → 
       → InProgram text start w.skipped false
 
 -- a place whose word the program that starts at an address can reach, in the role of the place
-abbrev pub IsReachedPlace : Memory → ℕ → Place → Type 0
+abbrev pub IsReachedPlace : Memory → ℕ → CcwLocation → Type 0
 IsReachedPlace m start place = InProgram (guest_text m) start place.address place.continues
 
 -- Word j of a list is used by so many bytes: a byte of its block is counted, and each word before
@@ -60,7 +60,7 @@ IsWordPage m address page = Touches (area Fetch address 8 ∷ []) page
 
 -- A page that the program from an address on needs.
 pub record IsServed (m : Memory) (start page : ℕ) : Type 0 where
-  pub place : Place
+  pub place : CcwLocation
   pub reached : IsReachedPlace m start place
   pub touched : IsWordPage m place.address page
 

@@ -8,7 +8,7 @@ use Rattle.s370_walk.specs.declared.parts.Ccw.{Ccw}
 use Rattle.s370_store.specs.Memory.{Memory}
 use Rattle.s370_walk.specs.Walk.{is_jump, chains_data, chains_command}
 use Rattle.s370_channel.specs.Guest.{guest_text, area_block}
-use Rattle.channel_laws.specs.declared.places.Place.{Place}
+use Rattle.channel_laws.specs.declared.places.CcwLocation.{CcwLocation}
 use Rattle.channel_laws.specs.Renaming.{renamed_found, LeadsFrom}
 use Rattle.channel_laws.specs.Mapped.{Program}
 use Rattle.channel_laws.specs.Tracks.{has_area, IsListOf}
@@ -33,20 +33,20 @@ program_of nodes = record {
 }
 
 -- a link leads to a place, or to an address past the places
-abbrev pub IsLink : List Place → ℕ → Type 0
+abbrev pub IsLink : List CcwLocation → ℕ → Type 0
 IsLink places a = (a < length places) ⊎ (2147483648 ≤ a)
 
 -- the words after a word are places of the table
-abbrev pub HasLinks : List Place → Option Ccw → Type 0
+abbrev pub HasLinks : List CcwLocation → Option Ccw → Type 0
 HasLinks places None = Unit {0}
 HasLinks places (Some w) = IsLink places w.next × IsLink places w.skipped
 
 -- a place, or an address past the places at which there is no word
-abbrev pub IsGood : List Place → (ℕ → Option Ccw) → ℕ → Type 0
+abbrev pub IsGood : List CcwLocation → (ℕ → Option Ccw) → ℕ → Type 0
 IsGood places text a = (a < length places) ⊎ ((2147483648 ≤ a) × (text (a - 2147483648) ≡ None))
 
 -- what was found at an address is the guest's word there
-pub record IsCopied (places : List Place) (text : ℕ → Option Ccw) (address : ℕ)
+pub record IsCopied (places : List CcwLocation) (text : ℕ → Option Ccw) (address : ℕ)
     (found : Option Ccw) : Type 0 where
   pub same : text address ≡ renamed_found (guest_of places) found
   pub leads : LeadsFrom (IsGood places text) found
@@ -59,26 +59,26 @@ HasListOf m (Some w) list = has_area w ≡ true
     → IsListOf (λ j. slice_index_or list j None) (area_block m w) w.count
 
 -- a node holds the guest's word at an address, and the list of that word
-pub record IsRow (places : List Place) (m : Memory) (address : ℕ) (node : Node) : Type 0 where
+pub record IsRow (places : List CcwLocation) (m : Memory) (address : ℕ) (node : Node) : Type 0 where
   pub copied : IsCopied places (guest_text m) address node.word
   pub list : HasListOf m node.word node.list.items
 
 -- Each node is the one of its place.
-abbrev pub AreRows : List Place → List Node → Memory → Type 0
+abbrev pub AreRows : List CcwLocation → List Node → Memory → Type 0
 AreRows places nodes m = (i : ℕ) (node : Node) → slice_get nodes i ≡ Some node
     → IsRow places m (guest_of places i) node
 
 -- places were added at the end
-pub record Grows (old new : List Place) : Type 0 where
-  pub rest : List Place
+pub record Grows (old new : List CcwLocation) : Type 0 where
+  pub rest : List CcwLocation
   pub is : new ≡ old ++ rest
 
 -- a place is added, if at all, only where a word leads there
-abbrev pub IsFollowed : Bool → Place → List Place → List Place → Type 0
+abbrev pub IsFollowed : Bool → CcwLocation → List CcwLocation → List CcwLocation → Type 0
 IsFollowed leads place old new = (new ≡ old) ⊎ ((leads ≡ true) × (new ≡ old ++ place ∷ []))
 
 -- A link that was made: where the word leads on, it is good.
-pub record IsLinked (places : List Place) (text : ℕ → Option Ccw) (leads : Bool)
+pub record IsLinked (places : List CcwLocation) (text : ℕ → Option Ccw) (leads : Bool)
     (address number : ℕ) : Type 0 where
   pub link : IsLink places number
   pub same : guest_of places number ≡ address
@@ -108,16 +108,16 @@ pub record IsPart (list : List (Option ℕ)) (f : ℕ → Option ℕ) : Type 0 w
   pub same : (i : ℕ) → i < length list → slice_index_or list i None ≡ f i
 
 -- each address of a list that lies in storage lies on a page that is present
-abbrev pub IsHere : ℕ → (ℕ → Bool) → Option ℕ → Type 0
-IsHere size present None = Unit {0}
-IsHere size present (Some a) = a < size → present (a / 4096) ≡ true
+abbrev pub IsPresent : ℕ → (ℕ → Bool) → Option ℕ → Type 0
+IsPresent size present None = Unit {0}
+IsPresent size present (Some a) = a < size → present (a / 4096) ≡ true
 
 -- each address of a list that lies in storage is on a present page
-abbrev pub AreHere : ℕ → (ℕ → Bool) → List (Option ℕ) → Type 0
-AreHere size present list = (j a : ℕ) → slice_index_or list j None ≡ Some a → a < size
+abbrev pub AllPresent : ℕ → (ℕ → Bool) → List (Option ℕ) → Type 0
+AllPresent size present list = (j a : ℕ) → slice_index_or list j None ≡ Some a → a < size
     → present (a / 4096) ≡ true
 
 -- the lists of all nodes
 pub record AreHeldRows (nodes : List Node) (size : ℕ) (present : ℕ → Bool) : Type 0 where
   pub held : (i : ℕ) (node : Node) → slice_get nodes i ≡ Some node
-      → AreHere size present node.list.items
+      → AllPresent size present node.list.items

@@ -6,17 +6,17 @@ ghost use Rattle.channel_laws.specs.Copy.{IsCopyOf, IsPlace, guest_of};
 ghost use Rattle.channel_laws.specs.Mapped.{Named};
 ghost use Rattle.cp_graph.specs.Closure.{IfAbsent, IsReachedPlace, IsServed, IsWordPage};
 ghost use Rattle.cp_graph.specs.Marks.{IsIndexed, unmarked};
-ghost use Rattle.cp_graph.specs.Table.{AreHere, Grows, IsRow, leads_next, leads_skipped};
+ghost use Rattle.cp_graph.specs.Table.{AllPresent, Grows, IsRow, leads_next, leads_skipped};
 ghost use Rattle.cp_graph.specs.Table.{program_of, role_after};
 ghost use Rattle.s370_channel.specs.Guest.{guest_text, guest_written};
-ghost use Rattle.s370_store.specs.Access.{IsAway};
+ghost use Rattle.s370_store.specs.Access.{IsAbsent};
 ghost use Rattle.s370_walk.specs.Walk.{live};
 
 use crate::index::link;
 use crate::lists::list_for;
 use crate::program::{Copied, CopyError, Node};
 use crate::slots::Slots;
-use channel_laws::Place;
+use channel_laws::CcwLocation;
 use s370_channel::fetch_word;
 use s370_store::Storage;
 use s370_walk::{Ccw, Flags};
@@ -26,17 +26,17 @@ use std::alloc::Global;
 fn copy_word<S: Storage>(
     alloc: Global,
     storage: &S,
-    places: &mut Vec<Place>,
+    places: &mut Vec<CcwLocation>,
     index: &mut Slots,
-    place: Place,
+    place: CcwLocation,
 ) -> Result<Node, CopyError>
     requires even { place.address % 8 ≡ 0 }
     requires room { length index.old ≡ length (S.memory storage.now).bytes / 8 * 2 }
     requires known { IsIndexed places.old.items index.old }
     requires few { vec_len places.old + unmarked index.old ≤ 2147483648 }
     ensures row { IfOk result (IsRow places.new.items (S.memory storage.now) place.address) }
-    ensures here { IfOk result
-        (λ node. AreHere (length (S.memory storage.now).bytes) (S.present storage.now)
+    ensures present { IfOk result
+        (λ node. AllPresent (length (S.memory storage.now).bytes) (S.present storage.now)
         node.list.items) }
     ensures grown { IfOk result (λ _. Grows places.old.items places.new.items) }
     ensures reached { IfOk result (λ _. (start : ℕ)
@@ -48,7 +48,8 @@ fn copy_word<S: Storage>(
         (λ _. vec_len places.new + unmarked index.new ≡ vec_len places.old + unmarked index.old) }
     ensures size { length index.new ≡ length index.old }
     ensures absent { IfErr result
-        (IfAbsent (λ page. IsAway (length (S.memory storage.now).bytes) (S.present storage.now) page
+        (IfAbsent (λ page. IsAbsent (length (S.memory storage.now).bytes)
+        (S.present storage.now) page
         × IsWordPage (S.memory storage.now) place.address page)) }
 {
     let found = match fetch_word(storage, place.address) {
@@ -76,7 +77,7 @@ fn copy_word<S: Storage>(
         places,
         index,
         may_skip(&word),
-        Place {
+        CcwLocation {
             address: word.skipped,
             continues: false,
         },
@@ -122,7 +123,7 @@ pub fn may_skip(word: &Ccw) -> bool
 }
 
 /// Where a word leads: a transfer in channel keeps the role, CD leads to a continuation.
-fn next_of(word: &Ccw, place: Place) -> Place
+fn next_of(word: &Ccw, place: CcwLocation) -> CcwLocation
     ensures address { result.address ≡ word.now.next }
     ensures role { result.continues ≡ role_after word.now place.continues }
 {
@@ -131,7 +132,7 @@ fn next_of(word: &Ccw, place: Place) -> Place
     } else {
         word.flags.has(Flags::CHAIN_DATA)
     };
-    Place {
+    CcwLocation {
         address: word.next,
         continues,
     }
@@ -161,7 +162,8 @@ pub fn copy<S: Storage>(alloc: Global, storage: &S, start: u32) -> Result<Copied
         (λ c. (a : ℕ) → Named (program_of c.nodes.items) a → a < length (S.memory storage.now).bytes
         → S.present storage.now (a / 4096) ≡ true) }
     ensures absent { IfErr result
-        (IfAbsent (λ page. IsAway (length (S.memory storage.now).bytes) (S.present storage.now) page
+        (IfAbsent (λ page. IsAbsent (length (S.memory storage.now).bytes)
+        (S.present storage.now) page
         × IsServed (S.memory storage.now) start page)) }
 {
     let mut places = Vec::new(alloc);
@@ -172,7 +174,7 @@ pub fn copy<S: Storage>(alloc: Global, storage: &S, start: u32) -> Result<Copied
         &mut places,
         &mut index,
         true,
-        Place {
+        CcwLocation {
             address: start,
             continues: false,
         },

@@ -7,7 +7,7 @@ ghost use Rattle.cp_graph.specs.Table.{IsFollowed, IsLinked};
 ghost use Rattle.s370_channel.specs.Guest.{guest_text};
 
 use crate::slots::Slots;
-use channel_laws::Place;
+use channel_laws::CcwLocation;
 use s370_store::Storage;
 use std::alloc::AllocError;
 
@@ -15,7 +15,7 @@ use std::alloc::AllocError;
 const PAST: u32 = 0x8000_0000;
 
 /// Returns the slot of a place in the index: two entries for each doubleword.
-fn slot(place: Place) -> usize
+fn slot(place: CcwLocation) -> usize
     ensures { result ≡ slot_of place }
 {
     let half = if place.continues { 1 } else { 0 };
@@ -23,7 +23,11 @@ fn slot(place: Place) -> usize
 }
 
 /// The number of a place, which is added where it is new.
-fn number_of(places: &mut Vec<Place>, index: &mut Slots, place: Place) -> Result<u32, AllocError>
+fn number_of(
+    places: &mut Vec<CcwLocation>,
+    index: &mut Slots,
+    place: CcwLocation,
+) -> Result<u32, AllocError>
     requires even { place.address % 8 ≡ 0 }
     requires room { slot_of place < length index.old }
     requires known { IsIndexed places.old.items index.old }
@@ -52,10 +56,10 @@ fn number_of(places: &mut Vec<Place>, index: &mut Slots, place: Place) -> Result
 /// not lead there, a link past the places.
 pub(crate) fn link<S: Storage>(
     storage: &S,
-    places: &mut Vec<Place>,
+    places: &mut Vec<CcwLocation>,
     index: &mut Slots,
     leads: bool,
-    place: Place,
+    place: CcwLocation,
 ) -> Result<u32, AllocError>
     requires even { leads ≡ true → place.address % 8 ≡ 0 }
     requires low { place.address < 2 ^ 24 }

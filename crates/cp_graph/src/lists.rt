@@ -2,9 +2,9 @@
 ghost use Rattle.std.specs.Prelude.{◌≡◌, ◌≤◌, IfErr, IfOk, Some, length};
 ghost use Rattle.channel_laws.specs.Tracks as tracks;
 ghost use Rattle.cp_graph.specs.Closure.{IfAbsent, IsDataPage, IsEntryPage};
-ghost use Rattle.cp_graph.specs.Table.{AreHere, HasListOf, IsHere};
+ghost use Rattle.cp_graph.specs.Table.{AllPresent, HasListOf, IsPresent};
 ghost use Rattle.s370_channel.specs.Guest.{area_block};
-ghost use Rattle.s370_store.specs.Access.{IsAway};
+ghost use Rattle.s370_store.specs.Access.{IsAbsent};
 
 use crate::program::CopyError;
 use s370_channel::fetch_block;
@@ -26,11 +26,11 @@ pub fn has_area(word: &Ccw) -> bool
 /// in storage, its page is present.
 fn entry<S: Storage>(storage: &S, word: &Ccw, number: u32) -> Result<Option<u32>, Page>
     requires { number ≤ 64 }
-    ensures said { IfOk result (λ said. said ≡ area_block (S.memory storage.now) word.now number) }
-    ensures here { IfOk result
-        (IsHere (length (S.memory storage.now).bytes) (S.present storage.now)) }
-    ensures away { IfErr result
-        (λ page. IsAway (length (S.memory storage.now).bytes) (S.present storage.now) page.0) }
+    ensures block { IfOk result (λ said. said ≡ area_block (S.memory storage.now) word.now number) }
+    ensures present { IfOk result
+        (IsPresent (length (S.memory storage.now).bytes) (S.present storage.now)) }
+    ensures absent { IfErr result
+        (λ page. IsAbsent (length (S.memory storage.now).bytes) (S.present storage.now) page.0) }
     ensures asked { IfErr result
         (λ page. IsEntryPage (S.memory storage.now) word.now number page.0) }
 {
@@ -62,10 +62,12 @@ pub(crate) fn list_for<S: Storage>(
 ) -> Result<Vec<Option<u32>>, CopyError>
     ensures list { IfOk result
         (λ list. HasListOf (S.memory storage.now) (Some word.now) list.items) }
-    ensures here { IfOk result
-        (λ list. AreHere (length (S.memory storage.now).bytes) (S.present storage.now) list.items) }
+    ensures present { IfOk result
+        (λ list. AllPresent (length (S.memory storage.now).bytes) (S.present storage.now)
+        list.items) }
     ensures absent { IfErr result
-        (IfAbsent (λ page. IsAway (length (S.memory storage.now).bytes) (S.present storage.now) page
+        (IfAbsent (λ page. IsAbsent (length (S.memory storage.now).bytes)
+        (S.present storage.now) page
         × IsDataPage (S.memory storage.now) word.now page)) }
 {
     let mut list = Vec::new(alloc);

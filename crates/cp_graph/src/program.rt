@@ -1,5 +1,5 @@
 //! A copied channel program.
-use channel_laws::Place;
+use channel_laws::CcwLocation;
 use s370_store::Page;
 use s370_walk::Ccw;
 use std::alloc::{AllocError, AllocFailed};
@@ -20,7 +20,7 @@ pub struct Copied {
     /// The place of the first word.
     pub start: u32,
     /// The guest's address of each place, and whether it continues the word before.
-    pub places: Vec<Place>,
+    pub places: Vec<CcwLocation>,
     /// What is at each place.
     pub nodes: Vec<Node>,
 }

@@ -16,7 +16,7 @@ use std::alloc::{AllocError, Global};
 /// Returns a copy of a user's storage. For that no page has to be in a frame.
 fn copy_of(alloc: Global, storage: &Dat<'_>) -> Result<TrialStorage, AllocError>
     ensures memory { IfOk result (λ copy. trial_memory copy ≡ lent_memory storage.now) }
-    ensures away { IfOk result (λ copy. (page : ℕ) → is_touched copy page ≡ false) }
+    ensures untouched { IfOk result (λ copy. (page : ℕ) → is_touched copy page ≡ false) }
 {
     let bytes = storage.copy_out(alloc)?;
     let keys = storage.copy_keys(alloc)?;

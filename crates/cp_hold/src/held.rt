@@ -33,7 +33,7 @@ fn lacking(storage: &Dat<'_>, wanted: &[bool]) -> Option<Page>
     requires { length wanted.now * 4096 ≤ length (lent_bytes storage.now) }
     ensures wanted { IfSome result (λ page. is_wanted wanted.now page.0) }
     ensures inside { IfSome result (λ page. page.0 * 4096 < length (lent_bytes storage.now)) }
-    ensures away { IfSome result (λ page. is_lent_page storage.now page.0 ≡ false) }
+    ensures absent { IfSome result (λ page. is_lent_page storage.now page.0 ≡ false) }
     ensures there { IfNone result
         ((page : ℕ) → is_wanted wanted.now page → is_lent_page storage.now page ≡ true) }
 {

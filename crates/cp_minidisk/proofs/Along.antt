@@ -5,8 +5,8 @@ use Rattle.s370_store.specs.declared.Fault.TheVariants.{Addressing, Protection, 
 use Rattle.s370_store.specs.declared.Access.TheVariants.{Fetch, Store}
 use Rattle.s370_walk.specs.declared.parts.Answer.{Answer}
 use Rattle.s370_walk.specs.declared.parts.Answer.TheVariants as answers
-use Rattle.s370_walk.specs.declared.parts.Kind.{Kind}
-use Rattle.s370_walk.specs.declared.parts.Kind.TheVariants.{Gives, Takes, TakesUpTo}
+use Rattle.s370_walk.specs.declared.parts.Direction.{Direction}
+use Rattle.s370_walk.specs.declared.parts.Direction.TheVariants.{Gives, Takes, TakesUpTo}
 use Rattle.s370_walk.specs.declared.parts.Transfer.{Transfer}
 use Rattle.s370_walk.specs.declared.parts.NextCcw.{NextCcw}
 use Rattle.s370_walk.specs.declared.parts.Position.{Position}
@@ -75,7 +75,7 @@ module _ {D : Type 0} (h : Setting D) (holds : D → Type 0) (keeps : Keeps h.ma
   of_skip p place m d true i = keeps.gave d i
   of_skip p place m d false i = of_giving p place m d i
 
-  of_byte : (p : Position) (place : Option ℕ) (load : ℕ → ℕ) (kind : Kind) (m : Memory) (d : D) → holds d → holds (device_in (byte_moved h p place load kind m d))
+  of_byte : (p : Position) (place : Option ℕ) (load : ℕ → ℕ) (kind : Direction) (m : Memory) (d : D) → holds d → holds (device_in (byte_moved h p place load kind m d))
   of_byte p place load Gives m d i = of_skip p place m d (skips p.word) i
   of_byte p place load Takes m d i = of_taking p place load m d i
   of_byte p place load TakesUpTo m d i = of_taking p place load m d i

@@ -5,7 +5,7 @@ use Rattle.s370_walk.specs.declared.bits.UnitStatus.{UnitStatus}
 use Rattle.s370_walk.specs.declared.parts.Order.{Order}
 use Rattle.s370_walk.specs.declared.parts.Answer.TheVariants.{Refused}
 use Rattle.ckd_track.specs.Track.{TrackFormat, Record, has_room, with_record, with_last}
-use Rattle.ckd_volume.specs.declared.parts.Place.TheVariants.{Gap}
+use Rattle.ckd_volume.specs.declared.parts.Orientation.TheVariants.{Gap}
 use Rattle.ckd_volume.specs.declared.parts.WriteAccess.{WriteAccess}
 use Rattle.ckd_volume.specs.declared.parts.WriteAccess.TheVariants as rights
 use Rattle.ckd_volume.specs.declared.parts.Comparison.{Comparison}

@@ -6,8 +6,8 @@ use Rattle.s370_walk.specs.declared.bits.UnitStatus.{UnitStatus}
 use Rattle.s370_walk.specs.declared.parts.Order.{Order}
 use Rattle.s370_walk.specs.declared.parts.Answer.TheVariants.{Refused}
 use Rattle.ckd_track.specs.Track.{TrackFormat, count_bytes}
-use Rattle.ckd_volume.specs.declared.parts.Place.{Place}
-use Rattle.ckd_volume.specs.declared.parts.Place.TheVariants.{Gap, Count, Key}
+use Rattle.ckd_volume.specs.declared.parts.Orientation.{Orientation}
+use Rattle.ckd_volume.specs.declared.parts.Orientation.TheVariants.{Gap, Count, Key}
 use Rattle.ckd_volume.specs.declared.parts.WriteAccess.{WriteAccess}
 use Rattle.ckd_volume.specs.declared.parts.WriteAccess.TheVariants as rights
 use Rattle.ckd_volume.specs.declared.parts.Comparison.{Comparison}
@@ -55,7 +55,7 @@ module _ (f : Front) (safe : IsSafe f) where
   lost_safe : (head second : ℕ) → IsSafe (lost f head second).front
   lost_safe head second = record { protected = safe.protected; writes_nothing = safe.writes_nothing }
 
-  at_safe : (head points : ℕ) (place : Place) → IsSafe (at f head points place)
+  at_safe : (head points : ℕ) (place : Orientation) → IsSafe (at f head points place)
   at_safe head points place = record { protected = safe.protected; writes_nothing = safe.writes_nothing }
 
   gives_safe : (status : UnitStatus) (bytes : List ℕ) → IsSafe (gives f status bytes).front

@@ -6,8 +6,8 @@ use Rattle.s370_store.specs.declared.Fault.TheVariants.{Addressing, Protection, 
 use Rattle.s370_store.specs.declared.Access.TheVariants.{Fetch, Store}
 use Rattle.s370_walk.specs.declared.parts.Answer.{Answer}
 use Rattle.s370_walk.specs.declared.parts.Answer.TheVariants as answers
-use Rattle.s370_walk.specs.declared.parts.Kind.{Kind}
-use Rattle.s370_walk.specs.declared.parts.Kind.TheVariants.{Gives, Takes, TakesUpTo}
+use Rattle.s370_walk.specs.declared.parts.Direction.{Direction}
+use Rattle.s370_walk.specs.declared.parts.Direction.TheVariants.{Gives, Takes, TakesUpTo}
 use Rattle.s370_walk.specs.declared.parts.Order.{Order}
 use Rattle.s370_walk.specs.declared.parts.Transfer.{Transfer}
 use Rattle.s370_walk.specs.declared.parts.NextCcw.{NextCcw}
@@ -86,7 +86,7 @@ module _ {D E : Type 0} (part : D → E) (h : Setting D) (inner : Machine E) (is
   of_skip p place m d true = rw (is.gave d) refl
   of_skip p place m d false = of_giving p place m d
 
-  of_byte : (p : Position) (place : Option ℕ) (load : ℕ → ℕ) (kind : Kind) (m : Memory) (d : D) → seen part (byte_moved h p place load kind m d) ≡ byte_moved (on_device h inner) p place load kind m (part d)
+  of_byte : (p : Position) (place : Option ℕ) (load : ℕ → ℕ) (kind : Direction) (m : Memory) (d : D) → seen part (byte_moved h p place load kind m d) ≡ byte_moved (on_device h inner) p place load kind m (part d)
   of_byte p place load Gives m d = of_skip p place m d (skips p.word)
   of_byte p place load Takes m d = of_taking p place load m d
   of_byte p place load TakesUpTo m d = of_taking p place load m d

@@ -15,7 +15,7 @@ use Rattle.s370_walk.specs.Walk.{is_indirect, is_jump}
 use Rattle.cp_graph.specs.Closure.{IsEntryPage}
 use Rattle.channel_laws.specs.Tracks.{has_area}
 use Rattle.cp_needs.specs.Areas.{IsBefore, IsBegun, byte_place}
-use Rattle.cp_needs.specs.Words.{IsAreaPage, IsHere}
+use Rattle.cp_needs.specs.Words.{IsAreaPage, IsPresent}
 use Rattle.cp_needs.proofs.Walking.{place_first, place_next}
 
 -- a byte that begins a block lies where the list says
@@ -61,9 +61,9 @@ none_on list k (suc i) at =
 
 -- The pages of the first n bytes of an area are present, and those of the words of its list that say where they lie.
 pub record IsDone (m : Memory) (w : Ccw) (present : ℕ → Bool) (n : ℕ) : Type 0 where
-  pub area : (k a : ℕ) → k < n → byte_place (area_block m w) k ≡ Some a → IsHere (length m.bytes) present (a / 4096)
+  pub area : (k a : ℕ) → k < n → byte_place (area_block m w) k ≡ Some a → IsPresent (length m.bytes) present (a / 4096)
   pub listed : (k : ℕ) → k < n → IsBegun (area_block m w) k → is_indirect w ≡ true
-      → IsHere (length m.bytes) present (later w.address (4 * block_number k) / 4096)
+      → IsPresent (length m.bytes) present (later w.address (4 * block_number k) / 4096)
 
 pub done_first : (m : Memory) (w : Ccw) (present : ℕ → Bool) → IsDone m w present 0
 done_first m w present =
@@ -116,8 +116,8 @@ place_after k n = elim (low_or k n) [ inl lt ↦ inl lt | inr le ↦ inr (k - n,
 pub done_on : (m : Memory) (w : Ccw) (present : ℕ → Bool) (n start len : ℕ) → IsDone m w present n
     → IsBegun (area_block m w) n → area_block m w (block_number n) ≡ Some start → start < 2 ^ 32
     → start % 2048 + len ≤ 2048
-    → (is_indirect w ≡ true → IsHere (length m.bytes) present (later w.address (4 * block_number n) / 4096))
-    → IsHere (length m.bytes) present (start / 4096) → IsDone m w present (n + len)
+    → (is_indirect w ≡ true → IsPresent (length m.bytes) present (later w.address (4 * block_number n) / 4096))
+    → IsPresent (length m.bytes) present (start / 4096) → IsDone m w present (n + len)
 done_on m w present n start len done begun said low short listed here =
     record {
       area = λ k a lt at. byte_here k a lt at (place_after k n);
@@ -131,7 +131,7 @@ done_on m w present n start len done begun said low short listed here =
     first = begun_place list n begun ∙ said
 
     byte_here : (k a : ℕ) → k < n + len → byte_place list k ≡ Some a → (k < n) ⊎ ((i : ℕ) × (k ≡ n + i))
-        → IsHere (length m.bytes) present (a / 4096)
+        → IsPresent (length m.bytes) present (a / 4096)
     byte_here k a lt at (inl before) = done.area k a before at
     byte_here k a lt at (inr (i, is)) =
         let there : byte_place list (n + i) ≡ Some (start + i) =
@@ -141,7 +141,7 @@ done_on m w present n start len done begun said low short listed here =
         rw page here
 
     list_word : (k : ℕ) → k < n + len → IsBegun list k → is_indirect w ≡ true → (k < n) ⊎ ((i : ℕ) × (k ≡ n + i))
-        → IsHere (length m.bytes) present (later w.address (4 * block_number k) / 4096)
+        → IsPresent (length m.bytes) present (later w.address (4 * block_number k) / 4096)
     list_word k lt b e (inl before) = done.listed k before b e
     list_word k lt b e (inr (zero, is)) = (let same : k ≡ n = omega (arith, is) in rw same (listed e))
     list_word k lt b e (inr (suc i, is)) =
@@ -161,7 +161,7 @@ begun_on list n start len begun said low some whole =
 -- the list says nothing more
 pub done_past : (m : Memory) (w : Ccw) (present : ℕ → Bool) (n most : ℕ) → IsDone m w present n
     → IsBegun (area_block m w) n → area_block m w (block_number n) ≡ None
-    → (is_indirect w ≡ true → IsHere (length m.bytes) present (later w.address (4 * block_number n) / 4096))
+    → (is_indirect w ≡ true → IsPresent (length m.bytes) present (later w.address (4 * block_number n) / 4096))
     → IsDone m w present most
 done_past m w present n most done begun said listed =
     record {
@@ -176,13 +176,13 @@ done_past m w present n most done begun said listed =
     none = begun_place list n begun ∙ said
 
     byte_here : (k a : ℕ) → byte_place list k ≡ Some a → (k < n) ⊎ ((i : ℕ) × (k ≡ n + i))
-        → IsHere (length m.bytes) present (a / 4096)
+        → IsPresent (length m.bytes) present (a / 4096)
     byte_here k a at (inl before) = done.area k a before at
     byte_here k a at (inr (i, is)) =
         absurd (none_some a (byte_place list (n + i)) (none_on list n i none) (ap (byte_place list) (sym is) ∙ at))
 
     list_word : (k : ℕ) → IsBegun list k → is_indirect w ≡ true → (k < n) ⊎ ((i : ℕ) × (k ≡ n + i))
-        → IsHere (length m.bytes) present (later w.address (4 * block_number k) / 4096)
+        → IsPresent (length m.bytes) present (later w.address (4 * block_number k) / 4096)
     list_word k b e (inl before) = done.listed k before b e
     list_word k b e (inr (zero, is)) = (let same : k ≡ n = omega (arith, is) in rw same (listed e))
     list_word k b e (inr (suc i, is)) = absurd (past_list list n i none (subst (IsBegun list) is b))
@@ -200,7 +200,7 @@ on_word w has listed = by_test (is_jump w) (w.address % 4 == 0) refl (rw listed 
 
 -- where all of its bytes are done, the pages of a word's list and area are present
 pub pages_done : (m : Memory) (w : Ccw) (present : ℕ → Bool) (n : ℕ) → has_area w ≡ true → IsDone m w present n
-    → w.count ≤ n → (page : ℕ) → IsAreaPage m w page → IsHere (length m.bytes) present page
+    → w.count ≤ n → (page : ℕ) → IsAreaPage m w page → IsPresent (length m.bytes) present page
 pages_done m w present n has done all page (a, inr byte, at) =
     let counted = byte.counted in
     rw at (done.area byte.byte a (omega (arith, counted, all)) byte.at)

@@ -7,7 +7,7 @@ use Rattle.s370_store.specs.declared.Range.{Range}
 use Rattle.s370_store.specs.Memory.{Memory}
 use Rattle.cp_needs.specs.Needs.{IsClash, IsFixed, IsHeld, IsTextByte}
 use Rattle.cp_needs.specs.Noted.{AreMarked, AreStored, IsFilledBy, IsInSome, IsTextOf}
-use Rattle.cp_needs.specs.Words.{AreWords, IsAmong, IsHere, IsPageAt}
+use Rattle.cp_needs.specs.Words.{AreWords, IsAmong, IsPresent, IsPageAt}
 use Rattle.cp_needs.proofs.Programs.{own_low, reached_even, word_fits}
 
 -- the words that a program can reach are at doublewords, and where it has its pages, each has those of its own
@@ -18,7 +18,7 @@ even_at m start words even all i lt =
 
 pub here_at : (m : Memory) (start : ℕ) (words : List ℕ) (present : ℕ → Bool) → AreWords m start words
     → IsHeld m start present → (i page : ℕ) → i < length words → IsPageAt m (slice_index words i) page
-    → IsHere (length m.bytes) present page
+    → IsPresent (length m.bytes) present page
 here_at m start words present all held i page lt (a, needed, at) inside =
     held page (record {
       address = slice_index words i;

@@ -14,7 +14,7 @@ use Rattle.cp_graph.specs.Table.{leads_next, leads_skipped}
 use Rattle.cp_needs.specs.Needs.{IsReached}
 use Rattle.cp_needs.proofs.Walking.{leads_of}
 use Rattle.cp_needs.specs.Areas.{IsAreaByte, IsListByte}
-use Rattle.cp_needs.specs.Words.{AreSteps, IsAmong, IsAreaPage, IsFollowed, IsHere, IsPageAt, IsStep, IsVisited}
+use Rattle.cp_needs.specs.Words.{AreSteps, IsAmong, IsAreaPage, IsFollowed, IsPresent, IsPageAt, IsStep, IsVisited}
 
 -- ---- What is found stays found
 
@@ -98,13 +98,13 @@ none_word o w e f = cc
 
 -- the pages of the doubleword itself
 word_page : (size : ℕ) (present : ℕ → Bool) (address k page : ℕ) → address % 8 ≡ 0 → k < 8 → page ≡ (address + k) / 4096
-    → IsHere size present (address / 4096) → IsHere size present page
+    → IsPresent size present (address / 4096) → IsPresent size present page
 word_page size present address k page even lt at here =
     (let same : page ≡ address / 4096 = omega (arith, even, lt, at) in rw same here)
 
 pub visited_word : (m : Memory) (present : ℕ → Bool) (most address : ℕ) (w : Ccw) (o : Option Page) (mid new : List ℕ)
-    → address % 8 ≡ 0 → guest_text m address ≡ Some w → IsHere (length m.bytes) present (address / 4096)
-    → IfNone o ((page : ℕ) → IsAreaPage m w page → IsHere (length m.bytes) present page)
+    → address % 8 ≡ 0 → guest_text m address ≡ Some w → IsPresent (length m.bytes) present (address / 4096)
+    → IfNone o ((page : ℕ) → IsAreaPage m w page → IsPresent (length m.bytes) present page)
     → (leads_next w ≡ true → w.next / 8 < most → IsAmong mid w.next)
     → (leads_skipped w ≡ true → w.skipped / 8 < most → IsAmong new w.skipped)
     → IsFollowed (leads_skipped w) w.skipped mid new
@@ -113,7 +113,7 @@ visited_word m present most address w (Some page) mid new even text here area fi
 visited_word m present most address w None mid new even text here area first second on =
     record { held = held; closed = λ to step low. closed to step low step.leads }
   where
-    held : (page : ℕ) → IsPageAt m address page → IsHere (length m.bytes) present page
+    held : (page : ℕ) → IsPageAt m address page → IsPresent (length m.bytes) present page
     held page (a, inl (inl (k, lt, is)), at) =
         word_page (length m.bytes) present address k page even lt (at ∙ ap (λ x. x / 4096) is) here
     held page (a, inl (inr (v, found, byte)), at) =
@@ -138,12 +138,12 @@ visited_word m present most address w None mid new even text here area first sec
 
 -- where no word is
 pub visited_none : (m : Memory) (present : ℕ → Bool) (most address : ℕ) (words : List ℕ) → address % 8 ≡ 0
-    → guest_text m address ≡ None → IsHere (length m.bytes) present (address / 4096)
+    → guest_text m address ≡ None → IsPresent (length m.bytes) present (address / 4096)
     → IsVisited m present most words address
 visited_none m present most address words even text here =
     record { held = held; closed = λ to step low. absurd (none_word (guest_text m address) step.word text step.text) }
   where
-    held : (page : ℕ) → IsPageAt m address page → IsHere (length m.bytes) present page
+    held : (page : ℕ) → IsPageAt m address page → IsPresent (length m.bytes) present page
     held page (a, inl (inl (k, lt, is)), at) =
         word_page (length m.bytes) present address k page even lt (at ∙ ap (λ x. x / 4096) is) here
     held page (a, inl (inr (v, found, byte)), at) = absurd (none_word (guest_text m address) v text found)

@@ -18,8 +18,8 @@ use Rattle.cp_needs.specs.Noted.{AreMarked, AreStored, IsEntryByte, IsFilled, Is
 use Rattle.cp_needs.specs.Noted.{IsInSome, IsPieceByte, IsTextOf}
 use Rattle.cp_needs.proofs.Blocks.{begun_place, bytes_on, none_on, none_some, on_word, past_list, place_after}
 use Rattle.cp_needs.proofs.Blocks.{some_same, within_block}
-use Rattle.s370_store.specs.Access.{IsAway}
-use Rattle.cp_needs.specs.Words.{IsHere}
+use Rattle.s370_store.specs.Access.{IsAbsent}
+use Rattle.cp_needs.specs.Words.{IsPresent}
 use Rattle.std.proofs.lemmas.Bool.{true≢false}
 use Rattle.cp_needs.proofs.Finding.{word_same}
 
@@ -405,7 +405,7 @@ filled_by_on m words n address xs ys zs at old new =
 
 -- ---- pages that are present
 
-pub not_away : (size : ℕ) (present : ℕ → Bool) (page : ℕ) → IsHere size present page → IsAway size present page → ⊥
+pub not_away : (size : ℕ) (present : ℕ → Bool) (page : ℕ) → IsPresent size present page → IsAbsent size present page → ⊥
 not_away size present page here away = true≢false (sym (here away.inside) ∙ away.away)
 
 -- ---- what a call leaves

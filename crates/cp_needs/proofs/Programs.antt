@@ -5,7 +5,7 @@ use Rattle.std.proofs.Common.{subst, ◌∙◌, ap, arith, inl, inr, length-appe
 use Rattle.std.proofs.lemmas.List.{get_or_append_left, get_or-append_right}
 use Rattle.s370_store.specs.declared.Page.{Page}
 use Rattle.std.specs.List.{slice_range}
-use Rattle.s370_store.specs.Access.{IsAway}
+use Rattle.s370_store.specs.Access.{IsAbsent}
 use Rattle.s370_channel.specs.Words.{ccw_of}
 use Rattle.s370_channel.specs.Guest.{guest_text, word_at}
 use Rattle.s370_walk.specs.declared.parts.Ccw.{Ccw}
@@ -76,7 +76,7 @@ among_steps m address a old new s among = rw s.is (among_more old s.rest a among
 
 -- a page of a word that the program can reach, which is away, is one that it needs
 pub needed_page : (m : Memory) (start address page : ℕ) (present : ℕ → Bool) → IsReached m start address
-    → IsPageAt m address page → IsAway (length m.bytes) present page → IsProgramPage m start page
+    → IsPageAt m address page → IsAbsent (length m.bytes) present page → IsProgramPage m start page
 needed_page m start address page present reached (a, needed, at) away =
     record { address = address; reached = reached; byte = a; needed = needed; at = at; inside = away.inside }
 
@@ -179,12 +179,12 @@ first_size m old new start address words more e steps first low =
 
 pub needed_at : (m : Memory) (start : ℕ) (words : List ℕ) (i address : ℕ) (present : ℕ → Bool) (o : Option Page)
     (page : Page) → o ≡ Some page → AreReached m start words → i < length words → address ≡ slice_index words i
-    → IfSome o (λ page. IsPageAt m address page.0) → IfSome o (λ page. IsAway (length m.bytes) present page.0)
+    → IfSome o (λ page. IsPageAt m address page.0) → IfSome o (λ page. IsAbsent (length m.bytes) present page.0)
     → IsProgramPage m start page.0
 needed_at m start words i address present o page is reached lt at asked away =
     needed_page m start address page.0 present (rw at (reached i lt))
     (some_of (λ x. IsPageAt m address x.0) o page is asked)
-    (some_of (λ x. IsAway (length m.bytes) present x.0) o page is away)
+    (some_of (λ x. IsAbsent (length m.bytes) present x.0) o page is away)
 
 pub reached_at : (m : Memory) (start : ℕ) (words : List ℕ) (i address : ℕ) (new : List ℕ) → i < length words
     → address ≡ slice_index words i → AreSteps m address words new → AreReached m start words → AreReached m start new

@@ -11,8 +11,8 @@ use Rattle.s370_store.proofs.Verdicts.{fits}
 use Rattle.s370_walk.specs.declared.bits.UnitStatus.{UnitStatus}
 use Rattle.s370_walk.specs.declared.parts.Answer.{Answer}
 use Rattle.s370_walk.specs.declared.parts.Answer.TheVariants as answers
-use Rattle.s370_walk.specs.declared.parts.Kind.{Kind}
-use Rattle.s370_walk.specs.declared.parts.Kind.TheVariants.{Gives, Takes, TakesUpTo}
+use Rattle.s370_walk.specs.declared.parts.Direction.{Direction}
+use Rattle.s370_walk.specs.declared.parts.Direction.TheVariants.{Gives, Takes, TakesUpTo}
 use Rattle.s370_walk.specs.declared.parts.Position.{Position}
 use Rattle.s370_walk.specs.declared.parts.Progress.TheVariants.{At, Ended}
 use Rattle.s370_walk.specs.declared.parts.NextCcw.{NextCcw}
@@ -289,7 +289,7 @@ module _ {D : Type 0} (m0 : Memory) (start : ℕ) (h : Setting D) where
   taken_on p (Some a) load m d kept x some at =
       taken_at_on p a load (fault_of m h.key (area Fetch a 1)) m d kept x some at
 
-  byte_on : (p : Position) (place : Option ℕ) (load : ℕ → ℕ) (kind : Kind) (m : Memory) (d : D) → IsFixed m0 start
+  byte_on : (p : Position) (place : Option ℕ) (load : ℕ → ℕ) (kind : Direction) (m : Memory) (d : D) → IsFixed m0 start
       → IsKept m0 start m → IsCourse m0 start p → 0 < p.count → p.transfer.kind ≡ kind
       → (is_skipped p kind ≡ false → byte_place (area_block m0 p.word) (index_of p) ≡ place)
       → IsOn (byte_moved h p place load kind m d)

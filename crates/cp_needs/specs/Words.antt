@@ -10,8 +10,8 @@ use Rattle.s370_walk.specs.declared.parts.Ccw.{Ccw}
 use Rattle.s370_store.specs.Memory.{Memory}
 
 -- if the page is one of a storage of this size, it is present
-abbrev pub IsHere : ℕ → (ℕ → Bool) → ℕ → Type 0
-IsHere size present page = page * 4096 < size → present page ≡ true
+abbrev pub IsPresent : ℕ → (ℕ → Bool) → ℕ → Type 0
+IsPresent size present page = page * 4096 < size → present page ≡ true
 
 -- a page with a byte of a word's list or area
 abbrev pub IsAreaPage : Memory → Ccw → ℕ → Type 0
@@ -52,7 +52,7 @@ pub record AreSteps (m : Memory) (address : ℕ) (old new : List ℕ) : Type 0 w
 -- it leads is found.
 pub record IsVisited (m : Memory) (present : ℕ → Bool) (most : ℕ) (words : List ℕ)
     (address : ℕ) : Type 0 where
-  pub held : (page : ℕ) → IsPageAt m address page → IsHere (length m.bytes) present page
+  pub held : (page : ℕ) → IsPageAt m address page → IsPresent (length m.bytes) present page
   pub closed : (to : ℕ) → IsStep m address to → to / 8 < most → IsAmong words to
 
 -- The addresses of the words of a program that lie on pages of storage.

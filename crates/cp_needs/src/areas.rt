@@ -2,9 +2,9 @@
 ghost use Rattle.std.specs.Prelude.{◌≡◌, ◌≤◌, ◌<◌, ◌+◌, ◌*◌, ◌/◌, ◌%◌, ◌^◌, IfErr, IfNone, IfOk};
 ghost use Rattle.std.specs.Prelude.{IfSome, length, true, ℕ};
 ghost use Rattle.cp_graph.specs.Closure.{IsEntryPage};
-ghost use Rattle.cp_needs.specs.Words.{IsAreaPage, IsHere};
+ghost use Rattle.cp_needs.specs.Words.{IsAreaPage, IsPresent};
 ghost use Rattle.s370_channel.specs.Guest.{area_block, later};
-ghost use Rattle.s370_store.specs.Access.{IsAway};
+ghost use Rattle.s370_store.specs.Access.{IsAbsent};
 ghost use Rattle.s370_walk.specs.Walk.{is_indirect};
 
 use crate::pages::absent_at;
@@ -40,17 +40,17 @@ pub(crate) fn block_here<S: Storage>(
     number: u32,
 ) -> Result<Option<u32>, Page>
     requires { number ≤ 64 }
-    ensures said { IfOk result (λ said. said ≡ area_block (S.memory storage.now) word.now number) }
+    ensures block { IfOk result (λ said. said ≡ area_block (S.memory storage.now) word.now number) }
     ensures listed { IfOk result (λ _. is_indirect word.now ≡ true
-        → IsHere (length (S.memory storage.now).bytes) (S.present storage.now)
+        → IsPresent (length (S.memory storage.now).bytes) (S.present storage.now)
         (later word.now.address (4 * number) / 4096)) }
-    ensures here { IfOk result
+    ensures present { IfOk result
         (λ said. IfSome said
-        (λ start. IsHere (length (S.memory storage.now).bytes) (S.present storage.now)
+        (λ start. IsPresent (length (S.memory storage.now).bytes) (S.present storage.now)
         (start / 4096))) }
     ensures low { IfOk result (λ said. IfSome said (λ start. start < 2 ^ 32)) }
-    ensures away { IfErr result
-        (λ page. IsAway (length (S.memory storage.now).bytes) (S.present storage.now) page.0) }
+    ensures absent { IfErr result
+        (λ page. IsAbsent (length (S.memory storage.now).bytes) (S.present storage.now) page.0) }
     ensures asked { IfErr result
         (λ page. IsEntryPage (S.memory storage.now) word.now number page.0) }
 {
@@ -70,12 +70,12 @@ pub(crate) fn block_here<S: Storage>(
 
 /// Returns the first page that is not present of those of a word's list and area, block by block.
 pub(crate) fn absent_in_area<S: Storage>(storage: &S, word: &Ccw) -> Option<Page>
-    ensures away { IfSome result
-        (λ page. IsAway (length (S.memory storage.now).bytes) (S.present storage.now) page.0) }
+    ensures absent { IfSome result
+        (λ page. IsAbsent (length (S.memory storage.now).bytes) (S.present storage.now) page.0) }
     ensures asked { IfSome result (λ page. IsAreaPage (S.memory storage.now) word.now page.0) }
-    ensures here { IfNone result
+    ensures present { IfNone result
         ((page : ℕ) → IsAreaPage (S.memory storage.now) word.now page
-        → IsHere (length (S.memory storage.now).bytes) (S.present storage.now) page) }
+        → IsPresent (length (S.memory storage.now).bytes) (S.present storage.now) page) }
 {
     if !has_area(word) {
         return None;

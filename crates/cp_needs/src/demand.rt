@@ -2,7 +2,7 @@
 ghost use Rattle.std.specs.Prelude.{◌≡◌, ◌%◌, IfOk, length};
 ghost use Rattle.cp_needs.specs.Judged.{AreNotes, IfAbsent, IfNotes, IfOpen};
 ghost use Rattle.cp_needs.specs.Needs.{IsClash, IsFixed, IsHeld, IsProgramPage};
-ghost use Rattle.s370_store.specs.Access.{IsAway};
+ghost use Rattle.s370_store.specs.Access.{IsAbsent};
 
 use crate::fixed::meet;
 use crate::notes::{Notes, notes_of};
@@ -28,9 +28,9 @@ pub(crate) fn judge<S: Storage>(
     start: u32,
 ) -> Result<Judged, AllocError>
     requires even { start % 8 ≡ 0 }
-    ensures away { IfOk result
+    ensures absent { IfOk result
         (λ reported. IfAbsent reported
-        (IsAway (length (S.memory storage.now).bytes) (S.present storage.now))) }
+        (IsAbsent (length (S.memory storage.now).bytes) (S.present storage.now))) }
     ensures needed { IfOk result
         (λ reported. IfAbsent reported (IsProgramPage (S.memory storage.now) start)) }
     ensures fixed { IfOk result

@@ -1,7 +1,7 @@
 //! A program's words as they were, and whether they are so still.
 ghost use Rattle.std.specs.Prelude.{◌≡◌, ◌+◌, ◌*◌, ◌%◌, ◌<◌, ◌≤◌, All, Contains, IfOk, OnOk, false};
 ghost use Rattle.std.specs.Prelude.{length, true, ℕ};
-ghost use Rattle.s370_store.specs.Access.{IsAway, IsGranted};
+ghost use Rattle.s370_store.specs.Access.{IsAbsent, IsGranted};
 ghost use Rattle.cp_needs.specs.Kept.{IsAdded, IfFound, IfOpen, IfPages, IfText, IsAsItStood};
 ghost use Rattle.cp_needs.specs.Kept.{IsPaged, IsPagedOnly, IsText, IsTextOnly, fullword_at};
 ghost use Rattle.cp_needs.specs.declared.kept.WordAt.{WordAt};
@@ -23,7 +23,7 @@ pub struct WordAt {
 
 /// Returns whether a fullword is, on a page that is present, as it was.
 fn is_as_it_stood<S: Storage>(storage: &S, word: &WordAt) -> bool
-    ensures same { result ≡ true
+    ensures as_it_stood { result ≡ true
         → IsAsItStood (S.memory storage.now).bytes (S.present storage.now) word.now }
     ensures other { IsAsItStood (S.memory storage.now).bytes (S.present storage.now) word.now
         → result ≡ true }
@@ -51,7 +51,7 @@ fn is_as_it_stood<S: Storage>(storage: &S, word: &WordAt) -> bool
 
 /// Returns whether each of these fullwords is, on a page that is present, as it was.
 pub fn stands<S: Storage>(storage: &S, text: &[WordAt]) -> bool
-    ensures same { result ≡ true
+    ensures as_it_stood { result ≡ true
         → All (IsAsItStood (S.memory storage.now).bytes (S.present storage.now)) text.now }
     ensures other { All (IsAsItStood (S.memory storage.now).bytes (S.present storage.now)) text.now
         → result ≡ true }
@@ -139,8 +139,8 @@ pub enum Analysis {
 pub fn analyze<S: Storage>(alloc: Global, storage: &S, start: u32) -> Result<Analysis, AllocError>
     requires even { start % 8 ≡ 0 }
     requires whole { length (S.memory storage.now).bytes % 4 ≡ 0 }
-    ensures away { IfOk result
-        (λ found. IfFound found (IsAway (length (S.memory storage.now).bytes)
+    ensures absent { IfOk result
+        (λ found. IfFound found (IsAbsent (length (S.memory storage.now).bytes)
         (S.present storage.now))) }
     ensures needed { IfOk result
         (λ found. IfFound found (IsProgramPage (S.memory storage.now) start)) }

@@ -6,7 +6,7 @@ ghost use Rattle.cp_needs.specs.Areas.{IsAreaByte, IsListByte};
 ghost use Rattle.cp_needs.specs.Needs.{IsDataByte, IsTextByte};
 ghost use Rattle.cp_needs.specs.Noted.{AreMarked, AreStored, ArePaged, IsDataOf, IsEntryByte};
 ghost use Rattle.cp_needs.specs.Noted.{IsFilled, IsFilledAt, IsFilledBy, IsPieceByte, IsTextOf};
-ghost use Rattle.cp_needs.specs.Words.{IsAreaPage, IsHere, IsPageAt};
+ghost use Rattle.cp_needs.specs.Words.{IsAreaPage, IsPresent, IsPageAt};
 
 use crate::areas::{block_here, bytes_in_block, list_address};
 use cp_graph::has_area;
@@ -52,7 +52,7 @@ fn note_piece(filled: &mut Vec<Range>, word: &Ccw, piece: Range) -> Result<(), A
 /// Notes the list and the area of a word, whose pages are present, block by block.
 fn note_area<S: Storage>(storage: &S, word: &Ccw, notes: &mut Notes) -> Result<(), AllocError>
     requires here { (page : ℕ) → IsAreaPage (S.memory storage.now) word.now page
-        → IsHere (length (S.memory storage.now).bytes) (S.present storage.now) page }
+        → IsPresent (length (S.memory storage.now).bytes) (S.present storage.now) page }
     ensures marked { OnOk result
         (AreMarked (IsListByte (S.memory storage.now) word.now) notes.old.text.items
         notes.new.text.items) }
@@ -94,7 +94,7 @@ fn note_area<S: Storage>(storage: &S, word: &Ccw, notes: &mut Notes) -> Result<(
 fn note_word<S: Storage>(storage: &S, address: u32, notes: &mut Notes) -> Result<(), AllocError>
     requires even { address % 8 ≡ 0 }
     requires here { (page : ℕ) → IsPageAt (S.memory storage.now) address page
-        → IsHere (length (S.memory storage.now).bytes) (S.present storage.now) page }
+        → IsPresent (length (S.memory storage.now).bytes) (S.present storage.now) page }
     ensures marked { OnOk result
         (AreMarked (IsTextByte (S.memory storage.now) address) notes.old.text.items
         notes.new.text.items) }
@@ -127,7 +127,7 @@ pub(crate) fn notes_of<S: Storage>(
     requires even { (i : ℕ) → i < length words.now → slice_index words.now i % 8 ≡ 0 }
     requires here { (i page : ℕ) → i < length words.now
         → IsPageAt (S.memory storage.now) (slice_index words.now i) page
-        → IsHere (length (S.memory storage.now).bytes) (S.present storage.now) page }
+        → IsPresent (length (S.memory storage.now).bytes) (S.present storage.now) page }
     ensures marked { IfOk result
         (λ notes. AreMarked (IsTextOf (S.memory storage.now) words.now (length words.now)) []
         notes.text.items) }

@@ -1,7 +1,7 @@
 //! Pages that are not present.
 ghost use Rattle.std.specs.Prelude.{◌≡◌, ◌/◌, IfNone, IfSome, length};
-ghost use Rattle.cp_needs.specs.Words.{IsHere};
-ghost use Rattle.s370_store.specs.Access.{IsAway};
+ghost use Rattle.cp_needs.specs.Words.{IsPresent};
+ghost use Rattle.s370_store.specs.Access.{IsAbsent};
 
 use s370_num::AccessKey;
 use s370_store::{Access, Fault, PAGE_SIZE, Page, Range, Storage};
@@ -9,10 +9,10 @@ use s370_store::{Access, Fault, PAGE_SIZE, Page, Range, Storage};
 /// Returns the page of an address, where the storage has it and it is not present.
 pub(crate) fn absent_at<S: Storage>(storage: &S, address: u32) -> Option<Page>
     ensures page { IfSome result (λ page. page.0 ≡ address / 4096) }
-    ensures away { IfSome result
-        (λ page. IsAway (length (S.memory storage.now).bytes) (S.present storage.now) page.0) }
-    ensures here { IfNone result
-        (IsHere (length (S.memory storage.now).bytes) (S.present storage.now) (address / 4096)) }
+    ensures absent { IfSome result
+        (λ page. IsAbsent (length (S.memory storage.now).bytes) (S.present storage.now) page.0) }
+    ensures present { IfNone result
+        (IsPresent (length (S.memory storage.now).bytes) (S.present storage.now) (address / 4096)) }
 {
     match storage.check(
         Range {

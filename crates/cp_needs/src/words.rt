@@ -5,7 +5,7 @@ ghost use Rattle.cp_graph.specs.Marks.{unmarked};
 ghost use Rattle.cp_needs.specs.Needs.{IsHeld, IsProgramPage};
 ghost use Rattle.cp_needs.specs.Words.{AreSeen, AreSteps, AreWords, IsAmong, IsFollowed, IsPageAt};
 ghost use Rattle.cp_needs.specs.Words.{IsVisited};
-ghost use Rattle.s370_store.specs.Access.{IsAway};
+ghost use Rattle.s370_store.specs.Access.{IsAbsent};
 
 use crate::areas::absent_in_area;
 use crate::pages::absent_at;
@@ -51,9 +51,9 @@ fn visit<S: Storage>(
 ) -> Result<Option<Page>, AllocError>
     requires even { address % 8 ≡ 0 }
     requires known { AreSeen words.old.items seen.old }
-    ensures away { IfOk result
+    ensures absent { IfOk result
         (λ found. IfSome found (λ page.
-        IsAway (length (S.memory storage.now).bytes) (S.present storage.now) page.0)) }
+        IsAbsent (length (S.memory storage.now).bytes) (S.present storage.now) page.0)) }
     ensures asked { IfOk result
         (λ found. IfSome found (λ page. IsPageAt (S.memory storage.now) address page.0)) }
     ensures steps { IfOk result (λ found. IfNone found
@@ -93,8 +93,8 @@ pub(crate) fn words_of<S: Storage>(
         (λ found. IfOk found (λ words. AreWords (S.memory storage.now) start words.items)) }
     ensures held { IfOk result (λ found. IfOk found
         (λ words. IsHeld (S.memory storage.now) start (S.present storage.now))) }
-    ensures away { IfOk result (λ found. IfErr found
-        (λ page. IsAway (length (S.memory storage.now).bytes) (S.present storage.now) page.0)) }
+    ensures absent { IfOk result (λ found. IfErr found
+        (λ page. IsAbsent (length (S.memory storage.now).bytes) (S.present storage.now) page.0)) }
     ensures needed { IfOk result
         (λ found. IfErr found (λ page. IsProgramPage (S.memory storage.now) start page.0)) }
 {

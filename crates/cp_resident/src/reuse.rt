@@ -147,7 +147,7 @@ impl Reuse {
     /// Returns whether the program of a minidisk may run again: yes exactly where one is known, and
     /// all that is known of it is as it was.
     pub fn has_disk(&self, index: usize, storage: &Dat<'_>, start: &Caw) -> bool
-        ensures same { result ≡ true → KnowsAgain self.now index storage.now start.now }
+        ensures known_again { result ≡ true → KnowsAgain self.now index storage.now start.now }
         ensures other { KnowsAgain self.now index storage.now start.now → result ≡ true }
         ensures still { result ≡ true
             → IsFixedStill (lent_memory storage.now) (is_lent_page storage.now) start.now.address }

@@ -2,7 +2,7 @@
 use Rattle.std.proofs.Common.{◌≡◌, ℕ, zero, suc, ◌+◌, ◌-◌, Bool, true, false, Option, Some, None, refl, sym, ◌∙◌, ap}
 use Rattle.std.proofs.Common.{List}
 use Rattle.std.specs.Prelude.{if◌then◌else◌, nat_lt, not, ◌==◌, ◌&&◌}
-use Rattle.s370_store.specs.Access.{IsAway}
+use Rattle.s370_store.specs.Access.{IsAbsent}
 use Rattle.s370_walk.specs.Stuck.{IsAsked, IsStuck, is_skipped, moves, size_in}
 use Rattle.s370_channel.specs.Supplied.{IsTouched}
 use Rattle.s370_store.specs.declared.Fault.{Fault}
@@ -12,13 +12,13 @@ use Rattle.s370_walk.specs.declared.bits.ChannelStatus.{ChannelStatus}
 use Rattle.s370_walk.specs.declared.parts.Order.{Order}
 use Rattle.s370_walk.specs.declared.parts.Answer.{Answer}
 use Rattle.s370_walk.specs.declared.parts.Answer.TheVariants as answers
-use Rattle.s370_walk.specs.declared.parts.Kind.{Kind}
-use Rattle.s370_walk.specs.declared.parts.Kind.TheVariants.{Gives, Takes, TakesUpTo}
+use Rattle.s370_walk.specs.declared.parts.Direction.{Direction}
+use Rattle.s370_walk.specs.declared.parts.Direction.TheVariants.{Gives, Takes, TakesUpTo}
 use Rattle.s370_walk.specs.declared.parts.Transfer.{Transfer}
 use Rattle.s370_walk.specs.declared.parts.NextCcw.{NextCcw}
 use Rattle.s370_walk.specs.declared.parts.Position.{Position}
-use Rattle.s370_walk.specs.declared.parts.Progress.{Progress}
-use Rattle.s370_walk.specs.declared.parts.Progress.TheVariants.{At, Ended}
+use Rattle.s370_walk.specs.declared.parts.ReaderProgress.{ReaderProgress}
+use Rattle.s370_walk.specs.declared.parts.ReaderProgress.TheVariants.{At, Ended}
 use Rattle.s370_walk.specs.declared.parts.Ccw.{Ccw}
 use Rattle.s370_store.specs.Memory.{Memory}
 use Rattle.s370_walk.specs.Hardware.{Machine, put_byte, fault_of, area}
@@ -62,7 +62,7 @@ module _ {D E : Type 0} (m : Machine D) (n : Machine E) (seen : D → E) (is : I
   fails_alike None at s d = refl
   fails_alike (Some transfer) at s d = rw (is.status d, is.finished d) refl
 
-  state_alike : (p : Progress) (s : Memory) (d : D) → state_of p s (seen d) ≡ state_seen (state_of p s d)
+  state_alike : (p : ReaderProgress) (s : Memory) (d : D) → state_of p s (seen d) ≡ state_seen (state_of p s d)
   state_alike (At spot) s d = refl
   state_alike (Ended e) s d = refl
 
@@ -128,7 +128,7 @@ module _ {D E : Type 0} (m : Machine D) (n : Machine E) (seen : D → E) (is : I
   skipped_alike true p place s d = rw (is.gave d) refl
   skipped_alike false p place s d = given_to_alike p place s d
 
-  byte_alike : (p : Position) (place : Option ℕ) (load : ℕ → ℕ) (kind : Kind) (s : Memory) (d : D)
+  byte_alike : (p : Position) (place : Option ℕ) (load : ℕ → ℕ) (kind : Direction) (s : Memory) (d : D)
       → byte_moved other p place load kind s (seen d) ≡ state_seen (byte_moved one p place load kind s d)
   byte_alike p place load Gives s d = skipped_alike (skips p.word) p place s d
   byte_alike p place load Takes s d = taken_from_alike p place load s d
@@ -175,8 +175,8 @@ module _ {D E : Type 0} (m : Machine D) (n : Machine E) (seen : D → E) (is : I
   asked_alike w (Moving p s d) page h = (moves_alike p d ∙ h.0, h.1)
   asked_alike w (Over e s d) page h = h
 
-  away_alike : (present : ℕ → Bool) (s : State D) (page : ℕ) → IsAway (size_in s) present page
-      → IsAway (size_in (state_seen s)) present page
+  away_alike : (present : ℕ → Bool) (s : State D) (page : ℕ) → IsAbsent (size_in s) present page
+      → IsAbsent (size_in (state_seen s)) present page
   away_alike present (Fetching spot s d) page h = h
   away_alike present (Moving p s d) page h = h
   away_alike present (Over e s d) page h = h
@@ -222,7 +222,7 @@ module _ {D X : Type 0} (h : Setting D) (p : D → X) (is : IsKept h.machine p) 
   fails_kept None at s d = refl
   fails_kept (Some transfer) at s d = is.finished d
 
-  state_kept : (q : Progress) (s : Memory) (d : D) → kept_in (state_of q s d) ≡ p d
+  state_kept : (q : ReaderProgress) (s : Memory) (d : D) → kept_in (state_of q s d) ≡ p d
   state_kept (At spot) s d = refl
   state_kept (Ended e) s d = refl
 
@@ -284,7 +284,7 @@ module _ {D X : Type 0} (h : Setting D) (p : D → X) (is : IsKept h.machine p) 
   skipped_kept true q place s d = is.gave d
   skipped_kept false q place s d = given_to_kept q place s d
 
-  byte_kept : (q : Position) (place : Option ℕ) (load : ℕ → ℕ) (kind : Kind) (s : Memory) (d : D)
+  byte_kept : (q : Position) (place : Option ℕ) (load : ℕ → ℕ) (kind : Direction) (s : Memory) (d : D)
       → kept_in (byte_moved h q place load kind s d) ≡ p d
   byte_kept q place load Gives s d = skipped_kept (skips q.word) q place s d
   byte_kept q place load Takes s d = taken_from_kept q place load s d

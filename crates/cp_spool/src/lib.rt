@@ -16,18 +16,18 @@
 //! that leaves the queue as it is while a program runs, and says afterwards what it has read.
 //!
 //! ```
-//! use cp_spool::{FedReader, Queues, Reader};
+//! use cp_spool::{FedReader, Queues, SpoolReader};
 //! use user_names::UserNo;
 //! use s370_walk::{Answer, CommandCode, Device, Flags, Order};
-//! use unit_record::{Entry, Record, Sender, Target};
+//! use unit_record::{Entry, RecordBytes, Sender, Target};
 //!
 //! let (a, b) = (UserNo::new(0), UserNo::new(1));
 //! let mut queues = Queues::new(alloc, 2)?;
 //! queues.make_room(a)?;
-//! let card = Entry::new(0x01, Record::of(&[0xC1; 80]));
+//! let card = Entry::new(0x01, RecordBytes::of(&[0xC1; 80]));
 //! queues.close_punched(a, Target::User(1), vec![in alloc; card]?);
 //! queues.deliver(a, 0, b, 1, Sender::User(0))?;
-//! let mut reader = FedReader::new(&queues, b, Reader::new());
+//! let mut reader = FedReader::new(&queues, b, SpoolReader::new());
 //! let read = Order { command: CommandCode { code: 0x02 }, first: true, flags: Flags::NONE };
 //! assert_eq!(rt; reader.command(read)?, Answer::Input(80));
 //! assert_eq!(rt; reader.give(), 0xC1);
@@ -52,7 +52,7 @@ mod seen;
 pub use error::SpoolError;
 pub use file::{Contents, SpoolFile};
 pub use laws::a_fed_reader_is_a_reader;
-pub use progress::Progress;
+pub use progress::ReaderProgress;
 pub use queues::Queues;
-pub use reader::{FedReader, Reader};
+pub use reader::{FedReader, SpoolReader};
 pub use seen::SeenDeck;

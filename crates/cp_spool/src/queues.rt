@@ -16,7 +16,7 @@ use crate::keeping::{
     discard, empty_queues, place_reader, push_printed, push_punched, push_waiting, queue_at,
     reserve_closed, take_waiting,
 };
-use crate::progress::Progress;
+use crate::progress::ReaderProgress;
 use crate::queue::{UserQueue, Waiting};
 use crate::seen::SeenDeck;
 use slab::Slab;
@@ -445,7 +445,7 @@ impl Queues {
     }
 
     /// Takes over how far a reader of this user has read.
-    pub fn take_back(&mut self, user: UserNo, progress: Progress)
+    pub fn take_back(&mut self, user: UserNo, progress: ReaderProgress)
         ensures { self.new.users ≡ with_files user
             (read_on progress.ended progress.place (files_of self.old.users user)) self.old.users }
     {

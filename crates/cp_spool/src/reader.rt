@@ -6,14 +6,14 @@ ghost use Rattle.unit_record.specs.Reader.{read_answer};
 ghost use Rattle.cp_spool.specs.Queues.{files_of};
 ghost use Rattle.cp_spool.specs.Reader.{fed_by, part_new};
 
-use crate::progress::Progress;
+use crate::progress::ReaderProgress;
 use crate::queues::Queues;
 use channel_trial::{DryRun, TrialStorage, TriedLoading, try_loading, try_program};
 use s370_channel::Caw;
 use s370_walk::{Answer, Device, Flags, Order, UnitStatus};
 use std::alloc::AllocError;
 use std::marker::Model;
-use unit_record::{COMMAND_REJECT, INTERVENTION_REQUIRED, RECORD_LENGTH, Record};
+use unit_record::{COMMAND_REJECT, INTERVENTION_REQUIRED, RECORD_LENGTH, RecordBytes};
 use user_names::UserNo;
 
 /// The command that reads a card.
@@ -28,13 +28,13 @@ const CHAINING: Flags = Flags { bits: 0xC0 };
 /// What a card reader keeps next to its decks: its sense byte, and the bytes that are still to be
 /// given.
 #[derive(Drop)]
-pub struct Reader {
+pub struct SpoolReader {
     pub(crate) sense: u8,
-    pub(crate) bytes: Record,
+    pub(crate) bytes: RecordBytes,
     pub(crate) given: usize,
 }
 
-impl Model for Reader {
+impl Model for SpoolReader {
     ghost use Rattle.std.specs.Prelude.{drop, length, ◌≤◌};
     ghost use Rattle.cp_spool.specs.Reader.{ReaderPart};
 
@@ -45,25 +45,25 @@ impl Model for Reader {
     ghost invariant = { λ r. r.given ≤ length r.bytes };
 }
 
-impl Reader {
+impl SpoolReader {
     /// Returns a reader that feeds from the queue of this user.
-    pub fn new() -> Reader
+    pub fn new() -> SpoolReader
         ensures { result ≡ part_new }
     {
-        Reader {
+        SpoolReader {
             sense: 0,
-            bytes: Record::new(),
+            bytes: RecordBytes::new(),
             given: 0,
         }
     }
 
     /// Returns the same reader once more.
-    fn copy(&self) -> Reader
+    fn copy(&self) -> SpoolReader
         ensures { result ≡ self.now }
     {
-        Reader {
+        SpoolReader {
             sense: self.sense,
-            bytes: Record::of(self.bytes.as_slice()),
+            bytes: RecordBytes::of(self.bytes.as_slice()),
             given: self.given,
         }
     }
@@ -73,7 +73,7 @@ impl Reader {
         ensures { result ≡ self.now.sense }
     {
         // Exhaustive: a new field fails to compile here.
-        let Reader {
+        let SpoolReader {
             sense,
             bytes: _,
             given: _,
@@ -89,7 +89,7 @@ impl Reader {
     }
 
     /// Keeps these bytes, to be given one by one.
-    fn hold(&mut self, bytes: Record)
+    fn hold(&mut self, bytes: RecordBytes)
         ensures { self.new ≡ record self.old { giving = bytes } }
     {
         self.bytes = bytes;
@@ -115,8 +115,8 @@ impl Reader {
 pub struct FedReader<'a> {
     queues: &'a Queues,
     user: UserNo,
-    progress: Progress,
-    reader: Reader,
+    progress: ReaderProgress,
+    reader: SpoolReader,
 }
 
 impl<'a> Model for FedReader<'a> {
@@ -154,7 +154,7 @@ impl<'a> Device for FedReader<'a> {
             NO_OPERATION => Answer::Immediate,
             _ if is_sense(order) => {
                 let sense = self.reader.sense();
-                self.reader.hold(Record::of(&[sense]));
+                self.reader.hold(RecordBytes::of(&[sense]));
                 Answer::Input(1)
             }
             _ => {
@@ -199,11 +199,11 @@ impl<'a> FedReader<'a> {
     ghost use Rattle.cp_spool.specs.Reader.{next_card, read_started};
 
     /// This reader, which feeds from the queue of this user.
-    pub fn new(queues: &'a Queues, user: UserNo, reader: Reader) -> FedReader<'a>
+    pub fn new(queues: &'a Queues, user: UserNo, reader: SpoolReader) -> FedReader<'a>
         ensures { result ≡ fed_by (files_of queues.now.users user) reader }
     {
         FedReader {
-            progress: Progress {
+            progress: ReaderProgress {
                 ended: 0,
                 place: queues.place(user),
             },
@@ -226,7 +226,7 @@ impl<'a> FedReader<'a> {
     }
 
     /// Returns the reader, and what it has read.
-    pub fn into_parts(self) -> (Reader, Progress)
+    pub fn into_parts(self) -> (SpoolReader, ReaderProgress)
         ensures reader { result.0 ≡ self.entry.part }
         ensures ended { result.1.ended ≡ self.entry.ended }
         ensures place { result.1.place ≡ self.entry.place }
@@ -255,7 +255,7 @@ impl<'a> FedReader<'a> {
             self.progress.place = None;
             return Answer::Refused(UnitStatus::UNIT_EXCEPTION);
         };
-        self.reader.hold(Record::of(&card));
+        self.reader.hold(RecordBytes::of(&card));
         self.progress.place = Some(place + 1);
         Answer::Input(80)
     }

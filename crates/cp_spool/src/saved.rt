@@ -7,7 +7,7 @@ ghost use Rattle.cp_spool.specs.Saved.{deck_bytes, file_bytes, files_bytes, read
 
 use crate::file::SpoolFile;
 use crate::queues::Queues;
-use crate::reader::Reader;
+use crate::reader::SpoolReader;
 use crate::seen::SeenDeck;
 use saved_bytes::{Input, put_bytes, put_number, put_one, put_zero};
 use std::alloc::{AllocError, Global};
@@ -17,7 +17,7 @@ use unit_record::saved::{
 use unit_record::{Card, Sender};
 use user_names::UserNo;
 
-impl Reader {
+impl SpoolReader {
     /// Appends all that is seen of what a reader keeps.
     ///
     /// # Errors
@@ -27,7 +27,7 @@ impl Reader {
         ensures { OnOk result (out.new.items ≡ out.old.items ++ reader_bytes self.now) }
     {
         // Exhaustive: a new field fails to compile here.
-        let Reader {
+        let SpoolReader {
             sense,
             bytes,
             given,
@@ -40,7 +40,7 @@ impl Reader {
     pub fn restore(&mut self, input: &mut Input<'_>) -> Option<()> {
         let sense = input.small()?;
         let bytes = record_of(input)?;
-        *self = Reader {
+        *self = SpoolReader {
             sense,
             bytes,
             given: 0,

@@ -1,16 +1,16 @@
 -- The length code of a program interruption is that of the instruction's place.
 use Rattle.std.proofs.Common.{◌≡◌, ℕ, Result, Ok, Err, ap}
 use Rattle.s370_psw.specs.declared.ProgramCode.{ProgramCode}
-use Rattle.s370_rows.specs.declared.ending.Ending.{Ending}
-use Rattle.s370_rows.specs.declared.ending.Ending.TheVariants.{Done, Branch, Again, Interrupted, SupervisorCall}
-use Rattle.s370_rows.specs.declared.ending.Ending.TheVariants.{InputOutput}
+use Rattle.s370_rows.specs.declared.ending.Completion.{Completion}
+use Rattle.s370_rows.specs.declared.ending.Completion.TheVariants.{Done, Branch, Again, Interrupted, SupervisorCall}
+use Rattle.s370_rows.specs.declared.ending.Completion.TheVariants.{InputOutput}
 use Rattle.s370_rows.specs.declared.place.Place.{Place}
 use Rattle.s370_rows.specs.State.{State}
 use Rattle.s370_rows.specs.Rows.{Outcome}
 use Rattle.s370_cpu.specs.declared.conclude.Stop.TheVariants.{Program}
 use Rattle.s370_cpu.specs.Unit.{Ran, concluded, ended}
 
-ended_length : (ending : Ending) (place : Place) (m : State) (code : ProgramCode) (ilc : ℕ)
+ended_length : (ending : Completion) (place : Place) (m : State) (code : ProgramCode) (ilc : ℕ)
     → (ended ending place m.cpu).stop ≡ Program code ilc → ilc ≡ place.ilc
 ended_length Done place m code ilc e = cc
 ended_length (Branch a) place m code ilc e = cc

@@ -137,7 +137,7 @@ pub fn run_tried<D: Device>(
     ensures walk { IfOk result
         (λ ending. Walks as_reached D.machine start (lent_memory storage.old) device.old ending
         (lent_memory storage.new) device.new) }
-    ensures same { result ≡ Err errors.FramesOut
+    ensures unchanged_without_frames { result ≡ Err errors.FramesOut
         → (lent_memory storage.new ≡ lent_memory storage.old)
         × (device.new ≡ device.old) }
     ensures spared { ((d : D) (o : Order) → D.needs_memory d o ≡ false) → result ≡ Err errors.Memory
@@ -235,7 +235,7 @@ pub fn load_tried<D: Device>(
         (λ ending. Reaches (live guest_written) (setting D.machine loading_limits)
         (loading D.machine (lent_memory storage.old) device.old)
         (Over ending (lent_memory storage.new) device.new)) }
-    ensures same { result ≡ Err errors.FramesOut
+    ensures unchanged_without_frames { result ≡ Err errors.FramesOut
         → (lent_memory storage.new ≡ lent_memory storage.old)
         × (device.new ≡ device.old) }
     ensures spared { ((d : D) (o : Order) → D.needs_memory d o ≡ false) → result ≡ Err errors.Memory

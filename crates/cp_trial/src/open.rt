@@ -36,7 +36,7 @@ pub fn run_open<D: DryRun>(
     requires { IsBetweenUnits (lent_pool storage.old).supply }
     ensures walk { IfOk result (λ ending. Walks as_reached D.Device.machine start
         (lent_memory storage.old) device.old ending (lent_memory storage.new) device.new) }
-    ensures same { result ≡ Err errors.FramesOut
+    ensures unchanged_without_frames { result ≡ Err errors.FramesOut
         → (lent_memory storage.new ≡ lent_memory storage.old)
         × (device.new ≡ device.old) }
     ensures lacking { result ≡ Err errors.FramesOut → LacksSuch (IsTouched guest_written
@@ -76,7 +76,7 @@ pub fn load_open<D: TriedLoading>(
         (λ ending. Reaches (live guest_written) (setting D.Device.machine loading_limits)
         (loading D.Device.machine (lent_memory storage.old) device.old)
         (Over ending (lent_memory storage.new) device.new)) }
-    ensures same { result ≡ Err errors.FramesOut
+    ensures unchanged_without_frames { result ≡ Err errors.FramesOut
         → (lent_memory storage.new ≡ lent_memory storage.old)
         × (device.new ≡ device.old) }
     ensures lacking { result ≡ Err errors.FramesOut → LacksSuch (LoadTouches D.Device.machine

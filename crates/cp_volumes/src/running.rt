@@ -64,7 +64,7 @@ pub(crate) fn run_mounted(
     ensures walk { IfOk result (λ ending. Walks as_reached disk_machine start
         (lent_memory storage.old) mounted.old.disk ending (lent_memory storage.new)
         mounted.new.disk) }
-    ensures same { OnErr result (mounted.new ≡ mounted.old) }
+    ensures unchanged_on_error { OnErr result (mounted.new ≡ mounted.old) }
     ensures memory { result ≡ Err errors.FramesOut
         → lent_memory storage.new ≡ lent_memory storage.old }
     ensures lacking { result ≡ Err errors.FramesOut
@@ -90,7 +90,7 @@ pub(crate) fn load_mounted(
     ensures walk { IfOk result
         (λ ending. WalksLoading disk_machine (lent_memory storage.old) mounted.old.disk ending
         (lent_memory storage.new) mounted.new.disk) }
-    ensures same { OnErr result (mounted.new ≡ mounted.old) }
+    ensures unchanged_on_error { OnErr result (mounted.new ≡ mounted.old) }
     ensures memory { result ≡ Err errors.FramesOut
         → lent_memory storage.new ≡ lent_memory storage.old }
     ensures lacking { result ≡ Err errors.FramesOut

@@ -118,7 +118,7 @@ impl UserDisks {
         ensures walk { IfOk result (λ ending. WalksDisk as_reached start
             (lent_memory storage.old) (seen self.old) index ending (lent_memory storage.new)
             (seen self.new)) }
-        ensures same { OnErr result (self.new ≡ self.old) }
+        ensures unchanged_on_error { OnErr result (self.new ≡ self.old) }
         ensures memory { result ≡ Err errors.FramesOut
             → lent_memory storage.new ≡ lent_memory storage.old }
         ensures lacking { result ≡ Err errors.FramesOut → LacksSuch (DiskTouches start
@@ -158,7 +158,7 @@ impl UserDisks {
         ensures walk { IfOk result (λ ending. LoadsDisk
             (lent_memory storage.old) (map reset_disk (seen self.old)) index ending
             (lent_memory storage.new) (seen self.new)) }
-        ensures same { OnErr result (self.new ≡ self.old) }
+        ensures unchanged_on_error { OnErr result (self.new ≡ self.old) }
         ensures memory { result ≡ Err errors.FramesOut
             → lent_memory storage.new ≡ lent_memory storage.old }
         ensures lacking { result ≡ Err errors.FramesOut → LacksSuch (DiskLoadTouches

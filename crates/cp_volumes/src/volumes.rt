@@ -205,7 +205,7 @@ impl Volumes {
         ensures walk { IfOk result (λ ending. RestsAfter as_reached start
             (lent_memory storage.old) (disk_on self.old disk.old) ending
             (lent_memory storage.new) (disk_on self.new disk.new)) }
-        ensures same { OnErr result (self.new ≡ self.old) }
+        ensures unchanged_on_error { OnErr result (self.new ≡ self.old) }
         ensures memory { result ≡ Err errors.FramesOut
             → lent_memory storage.new ≡ lent_memory storage.old }
         ensures lacking { result ≡ Err errors.FramesOut
@@ -254,7 +254,7 @@ impl Volumes {
         ensures walk { IfOk result
             (λ ending. RestsLoaded (lent_memory storage.old) (disk_on self.old disk.old) ending
             (lent_memory storage.new) (disk_on self.new disk.new)) }
-        ensures same { OnErr result (self.new ≡ self.old) }
+        ensures unchanged_on_error { OnErr result (self.new ≡ self.old) }
         ensures memory { result ≡ Err errors.FramesOut
             → lent_memory storage.new ≡ lent_memory storage.old }
         ensures lacking { result ≡ Err errors.FramesOut
@@ -292,7 +292,7 @@ impl Volumes {
     fn mount(&mut self, disk: &SharedDisk) -> Mounted
         requires { IsSeated self.old (placement_of disk.now) }
         ensures mounted { result ≡ part_on (volume_at self.old disk.now.volume) disk.now.minidisk }
-        ensures away { self.new ≡ slice_set self.old disk.now.volume no_volume }
+        ensures moved_out { self.new ≡ slice_set self.old disk.now.volume no_volume }
         ensures inside { disk.now.volume < length self.old }
     {
         let _cylinders = disk.minidisk.extent().count();

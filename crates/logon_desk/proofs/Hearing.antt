@@ -10,15 +10,15 @@ use Rattle.terminal_lines.specs.Decoder.{after_byte}
 use Rattle.logon_desk.specs.Desk.{Answers, Closes, Comes, Desk, Event, Finishes, Keeps, Opens, Prints, Step, Takes, Turns, Wakes, account_of, after_bytes, after_decoded, after_first, after_line_at, after_pause, after_take, answer_by, comes_to, connection_at, ended, is_gone, is_taking, is_terminal, judged_as, line_by, logon_line, names, new_desk, quietly, same_guess, step, wake_by, with_connection}
 use Rattle.logon_desk.specs.Guesses.{debt, queue_of, wait_of}
 use Rattle.logon_desk.specs.History.{after, arrived, meaning, reading_of, with_line}
-use Rattle.logon_desk.specs.declared.connection.Answer.{Answer}
+use Rattle.logon_desk.specs.declared.connection.LogonStep.{LogonStep}
 use Rattle.logon_desk.specs.declared.connection.Connection.{Connection}
 use Rattle.logon_desk.specs.declared.connection.Stage.{Stage}
 use Rattle.logon_desk.specs.declared.connection.Stage.TheVariants.{Gone, Naming, Asking, Waiting, Judged, Refused, On}
 use Rattle.terminal_lines.specs.declared.decoder.Decoded.{Decoded}
 use Rattle.terminal_lines.specs.declared.decoder.Decoded.TheVariants.{Nothing, Line, Declines, AreYouThere}
 use Rattle.logon_desk.specs.declared.output.Notice.TheVariants.{Refused as Told}
-use Rattle.logon_desk.specs.declared.output.Output.{Output}
-use Rattle.logon_desk.specs.declared.output.Output.TheVariants.{Says}
+use Rattle.logon_desk.specs.declared.output.DeskAction.{DeskAction}
+use Rattle.logon_desk.specs.declared.output.DeskAction.TheVariants.{Says}
 use Rattle.terminal_lines.specs.declared.words.Guess.{Guess}
 use Rattle.terminal_lines.specs.declared.words.Said.{Said}
 use Rattle.terminal_lines.specs.declared.words.Said.TheVariants.{Both, Name, Word, Other}
@@ -57,7 +57,7 @@ asks_by d k c came guess s true stage e was =
     (heard_to (connection_at d k) (record (connection_at d k) { stage = Judged guess }) came (ap is_gone stage) refl refl (λ lines said. subst (λ (t : Stage). IsSaid t lines) stage said)) was)
 asks_by d k c came guess s false stage e was = was
 
-pause_by : (d : Desk) (k c : ℕ) (came : List ℕ) (now : ℕ) (is_last : Bool) (out other : List Output) → (connection_at d k).stage ≡ Refused → IsHeard (connection_at d c) came
+pause_by : (d : Desk) (k c : ℕ) (came : List ℕ) (now : ℕ) (is_last : Bool) (out other : List DeskAction) → (connection_at d k).stage ≡ Refused → IsHeard (connection_at d c) came
     → IsHeard (connection_at (cond is_last (ended d k out) (record { desk = with_connection d k (record (connection_at d k) { stage = Naming; patience = again (connection_at d k).patience now }); outputs = other })).desk c) came
 pause_by d k c came now true out other stage was = heard_gone d k c came was
 pause_by d k c came now false out other stage was =

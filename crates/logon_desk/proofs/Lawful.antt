@@ -18,7 +18,7 @@ use Rattle.terminal_lines.specs.Script.{script_line}
 use Rattle.logon_desk.specs.Laws.{HasAuthority, HasBounds, HasSecrets, IsAt, IsComplete, IsIn, IsIsolated, IsTyped, May, WaitsBriefly}
 use Rattle.logon_desk.specs.declared.account.Account.{Account}
 use Rattle.logon_desk.specs.declared.account.KeptLine.{KeptLine}
-use Rattle.logon_desk.specs.declared.connection.Answer.{Answer}
+use Rattle.logon_desk.specs.declared.connection.LogonStep.{LogonStep}
 use Rattle.logon_desk.specs.declared.connection.Connection.{Connection}
 use Rattle.logon_desk.specs.declared.connection.Stage.{Stage}
 use Rattle.logon_desk.specs.declared.connection.Stage.TheVariants.{Gone, Naming, Asking, Waiting, Judged, Refused, On}
@@ -27,8 +27,8 @@ use Rattle.terminal_lines.specs.declared.decoder.Decoded.TheVariants.{Nothing, L
 use Rattle.logon_desk.specs.declared.output.JournalEntry.TheVariants.{IsBack, Leaves}
 use Rattle.logon_desk.specs.declared.output.Notice.{Notice}
 use Rattle.logon_desk.specs.declared.output.Notice.TheVariants.{Reconnected, TakesOver}
-use Rattle.logon_desk.specs.declared.output.Output.{Output}
-use Rattle.logon_desk.specs.declared.output.Output.TheVariants.{Says, Declines, Shows, ShowsAgain, Types, Asks, Ends, Notes}
+use Rattle.logon_desk.specs.declared.output.DeskAction.{DeskAction}
+use Rattle.logon_desk.specs.declared.output.DeskAction.TheVariants.{Says, Declines, Shows, ShowsAgain, Types, Asks, Ends, Notes}
 use Rattle.terminal_lines.specs.declared.words.Guess.{Guess}
 use Rattle.terminal_lines.specs.declared.words.Said.{Said}
 use Rattle.logon_desk.proofs.Bounds.{few, kept_few, short}
@@ -36,7 +36,7 @@ use Rattle.logon_desk.proofs.Hearing.{arrives, heard, not_both, rest_of, taking_
 use Rattle.logon_desk.proofs.On.{Busy, Logged, answers_accounts, both_true, comes_accounts, eqb_is, eqb_self, guesses_same, is_user_on, names_stay, on_by, takes_accounts, wakes_accounts}
 use Rattle.logon_desk.proofs.Reading.{Heard}
 
-abbrev AllMay : Desk → Event → List Output → Type 0
+abbrev AllMay : Desk → Event → List DeskAction → Type 0
 AllMay d event outputs = AllByRecursion (May d event) outputs
 
 may_either : (d : Desk) (event : Event) (s t : Step) (b : Bool) → AllMay d event s.outputs → AllMay d event t.outputs → AllMay d event (cond b s t).outputs

@@ -18,7 +18,7 @@ use Rattle.logon_desk.specs.declared.connection.Stage.{Stage}
 use Rattle.logon_desk.specs.declared.connection.Stage.TheVariants.{Gone, Naming, Asking, Waiting, Judged, Refused, On}
 use Rattle.terminal_lines.specs.declared.decoder.Decoded.{Decoded}
 use Rattle.terminal_lines.specs.declared.decoder.Decoded.TheVariants.{Nothing, Line, Declines, AreYouThere}
-use Rattle.logon_desk.specs.declared.output.Output.{Output}
+use Rattle.logon_desk.specs.declared.output.DeskAction.{DeskAction}
 use Rattle.terminal_lines.specs.declared.words.Guess.{Guess}
 use Rattle.terminal_lines.specs.declared.words.Said.{Said}
 use Rattle.terminal_lines.specs.declared.words.Said.TheVariants.{Both, Name, Word, Other}

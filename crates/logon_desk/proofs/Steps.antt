@@ -11,7 +11,7 @@ use Rattle.terminal_lines.specs.Words.{capital, said_by}
 use Rattle.logon_desk.specs.declared.account.Account.{Account}
 use Rattle.terminal_lines.specs.declared.decoder.Decoded.{Decoded}
 use Rattle.terminal_lines.specs.declared.words.Said.{Said}
-use Rattle.logon_desk.specs.declared.connection.Answer.{Answer}
+use Rattle.logon_desk.specs.declared.connection.LogonStep.{LogonStep}
 use Rattle.logon_desk.specs.declared.connection.Connection.{Connection}
 use Rattle.logon_desk.specs.declared.connection.Stage.{Stage}
 use Rattle.logon_desk.specs.declared.connection.Stage.TheVariants.{Gone, Naming, Asking, Waiting, Judged, Refused, On}
@@ -29,7 +29,7 @@ over_stage d c x (Judged guess) now = simp set-set
 over_stage d c x Refused now = simp set-set
 over_stage d c x (On user) now = simp set-set
 
-pub answered_over : (d : Desk) (c : ℕ) (answer : Answer) (now : ℕ) → c < length d.connections
+pub answered_over : (d : Desk) (c : ℕ) (answer : LogonStep) (now : ℕ) → c < length d.connections
     → answered (with_connection d c (moved_out (connection_at d c))) c (connection_at (with_connection d c (moved_out (connection_at d c))) c) answer now ≡ answered d c (connection_at d c) answer now
 answered_over d c answer now h =
     let here : connection_at (with_connection d c (moved_out (connection_at d c))) c ≡ moved_out (connection_at d c) = get_or-set_same d.connections c (moved_out (connection_at d c)) gone h in
@@ -59,7 +59,7 @@ takes_first connections accounts guesses old c at byte rest typed decoded now se
     let changed = ap (λ (x : Connection). F x (after_byte x.decoder byte)) same ∙ ap (F at) came in
     sym (first ∙ changed) ∙ ap (λ (e : Desk). after_first e c (connection_at e c).waiting now) seen
 
-pub says_line : (connections : List Connection) (accounts : List Account) (guesses : List ℕ) (old : Desk) (c : ℕ) (at : Connection) (moved stage : Stage) (said : Said) (answer : Answer) (line capitals : List ℕ) (now : ℕ)
+pub says_line : (connections : List Connection) (accounts : List Account) (guesses : List ℕ) (old : Desk) (c : ℕ) (at : Connection) (moved stage : Stage) (said : Said) (answer : LogonStep) (line capitals : List ℕ) (now : ℕ)
     → record { connections = connections; accounts = accounts; guesses = guesses } ≡ old → c < length old.connections → at ≡ get_or connections c at
     → moved ≡ Gone → stage ≡ at.stage → capitals ≡ map capital line → said ≡ said_by (words_of capitals) → answer ≡ after_line stage said
     → answered (record { connections = set connections c (record at { stage = moved }); accounts = accounts; guesses = guesses }) c
@@ -69,7 +69,7 @@ says_line connections accounts guesses old c at moved stage said answer line cap
     let within : c < length connections = subst (λ (e : Desk). c < length e.connections) (sym seen) h in
     let same : connection_at d c ≡ at = read_there connections c at within is in
     let F : Connection → Rattle.logon_desk.specs.Desk.Step = λ x. answered (with_connection d c x) c (connection_at (with_connection d c x) c) answer now in
-    let A : Answer → Rattle.logon_desk.specs.Desk.Step = λ a. answered d c (connection_at d c) a now in
+    let A : LogonStep → Rattle.logon_desk.specs.Desk.Step = λ a. answered d c (connection_at d c) a now in
     let meant : answer ≡ after_line (connection_at d c).stage (said_by (words_of (map capital line))) =
     answers ∙ ap (λ (s : Stage). after_line s said) (was ∙ ap (λ (x : Connection). x.stage) (sym same)) ∙ ap (after_line (connection_at d c).stage) (says ∙ ap (λ (l : List ℕ). said_by (words_of l)) caps) in
     ap (λ (s : Stage). F (record at { stage = s })) out ∙ ap (λ (x : Connection). F (moved_out x)) (sym same) ∙ answered_over d c answer now within ∙ ap A meant

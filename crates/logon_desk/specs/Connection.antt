@@ -2,7 +2,7 @@
 use Rattle.std.specs.Prelude.{ℕ, ◌+◌, ◌-◌, ◌==◌, if◌then◌else◌, min, List, [], ◌∷◌, Option, Some}
 use Rattle.std.specs.Prelude.{None}
 use Rattle.terminal_lines.specs.Decoder.{nothing_typed}
-use Rattle.logon_desk.specs.declared.connection.Answer.{Answer}
+use Rattle.logon_desk.specs.declared.connection.LogonStep.{LogonStep}
 use Rattle.logon_desk.specs.declared.connection.Connection.{Connection}
 use Rattle.logon_desk.specs.declared.connection.Patience.{Patience}
 use Rattle.logon_desk.specs.declared.connection.Stage.{Stage}
@@ -37,7 +37,7 @@ opened address now = record {
 
 -- what comes of a line of somebody who is about to log on. A name and its password are in one line
 -- or in two; nothing else is a guess
-abbrev pub after_line : Stage → Said → Answer
+abbrev pub after_line : Stage → Said → LogonStep
 after_line Naming (Both guess) = record { stage = Waiting guess; notice = None }
 after_line Naming (Name name) = record { stage = Asking name; notice = Some EnterPassword }
 after_line Naming (Word word) = record { stage = Naming; notice = Some TypeLogon }

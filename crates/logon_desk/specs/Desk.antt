@@ -14,7 +14,7 @@ use Rattle.terminal_lines.specs.Script.{script_line}
 use Rattle.terminal_lines.specs.Words.{capital, said_by}
 use Rattle.logon_desk.specs.declared.account.Account.{Account}
 use Rattle.logon_desk.specs.declared.account.KeptLine.{KeptLine}
-use Rattle.logon_desk.specs.declared.connection.Answer.{Answer}
+use Rattle.logon_desk.specs.declared.connection.LogonStep.{LogonStep}
 use Rattle.logon_desk.specs.declared.connection.Connection.{Connection}
 use Rattle.logon_desk.specs.declared.connection.Stage.{Stage}
 use Rattle.logon_desk.specs.declared.connection.Stage.TheVariants.{Gone, Naming, Asking, Waiting}
@@ -30,10 +30,11 @@ use Rattle.logon_desk.specs.declared.output.Notice.{Notice}
 use Rattle.logon_desk.specs.declared.output.Notice.TheVariants.{Online, IsThere, Reconnected}
 use Rattle.logon_desk.specs.declared.output.Notice.TheVariants.{TakesOver}
 use Rattle.logon_desk.specs.declared.output.Notice.TheVariants.{TooLate, Refused as TellsRefused}
-use Rattle.logon_desk.specs.declared.output.Output.{Output}
-use Rattle.logon_desk.specs.declared.output.Output.TheVariants.{Says, Declines, Shows, ShowsAgain}
-use Rattle.logon_desk.specs.declared.output.Output.TheVariants.{Types}
-use Rattle.logon_desk.specs.declared.output.Output.TheVariants.{Asks, Ends, Notes}
+use Rattle.logon_desk.specs.declared.output.DeskAction.{DeskAction}
+use Rattle.logon_desk.specs.declared.output.DeskAction.TheVariants.{Says, Declines}
+use Rattle.logon_desk.specs.declared.output.DeskAction.TheVariants.{Shows, ShowsAgain}
+use Rattle.logon_desk.specs.declared.output.DeskAction.TheVariants.{Types}
+use Rattle.logon_desk.specs.declared.output.DeskAction.TheVariants.{Asks, Ends, Notes}
 use Rattle.terminal_lines.specs.declared.words.Guess.{Guess}
 
 -- the connections, the users and the queues of guesses
@@ -45,7 +46,7 @@ pub record Desk : Type 0 where
 -- what an event makes of the desk, and what is done then
 pub record Step : Type 0 where
   pub desk : Desk
-  pub outputs : List Output
+  pub outputs : List DeskAction
 
 -- what happens at the desk
 pub data Event : Type 0 where
@@ -155,7 +156,7 @@ is_taking d c (On user) =
     is_terminal (account_of d user).terminal c && not (account_of d user).is_busy
 
 -- he is given this, if anything
-abbrev pub notices : ℕ → Option Notice → List Output
+abbrev pub notices : ℕ → Option Notice → List DeskAction
 notices c None = []
 notices c (Some notice) = Says c notice ∷ []
 
@@ -185,7 +186,7 @@ comes_to d c connection Refused now = with_connection d c (record connection { s
 comes_to d c connection (On user) now = with_connection d c (record connection { stage = On user })
 
 -- the step of a line that was answered
-abbrev pub answered : Desk → ℕ → Connection → Answer → ℕ → Step
+abbrev pub answered : Desk → ℕ → Connection → LogonStep → ℕ → Step
 answered d c connection answer now =
     record { desk = comes_to d c connection answer.stage now; outputs = notices c answer.notice }
 
@@ -240,7 +241,7 @@ after_take d c now =
     else quietly d
 
 -- the connection is ended with these words
-abbrev pub ended : Desk → ℕ → List Output → Step
+abbrev pub ended : Desk → ℕ → List DeskAction → Step
 ended d c words = record { desk = with_connection d c gone; outputs = words ++ Ends c ∷ [] }
 
 -- more bytes than may wait end the connection
@@ -262,7 +263,7 @@ after_pause d c connection now =
     }
 
 -- the connection that was his terminal before is told so
-abbrev pub farewell : ℕ → Option ℕ → List Output
+abbrev pub farewell : ℕ → Option ℕ → List DeskAction
 farewell c None = []
 farewell c (Some other) = Says c TakesOver ∷ []
 
@@ -296,7 +297,7 @@ abbrev pub logon_command : List ℕ
 logon_command = codes "LOGON"
 
 -- a user logs on: his machine is switched on, or he sees again what his terminal has shown lately
-abbrev pub greeting : ℕ → ℕ → Account → List Output
+abbrev pub greeting : ℕ → ℕ → Account → List DeskAction
 greeting c user account =
     if not account.is_on && not account.is_busy
     then Notes (LogsOn user c) ∷ Types user logon_command ∷ []
@@ -360,7 +361,7 @@ abbrev pub after_answer : Desk → ℕ → Guess → Bool → ℕ → Step
 after_answer d c guess is_right now = answer_by d c (connection_at d c).stage guess is_right now
 
 -- the journal is given who leaves
-abbrev pub leaving : Desk → ℕ → Stage → List Output
+abbrev pub leaving : Desk → ℕ → Stage → List DeskAction
 leaving d c Gone = []
 leaving d c Naming = []
 leaving d c (Asking name) = []
@@ -379,7 +380,7 @@ abbrev pub shown : List ℕ → List ℕ
 shown line = map printable (take 1024 line)
 
 -- a line is shown at the terminal of its user, if he has one
-abbrev pub shows_at : ℕ → Option ℕ → List ℕ → List Output
+abbrev pub shows_at : ℕ → Option ℕ → List ℕ → List DeskAction
 shows_at user None line = []
 shows_at user (Some c) line = Shows c user (shown line) ∷ []
 
@@ -432,9 +433,9 @@ step d (Turns user is_on is_running) = after_turn d user is_on is_running
 step d (Finishes user) = after_finish d user
 
 -- the desk has done this step, after what it had done before
-abbrev pub Does : Step → List Output → Desk → List Output → Type 0
+abbrev pub Does : Step → List DeskAction → Desk → List DeskAction → Type 0
 Does s before new after = (new ≡ s.desk) × (after ≡ before ++ s.outputs)
 
 -- a step of the desk, and what all steps have done after it
-abbrev pub IsStep : Desk → Event → List Output → Desk → List Output → Type 0
+abbrev pub IsStep : Desk → Event → List DeskAction → Desk → List DeskAction → Type 0
 IsStep old event before new after = Does (step old event) before new after

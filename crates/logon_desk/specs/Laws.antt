@@ -18,10 +18,11 @@ use Rattle.logon_desk.specs.declared.connection.Stage.TheVariants.{Judged, Refus
 use Rattle.terminal_lines.specs.declared.decoder.Decoded.TheVariants.{Line}
 use Rattle.logon_desk.specs.declared.output.JournalEntry.TheVariants.{IsBack}
 use Rattle.logon_desk.specs.declared.output.Notice.TheVariants.{Reconnected}
-use Rattle.logon_desk.specs.declared.output.Output.{Output}
-use Rattle.logon_desk.specs.declared.output.Output.TheVariants.{Says, Declines, Shows, ShowsAgain}
-use Rattle.logon_desk.specs.declared.output.Output.TheVariants.{Types}
-use Rattle.logon_desk.specs.declared.output.Output.TheVariants.{Asks, Ends, Notes}
+use Rattle.logon_desk.specs.declared.output.DeskAction.{DeskAction}
+use Rattle.logon_desk.specs.declared.output.DeskAction.TheVariants.{Says, Declines}
+use Rattle.logon_desk.specs.declared.output.DeskAction.TheVariants.{Shows, ShowsAgain}
+use Rattle.logon_desk.specs.declared.output.DeskAction.TheVariants.{Types}
+use Rattle.logon_desk.specs.declared.output.DeskAction.TheVariants.{Asks, Ends, Notes}
 use Rattle.terminal_lines.specs.declared.words.Guess.{Guess}
 
 -- a line is one of these
@@ -59,7 +60,7 @@ pub record IsTyped (d : Desk) (event : Event) (user : ℕ) (line : List ℕ) : T
 -- switches on the machine of who logs on; a connection is given the desk's own texts, lines of the
 -- transcript of who is on there, and kept lines of who logs on there; and a name and a password are
 -- only for the host
-abbrev pub May : Desk → Event → Output → Type 0
+abbrev pub May : Desk → Event → DeskAction → Type 0
 May d event (Says c notice) = IsAt c event
 May d event (Declines c command option) = IsAt c event
 May d event (Shows c user line) = (is_on_at d c user ≡ true) × (text : List ℕ)

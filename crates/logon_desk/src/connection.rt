@@ -100,7 +100,7 @@ impl Connection {
 
 /// What comes of a line of somebody who is about to log on.
 #[derive(Drop)]
-pub struct Answer {
+pub struct LogonStep {
     /// How far he has come by that.
     pub stage: Stage,
     /// What he is told.
@@ -108,31 +108,31 @@ pub struct Answer {
 }
 
 /// Returns what comes of a line of somebody who is about to log on.
-pub fn after_line(stage: Stage, said: Said) -> Answer
+pub fn after_line(stage: Stage, said: Said) -> LogonStep
     ensures { result ≡ after_line stage said }
 {
     match (stage, said) {
-        (Stage::Naming, Said::Both(guess)) => Answer {
+        (Stage::Naming, Said::Both(guess)) => LogonStep {
             stage: Stage::Waiting(guess),
             notice: None,
         },
-        (Stage::Naming, Said::Name(name)) => Answer {
+        (Stage::Naming, Said::Name(name)) => LogonStep {
             stage: Stage::Asking(name),
             notice: Some(Notice::EnterPassword),
         },
-        (Stage::Naming, _) => Answer {
+        (Stage::Naming, _) => LogonStep {
             stage: Stage::Naming,
             notice: Some(Notice::TypeLogon),
         },
-        (Stage::Asking(name), Said::Word(password)) => Answer {
+        (Stage::Asking(name), Said::Word(password)) => LogonStep {
             stage: Stage::Waiting(Guess { name, password }),
             notice: Some(Notice::PasswordTaken),
         },
-        (Stage::Asking(_), _) => Answer {
+        (Stage::Asking(_), _) => LogonStep {
             stage: Stage::Naming,
             notice: Some(Notice::NoPassword),
         },
-        (stage, _) => Answer {
+        (stage, _) => LogonStep {
             stage,
             notice: None,
         },

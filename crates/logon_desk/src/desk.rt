@@ -20,9 +20,9 @@ ghost use Rattle.logon_desk.specs.Desk.{terminal_of};
 ghost use Rattle.logon_desk.specs.Desk.{typed_line, wrong_guess};
 
 use crate::account::{Account, KeptLine};
-use crate::connection::{Answer, Connection, Stage, after_line};
+use crate::connection::{Connection, LogonStep, Stage, after_line};
 use crate::guesses::{Guesses, queue_of};
-use crate::output::{JournalEntry, Notice, Output, Outputs};
+use crate::output::{DeskAction, JournalEntry, Notice, Outputs};
 use crate::strangers::{busiest, strangers};
 use std::alloc::{AllocError, Global};
 use std::marker::Model;
@@ -255,7 +255,7 @@ impl LogonDesk {
         match decoded {
             Decoded::Nothing => Ok(()),
             Decoded::Line(line) => self.after_line(alloc, connection, line, now, out),
-            Decoded::Declines { command, option } => out.push(Output::Declines {
+            Decoded::Declines { command, option } => out.push(DeskAction::Declines {
                 connection,
                 command,
                 option,
@@ -299,7 +299,7 @@ impl LogonDesk {
         if let Some(account) = self.accounts.get_mut(user.index()) {
             account.is_busy = true;
         }
-        out.push(Output::Types { user, line })
+        out.push(DeskAction::Types { user, line })
     }
 
     fn is_running(&self, user: UserNo) -> bool
@@ -335,7 +335,7 @@ impl LogonDesk {
     fn answered(
         &mut self,
         connection: usize,
-        answer: Answer,
+        answer: LogonStep,
         now: u64,
         out: &mut Outputs,
     ) -> Result<(), AllocError>
@@ -345,7 +345,7 @@ impl LogonDesk {
             (answered self.old connection (connection_at self.old connection) answer now) out.old
             self.new out.new) }
     {
-        let Answer { stage, notice } = answer;
+        let LogonStep { stage, notice } = answer;
         self.come_to(connection, stage, now);
         match notice {
             Some(notice) => say(connection, notice, out),
@@ -404,7 +404,7 @@ impl LogonDesk {
                 let guess = guess.copy(alloc)?;
                 let asked = guess.copy(alloc)?;
                 place.stage = Stage::Judged(guess);
-                out.push(Output::Asks {
+                out.push(DeskAction::Asks {
                     connection,
                     guess: asked,
                 })
@@ -549,7 +549,7 @@ impl LogonDesk {
         let place = &mut self.connections[connection];
         place.stage = Stage::Refused;
         place.patience = place.patience.refused(now);
-        out.push(Output::Notes(JournalEntry::WrongPassword { user, connection }))
+        out.push(DeskAction::Notes(JournalEntry::WrongPassword { user, connection }))
     }
 
     /// A connection has ended, or is to end.
@@ -569,7 +569,7 @@ impl LogonDesk {
         if let Stage::On(user) = &self.connections[connection].stage {
             let user = *user;
             if is_terminal(self.terminal(user), connection) {
-                out.push(Output::Notes(JournalEntry::Leaves { user, connection }))?;
+                out.push(DeskAction::Notes(JournalEntry::Leaves { user, connection }))?;
             }
         }
         self.end(alloc, connection, out)
@@ -580,7 +580,7 @@ impl LogonDesk {
         ensures { OnOk result (Does (ended self.old connection []) out.old self.new out.new) }
     {
         self.connections[connection] = Connection::gone(alloc);
-        out.push(Output::Ends { connection })
+        out.push(DeskAction::Ends { connection })
     }
 
     /// Shows a user a line of the transcript, which is on the disk.
@@ -598,7 +598,7 @@ impl LogonDesk {
         ensures { OnOk result (IsStep self.now (Prints user line.now) out.old self.now out.new) }
     {
         match self.terminal_of(user) {
-            Some(connection) => out.push(Output::Shows {
+            Some(connection) => out.push(DeskAction::Shows {
                 connection,
                 user,
                 line: shown(alloc, line)?,
@@ -685,9 +685,9 @@ fn accounts_of(alloc: Global, names: &[Bytes]) -> Result<Vec<Account>, AllocErro
 
 /// Gives a connection a text of the desk's own.
 fn say(connection: usize, notice: Notice, out: &mut Outputs) -> Result<(), AllocError>
-    ensures { OnOk result (out.new ≡ out.old ++ Output.Says connection notice ∷ []) }
+    ensures { OnOk result (out.new ≡ out.old ++ DeskAction.Says connection notice ∷ []) }
 {
-    out.push(Output::Says { connection, notice })
+    out.push(DeskAction::Says { connection, notice })
 }
 
 /// What a user is shown who logs on.
@@ -701,13 +701,13 @@ fn greet(
     ensures { OnOk result (out.new ≡ out.old ++ greeting connection user account.now) }
 {
     if !account.is_on && !account.is_busy {
-        out.push(Output::Notes(JournalEntry::LogsOn { user, connection }))?;
-        return out.push(Output::Types {
+        out.push(DeskAction::Notes(JournalEntry::LogsOn { user, connection }))?;
+        return out.push(DeskAction::Types {
             user,
             line: Bytes::of(alloc, b"LOGON")?,
         });
     }
-    out.push(Output::Notes(JournalEntry::IsBack { user, connection }))?;
+    out.push(DeskAction::Notes(JournalEntry::IsBack { user, connection }))?;
     say(connection, Notice::Reconnected, out)?;
     show_again(alloc, connection, user, account.kept.as_slice(), out)
 }
@@ -720,10 +720,10 @@ fn show_again(
     out: &mut Outputs,
 ) -> Result<(), AllocError>
     ensures { OnOk result (out.new ≡ out.old
-        ++ map (λ line. Output.ShowsAgain connection user line) lines.now) }
+        ++ map (λ line. DeskAction.ShowsAgain connection user line) lines.now) }
 {
     for line in lines {
-        out.push(Output::ShowsAgain {
+        out.push(DeskAction::ShowsAgain {
             connection,
             user,
             line: line.copy(alloc)?,

@@ -47,9 +47,9 @@ mod strangers;
 mod waiting;
 
 pub use account::{Account, KEPT_LINES, KeptLine, KeptLines};
-pub use connection::{Answer, Connection, Patience, Stage, TIME_TO_LOG_ON, after_line};
+pub use connection::{Connection, LogonStep, Patience, Stage, TIME_TO_LOG_ON, after_line};
 pub use desk::{LONGEST_SHOWN, LogonDesk, MOST_WAITING};
 pub use guesses::{Guesses, LONGEST_REMEMBERED, LONGEST_WAIT, QUEUES, REMEMBERED, queue_of};
 pub use laws::keeps_its_promises;
-pub use output::{JournalEntry, Notice, Output, Outputs};
+pub use output::{DeskAction, JournalEntry, Notice, Outputs};
 pub use waiting::WaitingBytes;

@@ -68,7 +68,7 @@ pub enum JournalEntry {
 
 /// What is to be done.
 #[derive(Drop)]
-pub enum Output {
+pub enum DeskAction {
     /// A connection is given a text of the desk's own.
     Says {
         /// The connection.
@@ -129,14 +129,14 @@ pub enum Output {
 /// All that is to be done, in order.
 #[derive(Drop)]
 pub struct Outputs {
-    outputs: Vec<Output>,
+    outputs: Vec<DeskAction>,
 }
 
 impl Model for Outputs {
     ghost use Rattle.std.specs.Prelude.{List};
-    ghost use Rattle.logon_desk.specs.declared.output.Output.{Output};
+    ghost use Rattle.logon_desk.specs.declared.output.DeskAction.{DeskAction};
 
-    ghost Value = { List Output };
+    ghost Value = { List DeskAction };
 
     ghost view = { λ o. o.outputs.items };
 }
@@ -156,7 +156,7 @@ impl Outputs {
     /// # Errors
     ///
     /// `AllocError` if memory is refused; what this is then is not specified.
-    pub fn push(&mut self, output: Output) -> Result<(), AllocError>
+    pub fn push(&mut self, output: DeskAction) -> Result<(), AllocError>
         ensures { OnOk result (self.new ≡ self.old ++ output ∷ []) }
     {
         self.outputs.push(output)?;
@@ -164,7 +164,7 @@ impl Outputs {
     }
 
     /// Returns all that is to be done.
-    pub fn as_slice(&self) -> &[Output]
+    pub fn as_slice(&self) -> &[DeskAction]
         ensures { result.now ≡ self.now }
     {
         &self.outputs

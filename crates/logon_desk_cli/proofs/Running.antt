@@ -6,7 +6,7 @@ use Rattle.logon_desk.specs.Connection.{gone}
 use Rattle.logon_desk.specs.Desk.{Desk, Does, Event, IsStep, Step, Takes, Wakes, connection_at, quietly, step}
 use Rattle.logon_desk.specs.Desk.{wake_by}
 use Rattle.logon_desk.specs.declared.connection.Connection.{Connection}
-use Rattle.logon_desk.specs.declared.output.Output.{Output}
+use Rattle.logon_desk.specs.declared.output.DeskAction.{DeskAction}
 use Rattle.logon_desk.specs.History.{after}
 use Rattle.logon_desk_cli.specs.Histories.{onto}
 use Rattle.logon_desk_cli.specs.Answered.{AreEvents}
@@ -22,12 +22,12 @@ pub run-outputs : (d : Desk) (first second : List Event)
     → (run d (first ++ second)).outputs ≡ (run d first).outputs ++ (run (run d first).desk second).outputs
 run-outputs d [] second = refl
 run-outputs d (event ∷ first) second =
-    ap (λ (more : List Output). (step d event).outputs ++ more) (run-outputs (step d event).desk first second)
+    ap (λ (more : List DeskAction). (step d event).outputs ++ more) (run-outputs (step d event).desk first second)
     ∙ sym (append_assoc (step d event).outputs (run (step d event).desk first).outputs
     (run (run (step d event).desk first).desk second).outputs)
 
 -- some events, and then others
-pub does-then : (d : Desk) (first second : List Event) (before between after : List Output) (e new : Desk)
+pub does-then : (d : Desk) (first second : List Event) (before between after : List DeskAction) (e new : Desk)
     → Does (run d first) before e between → Does (run e second) between new after → Does (run d (first ++ second))
     before new after
 does-then d first second before between after e new one two =
@@ -42,20 +42,20 @@ does-then d first second before between after e new one two =
     ) in
     (desk-is, outputs-are)
 
-pub does-one : (d : Desk) (event : Event) (before after : List Output) (new : Desk)
+pub does-one : (d : Desk) (event : Event) (before after : List DeskAction) (new : Desk)
     → IsStep d event before new after → Does (run d (event ∷ [])) before new after
 does-one d event before after new is =
-    (is.0, is.1 ∙ ap (λ (more : List Output). before ++ more) (sym (append-nil (step d event).outputs)))
+    (is.0, is.1 ∙ ap (λ (more : List DeskAction). before ++ more) (sym (append-nil (step d event).outputs)))
 
-pub does-nothing : (d : Desk) (out : List Output) → Does (run d []) out d out
+pub does-nothing : (d : Desk) (out : List DeskAction) → Does (run d []) out d out
 does-nothing d out = (refl, sym (append-nil out))
 
 -- where the rest of the events happens, the whole has been done
-abbrev pub Leads : Step → List Output → Desk → List Output → List Event → Type 0
+abbrev pub Leads : Step → List DeskAction → Desk → List DeskAction → List Event → Type 0
 Leads whole before d out rest = ((run d rest).desk ≡ whole.desk)
     × (out ++ (run d rest).outputs ≡ before ++ whole.outputs)
 
-pub leads-on : (whole : Step) (before out after : List Output) (d new : Desk) (here rest : List Event)
+pub leads-on : (whole : Step) (before out after : List DeskAction) (d new : Desk) (here rest : List Event)
     → Leads whole before d out (here ++ rest) → Does (run d here) out new after → Leads whole before new after rest
 leads-on whole before out after d new here rest leads does =
     let desk-is : (run new rest).desk ≡ whole.desk = cc (run-desk d here rest, leads.0, does.0) in
@@ -69,7 +69,7 @@ leads-on whole before out after d new here rest leads does =
     ) in
     (desk-is, outputs-are)
 
-pub leads-end : (whole : Step) (before out : List Output) (d : Desk) → Leads whole before d out [] → Does whole before d
+pub leads-end : (whole : Step) (before out : List DeskAction) (d : Desk) → Leads whole before d out [] → Does whole before d
     out
 leads-end whole before out d leads = (leads.0, sym (append-nil out) ∙ leads.1)
 
@@ -91,7 +91,7 @@ takes-none : (d : Desk) (c now : ℕ) → takes zero d c now ≡ []
 unfolding takes
 takes-none d c now = refl
 
-pub taken-more : (whole : Step) (before out after : List Output) (d new : Desk) (most i c now : ℕ) → i < most
+pub taken-more : (whole : Step) (before out after : List DeskAction) (d new : Desk) (most i c now : ℕ) → i < most
     → takes_next d c ≡ true
     → Leads whole before d out (takes (most - i) d c now) → IsStep d (Takes c now) out new after
     → Leads whole before new after (takes (most - (i + 1)) new c now)
@@ -106,13 +106,13 @@ taken-more whole before out after d new most i c now inside takes-one leads is =
     (does-one d (Takes c now) out after new is) in
     subst (λ (e : Desk). Leads whole before new after (takes (most - (i + 1)) e c now)) (sym is.0) on
 
-pub taken-stop : (whole : Step) (before out : List Output) (d : Desk) (most c now : ℕ) → takes_next d c ≡ false
+pub taken-stop : (whole : Step) (before out : List DeskAction) (d : Desk) (most c now : ℕ) → takes_next d c ≡ false
     → Leads whole before d out (takes most d c now) → Does whole before d out
 taken-stop whole before out d most c now stops leads =
     leads-end whole before out d
     (subst (λ (events : List Event). Leads whole before d out events) (takes-no most d c now stops) leads)
 
-pub taken-end : (whole : Step) (before out : List Output) (d : Desk) (left c now : ℕ) → left ≡ 0
+pub taken-end : (whole : Step) (before out : List DeskAction) (d : Desk) (left c now : ℕ) → left ≡ 0
     → Leads whole before d out (takes left d c now) → Does whole before d out
 taken-end whole before out d left c now none leads =
     leads-end whole before out d
@@ -122,7 +122,7 @@ taken-end whole before out d left c now none leads =
 -- places that are served
 
 -- nothing is due at a place that the desk has not
-pub wakes-nowhere : (d : Desk) (c now : ℕ) (out : List Output) → length d.connections ≤ c → IsStep d (Wakes c now) out d
+pub wakes-nowhere : (d : Desk) (c now : ℕ) (out : List DeskAction) → length d.connections ≤ c → IsStep d (Wakes c now) out d
     out
 wakes-nowhere d c now out past =
     let none : connection_at d c ≡ gone = get_or_past d.connections c gone past in
@@ -138,7 +138,7 @@ served-none : (d : Desk) (c now : ℕ) → served_from zero d c now ≡ []
 unfolding served_from
 served-none d c now = refl
 
-pub served-more : (whole : Step) (before out after : List Output) (d new : Desk) (places c now : ℕ) → c < places
+pub served-more : (whole : Step) (before out after : List DeskAction) (d new : Desk) (places c now : ℕ) → c < places
     → Leads whole before d out (served_from (places - c) d c now) → Does (run d (served d c now)) out new after
     → Leads whole before new after (served_from (places - (c + 1)) new (c + 1) now)
 served-more whole before out after d new places c now inside leads does =
@@ -151,7 +151,7 @@ served-more whole before out after d new places c now inside leads does =
     (subst (λ (events : List Event). Leads whole before d out events) same leads) does in
     subst (λ (e : Desk). Leads whole before new after (served_from (places - (c + 1)) e (c + 1) now)) (sym does.0) on
 
-pub served-end : (whole : Step) (before out : List Output) (d : Desk) (left c now : ℕ) → left ≡ 0
+pub served-end : (whole : Step) (before out : List DeskAction) (d : Desk) (left c now : ℕ) → left ≡ 0
     → Leads whole before d out (served_from left d c now) → Does whole before d out
 served-end whole before out d left c now none leads =
     leads-end whole before out d
@@ -159,7 +159,7 @@ served-end whole before out d left c now none leads =
     (ap (λ (n : ℕ). served_from n d c now) none ∙ served-none d c now) leads)
 
 -- room is made for a frame, its event happens, and all places are served
-pub events-of : (d roomy given-to new : Desk) (now : ℕ) (frame : Frame) (before first between after : List Output)
+pub events-of : (d roomy given-to new : Desk) (now : ℕ) (frame : Frame) (before first between after : List DeskAction)
     → (room : List Event) × MakesRoomFor d frame room × Does (run d room) before roomy first
     → Does (run roomy (given roomy now frame)) first given-to between
     → Does (run given-to (all_served given-to now)) between new after

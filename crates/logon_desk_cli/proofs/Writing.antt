@@ -8,19 +8,19 @@ use Rattle.std.specs.List.{All}
 use Rattle.logon_desk.specs.Desk.{Desk}
 use Rattle.logon_desk.specs.Strangers.{is_stranger}
 use Rattle.logon_desk.specs.declared.connection.Connection.{Connection}
-use Rattle.logon_desk.specs.declared.output.Output.{Output}
+use Rattle.logon_desk.specs.declared.output.DeskAction.{DeskAction}
 use Rattle.logon_desk_cli.specs.Answered.{is_read, read_lines}
 use Rattle.logon_desk_cli.specs.Printed.{line, output_line, printed}
 use Rattle.std.specs.Prelude.{codes}
 
-printed-more : (outputs : List Output) (output : Output) → printed (outputs ++ output ∷ []) ≡ printed outputs
+printed-more : (outputs : List DeskAction) (output : DeskAction) → printed (outputs ++ output ∷ []) ≡ printed outputs
     ++ output_line output
 printed-more [] output = append-nil (output_line output)
 printed-more (first ∷ outputs) output =
     ap (λ (more : List ℕ). output_line first ++ more) (printed-more outputs output)
     ∙ sym (append_assoc (output_line first) (printed outputs) (output_line output))
 
-pub printed-take : (outputs : List Output) (i : ℕ) (d : Output) → i < length outputs
+pub printed-take : (outputs : List DeskAction) (i : ℕ) (d : DeskAction) → i < length outputs
     → printed (take (i + 1) outputs) ≡ printed (take i outputs) ++ output_line (get_or outputs i d)
 printed-take outputs i d inside = ap printed (take_more outputs i d inside) ∙ printed-more (take i outputs)
     (get_or outputs i d)

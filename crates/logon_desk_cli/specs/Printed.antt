@@ -10,10 +10,11 @@ use Rattle.logon_desk.specs.declared.output.Notice.TheVariants.{Online}
 use Rattle.logon_desk.specs.declared.output.Notice.TheVariants.{PasswordTaken, Reconnected, Refused}
 use Rattle.logon_desk.specs.declared.output.Notice.TheVariants.{TakesOver}
 use Rattle.logon_desk.specs.declared.output.Notice.TheVariants.{TooLate, TypeLogon}
-use Rattle.logon_desk.specs.declared.output.Output.{Output}
-use Rattle.logon_desk.specs.declared.output.Output.TheVariants.{Says, Declines, Shows, ShowsAgain}
-use Rattle.logon_desk.specs.declared.output.Output.TheVariants.{Types}
-use Rattle.logon_desk.specs.declared.output.Output.TheVariants.{Asks, Ends, Notes}
+use Rattle.logon_desk.specs.declared.output.DeskAction.{DeskAction}
+use Rattle.logon_desk.specs.declared.output.DeskAction.TheVariants.{Says, Declines}
+use Rattle.logon_desk.specs.declared.output.DeskAction.TheVariants.{Shows, ShowsAgain}
+use Rattle.logon_desk.specs.declared.output.DeskAction.TheVariants.{Types}
+use Rattle.logon_desk.specs.declared.output.DeskAction.TheVariants.{Asks, Ends, Notes}
 
 -- a hexadecimal digit: 0 to 9, and A to F
 abbrev pub hex_digit : ℕ → ℕ
@@ -80,7 +81,7 @@ noted (Leaves user connection) = entry_line (codes "LEFT") (Some user) connectio
 noted (WrongPassword user connection) = entry_line (codes "FAIL") user connection
 
 -- the line for one thing that is to be done
-abbrev pub output_line : Output → List ℕ
+abbrev pub output_line : DeskAction → List ℕ
 output_line (Says connection notice) = line (codes "GIVE") connection (field (notice_text notice))
 output_line (Declines connection command option) = line (codes "GIVE") connection
     (field (255 ∷ command ∷ option ∷ []))
@@ -95,6 +96,6 @@ output_line (Ends connection) = line (codes "ENDS") connection []
 output_line (Notes entry) = noted entry
 
 -- the lines for all that is to be done, in order
-abbrev pub printed : List Output → List ℕ
+abbrev pub printed : List DeskAction → List ℕ
 printed [] = []
 printed (output ∷ outputs) = output_line output ++ printed outputs

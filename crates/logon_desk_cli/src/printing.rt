@@ -5,7 +5,7 @@ ghost use Rattle.logon_desk_cli.specs.Printed.{begun, entry_line, field, hex, he
 ghost use Rattle.logon_desk_cli.specs.Printed.{hex_number, line};
 ghost use Rattle.logon_desk_cli.specs.Printed.{notice_text, noted, output_line};
 
-use logon_desk::{JournalEntry, Notice, Output};
+use logon_desk::{DeskAction, JournalEntry, Notice};
 use std::alloc::AllocError;
 use terminal_lines::Bytes;
 use user_names::UserNo;
@@ -33,22 +33,22 @@ fn text_of(notice: Notice) -> &'static [u8]
 /// # Errors
 ///
 /// `AllocError` if memory is refused; `text` may have a part of it then.
-pub fn print(output: &Output, text: &mut Bytes) -> Result<(), AllocError>
+pub fn print(output: &DeskAction, text: &mut Bytes) -> Result<(), AllocError>
     ensures { OnOk result (text.new ≡ text.old ++ output_line output.now) }
 {
     match output {
-        Output::Says { connection, notice } => give(*connection, text_of(*notice), b"", text),
-        Output::Declines {
+        DeskAction::Says { connection, notice } => give(*connection, text_of(*notice), b"", text),
+        DeskAction::Declines {
             connection,
             command,
             option,
         } => give(*connection, &[255, *command, *option], b"", text),
-        Output::Shows {
+        DeskAction::Shows {
             connection,
             line,
             ..
         } => give(*connection, line.as_slice(), b"\r\n", text),
-        Output::ShowsAgain {
+        DeskAction::ShowsAgain {
             connection,
             line,
             ..
@@ -58,22 +58,22 @@ pub fn print(output: &Output, text: &mut Bytes) -> Result<(), AllocError>
             push_bytes(line.text.as_slice(), b"", text)?;
             text.push(b'\n')
         }
-        Output::Types { user, line } => {
+        DeskAction::Types { user, line } => {
             word(b"TYPE", user.index(), text)?;
             push_bytes(line.as_slice(), b"", text)?;
             text.push(b'\n')
         }
-        Output::Asks { connection, guess } => {
+        DeskAction::Asks { connection, guess } => {
             word(b"ASKS", *connection, text)?;
             push_bytes(guess.name.as_slice(), b"", text)?;
             push_bytes(guess.password.as_slice(), b"", text)?;
             text.push(b'\n')
         }
-        Output::Ends { connection } => {
+        DeskAction::Ends { connection } => {
             word(b"ENDS", *connection, text)?;
             text.push(b'\n')
         }
-        Output::Notes(entry) => note(*entry, text),
+        DeskAction::Notes(entry) => note(*entry, text),
     }
 }
 

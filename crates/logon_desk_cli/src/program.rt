@@ -14,7 +14,7 @@ ghost use Rattle.logon_desk_cli.specs.Printed.{printed};
 
 use crate::frame::{Frame, FrameError, TimedFrame, frame_of};
 use crate::printing::{print, print_number};
-use logon_desk::{LogonDesk, MOST_WAITING, Output, Outputs};
+use logon_desk::{DeskAction, LogonDesk, MOST_WAITING, Outputs};
 use std::alloc::{AllocError, Global};
 use std::marker::Model;
 use terminal_lines::Bytes;
@@ -160,7 +160,7 @@ fn answer(
 {
     let mut outputs = Outputs::new(alloc);
     note_reading(desk, frame, reading)?;
-    happen(alloc, desk, now, frame, &mut outputs)?;
+    apply_event(alloc, desk, now, frame, &mut outputs)?;
     print_all(outputs.as_slice(), text)?;
     print_read(desk, reading, text)?;
     *reading = still_reading(alloc, desk, reading)?;
@@ -168,7 +168,7 @@ fn answer(
 }
 
 /// Gives the desk the events of a frame, and those that are due then.
-fn happen(
+fn apply_event(
     alloc: Global,
     desk: &mut LogonDesk,
     now: u64,
@@ -353,7 +353,7 @@ fn takes_next(desk: &LogonDesk, place: usize) -> bool
 }
 
 /// Adds the lines for what is to be done.
-fn print_all(outputs: &[Output], text: &mut Bytes) -> Result<(), AllocError>
+fn print_all(outputs: &[DeskAction], text: &mut Bytes) -> Result<(), AllocError>
     ensures { OnOk result (text.new ≡ text.old ++ printed outputs.now) }
 {
     for output in outputs {

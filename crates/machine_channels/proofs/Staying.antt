@@ -6,13 +6,13 @@ use Rattle.s370_store.specs.declared.Fault.{Fault}
 use Rattle.s370_store.specs.declared.Page.{Page}
 use Rattle.s370_store.specs.declared.Fault.TheVariants.{Addressing, Protection, Absent}
 use Rattle.s370_store.specs.declared.Access.TheVariants.{Fetch, Store}
-use Rattle.s370_store.specs.Access.{IsAway}
+use Rattle.s370_store.specs.Access.{IsAbsent}
 use Rattle.s370_store.proofs.Puts.{length-put}
 use Rattle.s370_store.proofs.Verdicts.{fits}
 use Rattle.s370_walk.specs.declared.parts.Answer.{Answer}
 use Rattle.s370_walk.specs.declared.parts.Answer.TheVariants as answers
-use Rattle.s370_walk.specs.declared.parts.Kind.{Kind}
-use Rattle.s370_walk.specs.declared.parts.Kind.TheVariants.{Gives, Takes, TakesUpTo}
+use Rattle.s370_walk.specs.declared.parts.Direction.{Direction}
+use Rattle.s370_walk.specs.declared.parts.Direction.TheVariants.{Gives, Takes, TakesUpTo}
 use Rattle.s370_walk.specs.declared.parts.Order.{Order}
 use Rattle.s370_walk.specs.declared.parts.Transfer.{Transfer}
 use Rattle.s370_walk.specs.declared.parts.NextCcw.{NextCcw}
@@ -109,7 +109,7 @@ module _ {D : Type 0} (h : Setting D) (n : ℕ) where
   of_skip p place m d true i = i
   of_skip p place m d false i = of_giving p place m d i
 
-  of_byte : (p : Position) (place : Option ℕ) (load : ℕ → ℕ) (kind : Kind) (m : Memory) (d : D) → length m.bytes ≡ n
+  of_byte : (p : Position) (place : Option ℕ) (load : ℕ → ℕ) (kind : Direction) (m : Memory) (d : D) → length m.bytes ≡ n
       → size_in (byte_moved h p place load kind m d) ≡ n
   of_byte p place load Gives m d i = of_skip p place m d (skips p.word) i
   of_byte p place load Takes m d i = of_taking p place load m d i
@@ -144,7 +144,7 @@ module _ {D : Type 0} (h : Setting D) (n : ℕ) where
 -- the page that the program of a loading lacks is one of the storage
 pub loading_lacks : {D : Type 0} (w : Written) (machine : Machine D) (needs : D → Order → Bool) (present : ℕ → Bool)
     (m : Memory) (d : D) (page : Page) → MatchLoading w machine needs present m d (errors.Absent page)
-    → IsAway (length m.bytes) present page.0
+    → IsAbsent (length m.bytes) present page.0
 loading_lacks w machine needs present m d page s =
     let h : Setting _ = setting machine loading_limits in
     let first : size_in (loading machine m d) ≡ length m.bytes =

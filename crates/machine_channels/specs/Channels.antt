@@ -1,7 +1,7 @@
 -- The channels of a machine: the programs of its devices run on them, and its disks hang on them.
 use Rattle.std.specs.Prelude.{ℕ, ◌≡◌, ◌*◌, ◌<◌, ◌⊎◌, Bool, true, List, set, slice_get, Option, Some}
 use Rattle.std.specs.Prelude.{None}
-use Rattle.s370_store.specs.Access.{IsAway}
+use Rattle.s370_store.specs.Access.{IsAbsent}
 use Rattle.s370_walk.specs.declared.parts.Ending.{Ending}
 use Rattle.s370_store.specs.Memory.{Memory}
 use Rattle.s370_walk.specs.Hardware.{Machine}
@@ -162,4 +162,4 @@ DiskLoads m None page = ⊥
 -- at an absent page of the storage, which is not present, and of nothing else
 abbrev pub LacksPage : ℕ → (ℕ → Bool) → ChannelError → Type 0
 LacksPage size present errors.Memory = ⊥
-LacksPage size present (errors.Absent page) = IsAway size present page.0
+LacksPage size present (errors.Absent page) = IsAbsent size present page.0

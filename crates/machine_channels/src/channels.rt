@@ -6,7 +6,7 @@ ghost use Rattle.s370_store.specs.Memory.{Memory};
 ghost use Rattle.s370_channel.specs.Guest.{guest_written};
 ghost use Rattle.s370_channel.specs.Loading.{MatchLoading};
 ghost use Rattle.s370_channel.specs.Reading.{Reading};
-ghost use Rattle.s370_channel.specs.Runs.{IsStopped, TellsAway, Walks};
+ghost use Rattle.s370_channel.specs.Runs.{IsStopped, ReportsAbsent, Walks};
 ghost use Rattle.s370_channel.specs.declared.running.ChannelError.TheVariants as errors;
 ghost use Rattle.s370_walk.specs.Hardware.{Machine};
 ghost use Rattle.machine_channels.specs.Channels.{Brings, DiskHadRoom, DiskHadRoomToLoad};
@@ -210,7 +210,7 @@ pub trait Channels<S: Storage>: Disks {
         ensures roomy { is_whole ≡ true → result ≡ Err errors.Memory
             → HadRoomToLoad _ D.Device.machine storage.old device.old storage.new }
         ensures there { is_whole ≡ true → OnOk result (S.present storage.new 0 ≡ true) }
-        ensures same { is_whole ≡ false → S.present storage.new ≡ S.present storage.old }
+        ensures pages_unchanged { is_whole ≡ false → S.present storage.new ≡ S.present storage.old }
         ensures paged_in { Brings Came storage.old (LoadNeeds D.Device.machine
             (S.memory storage.old) device.old) storage.new }
         ensures ready { IsReady storage.new }
@@ -245,7 +245,7 @@ pub trait Channels<S: Storage>: Disks {
             (slice_get (map reset_disk (Self.disks self.old)) index)
             storage.new }
         ensures there { is_whole ≡ true → OnOk result (S.present storage.new 0 ≡ true) }
-        ensures same { is_whole ≡ false → S.present storage.new ≡ S.present storage.old }
+        ensures pages_unchanged { is_whole ≡ false → S.present storage.new ≡ S.present storage.old }
         ensures paged_in { Brings Came storage.old (DiskLoads (S.memory storage.old)
             (slice_get (map reset_disk (Self.disks self.old)) index)) storage.new }
         ensures ready { IsReady storage.new }

@@ -1,7 +1,7 @@
 //! The disks of a machine, each at its address.
 ghost use Rattle.std.specs.Prelude.{◌≡◌, IfErr, IfOk, length, map};
 ghost use Rattle.s370_channel.specs.Reading.{as_reached};
-ghost use Rattle.s370_channel.specs.Runs.{TellsAway};
+ghost use Rattle.s370_channel.specs.Runs.{ReportsAbsent};
 ghost use Rattle.machine_channels.specs.Channels.{LacksPage, RestsAfter, RestsLoaded, StopsForPage};
 ghost use Rattle.machine_channels.specs.Disks.{cleared_disk, reset_disk};
 ghost use Rattle.ckd_volume.specs.Unit.{disk_machine};
@@ -62,7 +62,7 @@ impl AttachedDisk {
             (λ ending. RestsAfter as_reached start
             (S.memory storage.old) self.old ending
             (S.memory storage.new) self.new) }
-        ensures away { IfErr result (TellsAway (S.present storage.old)) }
+        ensures absent { IfErr result (ReportsAbsent (S.present storage.old)) }
         ensures stopped { IfErr result
             (StopsForPage disk_machine (S.present storage.old) start
             (S.memory storage.old) self.old.unit) }

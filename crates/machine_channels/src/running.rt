@@ -4,7 +4,7 @@ ghost use Rattle.s370_channel.specs.Guest.{guest_written};
 ghost use Rattle.s370_channel.specs.Loading.{MatchLoading};
 ghost use Rattle.machine_channels.specs.Channels.{WalksLoading};
 ghost use Rattle.s370_channel.specs.Reading.{as_reached};
-ghost use Rattle.s370_channel.specs.Runs.{IsStopped, TellsAway, Walks};
+ghost use Rattle.s370_channel.specs.Runs.{IsStopped, ReportsAbsent, Walks};
 
 use s370_channel::{Caw, ChannelError, Guest, Limits, MOST_COMMANDS, run, run_ipl};
 use s370_store::Storage;
@@ -21,7 +21,7 @@ pub(crate) fn run_live<S: Storage, D: Device>(
         (λ ending. Walks as_reached D.machine start
         (S.memory storage.old) device.old ending
         (S.memory storage.new) device.new) }
-    ensures away { IfErr result (TellsAway (S.present storage.old)) }
+    ensures absent { IfErr result (ReportsAbsent (S.present storage.old)) }
     ensures stopped { IfErr result
         (IsStopped D.machine D.needs_memory (S.present storage.old) start
         (S.memory storage.old) device.old) }

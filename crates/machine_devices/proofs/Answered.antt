@@ -21,8 +21,8 @@ use Rattle.machine_panel.specs.Panel.{line}
 use Rattle.machine_channels.specs.Disks.{DiskAt, reset_disk}
 use Rattle.machine_devices.specs.declared.line.LineOutcome.{LineOutcome}
 use Rattle.machine_devices.specs.declared.line.LineOutcome.TheVariants.{Silent, Said, Files, Sent, Closed, LoggedOff}
-use Rattle.machine_devices.specs.declared.places.Kind.{Kind}
-use Rattle.machine_devices.specs.declared.places.Kind.TheVariants as kinds
+use Rattle.machine_devices.specs.declared.places.AttachedDevice.{AttachedDevice}
+use Rattle.machine_devices.specs.declared.places.AttachedDevice.TheVariants as kinds
 use Rattle.machine_devices.specs.declared.request.Request.{Request}
 use Rattle.machine_devices.specs.declared.request.Request.TheVariants.{LogsOn, LogsOff, Resets, Types, Loads, Asks}
 use Rattle.machine_devices.specs.declared.request.Request.TheVariants.{Alone}
@@ -200,7 +200,7 @@ no_device_mild e = record {
   printed = λ none. cc;
 }
 
-close_mild : (kind : Option Kind) (e : Equipped) → IsMild true false e (closed_at kind e)
+close_mild : (kind : Option AttachedDevice) (e : Equipped) → IsMild true false e (closed_at kind e)
 close_mild (Some kinds.Punch) e = punch_mild (open_files e.devices).punched e
 close_mild (Some kinds.Printer) e = printer_mild (open_files e.devices).printed e
 close_mild (Some kinds.Console) e = no_device_mild e
@@ -290,7 +290,7 @@ disk_loaded_mild index (Some disk) device old reported new l =
 disk_loaded_mild index None device old reported new l =
     from false false old new reported _ l (said_mild responses.DeviceNotFound old)
 
-loaded_mild : (k : Option Kind) (device : ℕ) (old : Equipped) (reported : LineOutcome) (new : Equipped)
+loaded_mild : (k : Option AttachedDevice) (device : ℕ) (old : Equipped) (reported : LineOutcome) (new : Equipped)
     → LoadsKind k device old reported new → IsMild false false old (outcome new reported)
 loaded_mild (Some kinds.Reader) device old reported new l =
     ipl_mild l.well old reported new l.says (ap (λ (d : DevicesValue). d.punched) l.rest)
@@ -384,7 +384,7 @@ printed_open None old new reported is closed =
     absurd (not_closed (files_closed reported) (ap (λ (o : Outcome). files_closed o.reported) is) closed)
 printed_open (Some place) old new reported is closed = refl
 
-closed_open : (kind : Option Kind) (old new : Equipped) (reported : LineOutcome)
+closed_open : (kind : Option AttachedDevice) (old new : Equipped) (reported : LineOutcome)
     → outcome new reported ≡ closed_at kind old → HasClosed (files_closed reported) → HasOpen kind old.devices
 closed_open (Some kinds.Punch) old new reported is closed =
     place_open (open_files old.devices).punched old new reported is closed
@@ -501,7 +501,7 @@ printer_closes : (place : Option ℕ) (e : Equipped)
 printer_closes None e h = record { punched = refl; printed = refl }
 printer_closes (Some place) e h = record { punched = refl; printed = h }
 
-close_closes : (kind : Option Kind) (e : Equipped) → ClosesAs e (closed_at kind e)
+close_closes : (kind : Option AttachedDevice) (e : Equipped) → ClosesAs e (closed_at kind e)
 close_closes (Some kinds.Punch) e =
     punch_closes (open_files e.devices).punched e (gains e.devices.punch.entries e.devices.punched e.devices.target)
 close_closes (Some kinds.Printer) e =

@@ -12,7 +12,7 @@ use Rattle.s370_subchannels.specs.declared.subchannel.Subchannel.{Subchannel}
 use Rattle.s370_subchannels.specs.Subchannels.{can_add, is_below, new_device}
 use Rattle.machine_channels.specs.Disks.{DiskAt, is_disk_at}
 use Rattle.machine_devices.specs.declared.places.Places.{Places}
-use Rattle.machine_devices.specs.declared.places.Kind.{Kind}
+use Rattle.machine_devices.specs.declared.places.AttachedDevice.{AttachedDevice}
 use Rattle.machine_devices.specs.Devices.{DevicesValue, are_apart, attached, can_attach, has_at, has_device, is_there}
 use Rattle.machine_devices.specs.Devices.{part_at, places_of, subchannels_below}
 
@@ -175,7 +175,7 @@ among_append [] ys device = refl
 among_append (x ∷ xs) ys device =
     rw (among_append xs ys device) (sym (or_more (x == device) (among xs device) (among ys device)))
 
-some_part : (a b c d : Bool) (w x y z : Kind)
+some_part : (a b c d : Bool) (w x y z : AttachedDevice)
     → is_some (if a then Some w else if b then Some x else if c then Some y else if d then Some z else None)
     ≡ (a || (b || (c || d)))
 some_part true b c d w x y z = refl

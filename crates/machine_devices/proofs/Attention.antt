@@ -33,8 +33,8 @@ use Rattle.machine_panel.specs.Run.{halted, run, run_in}
 use Rattle.machine_panel.specs.Tick.{ticked_in}
 use Rattle.machine_devices.specs.declared.line.LineOutcome.{LineOutcome}
 use Rattle.machine_devices.specs.declared.line.LineOutcome.TheVariants.{Said}
-use Rattle.machine_devices.specs.declared.places.Kind.{Kind}
-use Rattle.machine_devices.specs.declared.places.Kind.TheVariants as kinds
+use Rattle.machine_devices.specs.declared.places.AttachedDevice.{AttachedDevice}
+use Rattle.machine_devices.specs.declared.places.AttachedDevice.TheVariants as kinds
 use Rattle.machine_devices.specs.declared.places.Places.{Places}
 use Rattle.machine_devices.specs.declared.request.Request.{Request}
 use Rattle.machine_devices.specs.declared.request.Request.TheVariants.{LogsOn, LogsOff, Resets, Types, Loads, Asks}
@@ -162,7 +162,7 @@ module _ (reads : Reading) where
       (ap (λ (m : Machine). m.core.subchannels) r.left) given
 
   -- where it is the console, its address is there
-  abbrev IsConsoleAt : Option Kind → Bool → Type 0
+  abbrev IsConsoleAt : Option AttachedDevice → Bool → Type 0
   IsConsoleAt (Some kinds.Console) there = there ≡ true
   IsConsoleAt (Some kinds.Reader) there = Unit {0}
   IsConsoleAt (Some kinds.Punch) there = Unit {0}
@@ -184,7 +184,7 @@ module _ (reads : Reading) where
   console_at false false false true o = tt
   console_at false false false false o = disk_is_other o
 
-  serves : (k : Option Kind) (start : Option Caw) (device : ℕ) (old : Equipped) (done : Bool) (new : Equipped)
+  serves : (k : Option AttachedDevice) (start : Option Caw) (device : ℕ) (old : Equipped) (done : Bool) (new : Equipped)
       → IsConsoleAt k (is_there old.devices.places.console device) → Serves reads k start device old done new
       → AttentionAgrees old → AttentionAgrees new
   serves None start device old done new is s h = subst AttentionAgrees (sym s.1) h
@@ -296,7 +296,7 @@ disk_loaded : (index : ℕ) (o : Option DiskAt) (device : ℕ) (old : Equipped) 
 disk_loaded index (Some disk) device old reported new l h = unit_loaded index disk device old reported new l
 disk_loaded index None device old reported new l h = left_alone old new reported _ l h
 
-loaded : (k : Option Kind) (device : ℕ) (old : Equipped) (reported : LineOutcome) (new : Equipped)
+loaded : (k : Option AttachedDevice) (device : ℕ) (old : Equipped) (reported : LineOutcome) (new : Equipped)
     → LoadsKind k device old reported new → AttentionAgrees old → AttentionAgrees new
 loaded (Some kinds.Reader) device old reported new l h = reader_loaded device old reported new l
 loaded (Some (kinds.Disk index)) device old reported new l h =
@@ -331,7 +331,7 @@ closes_printer : (place : Option ℕ) (e : Equipped) → AttentionAgrees e
 closes_printer None e h = h
 closes_printer (Some place) e h = h
 
-closes : (kind : Option Kind) (e : Equipped) → AttentionAgrees e → AttentionAgrees (closed_at kind e).equipped
+closes : (kind : Option AttachedDevice) (e : Equipped) → AttentionAgrees e → AttentionAgrees (closed_at kind e).equipped
 closes (Some kinds.Console) e h = h
 closes (Some kinds.Reader) e h = h
 closes (Some kinds.Punch) e h = closes_punch (open_files e.devices).punched e h

@@ -23,8 +23,8 @@ use Rattle.machine_panel.specs.declared.line.PanelLine.{PanelLine}
 use Rattle.machine_panel.specs.Forgotten.{having_printed}
 use Rattle.machine_panel.proofs.Forgotten.{do_not_matter}
 use Rattle.machine_devices.specs.declared.line.LineOutcome.{LineOutcome}
-use Rattle.machine_devices.specs.declared.places.Kind.{Kind}
-use Rattle.machine_devices.specs.declared.places.Kind.TheVariants as kinds
+use Rattle.machine_devices.specs.declared.places.AttachedDevice.{AttachedDevice}
+use Rattle.machine_devices.specs.declared.places.AttachedDevice.TheVariants as kinds
 use Rattle.machine_devices.specs.declared.request.Request.{Request}
 use Rattle.machine_devices.specs.declared.request.Request.TheVariants.{LogsOn, LogsOff, Resets, Types, Loads, Asks}
 use Rattle.machine_devices.specs.declared.request.Request.TheVariants.{Alone}
@@ -98,7 +98,7 @@ module _ (gone : List (List ℕ)) where
   printer_so None e = refl
   printer_so (Some place) e = refl
 
-  close_so : (kind : Option Kind) (e : Equipped) → Same (closed_at kind) e
+  close_so : (kind : Option AttachedDevice) (e : Equipped) → Same (closed_at kind) e
   close_so (Some kinds.Punch) e = punch_so (open_files e.devices).punched e
   close_so (Some kinds.Printer) e = printer_so (open_files e.devices).printed e
   close_so (Some kinds.Console) e = refl
@@ -150,7 +150,7 @@ module _ (gone : List (List ℕ)) where
     says = h.says;
   }
 
-  loads : (kind : Option Kind) (device : ℕ) (old : Equipped) (reported : LineOutcome) (new : Equipped)
+  loads : (kind : Option AttachedDevice) (device : ℕ) (old : Equipped) (reported : LineOutcome) (new : Equipped)
       → LoadsKind kind device old reported new → LoadsKind kind device (having gone old) reported (having gone new)
   loads (Some kinds.Reader) device old reported new h = record {
     well = h.well;
@@ -208,7 +208,7 @@ module _ (gone : List (List ℕ)) where
 
   -- ---- a serve
 
-  runs_kind : (reads : Reading) (kind : Kind) (device : ℕ) (start : Caw) (old new : Equipped)
+  runs_kind : (reads : Reading) (kind : AttachedDevice) (device : ℕ) (start : Caw) (old new : Equipped)
       → RunsKind reads kind device start old new
       → RunsKind reads kind device start (having gone old) (having gone new)
   runs_kind reads kinds.Console device start old new h = record {
@@ -254,7 +254,7 @@ module _ (gone : List (List ℕ)) where
   runs_kind reads (kinds.Disk index) device start old new h =
       record { ending = h.ending; walk = h.walk; left = ap (having_printed gone) h.left; devices = h.devices }
 
-  serves : (reads : Reading) (kind : Option Kind) (start : Option Caw) (device : ℕ) (old : Equipped) (done : Bool)
+  serves : (reads : Reading) (kind : Option AttachedDevice) (start : Option Caw) (device : ℕ) (old : Equipped) (done : Bool)
       (new : Equipped)
       → Serves reads kind start device old done new
       → Serves reads kind start device (having gone old) done (having gone new)

@@ -29,8 +29,8 @@ use Rattle.machine_channels.specs.Channels.{WalksAt}
 use Rattle.machine_channels.specs.Disks.{DiskAt, reset_disk}
 use Rattle.machine_devices.specs.declared.line.LineOutcome.{LineOutcome}
 use Rattle.machine_devices.specs.declared.line.LineOutcome.TheVariants.{Said}
-use Rattle.machine_devices.specs.declared.places.Kind.{Kind}
-use Rattle.machine_devices.specs.declared.places.Kind.TheVariants as kinds
+use Rattle.machine_devices.specs.declared.places.AttachedDevice.{AttachedDevice}
+use Rattle.machine_devices.specs.declared.places.AttachedDevice.TheVariants as kinds
 use Rattle.machine_devices.specs.declared.request.Request.{Request}
 use Rattle.machine_devices.specs.declared.request.Request.TheVariants.{LogsOn, LogsOff, Resets, Types, Loads, Asks}
 use Rattle.machine_devices.specs.declared.request.Request.TheVariants.{Alone}
@@ -156,7 +156,7 @@ module _ (reads : Reading) where
       all_one a b (overs_are_one device start.key e f old.machine a.machine b.machine left right one.ending one.memory)
       d disks
 
-  kinds_are_one : (k : Kind) (device : ℕ) (start : Caw) (old a b : Equipped) → RunsKind reads k device start old a
+  kinds_are_one : (k : AttachedDevice) (device : ℕ) (start : Caw) (old a b : Equipped) → RunsKind reads k device start old a
       → RunsKind reads k device start old b → a ≡ b
   kinds_are_one kinds.Console device start old a b l r = consoles_are_one device start old a b l r
   kinds_are_one kinds.Reader device start old a b l r =
@@ -184,7 +184,7 @@ module _ (reads : Reading) where
       disks_are_one (slice_get old.disks index) index device start old a b l.ending r.ending l.walk r.walk l.left r.left
       (both a.devices b.devices old.devices l.devices r.devices)
 
-  serves_are_one : (k : Option Kind) (start : Option Caw) (device : ℕ) (old a b : Equipped) (done did : Bool)
+  serves_are_one : (k : Option AttachedDevice) (start : Option Caw) (device : ℕ) (old a b : Equipped) (done did : Bool)
       → Serves reads k start device old done a → Serves reads k start device old did b → a ≡ b
   serves_are_one None start device old a b done did l r = both a b old l.1 r.1
   serves_are_one (Some kind) None device old a b done did l r = both a b old l.1 r.1
@@ -231,7 +231,7 @@ disks_loaded (Some disk) index device old a b reported said l r =
     units_loaded index disk device old a b reported said l r
 disks_loaded None index device old a b reported said l r = outcomes_are_one a b reported said _ l r
 
-kinds_loaded : (k : Option Kind) (device : ℕ) (old a b : Equipped) (reported said : LineOutcome)
+kinds_loaded : (k : Option AttachedDevice) (device : ℕ) (old a b : Equipped) (reported said : LineOutcome)
     → LoadsKind k device old reported a → LoadsKind k device old said b → a ≡ b
 kinds_loaded (Some kinds.Reader) device old a b reported said l r = readers_loaded device old a b reported said l r
 kinds_loaded (Some (kinds.Disk index)) device old a b reported said l r =

@@ -52,8 +52,8 @@ use Rattle.machine_panel.specs.Tick.{ticked_in}
 use Rattle.machine_channels.specs.Disks.{DiskAt, reset_disk}
 use Rattle.machine_devices.specs.declared.line.LineOutcome.{LineOutcome}
 use Rattle.machine_devices.specs.declared.line.LineOutcome.TheVariants.{Said}
-use Rattle.machine_devices.specs.declared.places.Kind.{Kind}
-use Rattle.machine_devices.specs.declared.places.Kind.TheVariants as kinds
+use Rattle.machine_devices.specs.declared.places.AttachedDevice.{AttachedDevice}
+use Rattle.machine_devices.specs.declared.places.AttachedDevice.TheVariants as kinds
 use Rattle.machine_devices.specs.declared.request.Request.{Request}
 use Rattle.machine_devices.specs.declared.request.Request.TheVariants.{LogsOn, LogsOff, Resets, Types, Loads, Asks}
 use Rattle.machine_devices.specs.declared.request.Request.TheVariants.{Alone}
@@ -312,7 +312,7 @@ module _ (reads : Reading) where
   ends device key ending bytes old new e =
       as_stays old new (program_over device key ending old bytes) e (ended_stays device key ending old.core.subchannels)
 
-  serves : (k : Option Kind) (start : Option Caw) (device : ℕ) (old : Equipped) (done : Bool) (new : Equipped)
+  serves : (k : Option AttachedDevice) (start : Option Caw) (device : ℕ) (old : Equipped) (done : Bool) (new : Equipped)
       → Serves reads k start device old done new → MachineStays old.machine new.machine
   serves None start device old done new s =
       as_stays old.machine new.machine old.machine (ap (λ (e : Equipped). e.machine) s.1)
@@ -395,7 +395,7 @@ disk_loaded index (Some disk) device old reported new l =
 disk_loaded index None device old reported new l =
     told_stays old new reported _ l (stays_same old.machine.core.subchannels)
 
-loaded : (k : Option Kind) (device : ℕ) (old : Equipped) (reported : LineOutcome) (new : Equipped)
+loaded : (k : Option AttachedDevice) (device : ℕ) (old : Equipped) (reported : LineOutcome) (new : Equipped)
     → LoadsKind k device old reported new → EquippedStays old new
 loaded (Some kinds.Reader) device old reported new l =
     loads (is_good l.loaded.ending) device old.machine new.machine l.loaded.bytes l.loaded.left
@@ -426,7 +426,7 @@ closes_printer : (place : Option ℕ) (e : Equipped) → EquippedStays e (printe
 closes_printer None e = stays_same e.machine.core.subchannels
 closes_printer (Some place) e = stays_same e.machine.core.subchannels
 
-closes : (kind : Option Kind) (e : Equipped) → EquippedStays e (closed_at kind e).equipped
+closes : (kind : Option AttachedDevice) (e : Equipped) → EquippedStays e (closed_at kind e).equipped
 closes (Some kinds.Console) e = stays_same e.machine.core.subchannels
 closes (Some kinds.Reader) e = stays_same e.machine.core.subchannels
 closes (Some kinds.Punch) e = closes_punch (open_files e.devices).punched e

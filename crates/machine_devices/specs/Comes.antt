@@ -11,8 +11,8 @@ use Rattle.machine_devices.specs.declared.line.LineOutcome.TheVariants.{Closed, 
 use Rattle.machine_devices.specs.declared.request.Request.{Request}
 use Rattle.machine_devices.specs.declared.request.Request.TheVariants.{LogsOn, LogsOff, Resets}
 use Rattle.machine_devices.specs.declared.request.Request.TheVariants.{Types, Loads, Asks, Alone}
-use Rattle.machine_devices.specs.declared.places.Kind.{Kind}
-use Rattle.machine_devices.specs.declared.places.Kind.TheVariants as kinds
+use Rattle.machine_devices.specs.declared.places.AttachedDevice.{AttachedDevice}
+use Rattle.machine_devices.specs.declared.places.AttachedDevice.TheVariants as kinds
 use Rattle.machine_devices.specs.Devices.{DevicesValue, kind_at, part_at}
 use Rattle.machine_devices.specs.Equipped.{Equipped}
 use Rattle.machine_devices.specs.Lines.{IplNeeds, can_load, files_closed, requested}
@@ -85,7 +85,7 @@ abbrev pub NeedsMemory : LineOutcome → Type 0
 NeedsMemory reported = (is_sent reported ≡ true) ⊎ HasClosed (files_closed reported)
 
 -- the device of this kind has an open file
-abbrev pub HasOpen : Option Kind → DevicesValue → Type 0
+abbrev pub HasOpen : Option AttachedDevice → DevicesValue → Type 0
 HasOpen (Some kinds.Punch) d = IsSome (open_files d).punched
 HasOpen (Some kinds.Printer) d = IsSome (open_files d).printed
 HasOpen (Some kinds.Console) d = ⊥

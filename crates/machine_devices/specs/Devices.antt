@@ -16,8 +16,8 @@ use Rattle.unit_record.specs.Punch.{PunchState, punch_new}
 use Rattle.unit_record.specs.Printer.{PrinterState, printer_new}
 use Rattle.machine_channels.specs.Disks.{DiskAt, is_disk_at}
 use Rattle.machine_devices.specs.declared.places.Places.{Places}
-use Rattle.machine_devices.specs.declared.places.Kind.{Kind}
-use Rattle.machine_devices.specs.declared.places.Kind.TheVariants as kinds
+use Rattle.machine_devices.specs.declared.places.AttachedDevice.{AttachedDevice}
+use Rattle.machine_devices.specs.declared.places.AttachedDevice.TheVariants as kinds
 
 -- Console, reader, punch and printer are there also where no address leads to them.
 pub record DevicesValue : Type 0 where
@@ -58,7 +58,7 @@ is_there None device = false
 is_there (Some address) device = address == device
 
 -- Which of console, reader, punch and printer has this address, in this order.
-abbrev pub place_at : Places → ℕ → Option Kind
+abbrev pub place_at : Places → ℕ → Option AttachedDevice
 place_at places device =
     if is_there places.console device then Some kinds.Console
     else if is_there places.reader device then Some kinds.Reader
@@ -67,25 +67,25 @@ place_at places device =
     else None
 
 -- the kind of the device with this address, if it is no disk
-abbrev pub part_at : DevicesValue → ℕ → Option Kind
+abbrev pub part_at : DevicesValue → ℕ → Option AttachedDevice
 part_at d device = place_at d.places device
 
 -- The first of all that has this address, the disks last; of a disk, its index.
-abbrev pub part_or_disk : Option Kind → Option ℕ → Option Kind
+abbrev pub part_or_disk : Option AttachedDevice → Option ℕ → Option AttachedDevice
 part_or_disk (Some part) disk = Some part
 part_or_disk None disk = option_map kinds.Disk disk
 
 -- the kind of the device with this address, among these places and disks
-abbrev pub kind_in : Places → List DiskAt → ℕ → Option Kind
+abbrev pub kind_in : Places → List DiskAt → ℕ → Option AttachedDevice
 kind_in places disks device =
     part_or_disk (place_at places device) (position (is_disk_at device) disks)
 
 -- the kind of the device with this address
-abbrev pub kind_at : DevicesValue → List DiskAt → ℕ → Option Kind
+abbrev pub kind_at : DevicesValue → List DiskAt → ℕ → Option AttachedDevice
 kind_at d disks device = kind_in d.places disks device
 
 -- If it is a disk, there is a disk of its index.
-abbrev pub IsAttached : List DiskAt → Kind → Type 0
+abbrev pub IsAttached : List DiskAt → AttachedDevice → Type 0
 IsAttached disks (kinds.Disk index) = index < length disks
 IsAttached disks kinds.Console = Unit {0}
 IsAttached disks kinds.Reader = Unit {0}

@@ -23,8 +23,8 @@ use Rattle.machine_devices.specs.declared.files.ClosedFiles.{ClosedFiles}
 use Rattle.machine_devices.specs.declared.line.LineOutcome.{LineOutcome}
 use Rattle.machine_devices.specs.declared.line.LineOutcome.TheVariants.{Silent, Said, Files, Sent}
 use Rattle.machine_devices.specs.declared.line.LineOutcome.TheVariants.{Closed, LoggedOff}
-use Rattle.machine_devices.specs.declared.places.Kind.{Kind}
-use Rattle.machine_devices.specs.declared.places.Kind.TheVariants as kinds
+use Rattle.machine_devices.specs.declared.places.AttachedDevice.{AttachedDevice}
+use Rattle.machine_devices.specs.declared.places.AttachedDevice.TheVariants as kinds
 use Rattle.machine_devices.specs.declared.request.Request.{Request}
 use Rattle.machine_devices.specs.declared.request.Request.TheVariants.{LogsOn, LogsOff, Resets}
 use Rattle.machine_devices.specs.declared.request.Request.TheVariants.{Types, Loads, Asks, Alone}
@@ -154,7 +154,7 @@ printer_answered (Some place) e =
     (Closed (record { punched = None; printed = Some place }))
 
 -- CLOSE of a device of this kind
-abbrev pub closed_at : Option Kind → Equipped → Outcome
+abbrev pub closed_at : Option AttachedDevice → Equipped → Outcome
 closed_at (Some kinds.Punch) e = punch_answered (open_files e.devices).punched e
 closed_at (Some kinds.Printer) e = printer_answered (open_files e.devices).printed e
 closed_at (Some kinds.Console) e = outcome e (Said responses.DeviceNotFound)
@@ -239,7 +239,7 @@ LoadsDisk index (Some disk) device old reported new = LoadsUnit index disk devic
 LoadsDisk index None device old reported new = IsNotFound old reported new
 
 -- a reader or a disk is loaded from
-abbrev pub can_load : Option Kind → Bool
+abbrev pub can_load : Option AttachedDevice → Bool
 can_load (Some kinds.Reader) = true
 can_load (Some (kinds.Disk index)) = true
 can_load (Some kinds.Console) = false
@@ -248,7 +248,7 @@ can_load (Some kinds.Printer) = false
 can_load None = false
 
 -- the machine and its devices after that, and what is reported
-abbrev pub LoadsKind : Option Kind → ℕ → Equipped → LineOutcome → Equipped → Type 0
+abbrev pub LoadsKind : Option AttachedDevice → ℕ → Equipped → LineOutcome → Equipped → Type 0
 LoadsKind (Some kinds.Reader) device old reported new = LoadsReader device old reported new
 LoadsKind (Some (kinds.Disk index)) device old reported new =
     LoadsDisk index (slice_get (map reset_disk old.disks) index) device old reported new
@@ -258,7 +258,7 @@ LoadsKind (Some kinds.Printer) device old reported new = IsNotFound old reported
 LoadsKind None device old reported new = IsNotFound old reported new
 
 -- which pages it needs: those that the walk of the loading touches, and that of the PSW
-abbrev pub KindLoads : Option Kind → Equipped → ℕ → Type 0
+abbrev pub KindLoads : Option AttachedDevice → Equipped → ℕ → Type 0
 KindLoads (Some kinds.Reader) e =
     LoadNeeds reader_machine (storage_in e.machine) (devices_reset e.devices).reader
 KindLoads (Some (kinds.Disk index)) e =
@@ -276,7 +276,7 @@ IplNeeds device e = KindLoads (kind_at e.devices e.disks device) e
 -- pages, as the channels say it of any device. A reader is one that feeds from the queue of its
 -- user.
 module _ {S : Type 0} (HadRoom : (D : Type 0) → Device D → S → D → S → Type 0) (old new : S) where
-  abbrev pub LoadHadRoom : Option Kind → Equipped → Type 0
+  abbrev pub LoadHadRoom : Option AttachedDevice → Equipped → Type 0
   LoadHadRoom (Some kinds.Reader) e = (new ≡ old)
       ⊎ ((feed : FeedState) × HadRoom FeedState feed_machine old feed new)
   LoadHadRoom (Some (kinds.Disk index)) e = (new ≡ old)

@@ -14,8 +14,8 @@ use Rattle.machine_devices.specs.declared.reply.Delivery.{Delivery}
 use Rattle.machine_devices.specs.declared.reply.Delivery.TheVariants as deliveries
 use Rattle.machine_devices.specs.declared.reply.Ended.{Ended}
 use Rattle.machine_devices.specs.declared.reply.Reply.{Reply}
-use Rattle.machine_devices.specs.declared.reply.Saying.{Saying}
-use Rattle.machine_devices.specs.declared.reply.Saying.TheVariants as sayings
+use Rattle.machine_devices.specs.declared.reply.UserResponse.{UserResponse}
+use Rattle.machine_devices.specs.declared.reply.UserResponse.TheVariants as sayings
 use Rattle.machine_devices.specs.Equipped.{Equipped}
 use Rattle.machine_devices.specs.Lines.{IsLine}
 use Rattle.machine_devices.specs.UserDirectory.{UserDirectory}
@@ -25,14 +25,14 @@ abbrev pub silent : Ended → Reply
 silent ended = record { ended = ended; said = sayings.Nothing; lines = 0; delivered = None }
 
 -- a response that is said, where there is one
-abbrev pub saying : Option Response → Saying
+abbrev pub saying : Option Response → UserResponse
 saying None = sayings.Nothing
 saying (Some response) = sayings.Said response
 
 -- ---- a line
 
 -- a message is sent to its receiver, and a file that was closed has this number
-abbrev pub said_to_line : ℕ → LineOutcome → Saying
+abbrev pub said_to_line : ℕ → LineOutcome → UserResponse
 said_to_line number Silent = sayings.Nothing
 said_to_line number (Said response) = sayings.Said response
 said_to_line number Files = sayings.Files

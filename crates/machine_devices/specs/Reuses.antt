@@ -4,8 +4,8 @@ use Rattle.std.specs.Prelude.{◌≡◌, ℕ, Bool, true, false, Option, None, S
 use Rattle.s370_channel.specs.declared.words.Caw.{Caw}
 use Rattle.machine_channels.specs.declared.channels.UnitRecord.{UnitRecord}
 use Rattle.machine_channels.specs.declared.channels.UnitRecord.TheVariants as units
-use Rattle.machine_devices.specs.declared.places.Kind.{Kind}
-use Rattle.machine_devices.specs.declared.places.Kind.TheVariants as kinds
+use Rattle.machine_devices.specs.declared.places.AttachedDevice.{AttachedDevice}
+use Rattle.machine_devices.specs.declared.places.AttachedDevice.TheVariants as kinds
 use Rattle.machine_devices.specs.declared.request.Request.{Request}
 use Rattle.machine_devices.specs.declared.request.Request.TheVariants.{LogsOn, LogsOff, Resets}
 use Rattle.machine_devices.specs.declared.request.Request.TheVariants.{Types, Loads, Asks, Alone}
@@ -17,7 +17,7 @@ use Rattle.machine_devices.specs.Lines.{can_load}
 module _ {C S : Type 0} (Reuses : C → S → Caw → UnitRecord → Bool → C → Type 0)
     (ReusesDisk : C → S → Caw → ℕ → Bool → C → Type 0) (old : C) (s : S) (new : C) where
   -- the program of a device of this kind ran, or was refused
-  abbrev pub KindReuses : Kind → Caw → Bool → Type 0
+  abbrev pub KindReuses : AttachedDevice → Caw → Bool → Type 0
   KindReuses kinds.Console start done = Reuses old s start units.Console done new
   KindReuses kinds.Reader start done = Reuses old s start units.Reader done new
   KindReuses kinds.Punch start done = Reuses old s start units.Punch done new
@@ -25,7 +25,7 @@ module _ {C S : Type 0} (Reuses : C → S → Caw → UnitRecord → Bool → C 
   KindReuses (kinds.Disk index) start done = ReusesDisk old s start index done new
 
   -- where a device has the address, and works on a program; else they are as they were
-  abbrev pub StartReuses : Option Kind → Option Caw → Bool → Type 0
+  abbrev pub StartReuses : Option AttachedDevice → Option Caw → Bool → Type 0
   StartReuses None start done = new ≡ old
   StartReuses (Some kind) None done = new ≡ old
   StartReuses (Some kind) (Some start) done = KindReuses kind start done

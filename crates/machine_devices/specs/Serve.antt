@@ -14,8 +14,8 @@ use Rattle.s370_channel.specs.Runs.{Walks}
 use Rattle.s370_subchannels.specs.Programs.{program_ended, program_of}
 use Rattle.s370_subchannels.specs.Subchannels.{with_attention}
 use Rattle.machine_panel.specs.Machine.{Machine, with_subchannels}
-use Rattle.machine_devices.specs.declared.places.Kind.{Kind}
-use Rattle.machine_devices.specs.declared.places.Kind.TheVariants as kinds
+use Rattle.machine_devices.specs.declared.places.AttachedDevice.{AttachedDevice}
+use Rattle.machine_devices.specs.declared.places.AttachedDevice.TheVariants as kinds
 use Rattle.machine_channels.specs.Channels.{DiskNeeds, ProgramNeeds, WalksDisk}
 use Rattle.machine_devices.specs.Devices.{kind_at}
 use Rattle.machine_devices.specs.Equipped.{Equipped, storage_in, with_bytes, with_lines}
@@ -39,7 +39,7 @@ console_over device key ending console m bytes =
     (with_attention device (wants_attention console) m.core.subchannels))) console.lines
 
 -- which pages the program needs that was started on a device, where these are held for a copy of it
-abbrev pub KindNeeds : (Memory → ℕ → ℕ → Type 0) → Kind → Caw → Equipped → ℕ → Type 0
+abbrev pub KindNeeds : (Memory → ℕ → ℕ → Type 0) → AttachedDevice → Caw → Equipped → ℕ → Type 0
 KindNeeds holds kinds.Console start e =
     ProgramNeeds holds console_machine start (storage_in e.machine) e.devices.console
 KindNeeds holds kinds.Reader start e =
@@ -52,7 +52,8 @@ KindNeeds holds (kinds.Disk index) start e =
     DiskNeeds holds start (storage_in e.machine) (slice_get e.disks index)
 
 -- the started program of a device needs this page
-abbrev pub StartNeeds : (Memory → ℕ → ℕ → Type 0) → Option Kind → Option Caw → Equipped → ℕ → Type 0
+abbrev pub StartNeeds : (Memory → ℕ → ℕ → Type 0) → Option AttachedDevice → Option Caw
+    → Equipped → ℕ → Type 0
 StartNeeds holds None start e = λ page. ⊥
 StartNeeds holds (Some kind) None e = λ page. ⊥
 StartNeeds holds (Some kind) (Some start) e = KindNeeds holds kind start e
@@ -92,7 +93,7 @@ module _ (reads : Reading) where
     pub devices : new.devices ≡ old.devices
 
   -- of the devices only this one's part may have changed
-  abbrev pub RunsKind : Kind → ℕ → Caw → Equipped → Equipped → Type 0
+  abbrev pub RunsKind : AttachedDevice → ℕ → Caw → Equipped → Equipped → Type 0
   RunsKind kinds.Console device start old new = RunsConsole device start old new
   RunsKind kinds.Reader device start old new =
       RunsPart reader_machine device start old.machine old.devices.reader new.machine
@@ -112,7 +113,7 @@ module _ (reads : Reading) where
   RunsKind (kinds.Disk index) device start old new = RunsDisk index device start old new
 
   -- where a device has the address, and works on a program
-  abbrev pub Serves : Option Kind → Option Caw → ℕ → Equipped → Bool → Equipped → Type 0
+  abbrev pub Serves : Option AttachedDevice → Option Caw → ℕ → Equipped → Bool → Equipped → Type 0
   Serves None start device old done new = IsUntouched old done new
   Serves (Some kind) None device old done new = IsUntouched old done new
   Serves (Some kind) (Some start) device old done new = (done ≡ true)

@@ -10,14 +10,14 @@ use Rattle.unit_record.specs.Punch.{punch_emptied}
 use Rattle.unit_record.specs.Printer.{printer_emptied}
 use Rattle.cp_spool.specs.Queues.{cards_of}
 use Rattle.machine_devices.specs.declared.files.ClosedFiles.{ClosedFiles}
-use Rattle.machine_devices.specs.declared.places.Kind.{Kind}
-use Rattle.machine_devices.specs.declared.places.Kind.TheVariants as kinds
+use Rattle.machine_devices.specs.declared.places.AttachedDevice.{AttachedDevice}
+use Rattle.machine_devices.specs.declared.places.AttachedDevice.TheVariants as kinds
 use Rattle.machine_devices.specs.Devices.{DevicesValue, part_at}
 
 -- ---- SPOOL
 
 -- whether the device is a punch
-abbrev pub is_punch : Option Kind → Bool
+abbrev pub is_punch : Option AttachedDevice → Bool
 is_punch (Some kinds.Punch) = true
 is_punch (Some kinds.Console) = false
 is_punch (Some kinds.Reader) = false

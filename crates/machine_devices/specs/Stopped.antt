@@ -16,8 +16,8 @@ use Rattle.unit_record.specs.Reader.{reader_machine}
 use Rattle.unit_record.specs.Punch.{PunchState, punch_machine, punch_needs_memory}
 use Rattle.unit_record.specs.Printer.{PrinterState, printer_machine, printer_needs_memory}
 use Rattle.s370_subchannels.specs.Programs.{program_of}
-use Rattle.machine_devices.specs.declared.places.Kind.{Kind}
-use Rattle.machine_devices.specs.declared.places.Kind.TheVariants as kinds
+use Rattle.machine_devices.specs.declared.places.AttachedDevice.{AttachedDevice}
+use Rattle.machine_devices.specs.declared.places.AttachedDevice.TheVariants as kinds
 use Rattle.machine_channels.specs.Channels.{DiskHadRoom, StopsDisk, StopsForPage}
 use Rattle.machine_devices.specs.Devices.{kind_at}
 use Rattle.machine_devices.specs.Equipped.{Equipped, storage_in}
@@ -52,7 +52,7 @@ StopsConsole reads present start old error =
 -- user.
 module _ (reads : Reading) {S : Type 0}
     (HadRoom : (D : Type 0) → Device D → S → Caw → D → S → Type 0) (old new : S) where
-  abbrev pub KindHadRoom : Kind → Caw → Equipped → Type 0
+  abbrev pub KindHadRoom : AttachedDevice → Caw → Equipped → Type 0
   KindHadRoom kinds.Console start e =
       HadRoom ConsoleState console_machine old start e.devices.console new
       ⊎ HasToPrint reads start e
@@ -64,7 +64,7 @@ module _ (reads : Reading) {S : Type 0}
   KindHadRoom (kinds.Disk index) start e =
       DiskHadRoom HadRoom old start (slice_get e.disks index) new
 
-  abbrev pub StartHadRoom : Option Kind → Option Caw → Equipped → Type 0
+  abbrev pub StartHadRoom : Option AttachedDevice → Option Caw → Equipped → Type 0
   StartHadRoom None start e = ⊥
   StartHadRoom (Some kind) None e = ⊥
   StartHadRoom (Some kind) (Some start) e = KindHadRoom kind start e
@@ -77,7 +77,7 @@ module _ (reads : Reading) {S : Type 0}
 -- ---- whatever has the address
 
 module _ (reads : Reading) (present : ℕ → Bool) where
-  abbrev pub StopsKind : Kind → Caw → Equipped → ChannelError → Type 0
+  abbrev pub StopsKind : AttachedDevice → Caw → Equipped → ChannelError → Type 0
   StopsKind kinds.Console start old error = StopsConsole reads present start old error
   StopsKind kinds.Reader start old error =
       StopsForPage reader_machine present start (storage_in old.machine) old.devices.reader error
@@ -90,7 +90,7 @@ module _ (reads : Reading) (present : ℕ → Bool) where
   StopsKind (kinds.Disk index) start old error =
       StopsDisk present start (storage_in old.machine) (slice_get old.disks index) error
 
-  abbrev pub StopsProgram : Option Kind → Option Caw → Equipped → ChannelError → Type 0
+  abbrev pub StopsProgram : Option AttachedDevice → Option Caw → Equipped → ChannelError → Type 0
   StopsProgram None start old error = ⊥
   StopsProgram (Some kind) None old error = ⊥
   StopsProgram (Some kind) (Some start) old error = StopsKind kind start old error

@@ -3,8 +3,8 @@ ghost use Rattle.std.specs.Prelude.{◌≡◌, IfSome};
 ghost use Rattle.machine_devices.specs.Devices.{IsAttached, kind_in, place_at};
 ghost use Rattle.machine_devices.specs.Lent.{parts_new, parts_reset};
 
-use crate::places::{Kind, Places, is_there};
-use cp_spool::Reader;
+use crate::places::{AttachedDevice, Places, is_there};
+use cp_spool::SpoolReader;
 use machine_channels::Disks;
 use std::alloc::Global;
 use std::marker::Model;
@@ -18,7 +18,7 @@ use user_names::UserNo;
 pub struct Devices {
     pub(crate) places: Places,
     pub(crate) console: Console,
-    pub(crate) reader: Reader,
+    pub(crate) reader: SpoolReader,
     pub(crate) punch: Punch,
     pub(crate) printer: Printer,
     pub(crate) target: Target,
@@ -50,7 +50,7 @@ impl Devices {
         Devices {
             places,
             console: Console::new(alloc),
-            reader: Reader::new(),
+            reader: SpoolReader::new(),
             punch: Punch::new(alloc),
             printer: Printer::new(alloc),
             target: Target::System,
@@ -59,32 +59,32 @@ impl Devices {
     }
 
     /// Returns which of console, reader, punch and printer has this address, if any has.
-    pub fn part_at(&self, device: u16) -> Option<Kind>
+    pub fn part_at(&self, device: u16) -> Option<AttachedDevice>
         ensures { result ≡ place_at self.now.places device }
     {
         let places = self.places;
         if is_there(places.console, device) {
-            Some(Kind::Console)
+            Some(AttachedDevice::Console)
         } else if is_there(places.reader, device) {
-            Some(Kind::Reader)
+            Some(AttachedDevice::Reader)
         } else if is_there(places.punch, device) {
-            Some(Kind::Punch)
+            Some(AttachedDevice::Punch)
         } else if is_there(places.printer, device) {
-            Some(Kind::Printer)
+            Some(AttachedDevice::Printer)
         } else {
             None
         }
     }
 
     /// Returns what has this address, if anything has, these disks included.
-    pub fn kind_at<D: Disks>(&self, disks: &D, device: u16) -> Option<Kind>
+    pub fn kind_at<D: Disks>(&self, disks: &D, device: u16) -> Option<AttachedDevice>
         ensures kind { result ≡ kind_in self.now.places (D.disks disks.now) device }
         ensures inside { IfSome result (IsAttached (D.disks disks.now)) }
     {
         match self.part_at(device) {
             Some(part) => Some(part),
             None => match disks.disk_at(device) {
-                Some(index) => Some(Kind::Disk(index)),
+                Some(index) => Some(AttachedDevice::Disk(index)),
                 None => None,
             },
         }
@@ -96,7 +96,7 @@ impl Devices {
         ensures { self.new ≡ parts_reset self.old }
     {
         self.console.reset();
-        self.reader = Reader::new();
+        self.reader = SpoolReader::new();
         self.punch.reset();
         self.printer.reset();
     }
@@ -125,7 +125,7 @@ impl Devices {
     }
 
     /// Returns what the card reader has next to its decks.
-    pub fn reader(&self) -> &Reader
+    pub fn reader(&self) -> &SpoolReader
         ensures { result.now ≡ self.now.reader }
     {
         &self.reader

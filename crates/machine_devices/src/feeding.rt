@@ -12,7 +12,7 @@ ghost use Rattle.cp_spool.specs.Queues.{KeepsOthers, files_of};
 ghost use Rattle.cp_spool.specs.Reader.{FeedState, feed_machine, part_new};
 ghost use Rattle.s370_channel.specs.declared.running.ChannelError.TheVariants as errors;
 
-use cp_spool::{FedReader, Queues, Reader};
+use cp_spool::{FedReader, Queues, SpoolReader};
 use machine_channels::{Channels, UnitRecord};
 use s370_channel::{Caw, ChannelError};
 use s370_store::Storage;
@@ -24,7 +24,7 @@ use user_names::UserNo;
 /// walks as on a reader that has the decks itself. An error is reported only where memory was
 /// refused, a page is not present, or there is no room for one.
 pub(crate) fn feed<S: Storage, C: Channels<S>>(
-    reader: &mut Reader,
+    reader: &mut SpoolReader,
     queues: &mut Queues,
     user: UserNo,
     storage: &mut S,
@@ -64,7 +64,7 @@ pub(crate) fn feed<S: Storage, C: Channels<S>>(
     ensures kept { C.Reuses channels.old storage.old start units.Reader (is_ok result)
         channels.new }
 {
-    let mut fed = FedReader::new(queues, user, replace(reader, Reader::new()));
+    let mut fed = FedReader::new(queues, user, replace(reader, SpoolReader::new()));
     let ended = channels.run(storage, start, UnitRecord::Reader, &mut fed);
     let (left, progress) = fed.into_parts();
     *reader = left;
@@ -76,7 +76,7 @@ pub(crate) fn feed<S: Storage, C: Channels<S>>(
 /// the queue of this user: it walks as on a reader that has the decks itself. If it is not run to
 /// its end, the reader and the queue stay.
 pub(crate) fn load_fed<S: Storage, C: Channels<S>>(
-    reader: &mut Reader,
+    reader: &mut SpoolReader,
     queues: &mut Queues,
     user: UserNo,
     storage: &mut S,
@@ -106,7 +106,7 @@ pub(crate) fn load_fed<S: Storage, C: Channels<S>>(
         storage.new) }
     ensures stays { OnErr result ((reader.new ≡ reader.old) × (queues.new ≡ queues.old)) }
     ensures there { C.is_whole ≡ true → OnOk result (S.present storage.new 0 ≡ true) }
-    ensures same { C.is_whole ≡ false → S.present storage.new ≡ S.present storage.old }
+    ensures pages_unchanged { C.is_whole ≡ false → S.present storage.new ≡ S.present storage.old }
     ensures paged_in { Brings C.Came storage.old (LoadNeeds reader_machine
         (S.memory storage.old) (reader_of (files_of queues.old.users user) part_new)) storage.new }
     ensures ready { C.IsReady storage.new }
@@ -114,7 +114,7 @@ pub(crate) fn load_fed<S: Storage, C: Channels<S>>(
     ensures others { C.KeepsOthers channels.old channels.new }
     ensures kept { channels.new ≡ channels.old }
 {
-    let mut fed = FedReader::new(queues, user, Reader::new());
+    let mut fed = FedReader::new(queues, user, SpoolReader::new());
     let ended = channels.load(storage, &mut fed);
     let (left, progress) = fed.into_parts();
     match ended {

@@ -1,7 +1,7 @@
 //! IPL, which the owner of a machine does for it.
 ghost use Rattle.std.specs.Prelude.{◌≡◌, ◌<◌, ◌≤◌, ℕ, false, true, Err, IfOk, OnOk, Some, length};
 ghost use Rattle.std.specs.Prelude.{map, slice_get};
-ghost use Rattle.s370_store.specs.Access.{IsAway};
+ghost use Rattle.s370_store.specs.Access.{IsAbsent};
 ghost use Rattle.machine_channels.specs.Channels.{Brings, IsOutOfFrames, NoRoom};
 ghost use Rattle.machine_channels.specs.Disks.{reset_disk};
 ghost use Rattle.machine_devices.specs.Devices.{kind_at, kind_in};
@@ -10,13 +10,13 @@ ghost use Rattle.machine_devices.specs.Lent.{KeepsOtherUsers, devices_on};
 ghost use Rattle.machine_devices.specs.Lines.{IplNeeds, IsIpl, KindLoads, LoadHadRoom, LoadsDisk};
 ghost use Rattle.machine_devices.specs.Lines.{LoadsReader, can_load, ipl_told};
 ghost use Rattle.machine_devices.specs.Reuses.{LoadForgets};
-ghost use Rattle.machine_devices.specs.declared.places.Kind.TheVariants as kinds;
+ghost use Rattle.machine_devices.specs.declared.places.AttachedDevice.TheVariants as kinds;
 
 use crate::devices::Devices;
 use crate::feeding::load_fed;
 use crate::line::LineOutcome;
 use crate::loading::start_loaded;
-use crate::places::Kind;
+use crate::places::AttachedDevice;
 use cp_console::responses::Response;
 use cp_spool::Queues;
 use machine_channels::Channels;
@@ -60,9 +60,10 @@ impl Devices {
             (S.memory storage.new) in
             IfOk result (λ reported. IsIpl device before reported after) }
         ensures lacks { C.is_whole ≡ false → result ≡ Err LineError.FramesOut
-            → ((page : ℕ) × IsAway (length (S.memory storage.old).bytes) (S.present storage.old)
+            → ((page : ℕ) × IsAbsent (length (S.memory storage.old).bytes) (S.present storage.old)
             page) }
-        ensures same { let before = equipped machine.old (devices_on self.old queues.old)
+        ensures unchanged_without_frames { let before = equipped machine.old
+            (devices_on self.old queues.old)
             (C.disks channels.old)
             (S.memory storage.old) in
             let after = equipped machine.new (devices_on self.new queues.new) (C.disks channels.new)
@@ -97,8 +98,10 @@ impl Devices {
         ensures memory { C.is_whole ≡ false → result ≡ Err LineError.Memory → machine.old.room < 2 }
     {
         match self.kind_at(channels, device.get()) {
-            Some(Kind::Reader) => self.load_reader(queues, machine, storage, channels, device),
-            Some(Kind::Disk(index)) => self.load_disk(
+            Some(AttachedDevice::Reader) => self.load_reader(
+                queues, machine, storage, channels, device,
+            ),
+            Some(AttachedDevice::Disk(index)) => self.load_disk(
                 queues, machine, storage, channels, device, index,
             ),
             _ => Ok(LineOutcome::Said(Response::DeviceNotFound)),
@@ -124,9 +127,10 @@ impl Devices {
             (S.memory storage.new) in
             IfOk result (λ reported. LoadsReader device before reported after) }
         ensures lacks { C.is_whole ≡ false → result ≡ Err LineError.FramesOut
-            → ((page : ℕ) × IsAway (length (S.memory storage.old).bytes) (S.present storage.old)
+            → ((page : ℕ) × IsAbsent (length (S.memory storage.old).bytes) (S.present storage.old)
             page) }
-        ensures same { let before = equipped machine.old (devices_on self.old queues.old)
+        ensures unchanged_without_frames { let before = equipped machine.old
+            (devices_on self.old queues.old)
             (C.disks channels.old)
             (S.memory storage.old) in
             let after = equipped machine.new (devices_on self.new queues.new) (C.disks channels.new)
@@ -197,9 +201,10 @@ impl Devices {
             LoadsDisk index (slice_get (map reset_disk (C.disks channels.old)) index) device
             before reported after) }
         ensures lacks { C.is_whole ≡ false → result ≡ Err LineError.FramesOut
-            → ((page : ℕ) × IsAway (length (S.memory storage.old).bytes) (S.present storage.old)
+            → ((page : ℕ) × IsAbsent (length (S.memory storage.old).bytes) (S.present storage.old)
             page) }
-        ensures same { let before = equipped machine.old (devices_on self.old queues.now)
+        ensures unchanged_without_frames { let before = equipped machine.old
+            (devices_on self.old queues.now)
             (C.disks channels.old)
             (S.memory storage.old) in
             let after = equipped machine.new (devices_on self.new queues.now) (C.disks channels.new)

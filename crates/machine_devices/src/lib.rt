@@ -5,7 +5,7 @@
 //! part that it does not name stays as it was. Where memory is refused all stay.
 //!
 //! ```
-//! use machine_devices::{Devices, Kind, Places};
+//! use machine_devices::{Devices, AttachedDevice, Places};
 //! use cp_spool::Queues;
 //! use user_names::UserNo;
 //! use s370_num::DevAddr;
@@ -13,7 +13,7 @@
 //!
 //! let places = Places { printer: Some(DevAddr::new(0x00E)), ..Places::NONE };
 //! let mut devices = Devices::new(alloc, places, UserNo::new(0));
-//! assert!(rt; devices.part_at(0x00E) == Some(Kind::Printer));
+//! assert!(rt; devices.part_at(0x00E) == Some(AttachedDevice::Printer));
 //! assert!(rt; devices.part_at(0x00D).is_none());
 //! let mut queues = Queues::new(alloc, 1)?;
 //! devices.log_off(alloc, &mut queues)?;
@@ -45,8 +45,8 @@ pub use devices::Devices;
 pub use files::{ClosedFiles, FileKind, FileNote, deck_line};
 pub use laws::{attention_agrees, printed_lines_do_not_matter};
 pub use line::LineOutcome;
-pub use places::{Kind, Places};
-pub use reply::{Delivered, Delivery, Ended, Reply, Saying, said_to_line};
+pub use places::{AttachedDevice, Places};
+pub use reply::{Delivered, Delivery, Ended, Reply, UserResponse, said_to_line};
 pub use seen::SeenDevices;
 pub use spooling::copy_of;
 pub use world::{UserDirectory, is_logged_on};

@@ -2,7 +2,7 @@
 ghost use Rattle.std.specs.Prelude.{◌≡◌, ◌<◌, ◌≤◌, ℕ, List, [], IfOk, OnErr, OnOk, Err, false};
 ghost use Rattle.std.specs.Prelude.{true, length};
 ghost use Rattle.s370_store.specs.Memory.{Memory};
-ghost use Rattle.s370_store.specs.Access.{IsAway, Touches};
+ghost use Rattle.s370_store.specs.Access.{IsAbsent, Touches};
 ghost use Rattle.machine_channels.specs.Channels.{Brings, IsOutOfFrames, NoRoom};
 ghost use Rattle.machine_channels.specs.Disks.{DiskAt};
 ghost use Rattle.s370_intr.specs.Run.{AllNeeded, IsLacking};
@@ -107,7 +107,8 @@ impl Devices {
             let after = equipped machine.new (devices_on self.new queues.new) (C.disks channels.new)
             (S.Storage.memory storage.new) in
             is_ipl (requested typed.now before) ≡ false → OnErr result (after ≡ before) }
-        ensures same { let before = equipped machine.old (devices_on self.old queues.old)
+        ensures unchanged_without_frames { let before = equipped machine.old
+            (devices_on self.old queues.old)
             (C.disks channels.old)
             (S.Storage.memory storage.old) in
             let after = equipped machine.new (devices_on self.new queues.new) (C.disks channels.new)
@@ -129,7 +130,7 @@ impl Devices {
             (S.Storage.memory storage.old) in
             is_ipl (requested typed.now before) ≡ true → C.is_whole ≡ false
             → result ≡ Err LineError.FramesOut
-            → ((page : ℕ) × IsAway (length (S.Storage.memory storage.old).bytes)
+            → ((page : ℕ) × IsAbsent (length (S.Storage.memory storage.old).bytes)
             (S.Storage.present storage.old) page) }
         ensures out { let before = equipped machine.old (devices_on self.old queues.old)
             (C.disks channels.old)

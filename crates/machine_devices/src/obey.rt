@@ -18,7 +18,7 @@ ghost use Rattle.machine_devices.specs.Spooling.{with_deck_purged};
 use crate::devices::Devices;
 use crate::files::ClosedFiles;
 use crate::line::LineOutcome;
-use crate::places::Kind;
+use crate::places::AttachedDevice;
 use crate::world::UserDirectory;
 use cp_console::console_line::ConsoleLine;
 use cp_console::device_commands::DeviceCommand;
@@ -146,7 +146,7 @@ impl Devices {
         ensures user { self.new.user ≡ self.old.user }
     {
         match self.part_at(device.get()) {
-            Some(Kind::Punch) => match target_of(world, name) {
+            Some(AttachedDevice::Punch) => match target_of(world, name) {
                 Some(target) => {
                     self.spool(target);
                     LineOutcome::Said(Response::Spooled)
@@ -186,8 +186,8 @@ impl Devices {
     {
         let open = self.open_files(queues);
         match self.part_at(device.get()) {
-            Some(Kind::Punch) => self.close_punched(alloc, queues, open.punched),
-            Some(Kind::Printer) => self.close_printed(alloc, queues, open.printed),
+            Some(AttachedDevice::Punch) => self.close_punched(alloc, queues, open.punched),
+            Some(AttachedDevice::Printer) => self.close_printed(alloc, queues, open.printed),
             _ => Ok(LineOutcome::Said(Response::DeviceNotFound)),
         }
     }

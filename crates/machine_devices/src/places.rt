@@ -51,7 +51,7 @@ fn one_if(place: Option<DevAddr>) -> usize
 
 /// What has an address.
 #[derive(Clone, Copy, PartialEq, Eq)]
-pub enum Kind {
+pub enum AttachedDevice {
     Console,
     Reader,
     Punch,

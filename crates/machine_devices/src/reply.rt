@@ -23,7 +23,7 @@ pub enum Ended {
 
 /// What is said to a user.
 #[derive(Clone, Copy, Debug, PartialEq, Eq)]
-pub enum Saying {
+pub enum UserResponse {
     /// Nothing.
     Nothing,
     /// A response.
@@ -32,15 +32,15 @@ pub enum Saying {
     Files,
 }
 
-impl Saying {
+impl UserResponse {
     /// Returns a response that is said, where there is one.
     #[inline]
-    pub fn of(response: Option<Response>) -> Saying
+    pub fn of(response: Option<Response>) -> UserResponse
         ensures { result ≡ saying response }
     {
         match response {
-            None => Saying::Nothing,
-            Some(response) => Saying::Said(response),
+            None => UserResponse::Nothing,
+            Some(response) => UserResponse::Said(response),
         }
     }
 }
@@ -52,7 +52,7 @@ pub struct Reply {
     pub ended: Ended,
     /// What is said to the user whom the event names: the answer to his line, or the notice of a
     /// machine that stopped.
-    pub said: Saying,
+    pub said: UserResponse,
     /// How many lines have joined the console of that user, the last of its output.
     pub lines: usize,
     /// What was delivered, and to whom. The cards of a deck are those of the last deck of his
@@ -67,7 +67,7 @@ impl Reply {
     {
         Reply {
             ended,
-            said: Saying::Nothing,
+            said: UserResponse::Nothing,
             lines: 0,
             delivered: None,
         }
@@ -93,15 +93,15 @@ pub struct Delivered {
 }
 
 /// Returns what is said to a line that was answered so, where the next file has this number.
-pub fn said_to_line(number: u64, reported: &LineOutcome) -> Saying
+pub fn said_to_line(number: u64, reported: &LineOutcome) -> UserResponse
     ensures { result ≡ said_to_line number reported.now }
 {
     match reported {
-        LineOutcome::Silent => Saying::Nothing,
-        LineOutcome::Said(response) => Saying::Said(*response),
-        LineOutcome::Files => Saying::Files,
-        LineOutcome::Sent(_, _) => Saying::Said(Response::Sent),
-        LineOutcome::Closed(_) => Saying::Said(Response::FileClosed(number)),
-        LineOutcome::LoggedOff(_) => Saying::Said(Response::LogoffOk),
+        LineOutcome::Silent => UserResponse::Nothing,
+        LineOutcome::Said(response) => UserResponse::Said(*response),
+        LineOutcome::Files => UserResponse::Files,
+        LineOutcome::Sent(_, _) => UserResponse::Said(Response::Sent),
+        LineOutcome::Closed(_) => UserResponse::Said(Response::FileClosed(number)),
+        LineOutcome::LoggedOff(_) => UserResponse::Said(Response::LogoffOk),
     }
 }

@@ -6,7 +6,7 @@ ghost use Rattle.machine_channels.specs.declared.channels.UnitRecord.TheVariants
 ghost use Rattle.s370_channel.specs.declared.running.ChannelError.TheVariants as errors;
 ghost use Rattle.s370_subchannels.specs.Programs.{program_of};
 ghost use Rattle.machine_devices.specs.Devices.{IsAttached, kind_at};
-ghost use Rattle.machine_devices.specs.declared.places.Kind.TheVariants as kinds;
+ghost use Rattle.machine_devices.specs.declared.places.AttachedDevice.TheVariants as kinds;
 ghost use Rattle.machine_devices.specs.Equipped.{equipped};
 ghost use Rattle.machine_devices.specs.Lent.{KeepsOtherUsers, devices_on};
 ghost use Rattle.machine_devices.specs.Reuses.{KindReuses, StartReuses};
@@ -17,7 +17,7 @@ ghost use Rattle.machine_devices.specs.Stopped.{StopsKind};
 
 use crate::devices::Devices;
 use crate::feeding::feed;
-use crate::places::Kind;
+use crate::places::AttachedDevice;
 use cp_console::console_line::ConsoleLine;
 use cp_console::responses::Response;
 use cp_spool::Queues;
@@ -114,7 +114,7 @@ impl Devices {
         machine: &mut Machine,
         storage: &mut S,
         channels: &mut C,
-        kind: Kind,
+        kind: AttachedDevice,
         device: DevAddr,
         start: Caw,
     ) -> Result<(), ChannelError>
@@ -162,17 +162,22 @@ impl Devices {
     {
         let key = start.key;
         let ending = match kind {
-            Kind::Console => return self.run_console(
+            AttachedDevice::Console => return self.run_console(
                 queues, machine, storage, channels, device, start,
             ),
-            Kind::Reader => return self.run_reader(
+            AttachedDevice::Reader => return self.run_reader(
                 queues, machine, storage, channels, device, start,
             ),
-            Kind::Punch => match channels.run(storage, start, UnitRecord::Punch, &mut self.punch) {
+            AttachedDevice::Punch => match channels.run(
+                storage,
+                start,
+                UnitRecord::Punch,
+                &mut self.punch,
+            ) {
                 Ok(ending) => ending,
                 Err(error) => return Err(error),
             },
-            Kind::Printer => match channels.run(
+            AttachedDevice::Printer => match channels.run(
                 storage,
                 start,
                 UnitRecord::Printer,
@@ -181,7 +186,7 @@ impl Devices {
                 Ok(ending) => ending,
                 Err(error) => return Err(error),
             },
-            Kind::Disk(index) => match channels.run_disk(storage, start, index) {
+            AttachedDevice::Disk(index) => match channels.run_disk(storage, start, index) {
                 Ok(ending) => ending,
                 Err(error) => return Err(error),
             },

@@ -3,12 +3,12 @@
 use Rattle.std.specs.Prelude.{◌≡◌, ℕ, ◌+◌, ◌*◌, ◌/◌, if◌then◌else◌, nat_le, nat_lt, Bool, List, []}
 use Rattle.std.specs.Prelude.{◌∷◌, length, slice_index, slice_set, slice_range, Result, Ok, Err, ⊤}
 use Rattle.s370_psw.specs.Fields.{fields_of, word_of}
-use Rattle.s370_store.specs.Access.{Test, put, IsAway, Touches, AreGranted}
+use Rattle.s370_store.specs.Access.{Test, put, IsAbsent, Touches, AreGranted}
 use Rattle.s370_store.specs.declared.Page.{Page}
 use Rattle.s370_store.specs.declared.Access.TheVariants.{Fetch, Store as StoreAccess}
 use Rattle.s370_rows.specs.State.{State}
-use Rattle.cp_console.specs.declared.commands.Place.{Place}
-use Rattle.cp_console.specs.declared.commands.Place.TheVariants as places
+use Rattle.cp_console.specs.declared.commands.DisplayItem.{DisplayItem}
+use Rattle.cp_console.specs.declared.commands.DisplayItem.TheVariants as places
 use Rattle.cp_console.specs.declared.commands.Change.{Change}
 use Rattle.cp_console.specs.declared.commands.Change.TheVariants as changes
 use Rattle.cp_console.specs.declared.responses.Response.{Response}
@@ -18,7 +18,7 @@ use Rattle.cp_console.specs.declared.responses.Response.TheVariants as responses
 
 -- what a place holds: the PSW without codes, a register, the key of an address's block, or the
 -- sixteen bytes round an address, where they lie in storage
-abbrev pub displayed : Place → State → Response
+abbrev pub displayed : DisplayItem → State → Response
 displayed places.Psw s = responses.Psw (word_of s.cpu.psw 0 0)
 displayed (places.General r) s = responses.General r (slice_index s.cpu.general r)
 displayed (places.Control r) s = responses.Control r (slice_index s.cpu.control r)
@@ -31,7 +31,7 @@ displayed (places.Storage a) s =
     else responses.AddressPastStorage
 
 -- the bytes of storage that are shown: a key is none of them
-abbrev pub shown : Place → List Test
+abbrev pub shown : DisplayItem → List Test
 shown places.Psw = []
 shown (places.General r) = []
 shown (places.Control r) = []
@@ -73,17 +73,17 @@ touched (changes.Storage a bytes) =
 -- present
 abbrev pub Reaches : ℕ → (ℕ → Bool) → List Test → Result ⊤ Page → Type 0
 Reaches size present ts (Ok _) = AreGranted size present ts
-Reaches size present ts (Err page) = IsAway size present page.0 × Touches ts page.0
+Reaches size present ts (Err page) = IsAbsent size present page.0 × Touches ts page.0
 
 -- the reply; or a page that is to be shown and is not present
-abbrev pub Displays : Place → (ℕ → Bool) → State → Result Response Page → Type 0
+abbrev pub Displays : DisplayItem → (ℕ → Bool) → State → Result Response Page → Type 0
 Displays place present s (Ok reply) = reply ≡ displayed place s
-Displays place present s (Err page) = IsAway (length s.bytes) present page.0
+Displays place present s (Err page) = IsAbsent (length s.bytes) present page.0
     × Touches (shown place) page.0
 
 -- the reply and the change; or, with nothing changed, a page that is to be changed and is not
 -- present
 abbrev pub Changes : Change → (ℕ → Bool) → State → Result Response Page → State → Type 0
 Changes change present old (Ok reply) new = (reply ≡ stored change old) × (new ≡ changed change old)
-Changes change present old (Err page) new = (new ≡ old) × IsAway (length old.bytes) present page.0
+Changes change present old (Err page) new = (new ≡ old) × IsAbsent (length old.bytes) present page.0
     × Touches (touched change) page.0

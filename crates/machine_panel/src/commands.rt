@@ -15,7 +15,7 @@ ghost use Rattle.cp_console.specs.declared.responses.Response.TheVariants.{Syste
 use crate::display_store::{change, display};
 use crate::line::LineError;
 use crate::machine::{Machine, Mode};
-use cp_console::commands::{Change, Place};
+use cp_console::commands::{Change, DisplayItem};
 use cp_console::responses::Response;
 use s370_num::Addr24;
 use s370_rows::Cpu;
@@ -74,7 +74,7 @@ impl Machine {
     pub(crate) fn display<S: Supply>(
         &mut self,
         storage: &mut S,
-        place: Place,
+        place: DisplayItem,
     ) -> Result<Option<Response>, LineError>
         ensures ok { let before = machine_of self.old (S.Storage.memory storage.old) in
             let after = machine_of self.new (S.Storage.memory storage.new) in
@@ -145,7 +145,7 @@ impl Machine {
 fn display_supplied<S: Supply>(
     cpu: &Cpu,
     storage: &mut S,
-    place: &Place,
+    place: &DisplayItem,
 ) -> Result<Response, FramesOut>
     ensures ok { let s = state_of cpu.now (S.Storage.memory storage.old) in
         IfOk result (λ response. response ≡ displayed place.now s) }

@@ -5,7 +5,7 @@ ghost use Rattle.s370_store.specs.Access.{tested};
 ghost use Rattle.machine_panel.specs.DisplayStore.{Changes, Displays, Reaches, displayed};
 
 use cp_console::StoredBytes;
-use cp_console::commands::{Change, Place};
+use cp_console::commands::{Change, DisplayItem};
 use cp_console::responses::Response;
 use s370_num::{AccessKey, Addr24, Word};
 use s370_psw::{Ilc, Psw};
@@ -17,7 +17,7 @@ use s370_store::{Access, BLOCK_SIZE, Fault, Keyed, Page, Range, Storage};
 /// # Errors
 ///
 /// A page that is needed and absent.
-pub fn display<S: Keyed>(place: Place, cpu: &Cpu, storage: &S) -> Result<Response, Page>
+pub fn display<S: Keyed>(place: DisplayItem, cpu: &Cpu, storage: &S) -> Result<Response, Page>
     ensures { let s = state_of cpu.now (S.Storage.memory storage.now) in
         Displays place (S.Storage.present storage.now) s result }
 {
@@ -28,24 +28,24 @@ pub fn display<S: Keyed>(place: Place, cpu: &Cpu, storage: &S) -> Result<Respons
         psw,
     } = cpu;
     match place {
-        Place::Psw => Ok(Response::Psw(psw.to_word(0, Ilc::ZERO))),
-        Place::General(register) => {
+        DisplayItem::Psw => Ok(Response::Psw(psw.to_word(0, Ilc::ZERO))),
+        DisplayItem::General(register) => {
             let contents = general[register.index()];
             Ok(Response::General(register, Word::from_unsigned(contents)))
         }
-        Place::Control(register) => {
+        DisplayItem::Control(register) => {
             let contents = control[register.index()];
             Ok(Response::Control(register, Word::from_unsigned(contents)))
         }
-        Place::Key(address) => Ok(display_key(address, cpu, storage)),
-        Place::Storage(address) => display_storage(address, cpu, storage),
+        DisplayItem::Key(address) => Ok(display_key(address, cpu, storage)),
+        DisplayItem::Storage(address) => display_storage(address, cpu, storage),
     }
 }
 
 /// Returns the key of the block in which an address lies.
 fn display_key<S: Keyed>(address: Addr24, cpu: &Cpu, storage: &S) -> Response
     ensures { let s = state_of cpu.now (S.Storage.memory storage.now) in
-        result ≡ displayed (Place.Key address) s }
+        result ≡ displayed (DisplayItem.Key address) s }
 {
     if address.get() >= storage.size() {
         return Response::AddressPastStorage;
@@ -56,7 +56,7 @@ fn display_key<S: Keyed>(address: Addr24, cpu: &Cpu, storage: &S) -> Response
 /// Returns the sixteen bytes round an address.
 fn display_storage<S: Storage>(address: Addr24, cpu: &Cpu, storage: &S) -> Result<Response, Page>
     ensures { let s = state_of cpu.now (S.memory storage.now) in
-        Displays (Place.Storage address) (S.present storage.now) s result }
+        Displays (DisplayItem.Storage address) (S.present storage.now) s result }
 {
     let start = address.get() / 16 * 16;
     if start + 16 > storage.size() {

@@ -7,7 +7,7 @@ ghost use Rattle.machine_panel.specs.Machine.{machine_of};
 ghost use Rattle.machine_panel.specs.Panel.{line, line_needs, line_room};
 
 use crate::machine::{Machine, Mode};
-use cp_console::commands::{Change, Place};
+use cp_console::commands::{Change, DisplayItem};
 use cp_console::responses::Response;
 use s370_num::Addr24;
 use s370_store::Supply;
@@ -38,7 +38,7 @@ pub enum PanelLine {
     /// `EXTERNAL`: the interrupt key is pressed.
     External,
     /// `DISPLAY`.
-    Display(Place),
+    Display(DisplayItem),
     /// `STORE`.
     Store(Change),
 }

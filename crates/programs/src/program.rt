@@ -73,7 +73,7 @@ fn tell<R: AllocGlobal + Eprint>(rt: &R, failure: Failure) -> Failure
 const HELD_BACK: usize = 8192;
 
 /// Standard output, as a transcript is written to it.
-pub type Output<'a, R> = Counted<io::BufWriter<io::Printer<'a, R>, Global>>;
+pub type TranscriptWriter<'a, R> = Counted<io::BufWriter<io::Printer<'a, R>, Global>>;
 
 /// Standard input, as the parts of a script are read from it.
 pub type PartInput<R> = Counted<io::BufReader<R, Global>>;
@@ -95,7 +95,10 @@ pub fn input<R: AllocGlobal + Input>(rt: &R) -> Result<PartInput<R::Reader>, Fai
 /// # Errors
 ///
 /// A `Failure`: of a file, a text, an image or the boot, or refused memory.
-pub fn output<R: AllocGlobal + Print>(rt: &R, is_watched: bool) -> Result<Output<'_, R>, Failure> {
+pub fn output<R: AllocGlobal + Print>(
+    rt: &R,
+    is_watched: bool,
+) -> Result<TranscriptWriter<'_, R>, Failure> {
     let room = if is_watched { 0 } else { HELD_BACK };
     match io::BufWriter::with_capacity(rt.alloc(), room, io::writer(rt)) {
         Ok(output) => Ok(Counted::new(output)),

@@ -162,7 +162,7 @@ fn look_at_all(machines: &mut SideBySide) -> Result<(), SideError> {
 
 /// Lets something happen to a user, and compares his views, and those of him to whom it delivers
 /// something.
-fn happen(
+fn apply_event(
     alloc: Global,
     sequence: &mut Sequence,
     machines: &mut SideBySide,
@@ -190,7 +190,7 @@ fn play(
     make_ready(alloc, sequence, machines)?;
     for event in 1..=EVENTS {
         let user = UserNo::new(sequence.below(USERS) as u8);
-        happen(alloc, sequence, machines, user)?;
+        apply_event(alloc, sequence, machines, user)?;
         if event % 8 == 0 {
             look_at_all(machines)?;
         }

@@ -14,7 +14,7 @@ const DEVICES: [u16; 4] = [0x009, 0x00C, 0x00D, 0x00E];
 
 /// What happens to a user.
 #[derive(Drop)]
-pub enum Happening {
+pub enum CheckEvent {
     /// His machine runs for so many units.
     Run(u32),
     /// This device of his is served.
@@ -50,9 +50,9 @@ pub fn text_for(alloc: Global, user: UserNo, text: &str) -> Result<String, Alloc
 }
 
 /// Returns the line of this place that makes a user's machine ready.
-pub fn ready_line(alloc: Global, user: UserNo, place: usize) -> Result<Happening, AllocError> {
+pub fn ready_line(alloc: Global, user: UserNo, place: usize) -> Result<CheckEvent, AllocError> {
     let text = READY.get(place).copied().unwrap_or("");
-    Ok(Happening::Line(text_for(alloc, user, text)?))
+    Ok(CheckEvent::Line(text_for(alloc, user, text)?))
 }
 
 /// What happens next to a user, while there are so many files.
@@ -61,15 +61,15 @@ pub fn next_happening(
     sequence: &mut Sequence,
     user: UserNo,
     files: u64,
-) -> Result<Happening, AllocError> {
+) -> Result<CheckEvent, AllocError> {
     Ok(match sequence.next_number() % 32 {
-        0..=9 => Happening::Run(sequence.next_number() % 24 + 1),
-        10..=18 => Happening::Serve(next_device(sequence, user)),
-        19 => Happening::Tick,
-        20 => Happening::Deck(next_cards(alloc, sequence)?),
-        21..=25 => Happening::Line(text_for(alloc, user, sequence.pick(&TYPED))?),
-        26 => Happening::Line(text_for(alloc, user, sequence.pick(&TEXTS))?),
-        other => Happening::Line(next_talk(alloc, sequence, user, other, files)?),
+        0..=9 => CheckEvent::Run(sequence.next_number() % 24 + 1),
+        10..=18 => CheckEvent::Serve(next_device(sequence, user)),
+        19 => CheckEvent::Tick,
+        20 => CheckEvent::Deck(next_cards(alloc, sequence)?),
+        21..=25 => CheckEvent::Line(text_for(alloc, user, sequence.pick(&TYPED))?),
+        26 => CheckEvent::Line(text_for(alloc, user, sequence.pick(&TEXTS))?),
+        other => CheckEvent::Line(next_talk(alloc, sequence, user, other, files)?),
     })
 }
 

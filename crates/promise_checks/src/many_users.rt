@@ -30,7 +30,7 @@ const PIECES_EACH: u32 = 40;
 
 /// What happens to a user.
 #[derive(Clone, Copy)]
-enum Happening {
+enum CheckEvent {
     /// Its machine runs for so many units.
     Run(u32),
     /// Its operator types this.
@@ -40,11 +40,11 @@ enum Happening {
 }
 
 /// What happens next. Of eight events one is a line, and one a tick.
-fn next_happening(sequence: &mut Sequence) -> Happening {
+fn next_happening(sequence: &mut Sequence) -> CheckEvent {
     match sequence.next_number() % 8 {
-        0 => Happening::Line(sequence.pick(&TYPED)),
-        1 => Happening::Tick,
-        _ => Happening::Run(sequence.next_number() % 7 + 1),
+        0 => CheckEvent::Line(sequence.pick(&TYPED)),
+        1 => CheckEvent::Tick,
+        _ => CheckEvent::Run(sequence.next_number() % 7 + 1),
     }
 }
 
@@ -124,21 +124,21 @@ fn compare_all(machines: &SideBySide) -> Result<(), SideError> {
 }
 
 /// Lets something happen to a user, and compares the views of all.
-fn happen(
+fn apply_event(
     alloc: Global,
     machines: &mut SideBySide,
     user: UserNo,
-    what: Happening,
+    what: CheckEvent,
 ) -> Result<(), SideError> {
     let printed = machines.bare(user)?.printed();
     match what {
-        Happening::Run(units) => {
+        CheckEvent::Run(units) => {
             machines.run(user, units)?;
         }
-        Happening::Line(typed) => {
+        CheckEvent::Line(typed) => {
             machines.line(alloc, user, typed.as_bytes())?;
         }
-        Happening::Tick => machines.tick(user)?,
+        CheckEvent::Tick => machines.tick(user)?,
     }
     machines.compare_console(user, printed)?;
     compare_all(machines)
@@ -153,7 +153,7 @@ fn play_on(alloc: Global, machines: &mut SideBySide) -> Result<()> {
     for event in 0..EVENTS {
         let user = next_user(&mut sequence);
         let what = next_happening(&mut sequence);
-        happen(alloc, machines, user, what).context(format_args!("after event {event}"))?;
+        apply_event(alloc, machines, user, what).context(format_args!("after event {event}"))?;
     }
     for number in 0..64u8 {
         machines.compare_console(UserNo::new(number), 0)?;

@@ -9,7 +9,7 @@
 //! users. All of it happens twice: with room for all pages, and with so few frames and slots that
 //! events are out of frames.
 use crate::guest::READY;
-use crate::happening::{Happening, USERS, channel_of, next_happening, ready_line};
+use crate::happening::{CheckEvent, USERS, channel_of, next_happening, ready_line};
 use anyhow::{Context, Result, bail};
 use cp_core::Sizes;
 use machine_devices::{Delivery, is_logged_on};
@@ -89,7 +89,7 @@ impl Talkers {
         } else {
             let files = self.machines.files();
             let what = next_happening(alloc, &mut self.sequence, user, files)?;
-            self.happen(alloc, user, what)?;
+            self.apply_event(alloc, user, what)?;
         }
         self.compare_after(user, printed)?;
         if let Some(delivered) = self.machines.delivered() {
@@ -121,7 +121,7 @@ impl Talkers {
         let place = self.ready[user.index() % 16];
         let before = self.machines.out_of_frames();
         let what = ready_line(alloc, user, place)?;
-        self.happen(alloc, user, what)?;
+        self.apply_event(alloc, user, what)?;
         if self.machines.out_of_frames() == before {
             self.ready[user.index() % 16] = place.saturating_add(1);
         }
@@ -129,15 +129,20 @@ impl Talkers {
     }
 
     /// Lets something happen to a user.
-    fn happen(&mut self, alloc: Global, user: UserNo, what: Happening) -> Result<(), SideError> {
+    fn apply_event(
+        &mut self,
+        alloc: Global,
+        user: UserNo,
+        what: CheckEvent,
+    ) -> Result<(), SideError> {
         match what {
-            Happening::Run(units) => {
+            CheckEvent::Run(units) => {
                 self.machines.run(user, units)?;
             }
-            Happening::Serve(device) => self.serve(user, device)?,
-            Happening::Tick => self.machines.tick(user)?,
-            Happening::Deck(cards) => self.machines.deck(alloc, user, &cards)?,
-            Happening::Line(typed) => {
+            CheckEvent::Serve(device) => self.serve(user, device)?,
+            CheckEvent::Tick => self.machines.tick(user)?,
+            CheckEvent::Deck(cards) => self.machines.deck(alloc, user, &cards)?,
+            CheckEvent::Line(typed) => {
                 self.machines.line(alloc, user, typed.as_bytes())?;
                 self.count_delivered();
             }

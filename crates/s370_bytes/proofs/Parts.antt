@@ -14,7 +14,7 @@ use Rattle.s370_store.proofs.Verdicts.{part_fine}
 use Rattle.s370_store.specs.Memory.{memory_of}
 use Rattle.s370_rows.specs.declared.cpu.Cpu.{Cpu}
 use Rattle.s370_rows.specs.declared.instruction.Instruction.{Instruction}
-use Rattle.s370_rows.specs.declared.ending.Ending.TheVariants.{Again}
+use Rattle.s370_rows.specs.declared.ending.Completion.TheVariants.{Again}
 use Rattle.s370_rows.specs.Formats.{r1_of, r2_of}
 use Rattle.s370_rows.specs.State.{State, state_of}
 use Rattle.s370_rows.specs.Rows.{MeetsRow, code_of, fault_of, fetch_test, judged, outcome_of, store_test}

@@ -2,7 +2,7 @@
 use Rattle.std.proofs.Common.{◌≡◌, ℕ, List, [], ◌∷◌, None, Ok, refl}
 use Rattle.s370_store.specs.Memory.{Memory, with_stored}
 use Rattle.s370_rows.specs.declared.cpu.Cpu.{Cpu}
-use Rattle.s370_rows.specs.declared.ending.Ending.TheVariants.{Done}
+use Rattle.s370_rows.specs.declared.ending.Completion.TheVariants.{Done}
 use Rattle.s370_rows.specs.State.{state_of}
 use Rattle.s370_rows.specs.Rows.{fault_of, judged, checked, store_test, writes, outcome_of}
 

@@ -5,7 +5,7 @@ use Rattle.std.specs.Prelude.{bit_and, bit_or, bit_xor, List, [], ◌∷◌, sli
 use Rattle.std.specs.Prelude.{slice_range, None}
 use Rattle.s370_rows.specs.declared.cpu.Cpu.{Cpu}
 use Rattle.s370_rows.specs.declared.instruction.Instruction.{Instruction}
-use Rattle.s370_rows.specs.declared.ending.Ending.TheVariants.{Done}
+use Rattle.s370_rows.specs.declared.ending.Completion.TheVariants.{Done}
 use Rattle.s370_rows.specs.Arithmetic.{zero_code}
 use Rattle.s370_rows.specs.Formats.{based_address}
 use Rattle.s370_rows.specs.Registers.{with_condition}

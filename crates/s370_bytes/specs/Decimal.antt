@@ -7,8 +7,8 @@ use Rattle.s370_psw.specs.declared.program.ProgramCode.{ProgramCode}
 use Rattle.s370_psw.specs.declared.program.ProgramCode.TheVariants.{Data, FixedPointDivide}
 use Rattle.s370_rows.specs.declared.cpu.Cpu.{Cpu}
 use Rattle.s370_rows.specs.declared.instruction.Instruction.{Instruction}
-use Rattle.s370_rows.specs.declared.ending.Ending.{Ending}
-use Rattle.s370_rows.specs.declared.ending.Ending.TheVariants.{Done, Interrupted}
+use Rattle.s370_rows.specs.declared.ending.Completion.{Completion}
+use Rattle.s370_rows.specs.declared.ending.Completion.TheVariants.{Done, Interrupted}
 use Rattle.s370_rows.specs.Arithmetic.{signed, fits_word}
 use Rattle.s370_rows.specs.Formats.{r1_of, r2_of, indexed_address}
 use Rattle.s370_rows.specs.Registers.{Ended, with_register}
@@ -59,7 +59,8 @@ over_result (Err code) = Err code
 
 -- what code over registers may answer that may be refused: what is left; or the code, with nothing
 -- changed
-abbrev pub MeetsEnded : Result Ended ProgramCode → Cpu → Result Ending ProgramCode → Cpu → Type 0
+abbrev pub MeetsEnded : Result Ended ProgramCode → Cpu → Result Completion ProgramCode → Cpu
+    → Type 0
 MeetsEnded e old (Ok ending) new = e ≡ Ok (record { ending = ending; cpu = new })
 MeetsEnded e old (Err code) new = (e ≡ Err code) × (new ≡ old)
 

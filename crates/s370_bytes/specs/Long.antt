@@ -6,7 +6,7 @@ use Rattle.std.specs.Prelude.{slice_range, min, max, None, Ok}
 use Rattle.s370_psw.specs.declared.program.ProgramCode.TheVariants.{Specification}
 use Rattle.s370_rows.specs.declared.cpu.Cpu.{Cpu}
 use Rattle.s370_rows.specs.declared.instruction.Instruction.{Instruction}
-use Rattle.s370_rows.specs.declared.ending.Ending.TheVariants.{Again}
+use Rattle.s370_rows.specs.declared.ending.Completion.TheVariants.{Again}
 use Rattle.s370_rows.specs.Arithmetic.{order_code}
 use Rattle.s370_rows.specs.Formats.{r1_of, r2_of}
 use Rattle.s370_rows.specs.Registers.{Ended, with_register, with_condition, done}

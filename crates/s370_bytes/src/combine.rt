@@ -11,7 +11,7 @@ ghost use Rattle.s370_bytes.specs.Combine.{lag_of, lagged};
 ghost use Rattle.s370_bytes.specs.Strings.{number};
 
 use s370_num::ConditionCode;
-use s370_rows::{Cpu, Ending, Instruction, Refusal, grant_two};
+use s370_rows::{Completion, Cpu, Instruction, Refusal, grant_two};
 use s370_store::{Access, Block, Range, Storage};
 
 /// What is made of a byte of each operand.
@@ -273,7 +273,7 @@ pub fn combine_row<S: Storage>(
     cpu: &mut Cpu,
     storage: &mut S,
     i: Instruction,
-) -> Result<Ending, Refusal>
+) -> Result<Completion, Refusal>
     ensures row { let before = state_of cpu.old (S.memory storage.old) in
         let after = state_of cpu.new (S.memory storage.new) in
         MeetsRow (string_combined operation before i) (S.present storage.old) before result after }
@@ -297,7 +297,7 @@ pub fn combine_row<S: Storage>(
         &mut source[..count],
     );
     set_combined_condition(operation, cpu, &made[..count]);
-    Ok(Ending::Done)
+    Ok(Completion::Done)
 }
 
 /// Moves a range through a buffer of its length.
@@ -371,7 +371,7 @@ pub fn move_row<S: Storage>(
     cpu: &mut Cpu,
     storage: &mut S,
     i: Instruction,
-) -> Result<Ending, Refusal>
+) -> Result<Completion, Refusal>
     ensures row { let before = state_of cpu.old (S.memory storage.old) in
         let after = state_of cpu.new (S.memory storage.new) in
         MeetsRow (string_combined Combine.Move before i) (S.present storage.old) before result
@@ -385,5 +385,5 @@ pub fn move_row<S: Storage>(
     let source = Range { start: from, count };
     grant_two(cpu, storage, target, Access::Store, source, Access::Fetch)?;
     move_at(storage, to, from, count);
-    Ok(Ending::Done)
+    Ok(Completion::Done)
 }

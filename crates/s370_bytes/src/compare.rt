@@ -6,7 +6,7 @@ ghost use Rattle.s370_rows.specs.Rows.{MeetsRow};
 ghost use Rattle.s370_bytes.specs.Compare.{equal_pairs, string_order, strings_compared};
 
 use s370_num::ConditionCode;
-use s370_rows::{Cpu, Ending, Instruction, Refusal, grant_two, order_of};
+use s370_rows::{Completion, Cpu, Instruction, Refusal, grant_two, order_of};
 use s370_store::{Access, Block, Range, Storage};
 
 /// Returns whether eight bytes from a place on are equal in both.
@@ -76,7 +76,7 @@ pub fn compare_row<S: Storage>(
     cpu: &mut Cpu,
     storage: &S,
     i: Instruction,
-) -> Result<Ending, Refusal>
+) -> Result<Completion, Refusal>
     ensures { let before = state_of cpu.old (S.memory storage.now) in
         let after = state_of cpu.new (S.memory storage.now) in
         MeetsRow (strings_compared before i) (S.present storage.now) before result after }
@@ -100,7 +100,7 @@ pub fn compare_row<S: Storage>(
     storage.load(second, &mut right[..count]);
     cpu.psw
         .set_condition(string_order(&left[..count], &right[..count]));
-    Ok(Ending::Done)
+    Ok(Completion::Done)
 }
 
 /// The order of two strings of one length that each lie in a block that was found, through buffers

@@ -7,7 +7,7 @@ ghost use Rattle.s370_bytes.specs.Decimal.{binary_left, binary_loaded, decimal_o
 
 use s370_num::Register;
 use s370_psw::ProgramCode;
-use s370_rows::{Cpu, Ending, Instruction, Refusal, grant};
+use s370_rows::{Completion, Cpu, Instruction, Refusal, grant};
 use s370_store::{Access, Range, Storage, load_doubleword, store_doubleword};
 
 /// Returns the number that 15 decimal digits are, if each is one.
@@ -49,7 +49,11 @@ fn signed_value(doubleword: u64) -> Option<i64>
 
 /// The low bits of a number in a register.
 #[inline]
-fn load_binary(cpu: &mut Cpu, register: Register, doubleword: u64) -> Result<Ending, ProgramCode>
+fn load_binary(
+    cpu: &mut Cpu,
+    register: Register,
+    doubleword: u64,
+) -> Result<Completion, ProgramCode>
     ensures { MeetsEnded (binary_left cpu.old register (signed_value doubleword)) cpu.old result
         cpu.new }
 {
@@ -58,9 +62,9 @@ fn load_binary(cpu: &mut Cpu, register: Register, doubleword: u64) -> Result<End
         Some(number) => {
             cpu.general[register.index()] = (number.cast_unsigned() & 0xFFFF_FFFF) as u32;
             if number >= -0x8000_0000 && number <= 0x7FFF_FFFF {
-                Ok(Ending::Done)
+                Ok(Completion::Done)
             } else {
-                Ok(Ending::Interrupted(ProgramCode::FixedPointDivide))
+                Ok(Completion::Interrupted(ProgramCode::FixedPointDivide))
             }
         }
     }
@@ -72,7 +76,11 @@ fn load_binary(cpu: &mut Cpu, register: Register, doubleword: u64) -> Result<End
 ///
 /// A `Refusal`: the program interruption, or an absent page that has to be brought first. Nothing
 /// has changed.
-pub fn binary_row<S: Storage>(cpu: &mut Cpu, storage: &S, i: Instruction) -> Result<Ending, Refusal>
+pub fn binary_row<S: Storage>(
+    cpu: &mut Cpu,
+    storage: &S,
+    i: Instruction,
+) -> Result<Completion, Refusal>
     ensures { let before = state_of cpu.old (S.memory storage.now) in
         let after = state_of cpu.new (S.memory storage.now) in
         MeetsRow (binary_loaded before i) (S.present storage.now) before result after }
@@ -131,7 +139,7 @@ pub fn decimal_row<S: Storage>(
     cpu: &Cpu,
     storage: &mut S,
     i: Instruction,
-) -> Result<Ending, Refusal>
+) -> Result<Completion, Refusal>
     ensures row { let before = state_of cpu.now (S.memory storage.old) in
         let after = state_of cpu.now (S.memory storage.new) in
         MeetsRow (decimal_stored before i) (S.present storage.old) before result after }
@@ -148,5 +156,5 @@ pub fn decimal_row<S: Storage>(
         Access::Store,
     )?;
     store_doubleword(storage, at, decimal_of(cpu.general[i.r1().index()]));
-    Ok(Ending::Done)
+    Ok(Completion::Done)
 }

@@ -7,7 +7,7 @@ ghost use Rattle.s370_rows.specs.Rows.{MeetsRow};
 ghost use Rattle.s370_bytes.specs.Digits.{from_right, digit, exchanged, laid_out, string_of};
 ghost use Rattle.s370_bytes.specs.Digits.{digits_laid_out};
 
-use s370_rows::{Cpu, Ending, Instruction, Refusal, grant_two};
+use s370_rows::{Completion, Cpu, Instruction, Refusal, grant_two};
 use s370_store::{Access, Range, Storage};
 
 /// How digits are laid out anew.
@@ -133,7 +133,7 @@ pub fn layout_row<S: Storage>(
     cpu: &Cpu,
     storage: &mut S,
     i: Instruction,
-) -> Result<Ending, Refusal>
+) -> Result<Completion, Refusal>
     ensures row { let before = state_of cpu.now (S.memory storage.old) in
         let after = state_of cpu.now (S.memory storage.new) in
         MeetsRow (digits_laid_out layout before i) (S.present storage.old) before result after }
@@ -164,5 +164,5 @@ pub fn layout_row<S: Storage>(
         &mut source[..count_2],
         &mut made[..count],
     );
-    Ok(Ending::Done)
+    Ok(Completion::Done)
 }

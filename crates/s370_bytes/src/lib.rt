@@ -8,7 +8,7 @@
 //! ```
 //! use s370_bytes::{Combine, combine_row};
 //! use s370_psw::Psw;
-//! use s370_rows::{Cpu, Ending, Instruction};
+//! use s370_rows::{Cpu, Completion, Instruction};
 //! use s370_store::{PlainStorage, Storage, load_word};
 //!
 //! let mut cpu = Cpu { general: [0; 16], control: [0; 16], psw: Psw::from_word(0) };
@@ -17,7 +17,7 @@
 //! storage.store(0xA00, &[0xFF, 0xFF, 0, 0]);
 //! // XC X'900'(4),X'A00', without base registers
 //! let xc = Instruction { opcode: 0xD7, second_byte: 3, second_half: 0x0900, third_half: 0x0A00 };
-//! assert!(rt; combine_row(Combine::ExclusiveOr, &mut cpu, &mut storage, xc) == Ok(Ending::Done));
+//! assert!(rt; combine_row(Combine::ExclusiveOr, &mut cpu, &mut storage, xc) == Ok(Completion::Done));
 //! assert_eq!(rt; load_word(&storage, 0x900), 0xF00F_0000);
 //! assert_eq!(rt; cpu.psw.condition().get(), 1); // the result is not zero
 //! ```

@@ -15,7 +15,7 @@ ghost use Rattle.s370_bytes.specs.Strings.{padded};
 use crate::compare::equal_front;
 use s370_num::{Addr24, ConditionCode, Register};
 use s370_psw::ProgramCode;
-use s370_rows::{Cpu, Ending, Instruction, Refusal, copy_granted, grant_two, order_of};
+use s370_rows::{Completion, Cpu, Instruction, Refusal, copy_granted, grant_two, order_of};
 use s370_store::{Access, Range, Storage};
 
 /// A long operand: its address, its length and the byte above the length.
@@ -201,7 +201,7 @@ fn move_part<S: Storage>(
     storage: &mut S,
     r1: Register,
     r2: Register,
-) -> Result<Ending, Refusal>
+) -> Result<Completion, Refusal>
     requires first { r1 < 15 }
     requires second { r2 < 15 }
     requires some { 0 < (operand_of cpu.old r1).count }
@@ -227,9 +227,9 @@ fn move_part<S: Storage>(
     second.past(count_2).set(cpu, r2);
     if first.count == count {
         cpu.psw.set_condition(counts_code(first, second));
-        Ok(Ending::Done)
+        Ok(Completion::Done)
     } else {
-        Ok(Ending::Again)
+        Ok(Completion::Again)
     }
 }
 
@@ -243,7 +243,7 @@ pub fn move_long_row<S: Storage>(
     cpu: &mut Cpu,
     storage: &mut S,
     i: Instruction,
-) -> Result<Ending, Refusal>
+) -> Result<Completion, Refusal>
     ensures row { let before = state_of cpu.old (S.memory storage.old) in
         let after = state_of cpu.new (S.memory storage.new) in
         MeetsRow (long_moved before i) (S.present storage.old) before result after }
@@ -261,11 +261,11 @@ pub fn move_long_row<S: Storage>(
     let second = Operand::of(cpu, r2);
     if first.count == 0 {
         cpu.psw.set_condition(counts_code(first, second));
-        return Ok(Ending::Done);
+        return Ok(Completion::Done);
     }
     if destroys(first, second) {
         cpu.psw.set_condition(ConditionCode::THREE);
-        return Ok(Ending::Done);
+        return Ok(Completion::Done);
     }
     move_part(cpu, storage, r1, r2)
 }
@@ -356,9 +356,8 @@ fn move_whole_parts<S: Storage>(
 }
 
 /// 0E MVCL with this second byte: parts of 256 bytes that have none of the two bytes at an address,
-/// one after another
-/// and at most so many, after each of which more are left. How many there were; where there is
-/// none, nothing changes.
+/// one after another and at most so many, after each of which more are left. How many there were;
+/// where there is none, nothing changes.
 ///
 /// Those that lie in one block are one copy.
 #[inline(always)]
@@ -439,7 +438,7 @@ fn conclude(
     count_2: u32,
     left: &[u8],
     right: &[u8],
-) -> Ending
+) -> Completion
     requires first { r1 < 15 }
     requires second { r2 < 15 }
     requires short { count ≤ 256 }
@@ -458,12 +457,12 @@ fn conclude(
     if front < count as usize {
         cpu.psw
             .set_condition(order_of(left[front] as u32, right[front] as u32));
-        Ending::Done
+        Completion::Done
     } else if first.count == count_1 && second.count == count_2 {
         cpu.psw.set_condition(ConditionCode::ZERO);
-        Ending::Done
+        Completion::Done
     } else {
-        Ending::Again
+        Completion::Again
     }
 }
 
@@ -477,7 +476,7 @@ fn compare_at<S: Storage>(
     count: u32,
     left: &mut [u8],
     right: &mut [u8],
-) -> Ending
+) -> Completion
     requires first { r1 < 15 }
     requires second { r2 < 15 }
     requires short { count ≤ 256 }
@@ -509,7 +508,7 @@ fn compare_part<S: Storage>(
     storage: &S,
     r1: Register,
     r2: Register,
-) -> Result<Ending, Refusal>
+) -> Result<Completion, Refusal>
     requires first { r1 < 15 }
     requires second { r2 < 15 }
     ensures { let before = state_of cpu.old (S.memory storage.now) in
@@ -551,7 +550,7 @@ pub fn compare_long_row<S: Storage>(
     cpu: &mut Cpu,
     storage: &S,
     i: Instruction,
-) -> Result<Ending, Refusal>
+) -> Result<Completion, Refusal>
     ensures { let before = state_of cpu.old (S.memory storage.now) in
         let after = state_of cpu.new (S.memory storage.now) in
         MeetsRow (long_compared before i) (S.present storage.now) before result after }
@@ -566,7 +565,7 @@ pub fn compare_long_row<S: Storage>(
     }
     if Operand::of(cpu, r1).count == 0 && Operand::of(cpu, r2).count == 0 {
         cpu.psw.set_condition(ConditionCode::ZERO);
-        return Ok(Ending::Done);
+        return Ok(Completion::Done);
     }
     compare_part(cpu, storage, r1, r2)
 }

@@ -12,7 +12,7 @@ ghost use Rattle.s370_bytes.specs.Masks.{characters_compared};
 use crate::combine::is_zero;
 use crate::compare::string_order;
 use s370_num::{ConditionCode, Register};
-use s370_rows::{Cpu, Ending, Instruction, Refusal, grant};
+use s370_rows::{Completion, Cpu, Instruction, Refusal, grant};
 use s370_store::{Access, Range, Storage};
 
 /// Returns whether a mask has the bit that stands for a byte of a register, from the left.
@@ -126,7 +126,7 @@ pub fn insert_characters_row<S: Storage>(
     cpu: &mut Cpu,
     storage: &S,
     i: Instruction,
-) -> Result<Ending, Refusal>
+) -> Result<Completion, Refusal>
     ensures { let before = state_of cpu.old (S.memory storage.now) in
         let after = state_of cpu.new (S.memory storage.now) in
         MeetsRow (characters_inserted before i) (S.present storage.now) before result after }
@@ -148,7 +148,7 @@ pub fn insert_characters_row<S: Storage>(
         start,
         &mut from[..count as usize],
     );
-    Ok(Ending::Done)
+    Ok(Completion::Done)
 }
 
 /// BE STCM: store characters under mask.
@@ -161,7 +161,7 @@ pub fn store_characters_row<S: Storage>(
     cpu: &Cpu,
     storage: &mut S,
     i: Instruction,
-) -> Result<Ending, Refusal>
+) -> Result<Completion, Refusal>
     ensures row { let before = state_of cpu.now (S.memory storage.old) in
         let after = state_of cpu.now (S.memory storage.new) in
         MeetsRow (characters_stored before i) (S.present storage.old) before result after }
@@ -178,7 +178,7 @@ pub fn store_characters_row<S: Storage>(
     let mut made = [0u8; 4];
     gather(mask, &cpu.general[i.r1().index()].to_be_bytes(), &mut made);
     storage.store(start, &made[..count as usize]);
-    Ok(Ending::Done)
+    Ok(Completion::Done)
 }
 
 /// The condition code of the bytes of a register that a mask chooses against those of a range,
@@ -219,7 +219,7 @@ pub fn compare_characters_row<S: Storage>(
     cpu: &mut Cpu,
     storage: &S,
     i: Instruction,
-) -> Result<Ending, Refusal>
+) -> Result<Completion, Refusal>
     ensures { let before = state_of cpu.old (S.memory storage.now) in
         let after = state_of cpu.new (S.memory storage.now) in
         MeetsRow (characters_compared before i) (S.present storage.now) before result after }
@@ -242,5 +242,5 @@ pub fn compare_characters_row<S: Storage>(
         &mut right[..count as usize],
     );
     cpu.psw.set_condition(code);
-    Ok(Ending::Done)
+    Ok(Completion::Done)
 }

@@ -9,7 +9,7 @@ ghost use Rattle.s370_bytes.specs.Multiple.{loaded_from, multiple_loaded, multip
 ghost use Rattle.s370_bytes.specs.Multiple.{register_count, words_from};
 
 use s370_num::{Addr24, Register};
-use s370_rows::{Cpu, Ending, Instruction, Refusal, grant};
+use s370_rows::{Completion, Cpu, Instruction, Refusal, grant};
 use s370_store::{Access, Block, Range, Storage, load_word, load_word_in};
 
 /// Returns how many registers there are from one to another, where 0 follows 15.
@@ -147,7 +147,7 @@ pub fn store_multiple_row<S: Storage>(
     cpu: &Cpu,
     storage: &mut S,
     i: Instruction,
-) -> Result<Ending, Refusal>
+) -> Result<Completion, Refusal>
     ensures row { let before = state_of cpu.now (S.memory storage.old) in
         let after = state_of cpu.now (S.memory storage.new) in
         MeetsRow (multiple_stored before i) (S.present storage.old) before result after }
@@ -156,7 +156,7 @@ pub fn store_multiple_row<S: Storage>(
     let address = cpu.based(i.second_half);
     grant(cpu, storage, words_range(address, i), Access::Store)?;
     store_registers(&cpu.general, storage, address, i);
-    Ok(Ending::Done)
+    Ok(Completion::Done)
 }
 
 /// 98 LM: load registers R1 to R3; 0 follows 15.
@@ -169,7 +169,7 @@ pub fn load_multiple_row<S: Storage>(
     cpu: &mut Cpu,
     storage: &S,
     i: Instruction,
-) -> Result<Ending, Refusal>
+) -> Result<Completion, Refusal>
     ensures { let before = state_of cpu.old (S.memory storage.now) in
         let after = state_of cpu.new (S.memory storage.now) in
         MeetsRow (multiple_loaded before i) (S.present storage.now) before result after }
@@ -177,5 +177,5 @@ pub fn load_multiple_row<S: Storage>(
     let address = cpu.based(i.second_half);
     grant(cpu, storage, words_range(address, i), Access::Fetch)?;
     load_registers(&mut cpu.general, storage, address, i);
-    Ok(Ending::Done)
+    Ok(Completion::Done)
 }

@@ -9,7 +9,7 @@ ghost use Rattle.s370_bytes.specs.Translate.{is_apart, translation, string_trans
 ghost use Rattle.s370_bytes.specs.Translate.{scanned, string_scanned};
 
 use s370_num::{Addr24, ConditionCode};
-use s370_rows::{Cpu, Ending, Instruction, Refusal, grant_two};
+use s370_rows::{Completion, Cpu, Instruction, Refusal, grant_two};
 use s370_store::{Access, Block, Range, Storage, load_byte, store_byte};
 
 /// Returns all bytes of a table: an access to it is tested whole, whichever of them are named.
@@ -194,7 +194,7 @@ pub fn translate_row<S: Storage>(
     cpu: &Cpu,
     storage: &mut S,
     i: Instruction,
-) -> Result<Ending, Refusal>
+) -> Result<Completion, Refusal>
     ensures row { let before = state_of cpu.now (S.memory storage.old) in
         let after = state_of cpu.now (S.memory storage.new) in
         MeetsRow (string_translated before i) (S.present storage.old) before result after }
@@ -213,7 +213,7 @@ pub fn translate_row<S: Storage>(
     } else {
         translate_each(storage, to, from, count);
     }
-    Ok(Ending::Done)
+    Ok(Completion::Done)
 }
 
 /// Returns how many bytes have a function byte of zero before the first that has not.
@@ -264,7 +264,7 @@ pub fn translate_test_row<S: Storage>(
     cpu: &mut Cpu,
     storage: &S,
     i: Instruction,
-) -> Result<Ending, Refusal>
+) -> Result<Completion, Refusal>
     ensures { let before = state_of cpu.old (S.memory storage.now) in
         let after = state_of cpu.new (S.memory storage.now) in
         MeetsRow (string_scanned before i) (S.present storage.now) before result after }
@@ -282,5 +282,5 @@ pub fn translate_test_row<S: Storage>(
     storage.load(start, &mut names[..count]);
     storage.load(from, &mut table);
     scan(cpu, first, &names[..count], &table);
-    Ok(Ending::Done)
+    Ok(Completion::Done)
 }

@@ -1,7 +1,7 @@
 -- If a run halts, and how far it has come.
 use Rattle.std.specs.Prelude.{ℕ, ◌+◌, ◌-◌, ◌*◌, ◌^◌, ◌≡◌, ◌<◌, ◌≤◌, ◌⊎◌, Bool, Result, Ok, Err, IfErr, Some, length}
 use Rattle.std.proofs.Common.{arith, inl, inr, subst, ap, ◌∙◌, sym}
-use Rattle.s370_store.specs.Access.{IsAway, Touches}
+use Rattle.s370_store.specs.Access.{IsAbsent, Touches}
 use Rattle.s370_walk.specs.declared.parts.Ending.{Ending}
 use Rattle.s370_walk.specs.declared.parts.Order.{Order}
 use Rattle.s370_walk.specs.declared.parts.Position.{Position}
@@ -24,7 +24,7 @@ use Rattle.s370_channel.specs.Progress.{MatchStuck, rest_of, setting, weight}
 -- ---- where it halts
 
 -- a word that is not there
-pub lacks_word : {D : Type 0} {w : Written} {h : Setting D} {present : ℕ → Bool} {spot : NextCcw} {m : Memory} {d : D} {page : ℕ} → IsAway (length m.bytes) present page → Touches (w.word_asks spot.at) page → HaltsAt w h present (Fetching spot m d) m d page (Next spot)
+pub lacks_word : {D : Type 0} {w : Written} {h : Setting D} {present : ℕ → Bool} {spot : NextCcw} {m : Memory} {d : D} {page : ℕ} → IsAbsent (length m.bytes) present page → Touches (w.word_asks spot.at) page → HaltsAt w h present (Fetching spot m d) m d page (Next spot)
 lacks_word {w = w} {h = h} {spot = spot} {m = m} {d = d} away asked =
     record { comes = reach_here (live w) h (Fetching spot m d); lacks = record { asked = asked; away = away }; ready = tt }
 

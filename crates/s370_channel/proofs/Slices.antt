@@ -9,12 +9,12 @@ use Rattle.s370_store.specs.Access.{put, IsGranted}
 use Rattle.s370_store.proofs.Verdicts.{part_fine}
 use Rattle.s370_store.proofs.Puts.{put-nothing, length-put}
 use Rattle.s370_walk.specs.declared.parts.Position.{Position}
-use Rattle.s370_walk.specs.declared.parts.Kind.TheVariants.{Gives, Takes, TakesUpTo}
+use Rattle.s370_walk.specs.declared.parts.Direction.TheVariants.{Gives, Takes, TakesUpTo}
 use Rattle.s370_walk.specs.Blocks.{served}
 use Rattle.s370_store.specs.Memory.{Memory, memory_of, with_stored}
 use Rattle.s370_walk.specs.Hardware.{area, fault_of, given, after_giving, after_taking, put_byte, byte_at}
 use Rattle.s370_walk.specs.Walk.{Form, Setting, State, Moving, Written, Reaches, next, live, rest, place_in, stepped, skips, given_to, given_at, moved, byte_moved, taken_from, taken_at}
-use Rattle.s370_walk.specs.declared.parts.Kind.{Kind}
+use Rattle.s370_walk.specs.declared.parts.Direction.{Direction}
 use Rattle.s370_channel.specs.declared.moving.Moved.{Moved}
 use Rattle.s370_channel.specs.declared.moving.Moved.TheVariants.{Done}
 use Rattle.s370_channel.specs.Progress.{onward, IsFurther, HasMoved, moved_state}
@@ -65,10 +65,10 @@ moved_byte h p place load zero left m d some more = absurd (omega arith)
 moved_byte h p place load (suc count) zero m d some more = absurd (omega arith)
 moved_byte h p place load (suc count) (suc left) m d some more = refl
 
-byte_given : {D : Type 0} (h : Setting D) (p : Position) (place : Option ℕ) (load : ℕ → ℕ) (k : Kind) (m : Memory) (d : D) → k ≡ Gives → skips p.word ≡ false → byte_moved h p place load k m d ≡ given_to h p place m d
+byte_given : {D : Type 0} (h : Setting D) (p : Position) (place : Option ℕ) (load : ℕ → ℕ) (k : Direction) (m : Memory) (d : D) → k ≡ Gives → skips p.word ≡ false → byte_moved h p place load k m d ≡ given_to h p place m d
 byte_given h p place load k m d e all = rw (e, all) refl
 
-byte_taken : {D : Type 0} (h : Setting D) (p : Position) (place : Option ℕ) (load : ℕ → ℕ) (k : Kind) (m : Memory) (d : D) → k ≢ Gives → byte_moved h p place load k m d ≡ taken_from h p place load m d
+byte_taken : {D : Type 0} (h : Setting D) (p : Position) (place : Option ℕ) (load : ℕ → ℕ) (k : Direction) (m : Memory) (d : D) → k ≢ Gives → byte_moved h p place load k m d ≡ taken_from h p place load m d
 byte_taken h p place load Gives m d ne = absurd (ne refl)
 byte_taken h p place load Takes m d ne = refl
 byte_taken h p place load TakesUpTo m d ne = refl

@@ -2,13 +2,13 @@
 use Rattle.std.proofs.Common.{◌≡◌, ◌≢◌, ℕ, ◌<◌, Bool, true, false, List, [], ◌∷◌, length, Some, refl, inl, inr, ap, ◌∙◌, subst}
 use Rattle.std.proofs.lemmas.Bool.{lt-ltb}
 use Rattle.s370_store.specs.declared.Access.{Access}
-use Rattle.s370_store.specs.Access.{Test, IsAway, Touches, IsVerdict}
+use Rattle.s370_store.specs.Access.{Test, IsAbsent, Touches, IsVerdict}
 use Rattle.s370_walk.specs.declared.parts.Position.{Position}
 use Rattle.s370_walk.specs.declared.parts.NextCcw.{NextCcw}
 use Rattle.s370_walk.specs.declared.parts.Ccw.{Ccw}
 use Rattle.s370_walk.specs.declared.parts.Transfer.{Transfer}
-use Rattle.s370_walk.specs.declared.parts.Kind.{Kind}
-use Rattle.s370_walk.specs.declared.parts.Kind.TheVariants.{Gives, Takes, TakesUpTo}
+use Rattle.s370_walk.specs.declared.parts.Direction.{Direction}
+use Rattle.s370_walk.specs.declared.parts.Direction.TheVariants.{Gives, Takes, TakesUpTo}
 use Rattle.s370_store.specs.Memory.{Memory}
 use Rattle.s370_walk.specs.Hardware.{Machine, area}
 use Rattle.s370_walk.specs.Walk.{Setting, judged, Good, moving, State, Moving, Fetching, Written, Reaches, Form, next, rest, place_in}
@@ -24,43 +24,43 @@ use Rattle.s370_store.specs.declared.Page.{Page}
 use Rattle.std.specs.Prelude.{Result, Err, ⊤}
 use Rattle.s370_walk.proofs.Reaching.{reach_then}
 
-takes_all : (p : Position) (k : Kind) → k ≢ Gives → is_skipped p k ≡ false
+takes_all : (p : Position) (k : Direction) → k ≢ Gives → is_skipped p k ≡ false
 takes_all p Gives ne = absurd (ne refl)
 takes_all p Takes ne = refl
 takes_all p TakesUpTo ne = refl
 
-gives_all : (p : Position) (k : Kind) → k ≡ Gives → has_bits p.word.flags.bits 16 ≡ false → is_skipped p k ≡ false
+gives_all : (p : Position) (k : Direction) → k ≡ Gives → has_bits p.word.flags.bits 16 ≡ false → is_skipped p k ≡ false
 gives_all p k e zero = rw (e, zero) refl
 
 is_moved : {D : Type 0} (machine : Machine D) (p : Position) (d : D) → 0 < p.count → 0 < rest machine p d → is_skipped p p.transfer.kind ≡ false → moves machine p d ≡ true
 is_moved machine p d some left all = rw (lt-ltb 0 p.count some, lt-ltb 0 (rest machine p d) left, all) refl
 
 module _ {D : Type 0} {w : Written} {machine : Machine D} {present : ℕ → Bool} {p : Position} {m : Memory} {d : D} where
-  lacks_place : {page : ℕ} → 0 < p.count → 0 < rest machine p d → is_skipped p p.transfer.kind ≡ false → IsAway (length m.bytes) present page → Touches (place_asks w p) page → Lacks w machine present (Moving p m d) page
+  lacks_place : {page : ℕ} → 0 < p.count → 0 < rest machine p d → is_skipped p p.transfer.kind ≡ false → IsAbsent (length m.bytes) present page → Touches (place_asks w p) page → Lacks w machine present (Moving p m d) page
   lacks_place some left all away asked = record { asked = (is_moved machine p d some left all, inl asked); away = away }
 
-  lacks_byte : {page : ℕ} (a : ℕ) (access : Access) → 0 < p.count → 0 < rest machine p d → is_skipped p p.transfer.kind ≡ false → place_in w m p ≡ Some a → IsAway (length m.bytes) present page → Touches (area access a 1 ∷ []) page → Lacks w machine present (Moving p m d) page
+  lacks_byte : {page : ℕ} (a : ℕ) (access : Access) → 0 < p.count → 0 < rest machine p d → is_skipped p p.transfer.kind ≡ false → place_in w m p ≡ Some a → IsAbsent (length m.bytes) present page → Touches (area access a 1 ∷ []) page → Lacks w machine present (Moving p m d) page
   lacks_byte a access some left all at away asked = record { asked = (is_moved machine p d some left all, inr (rw at asked)); away = away }
 
 -- the same in the words of the code
 pub lacks_giving_place : {D : Type 0} {w : Written} {machine : Machine D} {present : ℕ → Bool} {p : Position} {m : Memory} {d : D} {page : ℕ} → 0 < p.count → 0 < rest machine p d → p.transfer.kind ≡ Gives → has_bits p.word.flags.bits 16 ≡ false
-    → IsAway (length m.bytes) present page → Touches (place_asks w p) page → Lacks w machine present (Moving p m d) page
+    → IsAbsent (length m.bytes) present page → Touches (place_asks w p) page → Lacks w machine present (Moving p m d) page
 lacks_giving_place {p = p} some left gives all away asked = lacks_place some left (gives_all p _ gives all) away asked
 
 pub lacks_giving_byte : {D : Type 0} {w : Written} {machine : Machine D} {present : ℕ → Bool} {p : Position} {m : Memory} {d : D} {page : ℕ} (a : ℕ) (access : Access) → 0 < p.count → 0 < rest machine p d → p.transfer.kind ≡ Gives → has_bits p.word.flags.bits 16 ≡ false
-    → place_in w m p ≡ Some a → IsAway (length m.bytes) present page → Touches (area access a 1 ∷ []) page → Lacks w machine present (Moving p m d) page
+    → place_in w m p ≡ Some a → IsAbsent (length m.bytes) present page → Touches (area access a 1 ∷ []) page → Lacks w machine present (Moving p m d) page
 lacks_giving_byte {p = p} a access some left gives all at away asked = lacks_byte a access some left (gives_all p _ gives all) at away asked
 
 pub lacks_taking_place : {D : Type 0} {w : Written} {machine : Machine D} {present : ℕ → Bool} {p : Position} {m : Memory} {d : D} {page : ℕ} → 0 < p.count → 0 < rest machine p d → p.transfer.kind ≢ Gives
-    → IsAway (length m.bytes) present page → Touches (place_asks w p) page → Lacks w machine present (Moving p m d) page
+    → IsAbsent (length m.bytes) present page → Touches (place_asks w p) page → Lacks w machine present (Moving p m d) page
 lacks_taking_place {p = p} some left takes away asked = lacks_place some left (takes_all p _ takes) away asked
 
 pub lacks_taking_byte : {D : Type 0} {w : Written} {machine : Machine D} {present : ℕ → Bool} {p : Position} {m : Memory} {d : D} {page : ℕ} (a : ℕ) (access : Access) → 0 < p.count → 0 < rest machine p d → p.transfer.kind ≢ Gives
-    → place_in w m p ≡ Some a → IsAway (length m.bytes) present page → Touches (area access a 1 ∷ []) page → Lacks w machine present (Moving p m d) page
+    → place_in w m p ≡ Some a → IsAbsent (length m.bytes) present page → Touches (area access a 1 ∷ []) page → Lacks w machine present (Moving p m d) page
 lacks_taking_byte {p = p} a access some left takes at away asked = lacks_byte a access some left (takes_all p _ takes) at away asked
 
 -- what a check says of an absent page
-pub absent_verdict : (size : ℕ) (keys : List ℕ) (present : ℕ → Bool) (key : ℕ) (t : Test) (r : Result ⊤ Fault) (f : Fault) (page : Page) → r ≡ Err f → f ≡ Absent page → IsVerdict size keys present key (t ∷ []) r → IsAway size present page.0 × Touches (t ∷ []) page.0
+pub absent_verdict : (size : ℕ) (keys : List ℕ) (present : ℕ → Bool) (key : ℕ) (t : Test) (r : Result ⊤ Fault) (f : Fault) (page : Page) → r ≡ Err f → f ≡ Absent page → IsVerdict size keys present key (t ∷ []) r → IsAbsent size present page.0 × Touches (t ∷ []) page.0
 absent_verdict size keys present key t r f page e is v =
     let P : Result ⊤ Fault → Type 0 = λ x. IsVerdict size keys present key (t ∷ []) x in
     let both = subst P (e ∙ ap Err is) v in

@@ -1,7 +1,7 @@
 -- A run for which pages are brought goes on where it was.
 use Rattle.std.specs.Prelude.{ℕ, ◌≡◌, ◌<◌, Bool, List, [], ◌∷◌, ◌++◌, Result, Ok, Err, IfErr, length}
 use Rattle.std.proofs.Common.{inl, inr, subst, ◌∙◌, refl}
-use Rattle.s370_store.specs.Access.{IsAway}
+use Rattle.s370_store.specs.Access.{IsAbsent}
 use Rattle.s370_walk.specs.declared.parts.Ending.{Ending}
 use Rattle.s370_walk.specs.declared.parts.Order.{Order}
 use Rattle.s370_store.specs.Memory.{Memory}
@@ -26,8 +26,8 @@ size_stands (Next spot) m d = refl
 size_stands (Within p) m d = refl
 
 -- the page is one of the storage
-pub away_at : {D : Type 0} {w : Written} {h : Setting D} {present : ℕ → Bool} {from : State D} {m : Memory} {d : D} {page : ℕ} {place : Place} → HaltsAt w h present from m d page place → IsAway (length m.bytes) present page
-away_at {present = present} {m = m} {d = d} {page = page} {place = place} a = subst (λ (n : ℕ). IsAway n present page) (size_stands place m d) a.lacks.away
+pub away_at : {D : Type 0} {w : Written} {h : Setting D} {present : ℕ → Bool} {from : State D} {m : Memory} {d : D} {page : ℕ} {place : Place} → HaltsAt w h present from m d page place → IsAbsent (length m.bytes) present page
+away_at {present = present} {m = m} {d = d} {page = page} {place = place} a = subst (λ (n : ℕ). IsAbsent n present page) (size_stands place m d) a.lacks.away
 
 -- If a run halts at a place no lighter than that at which it began, it is that place, nothing has changed, and the page
 -- is asked for there.

@@ -1,6 +1,6 @@
 -- Where a run halts for want of a page, and how it goes on from there.
 use Rattle.std.specs.Prelude.{ℕ, ◌+◌, ◌-◌, ◌*◌, ◌^◌, ◌≡◌, ◌<◌, ◌≤◌, ◌⊎◌, Bool, true, None, Some}
-use Rattle.s370_store.specs.Access.{IsAway}
+use Rattle.s370_store.specs.Access.{IsAbsent}
 use Rattle.s370_walk.specs.declared.parts.Order.{Order}
 use Rattle.s370_walk.specs.declared.parts.Position.{Position}
 use Rattle.s370_walk.specs.declared.parts.NextCcw.{NextCcw}
@@ -25,7 +25,7 @@ use Rattle.s370_channel.specs.Loading.{implied_word, loading, loading_limits}
 pub record Lacks {D : Type 0} (w : Written) (machine : Machine D) (present : ℕ → Bool)
     (state : State D) (page : ℕ) : Type 0 where
   pub asked : IsAsked w machine state page
-  pub away : IsAway (size_in state) present page
+  pub away : IsAbsent (size_in state) present page
 
 -- ---- within a word
 

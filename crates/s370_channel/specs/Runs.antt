@@ -34,9 +34,9 @@ Walks reads machine start old part ending new part' =
     Reaches (reads old) (limited machine start) (begun start old part) (Over ending new part')
 
 -- a page that is reported as absent is not present
-abbrev pub TellsAway : (ℕ → Bool) → ChannelError → Type 0
-TellsAway present errors.Memory = Unit {0}
-TellsAway present (errors.Absent page) = present page.0 ≡ false
+abbrev pub ReportsAbsent : (ℕ → Bool) → ChannelError → Type 0
+ReportsAbsent present errors.Memory = Unit {0}
+ReportsAbsent present (errors.Absent page) = present page.0 ≡ false
 
 -- why a program is not run whose words are read as they are reached: its walk comes to a step that
 -- needs a page which is not present, or to a command that needs memory

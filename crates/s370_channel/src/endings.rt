@@ -7,7 +7,7 @@ ghost use Rattle.s370_channel.specs.Progress.{setting, IsBehind};
 
 use crate::limits::Limits;
 use s370_walk::{
-    Ccw, ChannelStatus, Device, Ending, Flags, Kind, NextCcw, Position, Progress, Transfer,
+    Ccw, ChannelStatus, Device, Direction, Ending, Flags, NextCcw, Position, Progress, Transfer,
     UnitStatus,
 };
 
@@ -79,9 +79,9 @@ fn minds_length(p: &Position) -> bool
     ensures { result ≡ tells_length p.now }
 {
     let exact = match p.transfer.kind {
-        Kind::Gives => true,
-        Kind::Takes => true,
-        Kind::TakesUpTo => false,
+        Direction::Gives => true,
+        Direction::Takes => true,
+        Direction::TakesUpTo => false,
     };
     let flags = p.word.flags;
     exact && (flags.has(Flags::CHAIN_DATA) || !flags.has(Flags::SUPPRESS_LENGTH))

@@ -4,7 +4,7 @@ ghost use Rattle.s370_walk.specs.Blocks.{begins_block, after};
 ghost use Rattle.s370_walk.specs.Hardware.{FetchTells};
 ghost use Rattle.s370_walk.specs.Walk.{Moving, next, Reaches, live, rest, stepped, place_in};
 ghost use Rattle.s370_walk.specs.Stuck.{place_asks};
-ghost use Rattle.s370_walk.specs.declared.parts.Kind.TheVariants.{Gives};
+ghost use Rattle.s370_walk.specs.declared.parts.Direction.TheVariants.{Gives};
 ghost use Rattle.s370_channel.specs.declared.moving.Moved.TheVariants.{Done};
 ghost use Rattle.s370_channel.specs.Progress.{setting, moved_state, IsOut, IsOneOn, IsFurther};
 ghost use Rattle.s370_channel.specs.Halts.{Lacks, HaltsIn, HasMovedTo};
@@ -13,7 +13,7 @@ use crate::endings::{left_of, stop};
 use crate::limits::Limits;
 use crate::pieces::move_many;
 use s370_store::{Access, Fault, Page, Range, Storage, load_byte, store_byte};
-use s370_walk::{ChannelStatus, Device, Ending, Flags, Kind, Position, Transfer, WordForm};
+use s370_walk::{ChannelStatus, Device, Direction, Ending, Flags, Position, Transfer, WordForm};
 
 /// What a transfer leads to.
 pub(crate) enum Moved {
@@ -225,9 +225,9 @@ fn move_byte<F: WordForm, S: Storage, D: Device>(
     ensures idle { IfErr result (λ page. device.new ≡ device.old) }
 {
     match p.transfer.kind {
-        Kind::Gives => give_byte(program, storage, device, limits, p),
-        Kind::Takes => take_byte(program, storage, device, limits, p),
-        Kind::TakesUpTo => take_byte(program, storage, device, limits, p),
+        Direction::Gives => give_byte(program, storage, device, limits, p),
+        Direction::Takes => take_byte(program, storage, device, limits, p),
+        Direction::TakesUpTo => take_byte(program, storage, device, limits, p),
     }
 }
 
@@ -252,7 +252,7 @@ fn move_on<F: WordForm, S: Storage, D: Device>(
     ensures lacks { IfErr result
         (λ lacking. Lacks (F.written program.now) D.machine (S.present storage.old)
         (Moving p.now (S.memory storage.old) device.old) lacking.page.0) }
-    ensures here { IfErr result (λ lacking. lacking.position ≡ p.now) }
+    ensures same_position { IfErr result (λ lacking. lacking.position ≡ p.now) }
     ensures still { IfErr result (λ lacking. S.memory storage.new ≡ S.memory storage.old) }
     ensures idle { IfErr result (λ lacking. device.new ≡ device.old) }
 {

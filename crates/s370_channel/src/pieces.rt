@@ -6,13 +6,13 @@ ghost use Rattle.s370_store.specs.Access.{IsGranted};
 ghost use Rattle.s370_store.specs.Memory.{with_stored};
 ghost use Rattle.s370_walk.specs.Hardware.{given, after_giving, after_taking};
 ghost use Rattle.s370_walk.specs.Walk.{Moving, Reaches, Written, live, place_in, rest};
-ghost use Rattle.s370_walk.specs.declared.parts.Kind.TheVariants.{Gives};
+ghost use Rattle.s370_walk.specs.declared.parts.Direction.TheVariants.{Gives};
 ghost use Rattle.s370_channel.specs.Progress.{setting, onward, HasMoved};
 
 use crate::limits::Limits;
 use crate::moving::place;
 use s370_store::{Access, Range, Storage};
-use s370_walk::{Device, Flags, Kind, Position, Transfer, WordForm};
+use s370_walk::{Device, Direction, Flags, Position, Transfer, WordForm};
 
 /// Returns how many bytes from an address on can move in one piece: of the same block, counted, and
 /// wanted or had by the device.
@@ -187,8 +187,8 @@ pub(crate) fn move_many<F: WordForm, S: Storage, D: Device>(
         return None;
     };
     match p.transfer.kind {
-        Kind::Gives => give_many(storage, device, limits, p, address),
-        Kind::Takes => take_many(storage, device, limits, p, address),
-        Kind::TakesUpTo => take_many(storage, device, limits, p, address),
+        Direction::Gives => give_many(storage, device, limits, p, address),
+        Direction::Takes => take_many(storage, device, limits, p, address),
+        Direction::TakesUpTo => take_many(storage, device, limits, p, address),
     }
 }

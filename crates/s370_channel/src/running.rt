@@ -14,8 +14,8 @@ use crate::moving::{MissingPage, Moved, transfer};
 use crate::starting::first_spot;
 use s370_store::{Page, Storage};
 use s370_walk::{
-    Answer, Ccw, ChannelStatus, Device, Ending, Kind, NextCcw, Order, Position, Progress, Transfer,
-    UnitStatus, WordForm,
+    Answer, Ccw, ChannelStatus, Device, Direction, Ending, NextCcw, Order, Position, Progress,
+    Transfer, UnitStatus, WordForm,
 };
 use thiserror::Error;
 
@@ -133,17 +133,17 @@ pub(crate) fn begin<F: WordForm, S: Storage, D: Device>(
         )),
         Answer::Input(left) => Transfer {
             command: word.command,
-            kind: Kind::Gives,
+            kind: Direction::Gives,
             left,
         },
         Answer::Output(left) => Transfer {
             command: word.command,
-            kind: Kind::Takes,
+            kind: Direction::Takes,
             left,
         },
         Answer::OutputUpTo(left) => Transfer {
             command: word.command,
-            kind: Kind::TakesUpTo,
+            kind: Direction::TakesUpTo,
             left,
         },
     };

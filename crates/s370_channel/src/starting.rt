@@ -1,6 +1,6 @@
 //! The test that SIO makes of a channel program (GA22-7000, "Start I/O").
 ghost use Rattle.std.specs.Prelude.{◌≡◌, ℕ, ◌%◌, ◌^◌, IfOk, IfErr, length};
-ghost use Rattle.s370_store.specs.Access.{IsAway, Touches};
+ghost use Rattle.s370_store.specs.Access.{IsAbsent, Touches};
 ghost use Rattle.s370_walk.specs.Walk.{start_spot};
 ghost use Rattle.s370_channel.specs.Words.{caw_of};
 ghost use Rattle.s370_channel.specs.Start.{start_of};
@@ -42,7 +42,7 @@ pub fn check_start<F: WordForm, S: Storage>(
         (λ start. start ≡ start_of ((F.written program.now).text (S.memory storage.now))
         (caw_of caw)) }
     ensures absent { IfErr result
-        (λ page. IsAway (length (S.memory storage.now).bytes) (S.present storage.now) page.0
+        (λ page. IsAbsent (length (S.memory storage.now).bytes) (S.present storage.now) page.0
         × Touches ((F.written program.now).word_asks (caw % 2 ^ 24)) page.0) }
 {
     let Some(start) = Caw::from_word(caw) else {

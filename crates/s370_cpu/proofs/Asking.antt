@@ -3,8 +3,8 @@ use Rattle.std.proofs.Common.{◌≡◌, ℕ, ℤ, Bool, true, false, Option, So
 use Rattle.std.specs.Prelude.{if◌then◌else◌}
 use Rattle.s370_psw.specs.declared.ProgramCode.{ProgramCode}
 use Rattle.s370_rows.specs.declared.cpu.Cpu.{Cpu}
-use Rattle.s370_rows.specs.declared.ending.Ending.{Ending}
-use Rattle.s370_rows.specs.declared.ending.Ending.TheVariants.{Done, Branch, Again, Interrupted, SupervisorCall as Called, InputOutput as Asked}
+use Rattle.s370_rows.specs.declared.ending.Completion.{Completion}
+use Rattle.s370_rows.specs.declared.ending.Completion.TheVariants.{Done, Branch, Again, Interrupted, SupervisorCall as Called, InputOutput as Asked}
 use Rattle.s370_rows.specs.declared.ending.IoOperation.{IoOperation}
 use Rattle.s370_rows.specs.declared.instruction.Instruction.{Instruction}
 use Rattle.s370_rows.specs.declared.place.Place.{Place}
@@ -30,7 +30,7 @@ use Rattle.s370_cpu.specs.FetchRows.{fetch_row}
 use Rattle.s370_cpu.specs.StoreRows.{store_row}
 use Rattle.s370_cpu.specs.Table.{is_supervised, row_named, row_of}
 
-abbrev pub AsksNone : Ending → Type 0
+abbrev pub AsksNone : Completion → Type 0
 AsksNone Done = Unit {0}
 AsksNone (Branch a) = Unit {0}
 AsksNone Again = Unit {0}
@@ -46,7 +46,7 @@ abbrev pub EndsNone : Result Ended ProgramCode → Type 0
 EndsNone (Err code) = Unit {0}
 EndsNone (Ok e) = AsksNone e.ending
 
-either_asks : (b : Bool) (x y : Ending) → AsksNone x → AsksNone y → AsksNone (if b then x else y)
+either_asks : (b : Bool) (x y : Completion) → AsksNone x → AsksNone y → AsksNone (if b then x else y)
 either_asks true x y h k = h
 either_asks false x y h k = k
 

@@ -7,8 +7,8 @@ use Rattle.s370_psw.specs.declared.ProgramCode.{ProgramCode}
 use Rattle.s370_psw.specs.declared.ProgramCode.TheVariants.{Specification}
 use Rattle.s370_store.specs.Access.{Test, Touches}
 use Rattle.s370_store.proofs.Verdicts.{either_page}
-use Rattle.s370_rows.specs.declared.ending.Ending.{Ending}
-use Rattle.s370_rows.specs.declared.ending.Ending.TheVariants.{Done, Branch, Again, Interrupted, SupervisorCall as Called, InputOutput as Asked}
+use Rattle.s370_rows.specs.declared.ending.Completion.{Completion}
+use Rattle.s370_rows.specs.declared.ending.Completion.TheVariants.{Done, Branch, Again, Interrupted, SupervisorCall as Called, InputOutput as Asked}
 use Rattle.s370_rows.specs.declared.instruction.Instruction.{Instruction}
 use Rattle.s370_rows.specs.declared.place.Place.{Place}
 use Rattle.s370_rows.specs.State.{State}
@@ -195,7 +195,7 @@ failed_ask m ts code k e =
     let asked : (page : ℕ) → Asks m (ts ∷ []) page → ⊥ = λ page h. elim h [ inl x ↦ (let passes = sym e ∙ x.passes in cc) | inr y ↦ absurd y ] in
     at_most 0 k (Asks m (ts ∷ [])) (omega arith) (none_at_all (Asks m (ts ∷ [])) asked)
 
-ended_asks : (m : State) (place : Place) (ts : List Test) (ending : Ending) (l : Left) → All (λ t. t.count ≤ 256) ts → length ts ≤ most_ranges None (Ok (record l { ending = ending })) →
+ended_asks : (m : State) (place : Place) (ts : List Test) (ending : Completion) (l : Left) → All (λ t. t.count ≤ 256) ts → length ts ≤ most_ranges None (Ok (record l { ending = ending })) →
     AreAtMost (operand_pages (concluded m place (outcome_of m (Ok (record l { ending = ending })))).stop) (Asks m (ts ∷ []))
 ended_asks m place ts Done l few h = ranges_ask m ts 2 4 few h (omega arith)
 ended_asks m place ts (Branch a) l few h = ranges_ask m ts 2 4 few h (omega arith)

@@ -7,8 +7,8 @@ use Rattle.s370_psw.specs.declared.ProgramCode.{ProgramCode}
 use Rattle.s370_psw.specs.declared.ProgramCode.TheVariants.{PrivilegedOperation, Specification}
 use Rattle.s370_store.specs.Access.{Test}
 use Rattle.s370_store.specs.declared.Access.{Access}
-use Rattle.s370_rows.specs.declared.ending.Ending.{Ending}
-use Rattle.s370_rows.specs.declared.ending.Ending.TheVariants.{Done, Branch, Again, Interrupted, SupervisorCall as Called, InputOutput as Asked}
+use Rattle.s370_rows.specs.declared.ending.Completion.{Completion}
+use Rattle.s370_rows.specs.declared.ending.Completion.TheVariants.{Done, Branch, Again, Interrupted, SupervisorCall as Called, InputOutput as Asked}
 use Rattle.s370_rows.specs.declared.instruction.Instruction.{Instruction}
 use Rattle.s370_rows.specs.declared.place.Place.{Place}
 use Rattle.s370_rows.specs.State.{State}
@@ -37,7 +37,7 @@ use Rattle.s370_cpu.proofs.Asking.{AsksNone, LeavesNone, over_none, division_non
 -- ---- rows
 
 -- how many ranges a row may test, by how it ends: one that may interrupt tests one, and one that asks a device, none
-abbrev pub ranges_for : Ending → ℕ
+abbrev pub ranges_for : Completion → ℕ
 ranges_for Done = 2
 ranges_for (Branch a) = 2
 ranges_for Again = 2
@@ -64,7 +64,7 @@ either_fits false r s h k = k
 none_fits : (refused : Option ProgramCode) (x : Result Left ProgramCode) → Fits (record { refused = refused; tests = []; leaves = x })
 none_fits refused x = record { ranges = omega arith; short = All-nil (λ (t : Test). t.count ≤ 256) }
 
-one_ending : (e : Ending) → AsksNone e → 1 ≤ ranges_for e
+one_ending : (e : Completion) → AsksNone e → 1 ≤ ranges_for e
 one_ending Done h = omega arith
 one_ending (Branch a) h = omega arith
 one_ending Again h = omega arith
@@ -81,7 +81,7 @@ one_fits access a n x few h =
     let P : Test → Type 0 = λ t. t.count ≤ 256 in
     record { ranges = one_range x h; short = All-cons P (record { access = access; start = a; count = n }) [] few (All-nil P) }
 
-abbrev IsQuiet : Ending → Type 0
+abbrev IsQuiet : Completion → Type 0
 IsQuiet e = ranges_for e ≡ 2
 
 either_quiet : (b : Bool) (x y : Ended) → IsQuiet x.ending → IsQuiet y.ending → IsQuiet (if b then x else y).ending
@@ -209,7 +209,7 @@ named_fits (Stores row) m place i h = store_fits row m i h
 pub row_fits : (m : State) (place : Place) (i : Instruction) → i.second_byte < 2 ^ 8 → Fits (row_of m place i)
 row_fits m place i h = named_fits (opcode_at i.opcode) m place i h
 
-ending_few : (e : Ending) → ranges_for e ≤ 2
+ending_few : (e : Completion) → ranges_for e ≤ 2
 ending_few Done = omega arith
 ending_few (Branch a) = omega arith
 ending_few Again = omega arith

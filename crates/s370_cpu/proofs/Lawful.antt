@@ -6,8 +6,8 @@ use Rattle.s370_psw.specs.declared.ProgramCode.{ProgramCode}
 use Rattle.s370_psw.specs.declared.ProgramCode.TheVariants.{PrivilegedOperation, Specification}
 use Rattle.s370_store.specs.Access.{Test}
 use Rattle.s370_rows.specs.declared.cpu.Cpu.{Cpu}
-use Rattle.s370_rows.specs.declared.ending.Ending.{Ending}
-use Rattle.s370_rows.specs.declared.ending.Ending.TheVariants.{Done, Again}
+use Rattle.s370_rows.specs.declared.ending.Completion.{Completion}
+use Rattle.s370_rows.specs.declared.ending.Completion.TheVariants.{Done, Again}
 use Rattle.s370_rows.specs.declared.instruction.Instruction.{Instruction}
 use Rattle.s370_rows.specs.declared.place.Place.{Place}
 use Rattle.s370_rows.specs.State.{State}
@@ -76,7 +76,7 @@ registers : (m : State) (ts : List Test) (e : Ended) → rights_of (record m { c
 registers m ts e h = record { stores = tt; rights = λ problem. h }
 
 -- what stores no more bytes than the first test has
-one_store : (m : State) (ending : Ending) (cpu : Cpu) (a n : ℕ) (xs : List ℕ) (ts : List Test) → length xs ≤ n → rights_of (record m { cpu = cpu }) ≡ rights_of m →
+one_store : (m : State) (ending : Completion) (cpu : Cpu) (a n : ℕ) (xs : List ℕ) (ts : List Test) → length xs ≤ n → rights_of (record m { cpu = cpu }) ≡ rights_of m →
     LeavesLawful m (store_test a n ∷ ts) (Ok (record { ending = ending; cpu = cpu; stores = record { start = a; written = xs } ∷ []; keyed = None }))
 one_store m ending cpu a n xs ts e h = record {
   stores = (λ b low high. inl (refl, low, omega (arith, e, high)), tt);

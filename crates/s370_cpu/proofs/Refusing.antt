@@ -5,8 +5,8 @@ use Rattle.std.specs.Prelude.{if◌then◌else◌}
 use Rattle.s370_psw.specs.declared.ProgramCode.{ProgramCode}
 use Rattle.s370_psw.specs.declared.ProgramCode.TheVariants.{PrivilegedOperation}
 use Rattle.s370_rows.specs.declared.cpu.Cpu.{Cpu}
-use Rattle.s370_rows.specs.declared.ending.Ending.{Ending}
-use Rattle.s370_rows.specs.declared.ending.Ending.TheVariants.{Done, Branch, Again, Interrupted, SupervisorCall as Called, InputOutput as Asked}
+use Rattle.s370_rows.specs.declared.ending.Completion.{Completion}
+use Rattle.s370_rows.specs.declared.ending.Completion.TheVariants.{Done, Branch, Again, Interrupted, SupervisorCall as Called, InputOutput as Asked}
 use Rattle.s370_rows.specs.declared.instruction.Instruction.{Instruction}
 use Rattle.s370_rows.specs.declared.place.Place.{Place}
 use Rattle.s370_rows.specs.State.{State}
@@ -24,7 +24,7 @@ use Rattle.s370_cpu.specs.Unit.{Ran, at_address, place_at, concluded, carried}
 -- ---- rows
 
 -- the registers are as they were, unless the instruction is done
-abbrev IsUndone : State → Ending → Left → Type 0
+abbrev IsUndone : State → Completion → Left → Type 0
 IsUndone m Done l = Unit {0}
 IsUndone m (Branch a) l = Unit {0}
 IsUndone m Again l = Unit {0}
@@ -81,7 +81,7 @@ MovesOn m place r = elim r.stop [
   | Absent page ↦ Unit {0}
 ]
 
-ended_undone : (m : State) (place : Place) (ending : Ending) (l : Left) → IsUndone m ending l → MovesOn m place (concluded m place (outcome_of m (Ok (record l { ending = ending }))))
+ended_undone : (m : State) (place : Place) (ending : Completion) (l : Left) → IsUndone m ending l → MovesOn m place (concluded m place (outcome_of m (Ok (record l { ending = ending }))))
 ended_undone m place Done l h = tt
 ended_undone m place (Branch a) l h = tt
 ended_undone m place Again l h = tt

@@ -5,8 +5,8 @@ use Rattle.s370_psw.specs.declared.ProgramCode.{ProgramCode}
 use Rattle.s370_psw.specs.declared.ProgramCode.TheVariants.{PrivilegedOperation}
 use Rattle.s370_store.specs.Access.{Test}
 use Rattle.s370_rows.specs.declared.cpu.Cpu.{Cpu}
-use Rattle.s370_rows.specs.declared.ending.Ending.{Ending}
-use Rattle.s370_rows.specs.declared.ending.Ending.TheVariants.{Done, Branch, Again, Interrupted, SupervisorCall as Called, InputOutput as Asked}
+use Rattle.s370_rows.specs.declared.ending.Completion.{Completion}
+use Rattle.s370_rows.specs.declared.ending.Completion.TheVariants.{Done, Branch, Again, Interrupted, SupervisorCall as Called, InputOutput as Asked}
 use Rattle.s370_rows.specs.declared.instruction.Instruction.{Instruction}
 use Rattle.s370_rows.specs.declared.place.Place.{Place}
 use Rattle.s370_rows.specs.State.{State}
@@ -35,7 +35,7 @@ use Rattle.s370_cpu.specs.Unit.{Ran, place_at, concluded, carried, unit_executed
 
 -- ---- rows
 
-abbrev IsStill : Ending → Left → Type 0
+abbrev IsStill : Completion → Left → Type 0
 IsStill Done l = Unit {0}
 IsStill (Branch a) l = Unit {0}
 IsStill Again l = Unit {0}
@@ -48,7 +48,7 @@ LeavesStill (Err code) = Unit {0}
 LeavesStill (Ok l) = IsStill l.ending l
 
 -- what changes registers alone is still, however it ends
-still_over : (ending : Ending) (l : Left) → l.stores ≡ [] → l.keyed ≡ None → IsStill ending l
+still_over : (ending : Completion) (l : Left) → l.stores ≡ [] → l.keyed ≡ None → IsStill ending l
 still_over Done l s k = tt
 still_over (Branch a) l s k = tt
 still_over Again l s k = tt
@@ -149,7 +149,7 @@ StaysStill m r = elim r.stop [
   | Absent page ↦ Unit {0}
 ]
 
-ended_still : (m : State) (place : Place) (ending : Ending) (l : Left) → IsStill ending l → StaysStill m (concluded m place (outcome_of m (Ok (record l { ending = ending }))))
+ended_still : (m : State) (place : Place) (ending : Completion) (l : Left) → IsStill ending l → StaysStill m (concluded m place (outcome_of m (Ok (record l { ending = ending }))))
 ended_still m place Done l h = tt
 ended_still m place (Branch a) l h = tt
 ended_still m place Again l h = tt

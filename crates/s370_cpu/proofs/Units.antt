@@ -1,13 +1,13 @@
 -- From what a fetch and a row answer to what the unit answers, whatever the table has.
 use Rattle.std.proofs.Common.{◌≡◌, ℕ, Bool, false, length, List, [], ◌∷◌, ◌++◌, Result, Ok, Err, refl, sym, subst, inl, inr}
 use Rattle.s370_psw.specs.declared.ProgramCode.{ProgramCode}
-use Rattle.s370_store.specs.Access.{Test, IsAway}
+use Rattle.s370_store.specs.Access.{Test, IsAbsent}
 use Rattle.s370_store.specs.declared.Page.{Page}
 use Rattle.s370_rows.specs.declared.cpu.Cpu.{Cpu}
 use Rattle.s370_rows.specs.declared.instruction.Instruction.{Instruction}
 use Rattle.s370_rows.specs.declared.place.Place.{Place}
-use Rattle.s370_rows.specs.declared.ending.Ending.{Ending}
-use Rattle.s370_rows.specs.declared.ending.Ending.TheVariants.{Done, Branch, Again, Interrupted, SupervisorCall, InputOutput}
+use Rattle.s370_rows.specs.declared.ending.Completion.{Completion}
+use Rattle.s370_rows.specs.declared.ending.Completion.TheVariants.{Done, Branch, Again, Interrupted, SupervisorCall, InputOutput}
 use Rattle.s370_rows.specs.declared.ending.Refusal.{Refusal}
 use Rattle.s370_rows.specs.declared.ending.Refusal.TheVariants.{Program as Suppressed, Absent as Missing}
 use Rattle.s370_rows.specs.State.{State}
@@ -50,12 +50,12 @@ pub fetch_fails : (rows : State → Place → Instruction → Row) (m : State) (
 fetch_fails rows m code present e = rw e
 
 -- a unit whose fetch misses a page
-pub fetch_misses : (rows : State → Place → Instruction → Row) (m : State) (page : Page) (present : ℕ → Bool) → IsAway (length m.bytes) present page.0 × Asks m (fetched m m.cpu.psw.address).stages page.0 → MeetsUnit (unit_over rows m) present m (Absent page) m
+pub fetch_misses : (rows : State → Place → Instruction → Row) (m : State) (page : Page) (present : ℕ → Bool) → IsAbsent (length m.bytes) present page.0 × Asks m (fetched m m.cpu.psw.address).stages page.0 → MeetsUnit (unit_over rows m) present m (Absent page) m
 fetch_misses rows m page present h =
     let f = fetched m m.cpu.psw.address in (refl, h.0, asks_fetched rows m f.stages f.result page.0 h.1)
 
 -- a row that meets its definition, and is concluded, makes the rest of a unit
-pub carried_meets : (rows : State → Place → Instruction → Row) (present : ℕ → Bool) (m : State) (place : Place) (i : Instruction) (outcome : Result Ending Refusal) (m' : State) → MeetsRow (rows m place i) present m outcome m' → (let s = stopped outcome place m'.cpu in MeetsUnit (carried rows m place i) present m s.stop (record m' { cpu = s.cpu }))
+pub carried_meets : (rows : State → Place → Instruction → Row) (present : ℕ → Bool) (m : State) (place : Place) (i : Instruction) (outcome : Result Completion Refusal) (m' : State) → MeetsRow (rows m place i) present m outcome m' → (let s = stopped outcome place m'.cpu in MeetsUnit (carried rows m place i) present m s.stop (record m' { cpu = s.cpu }))
 carried_meets rows present m place i (Ok Done) m' h = rw h
 carried_meets rows present m place i (Ok (Branch a)) m' h = rw h
 carried_meets rows present m place i (Ok Again) m' h = rw h
@@ -106,11 +106,11 @@ target_refused rows m first ilc present refusal e1 e2 h =
 -- ---- what `step` answers
 
 -- a row asks no device
-abbrev NoneAsked : Result Ending Refusal → Type 0
+abbrev NoneAsked : Result Completion Refusal → Type 0
 NoneAsked outcome = (operation : IoOperation) (device : ℕ) → outcome ≡ Ok (InputOutput operation device) → ⊥
 
 -- what is concluded is never handed back
-concluded_step : (outcome : Result Ending Refusal) (place : Place) (cpu : Cpu) (present : ℕ → Bool) (m m' : State) → NoneAsked outcome → (let s = stopped outcome place cpu in MeetsUnit (unit m) present m s.stop m' → MeetsStep present m s.stop m')
+concluded_step : (outcome : Result Completion Refusal) (place : Place) (cpu : Cpu) (present : ℕ → Bool) (m m' : State) → NoneAsked outcome → (let s = stopped outcome place cpu in MeetsUnit (unit m) present m s.stop m' → MeetsStep present m s.stop m')
 concluded_step (Ok Done) place cpu present m m' none h = h
 concluded_step (Ok (Branch a)) place cpu present m m' none h = h
 concluded_step (Ok Again) place cpu present m m' none h = h
@@ -120,12 +120,12 @@ concluded_step (Ok (InputOutput operation device)) place cpu present m m' none h
 concluded_step (Err (Suppressed code)) place cpu present m m' none h = h
 concluded_step (Err (Missing page)) place cpu present m m' none h = h
 
-row_asks_none : (m : State) (place : Place) (i : Instruction) (present : ℕ → Bool) (outcome : Result Ending Refusal) (m' : State) → is_supervised (opcode_at i.opcode) ≡ false → MeetsRow (row_of m place i) present m outcome m' → NoneAsked outcome
+row_asks_none : (m : State) (place : Place) (i : Instruction) (present : ℕ → Bool) (outcome : Result Completion Refusal) (m' : State) → is_supervised (opcode_at i.opcode) ≡ false → MeetsRow (row_of m place i) present m outcome m' → NoneAsked outcome
 row_asks_none m place i present outcome m' plain h = λ operation device e. (
-    never_asks m m' place i operation device plain (subst (λ (o : Result Ending Refusal). MeetsRow (row_of m place i) present m o m') e h))
+    never_asks m m' place i operation device plain (subst (λ (o : Result Completion Refusal). MeetsRow (row_of m place i) present m o m') e h))
 
 -- a unit whose row was carried out
-pub row_steps : (m : State) (ilc : ℕ) (i : Instruction) (stop : Stop) (cpu' : Cpu) (present : ℕ → Bool) (outcome : Result Ending Refusal) (m' : State) → is_supervised (opcode_at i.opcode) ≡ false → Carries m ilc i → MeetsRow (row_of m (place_at m ilc) i) present m outcome m' → stopped outcome (place_at m ilc) m'.cpu ≡ record { stop = stop; cpu = cpu' } → MeetsStep present m stop (record m' { cpu = cpu' })
+pub row_steps : (m : State) (ilc : ℕ) (i : Instruction) (stop : Stop) (cpu' : Cpu) (present : ℕ → Bool) (outcome : Result Completion Refusal) (m' : State) → is_supervised (opcode_at i.opcode) ≡ false → Carries m ilc i → MeetsRow (row_of m (place_at m ilc) i) present m outcome m' → stopped outcome (place_at m ilc) m'.cpu ≡ record { stop = stop; cpu = cpu' } → MeetsStep present m stop (record m' { cpu = cpu' })
 row_steps m ilc i stop cpu' present outcome m' plain c h e =
     let none = row_asks_none m (place_at m ilc) i present outcome m' plain h in
     let s = stopped outcome (place_at m ilc) m'.cpu in
@@ -139,7 +139,7 @@ target_steps m first ilc stop cpu' present refusal e1 e2 h e =
     subst (λ (t : Stopped). MeetsStep present m t.stop (record m { cpu = t.cpu })) e (concluded_step (Err refusal) (place_at m ilc) m.cpu present m (record m { cpu = s.cpu }) (λ operation device x. cc) (target_refused row_of m first ilc present refusal e1 e2 h))
 
 -- the rest of a unit whose instruction was handed back
-pub supervised_meets : (m : State) (ilc : ℕ) (i : Instruction) (control : Control) (stop : Stop) (cpu' : Cpu) (present : ℕ → Bool) (outcome : Result Ending Refusal) (m' : State) → opcode_at i.opcode ≡ Supervised control → MeetsRow (control_row control m i) present m outcome m' → stopped outcome (place_at m ilc) m'.cpu ≡ record { stop = stop; cpu = cpu' } → MeetsUnit (supervised m i ilc) present m stop (record m' { cpu = cpu' })
+pub supervised_meets : (m : State) (ilc : ℕ) (i : Instruction) (control : Control) (stop : Stop) (cpu' : Cpu) (present : ℕ → Bool) (outcome : Result Completion Refusal) (m' : State) → opcode_at i.opcode ≡ Supervised control → MeetsRow (control_row control m i) present m outcome m' → stopped outcome (place_at m ilc) m'.cpu ≡ record { stop = stop; cpu = cpu' } → MeetsUnit (supervised m i ilc) present m stop (record m' { cpu = cpu' })
 supervised_meets m ilc i control stop cpu' present outcome m' named h e =
     let row : MeetsRow (row_of m (place_at m ilc) i) present m outcome m' = subst (λ (op : Opcode). MeetsRow (row_named op m (place_at m ilc) i) present m outcome m') (sym named) h in
     subst (λ (t : Stopped). MeetsUnit (supervised m i ilc) present m t.stop (record m' { cpu = t.cpu })) e (carried_meets row_of present m (place_at m ilc) i outcome m' row)

@@ -9,8 +9,8 @@ use Rattle.s370_store.specs.declared.Access.TheVariants.{Store}
 use Rattle.s370_store.specs.declared.Fault.TheVariants.{Addressing, Protection}
 use Rattle.s370_store.proofs.Verdicts.{byte_inside, byte_passes, store_matches}
 use Rattle.s370_store.proofs.Puts.{length-put, put-nothing, changed_within}
-use Rattle.s370_rows.specs.declared.ending.Ending.{Ending}
-use Rattle.s370_rows.specs.declared.ending.Ending.TheVariants.{Done, Branch, Again, Interrupted, SupervisorCall, InputOutput}
+use Rattle.s370_rows.specs.declared.ending.Completion.{Completion}
+use Rattle.s370_rows.specs.declared.ending.Completion.TheVariants.{Done, Branch, Again, Interrupted, SupervisorCall, InputOutput}
 use Rattle.s370_rows.specs.declared.instruction.Instruction.{Instruction}
 use Rattle.s370_rows.specs.declared.place.Place.{Place}
 use Rattle.s370_rows.specs.State.{State}
@@ -139,7 +139,7 @@ same_lawful : (m : State) → IsLawfulState m m
 same_lawful m = record { bytes = λ a some c. absurd (c refl); rights = λ problem. refl }
 
 -- where a unit goes on is no matter
-ended_lawful : (m : State) (place : Place) (ending : Ending) (s : State) → IsLawfulState m s → IsLawfulState m (concluded m place (Ok (record { ending = ending; state = s }))).state
+ended_lawful : (m : State) (place : Place) (ending : Completion) (s : State) → IsLawfulState m s → IsLawfulState m (concluded m place (Ok (record { ending = ending; state = s }))).state
 ended_lawful m place Done s h = record { bytes = h.bytes; rights = h.rights }
 ended_lawful m place (Branch a) s h = record { bytes = h.bytes; rights = h.rights }
 ended_lawful m place Again s h = record { bytes = h.bytes; rights = h.rights }

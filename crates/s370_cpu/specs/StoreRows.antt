@@ -2,7 +2,7 @@
 use Rattle.std.specs.Prelude.{ℕ, ◌%◌, ◌^◌, ◌==◌, ◌&&◌, List, [], ◌∷◌, slice_index, Option, Some}
 use Rattle.std.specs.Prelude.{None}
 use Rattle.std.specs.Int.{w16, w32, w64, to_be_bytes}
-use Rattle.s370_rows.specs.declared.ending.Ending.TheVariants.{Done}
+use Rattle.s370_rows.specs.declared.ending.Completion.TheVariants.{Done}
 use Rattle.s370_rows.specs.declared.immediate.ByteChange.{ByteChange}
 use Rattle.s370_rows.specs.declared.instruction.Instruction.{Instruction}
 use Rattle.s370_rows.specs.Formats.{r1_of, r2_of, based_address}

@@ -2,7 +2,7 @@
 use Rattle.std.specs.Prelude.{◌≡◌, ℕ, true, false, Bool, [], None, Result}
 use Rattle.s370_psw.specs.declared.ProgramCode.{ProgramCode}
 use Rattle.s370_psw.specs.declared.ProgramCode.TheVariants.{Operation, Execute as ExecuteCode}
-use Rattle.s370_rows.specs.declared.ending.Ending.TheVariants.{SupervisorCall as Called}
+use Rattle.s370_rows.specs.declared.ending.Completion.TheVariants.{SupervisorCall as Called}
 use Rattle.s370_rows.specs.declared.instruction.Instruction.{Instruction}
 use Rattle.s370_rows.specs.declared.place.Place.{Place}
 use Rattle.s370_rows.specs.State.{State}

@@ -3,11 +3,11 @@
 use Rattle.std.specs.Prelude.{◌≡◌, ℕ, ◌+◌, ◌*◌, ◌%◌, ◌^◌, Bool, List, [], ◌∷◌, ◌++◌, length, Result}
 use Rattle.std.specs.Prelude.{Ok, Err}
 use Rattle.s370_psw.specs.declared.ProgramCode.{ProgramCode}
-use Rattle.s370_store.specs.Access.{Test, IsAway}
+use Rattle.s370_store.specs.Access.{Test, IsAbsent}
 use Rattle.s370_rows.specs.declared.cpu.Cpu.{Cpu}
-use Rattle.s370_rows.specs.declared.ending.Ending.{Ending}
-use Rattle.s370_rows.specs.declared.ending.Ending.TheVariants.{Done, Branch, Again, Interrupted}
-use Rattle.s370_rows.specs.declared.ending.Ending.TheVariants.{SupervisorCall, InputOutput}
+use Rattle.s370_rows.specs.declared.ending.Completion.{Completion}
+use Rattle.s370_rows.specs.declared.ending.Completion.TheVariants.{Done, Branch, Again, Interrupted}
+use Rattle.s370_rows.specs.declared.ending.Completion.TheVariants.{SupervisorCall, InputOutput}
 use Rattle.s370_rows.specs.declared.ending.Refusal.{Refusal}
 use Rattle.s370_rows.specs.declared.ending.Refusal.TheVariants.{Program as Suppressed}
 use Rattle.s370_rows.specs.declared.ending.Refusal.TheVariants.{Absent as Missing}
@@ -48,7 +48,7 @@ interrupted code place cpu =
 
 -- an instruction that ends goes on to the next address, or to the one that it branches to; one that
 -- is done in part leaves the address
-abbrev pub ended : Ending → Place → Cpu → Stopped
+abbrev pub ended : Completion → Place → Cpu → Stopped
 ended Done place cpu = record { stop = DoneStop; cpu = at_address cpu place.next }
 ended (Branch a) place cpu = record { stop = DoneStop; cpu = at_address cpu (a % 2 ^ 24) }
 ended Again place cpu = record { stop = DoneStop; cpu = cpu }
@@ -111,11 +111,11 @@ pub record Carries (m : State) (ilc : ℕ) (i : Instruction) : Type 0 where
 -- that is not present; or the stop and the state of the unit
 abbrev pub MeetsUnit : Unit → (ℕ → Bool) → State → Stop → State → Type 0
 MeetsUnit u present old (Absent page) new =
-    (new ≡ old) × IsAway (length old.bytes) present page.0 × Asks old u.stages page.0
+    (new ≡ old) × IsAbsent (length old.bytes) present page.0 × Asks old u.stages page.0
 MeetsUnit u present old stop new = u.ran ≡ record { stop = stop; state = new }
 
 -- how an instruction stops that was fetched, by what its row answered
-abbrev pub stopped : Result Ending Refusal → Place → Cpu → Stopped
+abbrev pub stopped : Result Completion Refusal → Place → Cpu → Stopped
 stopped (Ok ending) place cpu = ended ending place cpu
 stopped (Err (Suppressed code)) place cpu = interrupted code place cpu
 stopped (Err (Missing page)) place cpu = record { stop = Absent page; cpu = cpu }

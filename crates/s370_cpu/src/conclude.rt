@@ -4,7 +4,7 @@ ghost use Rattle.s370_cpu.specs.Unit.{stopped};
 
 use s370_num::Addr24;
 use s370_psw::{Ilc, ProgramCode};
-use s370_rows::{Cpu, Ending, Instruction, IoOperation, Place, Refusal};
+use s370_rows::{Completion, Cpu, Instruction, IoOperation, Place, Refusal};
 use s370_store::Page;
 
 /// How a unit ends.
@@ -31,38 +31,38 @@ pub enum Stop {
 
 /// Sets the address that an instruction leaves, and says how the unit ends.
 #[inline(always)]
-pub fn conclude(cpu: &mut Cpu, place: Place, outcome: Result<Ending, Refusal>) -> Stop
+pub fn conclude(cpu: &mut Cpu, place: Place, outcome: Result<Completion, Refusal>) -> Stop
     ensures { stopped outcome place cpu.old ≡ record { stop = result; cpu = cpu.new } }
 {
     // Nearly every instruction ends in one of these two: a test of its own is cheaper than one jump
     // more.
-    if let Ok(Ending::Done) = outcome {
+    if let Ok(Completion::Done) = outcome {
         cpu.psw.set_address(place.next);
         return Stop::Done;
     }
-    if let Ok(Ending::Branch(address)) = outcome {
+    if let Ok(Completion::Branch(address)) = outcome {
         cpu.psw.set_address(Addr24::wrapping(address));
         return Stop::Done;
     }
     match outcome {
-        Ok(Ending::Done) => {
+        Ok(Completion::Done) => {
             cpu.psw.set_address(place.next);
             Stop::Done
         }
-        Ok(Ending::Branch(address)) => {
+        Ok(Completion::Branch(address)) => {
             cpu.psw.set_address(Addr24::wrapping(address));
             Stop::Done
         }
-        Ok(Ending::Again) => Stop::Done,
-        Ok(Ending::Interrupted(code)) => {
+        Ok(Completion::Again) => Stop::Done,
+        Ok(Completion::Interrupted(code)) => {
             cpu.psw.set_address(place.next);
             Stop::Program(code, place.ilc)
         }
-        Ok(Ending::SupervisorCall(number)) => {
+        Ok(Completion::SupervisorCall(number)) => {
             cpu.psw.set_address(place.next);
             Stop::Svc(number, place.ilc)
         }
-        Ok(Ending::InputOutput(operation, device)) => {
+        Ok(Completion::InputOutput(operation, device)) => {
             cpu.psw.set_address(place.next);
             Stop::InputOutput(operation, device)
         }

@@ -16,7 +16,7 @@ use s370_bytes::{
 use s370_num::Addr24;
 use s370_psw::ProgramCode;
 use s370_rows::{
-    Arithmetic, ByteTest, Cpu, Ending, Instruction, Refusal, arithmetic_row, divide_row, grant,
+    Arithmetic, ByteTest, Completion, Cpu, Instruction, Refusal, arithmetic_row, divide_row, grant,
     halfword_operand, insert_byte_row, multiply_halfword_row, multiply_row, test_byte,
 };
 use s370_store::{Access, Range, Storage, load_byte, load_halfword, load_word};
@@ -70,7 +70,7 @@ pub fn word_row<S: Storage>(
     cpu: &mut Cpu,
     storage: &S,
     i: Instruction,
-) -> Result<Ending, Refusal>
+) -> Result<Completion, Refusal>
     ensures { let before = state_of cpu.old (S.memory storage.now) in
         let after = state_of cpu.new (S.memory storage.now) in
         MeetsRow (word_operation operation before i) (S.present storage.now) before result after }
@@ -92,7 +92,7 @@ pub fn word_row_at<S: Storage>(
     storage: &S,
     i: Instruction,
     start: u32,
-) -> Result<Ending, Refusal>
+) -> Result<Completion, Refusal>
     requires { start ≡ indexed_address cpu.old (r2_of i) i.second_half }
     ensures { let before = state_of cpu.old (S.memory storage.now) in
         let after = state_of cpu.new (S.memory storage.now) in
@@ -110,7 +110,7 @@ fn halfword_row<S: Storage>(
     cpu: &mut Cpu,
     storage: &S,
     i: Instruction,
-) -> Result<Ending, Refusal>
+) -> Result<Completion, Refusal>
     ensures { let before = state_of cpu.old (S.memory storage.now) in
         let after = state_of cpu.new (S.memory storage.now) in
         MeetsRow (halfword_operation operation before i) (S.present storage.now) before result
@@ -126,7 +126,7 @@ fn multiply_halfword<S: Storage>(
     cpu: &mut Cpu,
     storage: &S,
     i: Instruction,
-) -> Result<Ending, Refusal>
+) -> Result<Completion, Refusal>
     ensures { let before = state_of cpu.old (S.memory storage.now) in
         let after = state_of cpu.new (S.memory storage.now) in
         MeetsRow (halfword_multiplied before i) (S.present storage.now) before result after }
@@ -137,7 +137,11 @@ fn multiply_halfword<S: Storage>(
 
 /// 5C M: a product with a word of storage.
 #[inline(always)]
-fn multiply_word<S: Storage>(cpu: &mut Cpu, storage: &S, i: Instruction) -> Result<Ending, Refusal>
+fn multiply_word<S: Storage>(
+    cpu: &mut Cpu,
+    storage: &S,
+    i: Instruction,
+) -> Result<Completion, Refusal>
     ensures { let before = state_of cpu.old (S.memory storage.now) in
         let after = state_of cpu.new (S.memory storage.now) in
         MeetsRow (word_multiplied before i) (S.present storage.now) before result after }
@@ -151,7 +155,11 @@ fn multiply_word<S: Storage>(cpu: &mut Cpu, storage: &S, i: Instruction) -> Resu
 
 /// 5D D: a quotient of a pair and a word of storage.
 #[inline(always)]
-fn divide_word<S: Storage>(cpu: &mut Cpu, storage: &S, i: Instruction) -> Result<Ending, Refusal>
+fn divide_word<S: Storage>(
+    cpu: &mut Cpu,
+    storage: &S,
+    i: Instruction,
+) -> Result<Completion, Refusal>
     ensures { let before = state_of cpu.old (S.memory storage.now) in
         let after = state_of cpu.new (S.memory storage.now) in
         MeetsRow (word_divided before i) (S.present storage.now) before result after }
@@ -172,7 +180,7 @@ fn insert_character<S: Storage>(
     cpu: &mut Cpu,
     storage: &S,
     i: Instruction,
-) -> Result<Ending, Refusal>
+) -> Result<Completion, Refusal>
     ensures { let before = state_of cpu.old (S.memory storage.now) in
         let after = state_of cpu.new (S.memory storage.now) in
         MeetsRow (character_inserted before i) (S.present storage.now) before result after }
@@ -193,14 +201,14 @@ pub fn test_byte_row<S: Storage>(
     cpu: &mut Cpu,
     storage: &S,
     i: Instruction,
-) -> Result<Ending, Refusal>
+) -> Result<Completion, Refusal>
     ensures { let before = state_of cpu.old (S.memory storage.now) in
         let after = state_of cpu.new (S.memory storage.now) in
         MeetsRow (byte_tested test before i) (S.present storage.now) before result after }
 {
     let byte = fetched_byte(cpu, storage, cpu.based(i.second_half))?;
     cpu.psw.set_condition(test_byte(test, byte, i.second_byte));
-    Ok(Ending::Done)
+    Ok(Completion::Done)
 }
 
 /// Carries out a row that fetches its operands, but for the address.
@@ -215,7 +223,7 @@ pub fn fetch_row<S: Storage, const CODE: u8>(
     cpu: &mut Cpu,
     storage: &S,
     i: Instruction,
-) -> Result<Ending, Refusal>
+) -> Result<Completion, Refusal>
     ensures { let before = state_of cpu.old (S.memory storage.now) in
         let after = state_of cpu.new (S.memory storage.now) in
         MeetsRow (fetch_row row before i) (S.present storage.now) before result after }

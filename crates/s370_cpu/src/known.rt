@@ -24,7 +24,7 @@ fn instruction_in(bytes: &[u8; 6], opcode: u8) -> Instruction
     ensures instruction { (storage : List ℕ) → (start : ℕ)
         → bytes.now ≡ slice_range storage start (start + 6)
         → opcode ≡ slice_index storage start → result ≡ instruction_at storage start }
-    ensures same { result.opcode ≡ opcode }
+    ensures same_opcode { result.opcode ≡ opcode }
 {
     Instruction {
         opcode,
@@ -42,7 +42,7 @@ pub fn load_known<S: Storage>(storage: &S, start: u32, opcode: u8) -> Instructio
         6 }
     requires known { opcode ≡ slice_index (S.memory storage.now).bytes start }
     ensures instruction { result ≡ instruction_at (S.memory storage.now).bytes start }
-    ensures same { result.opcode ≡ opcode }
+    ensures same_opcode { result.opcode ≡ opcode }
 {
     let mut bytes = [0u8; 6];
     storage.load(start, &mut bytes);
@@ -58,7 +58,7 @@ pub fn load_known_in<S: Storage>(storage: &S, block: Block, start: u32, opcode: 
     requires ends { start ≤ block.first + 2042 }
     requires known { opcode ≡ slice_index (S.memory storage.now).bytes start }
     ensures instruction { result ≡ instruction_at (S.memory storage.now).bytes start }
-    ensures same { result.opcode ≡ opcode }
+    ensures same_opcode { result.opcode ≡ opcode }
 {
     let mut bytes = [0u8; 6];
     storage.load_in(block, start, &mut bytes);

@@ -12,7 +12,7 @@ ghost use Rattle.s370_cpu.specs.RegisterRows.{branched, register_row, shift_coun
 use crate::opcodes::{Branching, RegisterRow};
 use s370_psw::ProgramCode;
 use s370_rows::{
-    Arithmetic, Cpu, Ending, Instruction, Place, Shift, arithmetic_row, branch_and_link,
+    Arithmetic, Completion, Cpu, Instruction, Place, Shift, arithmetic_row, branch_and_link,
     branch_on_condition, branch_on_count, branch_on_index, divide_row, load_address_row,
     multiply_row, set_program_mask_row, shift_pair_row, shift_row,
 };
@@ -27,7 +27,7 @@ fn branch_row(
     i: Instruction,
     may: bool,
     target: u32,
-) -> Ending
+) -> Completion
     ensures { branched kind cpu.old place i may target ≡ record { ending = result; cpu = cpu.new } }
 {
     match kind {
@@ -48,7 +48,7 @@ fn shift_count(cpu: &Cpu, i: Instruction) -> u8
 
 /// 1C MR: a product of two registers.
 #[inline(always)]
-fn multiply(cpu: &mut Cpu, i: Instruction, b: u32) -> Result<Ending, ProgramCode>
+fn multiply(cpu: &mut Cpu, i: Instruction, b: u32) -> Result<Completion, ProgramCode>
     ensures { MeetsEnded (with_even (r1_of i) (Ok (multiplied cpu.old (r1_of i) b))) cpu.old result
         cpu.new }
 {
@@ -60,7 +60,7 @@ fn multiply(cpu: &mut Cpu, i: Instruction, b: u32) -> Result<Ending, ProgramCode
 
 /// 1D DR: a quotient of a pair and a register.
 #[inline(always)]
-fn divide(cpu: &mut Cpu, i: Instruction, b: u32) -> Result<Ending, ProgramCode>
+fn divide(cpu: &mut Cpu, i: Instruction, b: u32) -> Result<Completion, ProgramCode>
     ensures { MeetsEnded (with_even (r1_of i) (quotient_left cpu.old (r1_of i) b)) cpu.old result
         cpu.new }
 {
@@ -72,7 +72,7 @@ fn divide(cpu: &mut Cpu, i: Instruction, b: u32) -> Result<Ending, ProgramCode>
 
 /// 8C SRDL, 8D SLDL, 8E SRDA, 8F SLDA: a shift of a pair.
 #[inline(always)]
-fn shift_pair(shift: Shift, cpu: &mut Cpu, i: Instruction) -> Result<Ending, ProgramCode>
+fn shift_pair(shift: Shift, cpu: &mut Cpu, i: Instruction) -> Result<Completion, ProgramCode>
     ensures { MeetsEnded (with_even (r1_of i)
         (Ok (pair_shifted shift cpu.old (r1_of i) (shift_count cpu.old i)))) cpu.old result
         cpu.new }
@@ -103,7 +103,7 @@ fn is_taken(kind: Branching, cpu: &Cpu, i: Instruction) -> bool
 /// instruction comes next, and does not wait for the count or the condition to choose between two
 /// addresses.
 #[inline(always)]
-pub fn branch_to(kind: Branching, cpu: &mut Cpu, place: Place, i: Instruction) -> Ending
+pub fn branch_to(kind: Branching, cpu: &mut Cpu, place: Place, i: Instruction) -> Completion
     ensures { branched kind cpu.old place i true (indexed_address cpu.old (r2_of i) i.second_half)
         ≡ record { ending = result; cpu = cpu.new } }
 {
@@ -117,7 +117,7 @@ pub fn branch_to(kind: Branching, cpu: &mut Cpu, place: Place, i: Instruction) -
 /// 05 BALR, 06 BCTR, 07 BCR: a branch to the address in a register, but none where the field is
 /// zero.
 #[inline(always)]
-pub fn branch_register(kind: Branching, cpu: &mut Cpu, place: Place, i: Instruction) -> Ending
+pub fn branch_register(kind: Branching, cpu: &mut Cpu, place: Place, i: Instruction) -> Completion
     ensures { branched kind cpu.old place i (not (r2_of i == 0))
         (slice_index cpu.old.general (r2_of i))
         ≡ record { ending = result; cpu = cpu.new } }
@@ -128,7 +128,7 @@ pub fn branch_register(kind: Branching, cpu: &mut Cpu, place: Place, i: Instruct
 
 /// An operation on two registers.
 #[inline(always)]
-pub fn register_operation(operation: Arithmetic, cpu: &mut Cpu, i: Instruction) -> Ending
+pub fn register_operation(operation: Arithmetic, cpu: &mut Cpu, i: Instruction) -> Completion
     ensures { arithmetic operation cpu.old (r1_of i) (slice_index cpu.old.general (r2_of i))
         ≡ record { ending = result; cpu = cpu.new } }
 {
@@ -138,7 +138,7 @@ pub fn register_operation(operation: Arithmetic, cpu: &mut Cpu, i: Instruction) 
 
 /// 41 LA: the second operand's address goes to a register.
 #[inline(always)]
-pub fn load_address(cpu: &mut Cpu, i: Instruction) -> Ending
+pub fn load_address(cpu: &mut Cpu, i: Instruction) -> Completion
     ensures { address_loaded cpu.old (r1_of i) (indexed_address cpu.old (r2_of i) i.second_half)
         ≡ record { ending = result; cpu = cpu.new } }
 {
@@ -157,7 +157,7 @@ pub fn register_row(
     cpu: &mut Cpu,
     place: Place,
     i: Instruction,
-) -> Result<Ending, ProgramCode>
+) -> Result<Completion, ProgramCode>
     ensures { MeetsEnded (register_row row cpu.old place i) cpu.old result cpu.new }
 {
     let second = cpu.general[i.r2().index()];

@@ -13,7 +13,7 @@ use s370_bytes::{
 };
 use s370_psw::ProgramCode;
 use s370_rows::{
-    ByteChange, Cpu, Ending, Instruction, Refusal, change_byte, compare_and_swap,
+    ByteChange, Completion, Cpu, Instruction, Refusal, change_byte, compare_and_swap,
     compare_and_swap_pair, grant,
 };
 use s370_store::{
@@ -32,7 +32,7 @@ pub fn store_word_row<S: Storage>(
     cpu: &Cpu,
     storage: &mut S,
     i: Instruction,
-) -> Result<Ending, Refusal>
+) -> Result<Completion, Refusal>
     ensures row { let before = state_of cpu.now (S.memory storage.old) in
         let after = state_of cpu.now (S.memory storage.new) in
         MeetsRow (word_stored before i) (S.present storage.old) before result after }
@@ -54,7 +54,7 @@ pub fn store_word_row_at<S: Storage>(
     storage: &mut S,
     i: Instruction,
     start: u32,
-) -> Result<Ending, Refusal>
+) -> Result<Completion, Refusal>
     requires { start ≡ indexed_address cpu.now (r2_of i) i.second_half }
     ensures row { let before = state_of cpu.now (S.memory storage.old) in
         let after = state_of cpu.now (S.memory storage.new) in
@@ -63,7 +63,7 @@ pub fn store_word_row_at<S: Storage>(
 {
     grant(cpu, storage, Range { start, count: 4 }, Access::Store)?;
     store_word(storage, start, cpu.general[i.r1().index()]);
-    Ok(Ending::Done)
+    Ok(Completion::Done)
 }
 
 /// 40 STH: the store of the right half of a register.
@@ -72,7 +72,7 @@ fn store_halfword_row<S: Storage>(
     cpu: &Cpu,
     storage: &mut S,
     i: Instruction,
-) -> Result<Ending, Refusal>
+) -> Result<Completion, Refusal>
     ensures row { let before = state_of cpu.now (S.memory storage.old) in
         let after = state_of cpu.now (S.memory storage.new) in
         MeetsRow (halfword_stored before i) (S.present storage.old) before result after }
@@ -85,7 +85,7 @@ fn store_halfword_row<S: Storage>(
         start,
         (cpu.general[i.r1().index()] & 0xFFFF) as u16,
     );
-    Ok(Ending::Done)
+    Ok(Completion::Done)
 }
 
 /// 42 STC: the store of the rightmost byte of a register.
@@ -94,7 +94,7 @@ fn store_character_row<S: Storage>(
     cpu: &Cpu,
     storage: &mut S,
     i: Instruction,
-) -> Result<Ending, Refusal>
+) -> Result<Completion, Refusal>
     ensures row { let before = state_of cpu.now (S.memory storage.old) in
         let after = state_of cpu.now (S.memory storage.new) in
         MeetsRow (character_stored before i) (S.present storage.old) before result after }
@@ -103,7 +103,7 @@ fn store_character_row<S: Storage>(
     let start = cpu.indexed(i.r2(), i.second_half).get();
     grant(cpu, storage, Range { start, count: 1 }, Access::Store)?;
     store_byte(storage, start, (cpu.general[i.r1().index()] & 0xFF) as u8);
-    Ok(Ending::Done)
+    Ok(Completion::Done)
 }
 
 /// 92 MVI, 93 TS, 94 NI, 96 OI, 97 XI: a change of a byte.
@@ -113,7 +113,7 @@ fn change_byte_row<S: Storage>(
     cpu: &mut Cpu,
     storage: &mut S,
     i: Instruction,
-) -> Result<Ending, Refusal>
+) -> Result<Completion, Refusal>
     ensures row { let before = state_of cpu.old (S.memory storage.old) in
         let after = state_of cpu.new (S.memory storage.new) in
         MeetsRow (byte_changed change before i) (S.present storage.old) before result after }
@@ -125,7 +125,7 @@ fn change_byte_row<S: Storage>(
     let changed = change_byte(change, cpu.psw.condition(), byte, i.second_byte);
     cpu.psw.set_condition(changed.condition);
     store_byte(storage, start, changed.byte);
-    Ok(Ending::Done)
+    Ok(Completion::Done)
 }
 
 /// BA CS: the swap of a word.
@@ -134,7 +134,7 @@ fn swap_word_row<S: Storage>(
     cpu: &mut Cpu,
     storage: &mut S,
     i: Instruction,
-) -> Result<Ending, Refusal>
+) -> Result<Completion, Refusal>
     ensures row { let before = state_of cpu.old (S.memory storage.old) in
         let after = state_of cpu.new (S.memory storage.new) in
         MeetsRow (word_swapped before i) (S.present storage.old) before result after }
@@ -150,7 +150,7 @@ fn swap_word_row<S: Storage>(
         Some(taken) => store_word(storage, start, taken),
         None => {}
     }
-    Ok(Ending::Done)
+    Ok(Completion::Done)
 }
 
 /// BB CDS: the swap of a doubleword.
@@ -159,7 +159,7 @@ fn swap_doubleword_row<S: Storage>(
     cpu: &mut Cpu,
     storage: &mut S,
     i: Instruction,
-) -> Result<Ending, Refusal>
+) -> Result<Completion, Refusal>
     ensures row { let before = state_of cpu.old (S.memory storage.old) in
         let after = state_of cpu.new (S.memory storage.new) in
         MeetsRow (doubleword_swapped before i) (S.present storage.old) before result after }
@@ -175,7 +175,7 @@ fn swap_doubleword_row<S: Storage>(
         Some(taken) => store_doubleword(storage, start, taken),
         None => {}
     }
-    Ok(Ending::Done)
+    Ok(Completion::Done)
 }
 
 /// Carries out a row that stores an operand, but for the address.
@@ -190,7 +190,7 @@ pub fn store_row<S: Storage, const CODE: u8>(
     cpu: &mut Cpu,
     storage: &mut S,
     i: Instruction,
-) -> Result<Ending, Refusal>
+) -> Result<Completion, Refusal>
     ensures row { let before = state_of cpu.old (S.memory storage.old) in
         let after = state_of cpu.new (S.memory storage.new) in
         MeetsRow (store_row row before i) (S.present storage.old) before result after }

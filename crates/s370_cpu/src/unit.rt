@@ -21,7 +21,7 @@ use crate::register_rows::register_row;
 use crate::store_rows::store_row;
 use s370_num::Addr24;
 use s370_psw::{Ilc, ProgramCode};
-use s370_rows::{Arithmetic, Cpu, Ending, Instruction, Place, Refusal, Shift};
+use s370_rows::{Arithmetic, Completion, Cpu, Instruction, Place, Refusal, Shift};
 use s370_store::{Block, Storage, load_byte, load_byte_in};
 
 /// Carries out an instruction of any state that was fetched, but for its address. The operation
@@ -34,7 +34,7 @@ fn perform<S: Storage>(
     place: Place,
     opcode: u8,
     i: Instruction,
-) -> Result<Ending, Refusal>
+) -> Result<Completion, Refusal>
     requires same { i.opcode ≡ opcode }
     requires plain { is_supervised (opcode_at i.opcode) ≡ false }
     ensures row { let before = state_of cpu.old (S.memory storage.old) in
@@ -45,7 +45,7 @@ fn perform<S: Storage>(
     match opcode_of(opcode) {
         Opcode::Invalid => Err(Refusal::Program(ProgramCode::Operation)),
         Opcode::Supervised(_) => unreachable!(),
-        Opcode::SupervisorCall => Ok(Ending::SupervisorCall(i.second_byte)),
+        Opcode::SupervisorCall => Ok(Completion::SupervisorCall(i.second_byte)),
         Opcode::Execute => Err(Refusal::Program(ProgramCode::Execute)),
         Opcode::Computes(row) => match register_row(row, cpu, place, i) {
             Ok(ending) => Ok(ending),

@@ -1,6 +1,6 @@
 -- An instruction with what its stop is followed by: what it does, and what is undone where a page is missing.
 use Rattle.std.proofs.Common.{◌≡◌, ℕ, ◌+◌, ◌%◌, ◌^◌, Bool, true, false, length, List, Ok, Err, refl, ap, subst, sym, ◌∙◌, inl, inr}
-use Rattle.s370_store.specs.Access.{IsAway}
+use Rattle.s370_store.specs.Access.{IsAbsent}
 use Rattle.s370_store.specs.declared.Page.{Page}
 use Rattle.s370_psw.specs.Fields.{Fields}
 use Rattle.s370_rows.specs.declared.cpu.Cpu.{Cpu}
@@ -35,9 +35,9 @@ instruction_misses m m1 devices present page h = (ap (λ (x : State). configurat
 put_back : (m m1 : State) (devices : List Subchannel) (c2 : Configuration) → m1.bytes ≡ m.bytes → m1.keys ≡ m.keys → c2 ≡ configuration_of m1 devices → record c2 { processor = record c2.processor { cpu = m.cpu } } ≡ configuration_of m devices
 put_back m m1 devices c2 b k e = rw e (rw (b, k) refl)
 
-missed : (m m1 : State) (devices : List Subchannel) (c2 : Configuration) (present present1 : ℕ → Bool) (stop : Stop) (page : Page) → (unit m).ran ≡ record { stop = stop; state = m1 } → m1.bytes ≡ m.bytes → m1.keys ≡ m.keys → present1 ≡ present → (c2 ≡ configuration_of m1 devices) × IsAway (length m1.bytes) present1 page.0 × FollowNeeds stop (configuration_of m1 devices) page.0 → MeetsInstruction present (configuration_of m devices) (Err page) (record c2 { processor = record c2.processor { cpu = m.cpu } })
+missed : (m m1 : State) (devices : List Subchannel) (c2 : Configuration) (present present1 : ℕ → Bool) (stop : Stop) (page : Page) → (unit m).ran ≡ record { stop = stop; state = m1 } → m1.bytes ≡ m.bytes → m1.keys ≡ m.keys → present1 ≡ present → (c2 ≡ configuration_of m1 devices) × IsAbsent (length m1.bytes) present1 page.0 × FollowNeeds stop (configuration_of m1 devices) page.0 → MeetsInstruction present (configuration_of m devices) (Err page) (record c2 { processor = record c2.processor { cpu = m.cpu } })
 missed m m1 devices c2 present present1 stop page e b k same h =
-    let away : IsAway (length m.bytes) present page.0 = subst (λ (p : ℕ → Bool). IsAway (length m.bytes) p page.0) same (subst (λ (n : ℕ). IsAway n present1 page.0) (ap length b) h.1) in
+    let away : IsAbsent (length m.bytes) present page.0 = subst (λ (p : ℕ → Bool). IsAbsent (length m.bytes) p page.0) same (subst (λ (n : ℕ). IsAbsent n present1 page.0) (ap length b) h.1) in
     let needed : FollowNeeds (unit m).ran.stop (configuration_of (unit m).ran.state devices) page.0 = subst (λ (r : Ran). FollowNeeds r.stop (configuration_of r.state devices) page.0) (sym e) h.2 in
     (put_back m m1 devices c2 b k h.0, away, inr needed)
 
@@ -117,7 +117,7 @@ called m i psw e o p = rw (e, p) (rw (shape i o) refl)
 
 -- where page 0 is not there, the address is put back
 pub call_misses : (m m2 : State) (devices : List Subchannel) (i : Instruction) (psw psw2 : Fields) (present : ℕ → Bool) (page : Page) → (fetched m m.cpu.psw.address).result ≡ Ok i → i.opcode ≡ 0x0A → psw ≡ record m.cpu.psw { address = (m.cpu.psw.address + 2) % 2 ^ 24 }
-    → m2 ≡ record m { cpu = record m.cpu { psw = psw } } → psw2 ≡ record m2.cpu.psw { address = m.cpu.psw.address } → page.0 ≡ 0 → IsAway (length m.bytes) present page.0
+    → m2 ≡ record m { cpu = record m.cpu { psw = psw } } → psw2 ≡ record m2.cpu.psw { address = m.cpu.psw.address } → page.0 ≡ 0 → IsAbsent (length m.bytes) present page.0
     → MeetsInstruction present (configuration_of m devices) (Err page) (configuration_of (record m2 { cpu = record m2.cpu { psw = psw2 } }) devices)
 call_misses m m2 devices i psw psw2 present page e o p same back zero away =
     let needed : FollowNeeds (unit m).ran.stop (configuration_of (unit m).ran.state devices) page.0 = subst (λ (r : Ran). FollowNeeds r.stop (configuration_of r.state devices) page.0) (sym (called m i psw e o p)) zero in

@@ -2,7 +2,7 @@
 use Rattle.std.specs.Prelude.{◌≡◌, ℕ, Bool, List, length, Result, Ok, Err, ⊤}
 use Rattle.std.specs.Int.{w64, to_be_bytes}
 use Rattle.s370_psw.specs.Fields.{fields_of, word_of}
-use Rattle.s370_store.specs.Access.{IsAway, put}
+use Rattle.s370_store.specs.Access.{IsAbsent, put}
 use Rattle.s370_store.specs.declared.Page.{Page}
 use Rattle.s370_rows.specs.State.{State}
 use Rattle.s370_rows.specs.Rows.{doubleword_at}
@@ -45,4 +45,4 @@ swapped m kind code ilc =
 abbrev pub MeetsSwap : State → (ℕ → Bool) → State → Result ⊤ Page → State → Type 0
 MeetsSwap s present old (Ok _) new = new ≡ s
 MeetsSwap s present old (Err page) new = (new ≡ old) × (page.0 ≡ 0)
-    × IsAway (length old.bytes) present page.0
+    × IsAbsent (length old.bytes) present page.0

@@ -2,7 +2,7 @@
 use Rattle.std.specs.Prelude.{◌≡◌, ℕ, ◌+◌, ◌-◌, ◌%◌, ◌^◌, Bool, not, ◌&&◌, ◌||◌, nat_le, List}
 use Rattle.std.specs.Prelude.{length, Result, Ok, Err, ⊤}
 use Rattle.std.specs.Int.{w32, to_be_bytes}
-use Rattle.s370_store.specs.Access.{IsAway, put}
+use Rattle.s370_store.specs.Access.{IsAbsent, put}
 use Rattle.s370_store.specs.declared.Page.{Page}
 use Rattle.s370_rows.specs.Rows.{word_at}
 use Rattle.s370_intr.specs.declared.pending.Pending.{Pending}
@@ -50,4 +50,4 @@ ticked c =
 abbrev pub MeetsTick : (ℕ → Bool) → Timed → Result ⊤ Page → Timed → Type 0
 MeetsTick present old (Ok _) new = new ≡ tick old
 MeetsTick present old (Err page) new = (new ≡ old) × (page.0 ≡ 0)
-    × IsAway (length old.bytes) present page.0
+    × IsAbsent (length old.bytes) present page.0

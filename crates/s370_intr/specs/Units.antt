@@ -7,7 +7,7 @@ use Rattle.std.specs.Prelude.{not, ◌&&◌, ◌||◌, List, length, slice_index
 use Rattle.std.specs.Prelude.{None, Result, Ok, Err, ⊤, ◌⊎◌}
 use Rattle.s370_psw.specs.Fields.{Fields, enables_external}
 use Rattle.s370_psw.specs.ProgramCode.{program_number}
-use Rattle.s370_store.specs.Access.{IsAway}
+use Rattle.s370_store.specs.Access.{IsAbsent}
 use Rattle.s370_store.specs.declared.Page.{Page}
 use Rattle.s370_rows.specs.declared.cpu.Cpu.{Cpu}
 use Rattle.s370_rows.specs.State.{State}
@@ -172,7 +172,7 @@ abbrev pub Meets : Configuration → (ℕ → Type 0) → (ℕ → Bool) → Con
     → Configuration → Type 0
 Meets wanted needs present old (Ok _) new = new ≡ wanted
 Meets wanted needs present old (Err page) new =
-    (new ≡ old) × IsAway (length old.processor.bytes) present page.0 × needs page.0
+    (new ≡ old) × IsAbsent (length old.processor.bytes) present page.0 × needs page.0
 
 -- an instruction that was carried out with what its stop is followed by, if so; else nothing has
 -- changed
@@ -207,4 +207,4 @@ IsSaved _ old spare = Unit {0}
 abbrev pub MeetsUnitAt : Next → (ℕ → Bool) → Core → Result ⊤ Page → Core → Type 0
 MeetsUnitAt l present old (Ok _) new = new ≡ unit_at l old
 MeetsUnitAt l present old (Err page) new =
-    (new ≡ old) × IsAway (length old.processor.bytes) present page.0 × NeedsAt l old page.0
+    (new ≡ old) × IsAbsent (length old.processor.bytes) present page.0 × NeedsAt l old page.0

@@ -163,7 +163,7 @@ impl Psw {
         self.system_mask
     }
 
-    /// Extended control mode is asked for (bit 12).
+    /// Returns whether extended control mode is asked for (bit 12).
     #[inline(always)]
     pub fn is_ec(&self) -> bool
         ensures { result ≡ self.now.extended }
@@ -171,7 +171,7 @@ impl Psw {
         self.extended
     }
 
-    /// Machine checks may interrupt (bit 13).
+    /// Returns whether machine checks may interrupt (bit 13).
     #[inline(always)]
     pub fn machine_check(&self) -> bool
         ensures { result ≡ self.now.machine_check }
@@ -179,7 +179,7 @@ impl Psw {
         self.machine_check
     }
 
-    /// Returns the processor waits for an interruption (bit 14).
+    /// Returns whether the processor waits for an interruption (bit 14).
     #[inline(always)]
     pub fn waits(&self) -> bool
         ensures { result ≡ self.now.wait }
@@ -187,7 +187,7 @@ impl Psw {
         self.wait
     }
 
-    /// Privileged instructions are refused (bit 15).
+    /// Returns whether privileged instructions are refused (bit 15).
     #[inline(always)]
     pub fn is_problem(&self) -> bool
         ensures { result ≡ self.now.problem }
@@ -195,8 +195,8 @@ impl Psw {
         self.problem
     }
 
-    /// A device of this channel may interrupt: channels 0 to 5 have a mask each, the higher ones
-    /// share one.
+    /// Returns whether a device of this channel may interrupt: channels 0 to 5 have a mask each, the
+    /// higher ones share one.
     #[inline(always)]
     pub fn enables_channel(&self, channel: u8) -> bool
         ensures { result ≡ enables_channel self.now channel }
@@ -205,7 +205,7 @@ impl Psw {
         self.system_mask >> (7 - place) & 1 == 1
     }
 
-    /// An external condition may interrupt.
+    /// Returns whether an external condition may interrupt.
     #[inline(always)]
     pub fn enables_external(&self) -> bool
         ensures { result ≡ enables_external self.now }
@@ -213,7 +213,7 @@ impl Psw {
         self.system_mask & 1 == 1
     }
 
-    /// Neither a channel nor an external condition may interrupt.
+    /// Returns whether neither a channel nor an external condition may interrupt.
     #[inline(always)]
     pub fn is_disabled(&self) -> bool
         ensures { result ≡ (self.now.system_mask == 0) }

@@ -3,8 +3,8 @@ use Rattle.std.proofs.Common.{◌≡◌, ℕ, Bool, true, false, List, Option, S
 use Rattle.std.specs.Prelude.{◌&&◌, if◌then◌else◌}
 use Rattle.s370_psw.specs.declared.ProgramCode.{ProgramCode}
 use Rattle.s370_rows.specs.declared.cpu.Cpu.{Cpu}
-use Rattle.s370_rows.specs.declared.ending.Ending.{Ending}
-use Rattle.s370_rows.specs.declared.ending.Ending.TheVariants.{Done, Branch, Again, Interrupted, SupervisorCall, InputOutput}
+use Rattle.s370_rows.specs.declared.ending.Completion.{Completion}
+use Rattle.s370_rows.specs.declared.ending.Completion.TheVariants.{Done, Branch, Again, Interrupted, SupervisorCall, InputOutput}
 use Rattle.s370_rows.specs.declared.instruction.Instruction.{Instruction}
 use Rattle.s370_rows.specs.declared.place.Place.{Place}
 use Rattle.s370_rows.specs.Branches.{branches}
@@ -28,7 +28,7 @@ abbrev pub LeavesQuiet : State → Result Left ProgramCode → Type 0
 LeavesQuiet m (Ok l) = IsQuiet m l
 LeavesQuiet m (Err code) = Unit {0}
 
-abbrev GoesOnQuietly : State → Ending → State → Type 0
+abbrev GoesOnQuietly : State → Completion → State → Type 0
 GoesOnQuietly m ending m' = GoesOn ending × (rights_of m' ≡ rights_of m)
 
 abbrev IsQuietOutcome : State → Result Outcome ProgramCode → Type 0
@@ -42,12 +42,12 @@ quiet_outcome m None (Some code) leaves h = tt
 quiet_outcome m (Some code) fault leaves h = tt
 
 -- a row that is quiet, where it was carried out
-pub quick_done : (r : Row) (present : ℕ → Bool) (m : State) (ending : Ending) (m' : State) → LeavesQuiet m r.leaves → MeetsRow r present m (Ok ending) m' → MeetsQuick r present m (Some ending) m'
+pub quick_done : (r : Row) (present : ℕ → Bool) (m : State) (ending : Completion) (m' : State) → LeavesQuiet m r.leaves → MeetsRow r present m (Ok ending) m' → MeetsQuick r present m (Some ending) m'
 quick_done r present m ending m' h e =
     let q : GoesOnQuietly m ending m' = subst (λ (x : Result Outcome ProgramCode). IsQuietOutcome m x) e (quiet_outcome m r.refused (fault_of m r.tests) r.leaves h) in
     (e, q.0, q.1)
 
-pub quick_of : (r : Row) (present : ℕ → Bool) (m : State) (answer : Option Ending) (m' : State) → LeavesQuiet m r.leaves → MeetsAtOnce r present m answer m' → MeetsQuick r present m answer m'
+pub quick_of : (r : Row) (present : ℕ → Bool) (m : State) (answer : Option Completion) (m' : State) → LeavesQuiet m r.leaves → MeetsAtOnce r present m answer m' → MeetsQuick r present m answer m'
 quick_of r present m None m' h e = e
 quick_of r present m (Some ending) m' h e = quick_done r present m ending m' h e
 
@@ -76,7 +76,7 @@ long_quiet m i = search (either_quiet, over_quiet, part_quiet)
 
 -- ---- the unit
 
-went : (m : State) (place : Place) (ending : Ending) (cpu' : Cpu) (m' : State) → stopped (Ok ending) place m'.cpu ≡ record { stop = DoneStop; cpu = cpu' } → GoesOn ending → rights_of (record m' { cpu = cpu' }) ≡ rights_of m'
+went : (m : State) (place : Place) (ending : Completion) (cpu' : Cpu) (m' : State) → stopped (Ok ending) place m'.cpu ≡ record { stop = DoneStop; cpu = cpu' } → GoesOn ending → rights_of (record m' { cpu = cpu' }) ≡ rights_of m'
 went m place Done cpu' m' e h = rw (sym (ap (λ (s : Stopped). s.cpu) e)) refl
 went m place (Branch a) cpu' m' e h = rw (sym (ap (λ (s : Stopped). s.cpu) e)) refl
 went m place Again cpu' m' e h = rw (sym (ap (λ (s : Stopped). s.cpu) e)) refl
@@ -84,10 +84,10 @@ went m place (Interrupted code) cpu' m' e h = absurd h
 went m place (SupervisorCall n) cpu' m' e h = absurd h
 went m place (InputOutput operation device) cpu' m' e h = absurd h
 
-pub quick_rights : (m : State) (place : Place) (r : Row) (present : ℕ → Bool) (ending : Ending) (cpu' : Cpu) (m' : State) → MeetsQuick r present m (Some ending) m' → stopped (Ok ending) place m'.cpu ≡ record { stop = DoneStop; cpu = cpu' } → rights_of (record m' { cpu = cpu' }) ≡ rights_of m
+pub quick_rights : (m : State) (place : Place) (r : Row) (present : ℕ → Bool) (ending : Completion) (cpu' : Cpu) (m' : State) → MeetsQuick r present m (Some ending) m' → stopped (Ok ending) place m'.cpu ≡ record { stop = DoneStop; cpu = cpu' } → rights_of (record m' { cpu = cpu' }) ≡ rights_of m
 quick_rights m place r present ending cpu' m' q e = went m place ending cpu' m' e q.1 ∙ q.2
 
-pub quick_unit : (m : State) (ilc : ℕ) (i : Instruction) (ending : Ending) (cpu' : Cpu) (present : ℕ → Bool) (m' : State) → Carries m ilc i → MeetsRow (row_of m (place_at m ilc) i) present m (Ok ending) m' → stopped (Ok ending) (place_at m ilc) m'.cpu ≡ record { stop = DoneStop; cpu = cpu' } → MeetsUnit (unit m) present m DoneStop (record m' { cpu = cpu' })
+pub quick_unit : (m : State) (ilc : ℕ) (i : Instruction) (ending : Completion) (cpu' : Cpu) (present : ℕ → Bool) (m' : State) → Carries m ilc i → MeetsRow (row_of m (place_at m ilc) i) present m (Ok ending) m' → stopped (Ok ending) (place_at m ilc) m'.cpu ≡ record { stop = DoneStop; cpu = cpu' } → MeetsUnit (unit m) present m DoneStop (record m' { cpu = cpu' })
 quick_unit m ilc i ending cpu' present m' c h e =
     let s = stopped (Ok ending) (place_at m ilc) m'.cpu in
     subst (λ (t : Stopped). MeetsUnit (unit m) present m t.stop (record m' { cpu = t.cpu })) e

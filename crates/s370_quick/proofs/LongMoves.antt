@@ -4,7 +4,7 @@ use Rattle.std.proofs.lemmas.List.{get_or-take, get_or-drop}
 use Rattle.s370_store.proofs.Blocks.{block_passes}
 use Rattle.s370_psw.specs.Fields.{Fields}
 use Rattle.s370_rows.specs.declared.instruction.Instruction.{Instruction}
-use Rattle.s370_rows.specs.declared.ending.Ending.TheVariants.{Again}
+use Rattle.s370_rows.specs.declared.ending.Completion.TheVariants.{Again}
 use Rattle.s370_rows.specs.State.{State}
 use Rattle.s370_rows.specs.Rows.{MeetsRow}
 use Rattle.s370_bytes.specs.Long.{AreParts, long_moved}

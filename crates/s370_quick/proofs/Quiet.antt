@@ -5,8 +5,8 @@ use Rattle.std.specs.Prelude.{if◌then◌else◌, ◌&&◌, nat_le, nat_lt}
 use Rattle.s370_psw.specs.declared.ProgramCode.{ProgramCode}
 use Rattle.s370_psw.specs.declared.ProgramCode.TheVariants.{Specification}
 use Rattle.s370_rows.specs.declared.cpu.Cpu.{Cpu}
-use Rattle.s370_rows.specs.declared.ending.Ending.{Ending}
-use Rattle.s370_rows.specs.declared.ending.Ending.TheVariants.{Done, Again}
+use Rattle.s370_rows.specs.declared.ending.Completion.{Completion}
+use Rattle.s370_rows.specs.declared.ending.Completion.TheVariants.{Done, Again}
 use Rattle.s370_rows.specs.declared.instruction.Instruction.{Instruction}
 use Rattle.s370_rows.specs.declared.place.Place.{Place}
 use Rattle.s370_rows.specs.Arithmetic.{order_code}
@@ -165,6 +165,6 @@ steady_quiet (Fetches row) m place i steady none = fetch_quiet row m i none stea
 steady_quiet (Stores row) m place i steady none = store_quiet row m i
 
 -- a row of a steady operation code, carried out at once or not at all
-pub steady_of : (m : State) (place : Place) (i : Instruction) (present : ℕ → Bool) (answer : Option Ending) (m' : State) → is_steady (opcode_at i.opcode) ≡ true → NoOverflow (may_overflow (opcode_at i.opcode)) m → MeetsAtOnce (row_of m place i) present m answer m' → MeetsQuick (row_of m place i) present m answer m'
+pub steady_of : (m : State) (place : Place) (i : Instruction) (present : ℕ → Bool) (answer : Option Completion) (m' : State) → is_steady (opcode_at i.opcode) ≡ true → NoOverflow (may_overflow (opcode_at i.opcode)) m → MeetsAtOnce (row_of m place i) present m answer m' → MeetsQuick (row_of m place i) present m answer m'
 steady_of m place i present answer m' steady none row =
     quick_of (row_of m place i) present m answer m' (steady_quiet (opcode_at i.opcode) m place i steady none) row

@@ -6,9 +6,9 @@ use Rattle.s370_store.specs.Memory.{Memory}
 use Rattle.s370_store.specs.declared.Access.{Access}
 use Rattle.s370_store.specs.declared.Access.TheVariants.{Fetch, Store}
 use Rattle.s370_store.specs.declared.block.Block.{Block}
-use Rattle.s370_rows.specs.declared.ending.Ending.{Ending}
-use Rattle.s370_rows.specs.declared.ending.Ending.TheVariants.{Done, Branch, Again, Interrupted}
-use Rattle.s370_rows.specs.declared.ending.Ending.TheVariants.{SupervisorCall, InputOutput}
+use Rattle.s370_rows.specs.declared.ending.Completion.{Completion}
+use Rattle.s370_rows.specs.declared.ending.Completion.TheVariants.{Done, Branch, Again, Interrupted}
+use Rattle.s370_rows.specs.declared.ending.Completion.TheVariants.{SupervisorCall, InputOutput}
 use Rattle.s370_rows.specs.declared.ending.Refusal.{Refusal}
 use Rattle.s370_rows.specs.State.{State}
 use Rattle.s370_rows.specs.Rows.{Row, MeetsRow}
@@ -19,7 +19,7 @@ use Rattle.s370_cpu.specs.declared.conclude.Stop.TheVariants.{Done as DoneStop}
 use Rattle.s370_quick.specs.declared.held.HeldBlock.{HeldBlock}
 
 -- the processor goes on after it, and nothing else follows
-abbrev pub GoesOn : Ending → Type 0
+abbrev pub GoesOn : Completion → Type 0
 GoesOn Done = Unit {0}
 GoesOn (Branch a) = Unit {0}
 GoesOn Again = Unit {0}
@@ -28,17 +28,17 @@ GoesOn (SupervisorCall n) = ⊥
 GoesOn (InputOutput operation device) = ⊥
 
 -- how a row ended that was carried out
-abbrev pub done_of : Result Ending Refusal → Option Ending
+abbrev pub done_of : Result Completion Refusal → Option Completion
 done_of (Ok ending) = Some ending
 done_of (Err refusal) = None
 
 -- the row, where one look at its operand grants it; or nothing is changed
-abbrev pub MeetsAtOnce : Row → (ℕ → Bool) → State → Option Ending → State → Type 0
+abbrev pub MeetsAtOnce : Row → (ℕ → Bool) → State → Option Completion → State → Type 0
 MeetsAtOnce r present old None new = new ≡ old
 MeetsAtOnce r present old (Some ending) new = MeetsRow r present old (Ok ending) new
 
 -- the row, where the processor goes on after it and nobody's rights change; or nothing is changed
-abbrev pub MeetsQuick : Row → (ℕ → Bool) → State → Option Ending → State → Type 0
+abbrev pub MeetsQuick : Row → (ℕ → Bool) → State → Option Completion → State → Type 0
 MeetsQuick r present old None new = new ≡ old
 MeetsQuick r present old (Some ending) new =
     MeetsRow r present old (Ok ending) new × GoesOn ending × (rights_of new ≡ rights_of old)

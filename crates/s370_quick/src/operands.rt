@@ -24,7 +24,7 @@ use s370_bytes::{Combine, load_registers_in, store_registers_in, words_range};
 use s370_cpu::{FetchRow, StoreRow, fetch_row, store_row};
 use s370_num::Addr24;
 use s370_rows::{
-    Arithmetic, ByteChange, ByteTest, Cpu, Ending, Instruction, Refusal, arithmetic_row,
+    Arithmetic, ByteChange, ByteTest, Completion, Cpu, Instruction, Refusal, arithmetic_row,
     change_byte, compare_and_swap, divide_row, halfword_operand, insert_byte_row,
     multiply_halfword_row, multiply_row, test_byte,
 };
@@ -166,7 +166,7 @@ fn word_quickly<S: Storage>(
     storage: &S,
     i: Instruction,
     held: &mut HeldBlock,
-) -> Option<Ending>
+) -> Option<Completion>
     requires operands { AreHeld (S.IsPlaced storage.now) (S.memory storage.now)
         (S.present storage.now) cpu.old.psw.key held.old }
     ensures row { let before = state_of cpu.old (S.memory storage.now) in
@@ -190,7 +190,7 @@ fn halfword_quickly<S: Storage>(
     storage: &S,
     i: Instruction,
     held: &mut HeldBlock,
-) -> Option<Ending>
+) -> Option<Completion>
     requires operands { AreHeld (S.IsPlaced storage.now) (S.memory storage.now)
         (S.present storage.now) cpu.old.psw.key held.old }
     ensures row { let before = state_of cpu.old (S.memory storage.now) in
@@ -213,7 +213,7 @@ fn multiply_halfword_quickly<S: Storage>(
     storage: &S,
     i: Instruction,
     held: &mut HeldBlock,
-) -> Option<Ending>
+) -> Option<Completion>
     requires operands { AreHeld (S.IsPlaced storage.now) (S.memory storage.now)
         (S.present storage.now) cpu.old.psw.key held.old }
     ensures row { let before = state_of cpu.old (S.memory storage.now) in
@@ -235,7 +235,7 @@ fn multiply_word_quickly<S: Storage>(
     storage: &S,
     i: Instruction,
     held: &mut HeldBlock,
-) -> Option<Ending>
+) -> Option<Completion>
     requires operands { AreHeld (S.IsPlaced storage.now) (S.memory storage.now)
         (S.present storage.now) cpu.old.psw.key held.old }
     ensures row { let before = state_of cpu.old (S.memory storage.now) in
@@ -260,7 +260,7 @@ fn divide_word_quickly<S: Storage>(
     storage: &S,
     i: Instruction,
     held: &mut HeldBlock,
-) -> Option<Ending>
+) -> Option<Completion>
     requires operands { AreHeld (S.IsPlaced storage.now) (S.memory storage.now)
         (S.present storage.now) cpu.old.psw.key held.old }
     ensures row { let before = state_of cpu.old (S.memory storage.now) in
@@ -288,7 +288,7 @@ fn insert_quickly<S: Storage>(
     storage: &S,
     i: Instruction,
     held: &mut HeldBlock,
-) -> Option<Ending>
+) -> Option<Completion>
     requires operands { AreHeld (S.IsPlaced storage.now) (S.memory storage.now)
         (S.present storage.now) cpu.old.psw.key held.old }
     ensures row { let before = state_of cpu.old (S.memory storage.now) in
@@ -311,7 +311,7 @@ fn test_byte_quickly<S: Storage>(
     storage: &S,
     i: Instruction,
     held: &mut HeldBlock,
-) -> Option<Ending>
+) -> Option<Completion>
     requires operands { AreHeld (S.IsPlaced storage.now) (S.memory storage.now)
         (S.present storage.now) cpu.old.psw.key held.old }
     ensures row { let before = state_of cpu.old (S.memory storage.now) in
@@ -323,7 +323,7 @@ fn test_byte_quickly<S: Storage>(
     match held_byte(cpu, storage, cpu.based(i.second_half), held) {
         Some(byte) => {
             cpu.psw.set_condition(test_byte(test, byte, i.second_byte));
-            Some(Ending::Done)
+            Some(Completion::Done)
         }
         None => None,
     }
@@ -336,7 +336,7 @@ fn load_multiple_quickly<S: Storage>(
     storage: &S,
     i: Instruction,
     held: &mut HeldBlock,
-) -> Option<Ending>
+) -> Option<Completion>
     requires operands { AreHeld (S.IsPlaced storage.now) (S.memory storage.now)
         (S.present storage.now) cpu.old.psw.key held.old }
     ensures row { let before = state_of cpu.old (S.memory storage.now) in
@@ -349,7 +349,7 @@ fn load_multiple_quickly<S: Storage>(
     match source_block(cpu, storage, held, start, words_range(start, i).count) {
         Some(found) => {
             load_registers_in(&mut cpu.general, storage, found, start, i);
-            Some(Ending::Done)
+            Some(Completion::Done)
         }
         None => None,
     }
@@ -362,7 +362,7 @@ fn store_word_quickly<S: Storage>(
     storage: &mut S,
     i: Instruction,
     held: &mut HeldBlock,
-) -> Option<Ending>
+) -> Option<Completion>
     requires operands { AreHeld (S.IsPlaced storage.old) (S.memory storage.old)
         (S.present storage.old) cpu.now.psw.key held.old }
     ensures row { let before = state_of cpu.now (S.memory storage.old) in
@@ -376,7 +376,7 @@ fn store_word_quickly<S: Storage>(
     match target_block(cpu, storage, held, start, 4) {
         Some(found) => {
             store_word_in(storage, found, start.get(), cpu.general[i.r1().index()]);
-            Some(Ending::Done)
+            Some(Completion::Done)
         }
         None => None,
     }
@@ -389,7 +389,7 @@ fn store_halfword_quickly<S: Storage>(
     storage: &mut S,
     i: Instruction,
     held: &mut HeldBlock,
-) -> Option<Ending>
+) -> Option<Completion>
     requires operands { AreHeld (S.IsPlaced storage.old) (S.memory storage.old)
         (S.present storage.old) cpu.now.psw.key held.old }
     ensures row { let before = state_of cpu.now (S.memory storage.old) in
@@ -404,7 +404,7 @@ fn store_halfword_quickly<S: Storage>(
         Some(found) => {
             let half = (cpu.general[i.r1().index()] & 0xFFFF) as u16;
             storage.store_in(found, start.get(), &half.to_be_bytes());
-            Some(Ending::Done)
+            Some(Completion::Done)
         }
         None => None,
     }
@@ -417,7 +417,7 @@ fn store_character_quickly<S: Storage>(
     storage: &mut S,
     i: Instruction,
     held: &mut HeldBlock,
-) -> Option<Ending>
+) -> Option<Completion>
     requires operands { AreHeld (S.IsPlaced storage.old) (S.memory storage.old)
         (S.present storage.old) cpu.now.psw.key held.old }
     ensures row { let before = state_of cpu.now (S.memory storage.old) in
@@ -432,7 +432,7 @@ fn store_character_quickly<S: Storage>(
         Some(found) => {
             let byte = (cpu.general[i.r1().index()] & 0xFF) as u8;
             storage.store_in(found, start.get(), &[byte]);
-            Some(Ending::Done)
+            Some(Completion::Done)
         }
         None => None,
     }
@@ -445,7 +445,7 @@ fn store_multiple_quickly<S: Storage>(
     storage: &mut S,
     i: Instruction,
     held: &mut HeldBlock,
-) -> Option<Ending>
+) -> Option<Completion>
     requires operands { AreHeld (S.IsPlaced storage.old) (S.memory storage.old)
         (S.present storage.old) cpu.now.psw.key held.old }
     ensures row { let before = state_of cpu.now (S.memory storage.old) in
@@ -459,7 +459,7 @@ fn store_multiple_quickly<S: Storage>(
     match target_block(cpu, storage, held, start, words_range(start, i).count) {
         Some(found) => {
             store_registers_in(&cpu.general, storage, found, start, i);
-            Some(Ending::Done)
+            Some(Completion::Done)
         }
         None => None,
     }
@@ -473,7 +473,7 @@ fn change_byte_quickly<S: Storage>(
     storage: &mut S,
     i: Instruction,
     held: &mut HeldBlock,
-) -> Option<Ending>
+) -> Option<Completion>
     requires operands { AreHeld (S.IsPlaced storage.old) (S.memory storage.old)
         (S.present storage.old) cpu.old.psw.key held.old }
     ensures row { let before = state_of cpu.old (S.memory storage.old) in
@@ -490,7 +490,7 @@ fn change_byte_quickly<S: Storage>(
             let changed = change_byte(change, cpu.psw.condition(), byte, i.second_byte);
             cpu.psw.set_condition(changed.condition);
             storage.store_in(found, start.get(), &[changed.byte]);
-            Some(Ending::Done)
+            Some(Completion::Done)
         }
         None => None,
     }
@@ -503,7 +503,7 @@ fn swap_word_quickly<S: Storage>(
     storage: &mut S,
     i: Instruction,
     held: &mut HeldBlock,
-) -> Option<Ending>
+) -> Option<Completion>
     requires operands { AreHeld (S.IsPlaced storage.old) (S.memory storage.old)
         (S.present storage.old) cpu.old.psw.key held.old }
     ensures row { let before = state_of cpu.old (S.memory storage.old) in
@@ -524,7 +524,7 @@ fn swap_word_quickly<S: Storage>(
                 Some(taken) => store_word_in(storage, found, start.get(), taken),
                 None => {}
             }
-            Some(Ending::Done)
+            Some(Completion::Done)
         }
         None => None,
     }
@@ -538,7 +538,7 @@ pub fn fetch_held<S: Storage, const CODE: u8, const WAY: u8>(
     storage: &S,
     i: Instruction,
     held: &mut HeldBlock,
-) -> Option<Ending>
+) -> Option<Completion>
     requires operands { AreHeld (S.IsPlaced storage.now) (S.memory storage.now)
         (S.present storage.now) cpu.old.psw.key held.old }
     ensures row { let before = state_of cpu.old (S.memory storage.now) in
@@ -569,7 +569,7 @@ pub fn store_held<S: Storage, const CODE: u8, const WAY: u8>(
     storage: &mut S,
     i: Instruction,
     held: &mut HeldBlock,
-) -> Option<Ending>
+) -> Option<Completion>
     requires operands { AreHeld (S.IsPlaced storage.old) (S.memory storage.old)
         (S.present storage.old) cpu.old.psw.key held.old }
     ensures row { let before = state_of cpu.old (S.memory storage.old) in
@@ -595,7 +595,7 @@ pub fn store_held<S: Storage, const CODE: u8, const WAY: u8>(
 
 /// How a row ended that was carried out; one that was refused has changed nothing.
 #[inline(always)]
-pub fn done_of(outcome: Result<Ending, Refusal>) -> Option<Ending>
+pub fn done_of(outcome: Result<Completion, Refusal>) -> Option<Completion>
     ensures { result ≡ done_of outcome }
 {
     match outcome {

@@ -19,7 +19,7 @@ use s370_cpu::{
     target_of,
 };
 use s370_num::Addr24;
-use s370_rows::{Cpu, Ending, Instruction, Place};
+use s370_rows::{Completion, Cpu, Instruction, Place};
 use s370_store::{Block, Storage, load_byte_in};
 
 /// The way of an instruction whose turn it is.
@@ -197,14 +197,14 @@ pub fn move_parts_quickly<S: Storage>(
     second_byte: u8,
     limit: u32,
 ) -> u32
-    requires here { start ≡ cpu.old.psw.address }
+    requires same_start { start ≡ cpu.old.psw.address }
     requires stands { IsLongMoveAt (state_of cpu.old (S.memory storage.old)) (S.present storage.old)
         start second_byte }
     ensures done { let before = state_of cpu.old (S.memory storage.old) in
         let after = state_of cpu.new (S.memory storage.new) in
         DoesUnits result (S.present storage.old) before after }
     ensures within { result ≤ limit }
-    ensures here { start ≡ cpu.new.psw.address }
+    ensures same_start { start ≡ cpu.new.psw.address }
     ensures stands { IsLongMoveAt (state_of cpu.new (S.memory storage.new)) (S.present storage.new)
         start second_byte }
     ensures rest { S.Keeps storage.old storage.new }
@@ -469,18 +469,18 @@ fn finish_quickly<S: Storage, const CODE: u8, const WAY: u8>(
 
 /// Sets the address that an instruction leaves, and answers it.
 #[inline(always)]
-fn go_on(cpu: &mut Cpu, place: Place, ending: Ending) -> Addr24
+fn go_on(cpu: &mut Cpu, place: Place, ending: Completion) -> Addr24
     requires { GoesOn ending }
     ensures stop { stopped (Ok ending) place cpu.old ≡ record { stop = stops.Done; cpu = cpu.new } }
     ensures next { result ≡ cpu.new.psw.address }
 {
     let next = match ending {
-        Ending::Done => place.next,
-        Ending::Branch(address) => Addr24::wrapping(address),
-        Ending::Again => return cpu.psw.address(),
-        Ending::Interrupted(_) | Ending::SupervisorCall(_) | Ending::InputOutput(_, _) => {
-            unreachable!()
-        }
+        Completion::Done => place.next,
+        Completion::Branch(address) => Addr24::wrapping(address),
+        Completion::Again => return cpu.psw.address(),
+        Completion::Interrupted(_)
+        | Completion::SupervisorCall(_)
+        | Completion::InputOutput(_, _) => { unreachable!() }
     };
     cpu.psw.set_address(next);
     next
@@ -512,7 +512,7 @@ fn perform_quickly<S: Storage, const CODE: u8, const WAY: u8>(
     place: Place,
     i: Instruction,
     held: &mut HeldBlock,
-) -> Option<Ending>
+) -> Option<Completion>
     requires same { i.opcode ≡ CODE }
     requires operands { AreHeld (S.IsPlaced storage.old) (S.memory storage.old)
         (S.present storage.old) cpu.old.psw.key held.old }
@@ -541,7 +541,7 @@ fn perform_held<S: Storage, const CODE: u8, const WAY: u8>(
     place: Place,
     i: Instruction,
     held: &mut HeldBlock,
-) -> Option<Ending>
+) -> Option<Completion>
     requires same { i.opcode ≡ CODE }
     requires operands { AreHeld (S.IsPlaced storage.old) (S.memory storage.old)
         (S.present storage.old) cpu.old.psw.key held.old }

@@ -2,7 +2,7 @@
 ghost use Rattle.std.specs.Prelude.{◌≡◌, ℕ, [], ◌∷◌, Ok, true, false};
 ghost use Rattle.s370_rows.specs.State.{state_of};
 ghost use Rattle.s370_rows.specs.Rows.{MeetsRow};
-ghost use Rattle.s370_rows.specs.declared.ending.Ending.TheVariants as endings;
+ghost use Rattle.s370_rows.specs.declared.ending.Completion.TheVariants as endings;
 ghost use Rattle.s370_bytes.specs.Combine.{string_combined};
 ghost use Rattle.s370_bytes.specs.Compare.{strings_compared};
 ghost use Rattle.s370_bytes.specs.Translate.{string_translated};
@@ -15,7 +15,7 @@ use s370_bytes::{
     Combine, combine_row, combine_straight, compare_row, compare_straight, fill_straight, move_row,
     move_straight, translate_row, translate_straight,
 };
-use s370_rows::{Cpu, Ending, Instruction};
+use s370_rows::{Completion, Cpu, Instruction};
 use s370_store::{Access, Storage};
 
 /// D2 MVC between two blocks, if it is one copy or fills its target with one byte. Else nothing
@@ -60,7 +60,7 @@ pub fn move_quickly<S: Storage>(
     storage: &mut S,
     i: Instruction,
     held: &mut HeldBlock,
-) -> Option<Ending>
+) -> Option<Completion>
     requires operands { AreHeld (S.IsPlaced storage.old) (S.memory storage.old)
         (S.present storage.old) cpu.old.psw.key held.old }
     ensures row { let before = state_of cpu.old (S.memory storage.old) in
@@ -72,7 +72,7 @@ pub fn move_quickly<S: Storage>(
         (S.present storage.old) cpu.old.psw.key held.new }
 {
     if move_held(cpu, storage, i, held) {
-        return Some(Ending::Done);
+        return Some(Completion::Done);
     }
     if move_apart(
         cpu,
@@ -82,14 +82,13 @@ pub fn move_quickly<S: Storage>(
         i.second_half,
         i.third_half,
     ) {
-        return Some(Ending::Done);
+        return Some(Completion::Done);
     }
     None
 }
 
 /// D2 MVC by its row. It is given the parts of the instruction, so that the loop need not write the
-/// instruction to
-/// memory for an MVC that is one copy.
+/// instruction to memory for an MVC that is one copy.
 #[inline(never)]
 fn move_apart<S: Storage>(
     cpu: &mut Cpu,
@@ -135,7 +134,7 @@ pub fn combine_quickly<S: Storage>(
     storage: &mut S,
     i: Instruction,
     held: &mut HeldBlock,
-) -> Option<Ending>
+) -> Option<Completion>
     requires operands { AreHeld (S.IsPlaced storage.old) (S.memory storage.old)
         (S.present storage.old) cpu.old.psw.key held.old }
     ensures row { let before = state_of cpu.old (S.memory storage.old) in
@@ -167,7 +166,7 @@ pub fn combine_quickly<S: Storage>(
         from.get(),
         count,
     );
-    Some(Ending::Done)
+    Some(Completion::Done)
 }
 
 /// DC TR: between two blocks, or else by the row.
@@ -177,7 +176,7 @@ pub fn translate_quickly<S: Storage>(
     storage: &mut S,
     i: Instruction,
     held: &mut HeldBlock,
-) -> Option<Ending>
+) -> Option<Completion>
     requires operands { AreHeld (S.IsPlaced storage.old) (S.memory storage.old)
         (S.present storage.old) cpu.now.psw.key held.old }
     ensures row { let before = state_of cpu.now (S.memory storage.old) in
@@ -199,7 +198,7 @@ pub fn translate_quickly<S: Storage>(
         None => return done_of(translate_row(cpu, storage, i)),
     };
     if translate_straight(storage, target, to.get(), source, from.get(), count) {
-        return Some(Ending::Done);
+        return Some(Completion::Done);
     }
     done_of(translate_row(cpu, storage, i))
 }
@@ -211,7 +210,7 @@ pub fn compare_quickly<S: Storage>(
     storage: &S,
     i: Instruction,
     held: &mut HeldBlock,
-) -> Option<Ending>
+) -> Option<Completion>
     requires operands { AreHeld (S.IsPlaced storage.now) (S.memory storage.now)
         (S.present storage.now) cpu.old.psw.key held.old }
     ensures row { let before = state_of cpu.old (S.memory storage.now) in
@@ -234,5 +233,5 @@ pub fn compare_quickly<S: Storage>(
     };
     let condition = compare_straight(storage, left, first.get(), right, second.get(), count);
     cpu.psw.set_condition(condition);
-    Some(Ending::Done)
+    Some(Completion::Done)
 }

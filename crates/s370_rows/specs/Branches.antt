@@ -2,8 +2,8 @@
 use Rattle.std.specs.Prelude.{ℕ, ◌+◌, ◌-◌, ◌*◌, ◌/◌, ◌%◌, ◌^◌, ◌==◌, nat_lt, if◌then◌else◌, Bool}
 use Rattle.std.specs.Prelude.{◌&&◌, slice_index, int_le, int_lt}
 use Rattle.s370_rows.specs.declared.cpu.Cpu.{Cpu}
-use Rattle.s370_rows.specs.declared.ending.Ending.{Ending}
-use Rattle.s370_rows.specs.declared.ending.Ending.TheVariants.{Done, Branch}
+use Rattle.s370_rows.specs.declared.ending.Completion.{Completion}
+use Rattle.s370_rows.specs.declared.ending.Completion.TheVariants.{Done, Branch}
 use Rattle.s370_rows.specs.declared.branches.IndexBranch.{IndexBranch}
 use Rattle.s370_rows.specs.declared.branches.IndexBranch.TheVariants.{High, LowOrEqual}
 use Rattle.s370_rows.specs.Arithmetic.{signed}
@@ -11,7 +11,7 @@ use Rattle.s370_rows.specs.Registers.{Ended, with_register, link_of}
 use Rattle.s370_rows.specs.declared.place.Place.{Place}
 
 -- a branch to an address, where it is taken
-abbrev pub branches : Bool → ℕ → Ending
+abbrev pub branches : Bool → ℕ → Completion
 branches taken target = if taken then Branch target else Done
 
 -- BCT, BCTR: one less in register r, and a branch where something is left

@@ -3,15 +3,15 @@ use Rattle.std.specs.Prelude.{ℕ, ◌+◌, ◌*◌, ◌^◌, nat_le, if◌then�
 use Rattle.std.specs.Prelude.{slice_set}
 use Rattle.s370_psw.specs.declared.program.ProgramCode.TheVariants.{FixedPointOverflow}
 use Rattle.s370_rows.specs.declared.cpu.Cpu.{Cpu}
-use Rattle.s370_rows.specs.declared.ending.Ending.{Ending}
-use Rattle.s370_rows.specs.declared.ending.Ending.TheVariants.{Done, Interrupted}
+use Rattle.s370_rows.specs.declared.ending.Completion.{Completion}
+use Rattle.s370_rows.specs.declared.ending.Completion.TheVariants.{Done, Interrupted}
 use Rattle.s370_rows.specs.declared.arithmetic.Arithmetic.{Arithmetic}
 use Rattle.s370_rows.specs.Arithmetic.{computed}
 use Rattle.s370_rows.specs.declared.place.Place.{Place}
 
 -- how an instruction over registers alone ends, and the registers that it leaves
 pub record Ended : Type 0 where
-  pub ending : Ending
+  pub ending : Completion
   pub cpu : Cpu
 
 -- the registers with another value in register r
@@ -32,7 +32,7 @@ link_of cpu place = place.ilc * 2 ^ 30 + cpu.psw.condition * 2 ^ 28 + cpu.psw.pr
     + place.next
 
 -- an overflow interrupts after the instruction is done, where the leftmost program mask is one
-abbrev pub overflow_ending : Cpu → Bool → Ending
+abbrev pub overflow_ending : Cpu → Bool → Completion
 overflow_ending cpu overflows = if overflows && nat_le 8 cpu.psw.program_mask
     then Interrupted FixedPointOverflow else Done
 

@@ -3,7 +3,7 @@
 use Rattle.std.specs.Prelude.{◌≡◌, Result, Ok, Err}
 use Rattle.s370_psw.specs.declared.program.ProgramCode.{ProgramCode}
 use Rattle.s370_rows.specs.declared.cpu.Cpu.{Cpu}
-use Rattle.s370_rows.specs.declared.ending.Ending.{Ending}
+use Rattle.s370_rows.specs.declared.ending.Completion.{Completion}
 use Rattle.s370_rows.specs.Registers.{Ended}
 use Rattle.s370_rows.specs.Rows.{Left, over}
 
@@ -14,6 +14,7 @@ over_result (Err code) = Err code
 
 -- what code over registers may answer that may be refused: what is left; or the code, with nothing
 -- changed
-abbrev pub MeetsEnded : Result Ended ProgramCode → Cpu → Result Ending ProgramCode → Cpu → Type 0
+abbrev pub MeetsEnded : Result Ended ProgramCode → Cpu → Result Completion ProgramCode → Cpu
+    → Type 0
 MeetsEnded e old (Ok ending) new = e ≡ Ok (record { ending = ending; cpu = new })
 MeetsEnded e old (Err code) new = (e ≡ Err code) × (new ≡ old)

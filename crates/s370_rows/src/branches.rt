@@ -5,7 +5,7 @@ ghost use Rattle.s370_rows.specs.Branches.{index_is, linked_branch};
 ghost use Rattle.s370_rows.specs.Registers.{link_of};
 
 use crate::cpu::Cpu;
-use crate::ending::Ending;
+use crate::ending::Completion;
 use crate::place::Place;
 use s370_num::Register;
 
@@ -22,31 +22,31 @@ pub enum IndexBranch {
 ///
 /// `may` says whether there is an address to branch to.
 #[inline(always)]
-pub fn branch_on_count(cpu: &mut Cpu, register: Register, may: bool, target: u32) -> Ending
+pub fn branch_on_count(cpu: &mut Cpu, register: Register, may: bool, target: u32) -> Completion
     ensures { counted_branch cpu.old register may target
         ≡ record { ending = result; cpu = cpu.new } }
 {
     let less = cpu.general[register.index()].wrapping_sub(1);
     cpu.general[register.index()] = less;
     if may && less > 0 {
-        Ending::Branch(target)
+        Completion::Branch(target)
     } else {
-        Ending::Done
+        Completion::Done
     }
 }
 
 /// 07 BCR, 47 BC: a branch where the mask has the bit of the condition code
 #[inline(always)]
-pub fn branch_on_condition(cpu: &Cpu, mask: u8, may: bool, target: u32) -> Ending
+pub fn branch_on_condition(cpu: &Cpu, mask: u8, may: bool, target: u32) -> Completion
     requires { mask < 16 }
     ensures { conditional_branch cpu.now mask may target
         ≡ record { ending = result; cpu = cpu.now } }
 {
     let bit = mask >> (3 - cpu.psw.condition().get()) & 1;
     if may && bit == 1 {
-        Ending::Branch(target)
+        Completion::Branch(target)
     } else {
-        Ending::Done
+        Completion::Done
     }
 }
 
@@ -70,15 +70,15 @@ pub fn branch_and_link(
     register: Register,
     may: bool,
     target: u32,
-) -> Ending
+) -> Completion
     ensures { linked_branch cpu.old place register may target
         ≡ record { ending = result; cpu = cpu.new } }
 {
     cpu.general[register.index()] = link_of(cpu, place);
     if may {
-        Ending::Branch(target)
+        Completion::Branch(target)
     } else {
-        Ending::Done
+        Completion::Done
     }
 }
 
@@ -102,7 +102,7 @@ pub fn branch_on_index(
     first: Register,
     third: Register,
     target: u32,
-) -> Ending
+) -> Completion
     ensures { index_branch kind cpu.old first third target
         ≡ record { ending = result; cpu = cpu.new } }
 {
@@ -110,8 +110,8 @@ pub fn branch_on_index(
     let comparand = cpu.general[third.index() / 2 * 2 + 1];
     cpu.general[first.index()] = sum;
     if index_is(kind, sum, comparand) {
-        Ending::Branch(target)
+        Completion::Branch(target)
     } else {
-        Ending::Done
+        Completion::Done
     }
 }

@@ -17,7 +17,7 @@ pub enum IoOperation {
 
 /// How an instruction ended that was carried out.
 #[derive(Clone, Copy, PartialEq, Eq)]
-pub enum Ending {
+pub enum Completion {
     /// It is done, and the next instruction follows.
     Done,
     /// It is done, and the next instruction is at this address, of which 24 bits count.

@@ -46,7 +46,7 @@ pub use branches::{
     IndexBranch, branch_and_link, branch_on_condition, branch_on_count, branch_on_index,
 };
 pub use cpu::Cpu;
-pub use ending::{Ending, IoOperation, Refusal};
+pub use ending::{Completion, IoOperation, Refusal};
 pub use halfword::halfword_operand;
 pub use immediate::{ByteChange, ByteTest, ChangedByte, change_byte, test_byte};
 pub use instruction::Instruction;

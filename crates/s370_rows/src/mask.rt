@@ -5,7 +5,7 @@ ghost use Rattle.s370_rows.specs.Mask.{left_word, selected_bytes, selected_count
 
 use crate::arithmetic::order_of;
 use crate::cpu::Cpu;
-use crate::ending::Ending;
+use crate::ending::Completion;
 use s370_num::{ConditionCode, Register};
 
 /// Returns whether a mask selects this byte of a word, of which the leftmost is 0.
@@ -90,7 +90,12 @@ fn inserted_code(bytes: &[u8]) -> ConditionCode
 
 /// BF ICM: insert bytes where a mask selects; zero, first bit one, other
 #[inline]
-pub fn insert_under_mask_row(cpu: &mut Cpu, register: Register, mask: u8, bytes: &[u8]) -> Ending
+pub fn insert_under_mask_row(
+    cpu: &mut Cpu,
+    register: Register,
+    mask: u8,
+    bytes: &[u8],
+) -> Completion
     requires { length bytes.now ≡ selected_count mask }
     ensures { bytes_inserted cpu.old register mask bytes.now
         ≡ record { ending = result; cpu = cpu.new } }
@@ -98,12 +103,17 @@ pub fn insert_under_mask_row(cpu: &mut Cpu, register: Register, mask: u8, bytes:
     let a = cpu.general[register.index()];
     cpu.general[register.index()] = insert_bytes(a, mask, bytes);
     cpu.psw.set_condition(inserted_code(bytes));
-    Ending::Done
+    Completion::Done
 }
 
 /// BD CLM: compare logical the bytes that a mask selects
 #[inline]
-pub fn compare_under_mask_row(cpu: &mut Cpu, register: Register, mask: u8, bytes: &[u8]) -> Ending
+pub fn compare_under_mask_row(
+    cpu: &mut Cpu,
+    register: Register,
+    mask: u8,
+    bytes: &[u8],
+) -> Completion
     requires { length bytes.now ≡ selected_count mask }
     ensures { bytes_compared cpu.old register mask bytes.now
         ≡ record { ending = result; cpu = cpu.new } }
@@ -113,5 +123,5 @@ pub fn compare_under_mask_row(cpu: &mut Cpu, register: Register, mask: u8, bytes
     select_bytes(cpu.general[register.index()], mask, selected);
     let condition = order_of(left_word(selected), left_word(bytes));
     cpu.psw.set_condition(condition);
-    Ending::Done
+    Completion::Done
 }

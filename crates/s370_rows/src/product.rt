@@ -5,7 +5,7 @@ ghost use Rattle.s370_rows.specs.Product.{divided, quotient_left};
 ghost use Rattle.s370_rows.specs.Results.{MeetsEnded};
 
 use crate::cpu::Cpu;
-use crate::ending::Ending;
+use crate::ending::Completion;
 use s370_num::Register;
 use s370_psw::ProgramCode;
 
@@ -26,23 +26,23 @@ fn product(a: u32, b: u32) -> u64
 
 /// 1C MR, 5C M: the signed product of the second register of a pair and a word, into the pair
 #[inline(always)]
-pub fn multiply_row(cpu: &mut Cpu, register: Register, b: u32) -> Ending
+pub fn multiply_row(cpu: &mut Cpu, register: Register, b: u32) -> Completion
     requires { register < 15 }
     ensures { multiplied cpu.old register b ≡ record { ending = result; cpu = cpu.new } }
 {
     let value = product(cpu.general[register.index() + 1], b);
     cpu.set_pair(register, value);
-    Ending::Done
+    Completion::Done
 }
 
 /// 4C MH: the low 32 bits of the signed product of a register and a halfword
 #[inline(always)]
-pub fn multiply_halfword_row(cpu: &mut Cpu, register: Register, b: u32) -> Ending
+pub fn multiply_halfword_row(cpu: &mut Cpu, register: Register, b: u32) -> Completion
     ensures { multiplied_halfword cpu.old register b ≡ record { ending = result; cpu = cpu.new } }
 {
     let value = product(cpu.general[register.index()], b);
     cpu.general[register.index()] = (value & 0xFFFF_FFFF) as u32;
-    Ending::Done
+    Completion::Done
 }
 
 /// Returns the quotient and remainder, where the divisor is not zero and the quotient fits.
@@ -68,7 +68,7 @@ fn quotient_of(dividend: i64, divisor: i32) -> Option<Quotient>
 ///
 /// The code of the program interruption; nothing has changed.
 #[inline(always)]
-pub fn divide_row(cpu: &mut Cpu, register: Register, b: u32) -> Result<Ending, ProgramCode>
+pub fn divide_row(cpu: &mut Cpu, register: Register, b: u32) -> Result<Completion, ProgramCode>
     requires { register < 15 }
     ensures { MeetsEnded (quotient_left cpu.old register b) cpu.old result cpu.new }
 {
@@ -83,7 +83,7 @@ pub fn divide_row(cpu: &mut Cpu, register: Register, b: u32) -> Result<Ending, P
         ) => {
             cpu.general[register.index()] = remainder.cast_unsigned();
             cpu.general[register.index() + 1] = quotient.cast_unsigned();
-            Ok(Ending::Done)
+            Ok(Completion::Done)
         }
     }
 }

@@ -4,7 +4,7 @@ ghost use Rattle.s370_rows.specs.Registers.{arithmetic, overflow_ending};
 
 use crate::arithmetic::{Arithmetic, compute};
 use crate::cpu::Cpu;
-use crate::ending::Ending;
+use crate::ending::Completion;
 use s370_num::Register;
 use s370_psw::ProgramCode;
 
@@ -15,7 +15,12 @@ use s370_psw::ProgramCode;
 /// 1E ALR, 5E AL, 1F SLR, 5F SL: add, subtract logical; carry
 /// 14 NR, 54 N, 16 OR, 56 O, 17 XR, 57 X: and, or, exclusive or
 #[inline(always)]
-pub fn arithmetic_row(operation: Arithmetic, cpu: &mut Cpu, register: Register, b: u32) -> Ending
+pub fn arithmetic_row(
+    operation: Arithmetic,
+    cpu: &mut Cpu,
+    register: Register,
+    b: u32,
+) -> Completion
     ensures { arithmetic operation cpu.old register b ≡ record { ending = result; cpu = cpu.new } }
 {
     let a = cpu.general[register.index()];
@@ -27,12 +32,12 @@ pub fn arithmetic_row(operation: Arithmetic, cpu: &mut Cpu, register: Register, 
 
 /// How an instruction ends whose signed result may not have fit.
 #[inline(always)]
-pub fn overflow_ending(cpu: &Cpu, overflows: bool) -> Ending
+pub fn overflow_ending(cpu: &Cpu, overflows: bool) -> Completion
     ensures { result ≡ overflow_ending cpu.now overflows }
 {
     if overflows && cpu.psw.program_mask() >= 8 {
-        Ending::Interrupted(ProgramCode::FixedPointOverflow)
+        Completion::Interrupted(ProgramCode::FixedPointOverflow)
     } else {
-        Ending::Done
+        Completion::Done
     }
 }

@@ -5,7 +5,7 @@ ghost use Rattle.s370_rows.specs.Shift.{word_shifted, pair_shift, pair_shifted, 
 
 use crate::arithmetic::{Computed, kept, sign_of};
 use crate::cpu::Cpu;
-use crate::ending::Ending;
+use crate::ending::Completion;
 use crate::rows::overflow_ending;
 use s370_num::{ConditionCode, Register};
 
@@ -80,7 +80,7 @@ fn shift_word(shift: Shift, condition: ConditionCode, a: u32, count: u8) -> Comp
 /// 88 SRL, 89 SLL, 8A SRA, 8B SLA: shift a register; the signed ones set the condition code, to the
 /// left with overflow
 #[inline(always)]
-pub fn shift_row(shift: Shift, cpu: &mut Cpu, register: Register, count: u8) -> Ending
+pub fn shift_row(shift: Shift, cpu: &mut Cpu, register: Register, count: u8) -> Completion
     requires { count < 64 }
     ensures { word_shifted shift cpu.old register count
         ≡ record { ending = result; cpu = cpu.new } }
@@ -148,7 +148,7 @@ fn shift_pair(shift: Shift, condition: ConditionCode, a: u64, count: u8) -> Comp
 /// 8C SRDL, 8D SLDL, 8E SRDA, 8F SLDA: shift a pair; the signed ones set the condition code, to the
 /// left with overflow
 #[inline(always)]
-pub fn shift_pair_row(shift: Shift, cpu: &mut Cpu, register: Register, count: u8) -> Ending
+pub fn shift_pair_row(shift: Shift, cpu: &mut Cpu, register: Register, count: u8) -> Completion
     requires register { register < 15 }
     requires count { count < 64 }
     ensures { pair_shifted shift cpu.old register count

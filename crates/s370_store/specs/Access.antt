@@ -83,7 +83,7 @@ Touches [] page = ⊥
 Touches (t ∷ ts) page = ((k : ℕ) × (k < t.count) × (page ≡ (t.start + k) / 4096)) ⊎ Touches ts page
 
 -- a page of the storage that is not present
-pub record IsAway (size : ℕ) (present : ℕ → Bool) (page : ℕ) : Type 0 where
+pub record IsAbsent (size : ℕ) (present : ℕ → Bool) (page : ℕ) : Type 0 where
   pub inside : page * 4096 < size
   pub away : present page ≡ false
 
@@ -95,7 +95,7 @@ IsVerdict size keys present key ts (Ok _) = (first_fault size keys key ts ≡ No
 IsVerdict size keys present key ts (Err Addressing) = first_fault size keys key ts ≡ Some Addressing
 IsVerdict size keys present key ts (Err Protection) = first_fault size keys key ts ≡ Some Protection
 IsVerdict size keys present key ts (Err (Absent page)) =
-    (first_fault size keys key ts ≡ None) × IsAway size present page.0 × Touches ts page.0
+    (first_fault size keys key ts ≡ None) × IsAbsent size present page.0 × Touches ts page.0
 
 -- the bytes with those of xs from a place on
 unfoldable pub put : List ℕ → ℕ → List ℕ → List ℕ

@@ -1,6 +1,6 @@
 //! A storage that brings its absent pages.
 ghost use Rattle.std.specs.Prelude.{◌≡◌, ℕ, ◌<◌, List, [], ◌∷◌, ◌++◌, OnOk, OnErr, length};
-ghost use Rattle.s370_store.specs.Access.{IsAway};
+ghost use Rattle.s370_store.specs.Access.{IsAbsent};
 ghost use Rattle.s370_store.specs.Memory.{cleared_memory};
 
 use crate::{Keyed, Page, PlainStorage};
@@ -52,7 +52,7 @@ pub trait Supply: Keyed {
     ///
     /// `FramesOut` if there is no room for a page that is needed; no byte has changed.
     fn bring(&mut self, page: Page) -> Result<(), FramesOut>
-        requires { IsAway (length (Self.memory self.old).bytes) (Self.present self.old) page.0 }
+        requires { IsAbsent (length (Self.memory self.old).bytes) (Self.present self.old) page.0 }
         ensures memory { Self.memory self.new ≡ Self.memory self.old }
         ensures fewer { OnOk result (spare self.new < spare self.old) }
         ensures brought { OnOk result (Brought self.old (page.0 ∷ []) self.new) }

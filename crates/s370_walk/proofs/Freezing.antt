@@ -5,8 +5,8 @@ use Rattle.std.proofs.lemmas.Bool.{lt-ltb}
 use Rattle.s370_store.specs.declared.Fault.{Fault}
 use Rattle.s370_store.specs.declared.Fault.TheVariants.{Addressing, Protection, Absent}
 use Rattle.s370_walk.specs.declared.parts.Position.{Position}
-use Rattle.s370_walk.specs.declared.parts.Kind.{Kind}
-use Rattle.s370_walk.specs.declared.parts.Kind.TheVariants.{Gives, Takes, TakesUpTo}
+use Rattle.s370_walk.specs.declared.parts.Direction.{Direction}
+use Rattle.s370_walk.specs.declared.parts.Direction.TheVariants.{Gives, Takes, TakesUpTo}
 use Rattle.s370_store.specs.declared.Access.TheVariants.{Fetch}
 use Rattle.s370_store.specs.Memory.{Memory}
 use Rattle.s370_walk.specs.Hardware.{byte_at, fault_of, area}
@@ -29,7 +29,7 @@ module _ {D : Type 0} (h : Setting D) (p : Position) (place place' : Option ℕ)
       by_place (Some a) is = rw is (taken_at_same h p a load load' m d (fault_of m h.key (area Fetch a 1)) (loads a is))
 
   -- a step moves alike where what it looks up is the same
-  byte_same : (kind : Kind) → (not (is_skipped p kind) ≡ true → place ≡ place') → (not (is_skipped p kind) ≡ true → (a : ℕ) → place ≡ Some a → load a ≡ load' a) → byte_moved h p place load kind m d ≡ byte_moved h p place' load' kind m d
+  byte_same : (kind : Direction) → (not (is_skipped p kind) ≡ true → place ≡ place') → (not (is_skipped p kind) ≡ true → (a : ℕ) → place ≡ Some a → load a ≡ load' a) → byte_moved h p place load kind m d ≡ byte_moved h p place' load' kind m d
   byte_same Gives places loads = by_skip (skips p.word) places
     where
       by_skip : (skips : Bool) → (not skips ≡ true → place ≡ place') → (if skips then Moving (stepped p p.before) m (h.machine.gave d) else given_to h p place m d) ≡ (if skips then Moving (stepped p p.before) m (h.machine.gave d) else given_to h p place' m d)

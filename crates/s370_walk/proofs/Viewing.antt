@@ -7,8 +7,8 @@ use Rattle.s370_walk.specs.declared.bits.ChannelStatus.{ChannelStatus}
 use Rattle.s370_walk.specs.declared.parts.Answer.{Answer}
 use Rattle.s370_walk.specs.declared.parts.Answer.TheVariants as answers
 use Rattle.s370_walk.specs.declared.parts.Ending.{Ending}
-use Rattle.s370_walk.specs.declared.parts.Kind.{Kind}
-use Rattle.s370_walk.specs.declared.parts.Kind.TheVariants.{Gives, Takes, TakesUpTo}
+use Rattle.s370_walk.specs.declared.parts.Direction.{Direction}
+use Rattle.s370_walk.specs.declared.parts.Direction.TheVariants.{Gives, Takes, TakesUpTo}
 use Rattle.s370_walk.specs.declared.parts.Progress.{Progress}
 use Rattle.s370_walk.specs.declared.parts.Progress.TheVariants.{At, Ended}
 use Rattle.s370_walk.specs.declared.parts.Transfer.{Transfer}
@@ -78,7 +78,7 @@ module _ {D E : Type 0} (form : Form) (h : Setting D) (small : Machine E) (view 
   taken_from_viewed p None load m d = stops_viewed p.at _ p.count m d
   taken_from_viewed p (Some a) load m d = taken_viewed p a load (fault_of m h.key (area Fetch a 1)) m d
 
-  byte_viewed : (p : Position) (place : Option ℕ) (load : ℕ → ℕ) (kind : Kind) (m : Memory) (d : D) → byte_moved (setting_for small h) p place load kind m (view d) ≡ viewed view (byte_moved h p place load kind m d)
+  byte_viewed : (p : Position) (place : Option ℕ) (load : ℕ → ℕ) (kind : Direction) (m : Memory) (d : D) → byte_moved (setting_for small h) p place load kind m (view d) ≡ viewed view (byte_moved h p place load kind m d)
   byte_viewed p place load Gives m d = by_skip (skips p.word)
     where
       by_skip : (skipped : Bool) → (if skipped then Moving (stepped p p.before) m (small.gave (view d)) else given_to (setting_for small h) p place m (view d)) ≡ viewed view (if skipped then Moving (stepped p p.before) m (h.machine.gave d) else given_to h p place m d)

@@ -5,7 +5,7 @@ use Rattle.s370_store.specs.declared.Access.{Access}
 use Rattle.s370_store.specs.declared.Access.TheVariants.{Fetch}
 use Rattle.s370_store.specs.declared.Fault.{Fault}
 use Rattle.s370_store.specs.declared.Page.{Page}
-use Rattle.s370_store.specs.Access.{Test, first_fault, put, IsAway, Touches}
+use Rattle.s370_store.specs.Access.{Test, first_fault, put, IsAbsent, Touches}
 use Rattle.s370_store.specs.Memory.{Memory}
 use Rattle.s370_walk.specs.declared.bits.UnitStatus.{UnitStatus}
 use Rattle.s370_walk.specs.declared.parts.Order.{Order}
@@ -35,7 +35,8 @@ is_in m start count = is_none (fault_of m 0 (area Fetch start count))
 abbrev pub FetchTells : {A : Type 0} → ℕ → (ℕ → Bool) → List Test → Option A
     → Result (Option A) Page → Type 0
 FetchTells size present asked wanted (Ok found) = found ≡ wanted
-FetchTells size present asked wanted (Err page) = IsAway size present page.0 × Touches asked page.0
+FetchTells size present asked wanted (Err page) = IsAbsent size present page.0 × Touches asked
+    page.0
 
 -- A device as a machine, whose functions are total: what the walk never asks for may be anything.
 pub record Machine (D : Type 0) : Type 0 where

@@ -2,9 +2,9 @@
 use Rattle.std.specs.Prelude.{ℕ, ◌≡◌, ◌⊎◌, Bool, true, false, ◌&&◌, not, nat_lt, if◌then◌else◌}
 use Rattle.std.specs.Prelude.{List, [], ◌∷◌, length, Option, None, Some}
 use Rattle.s370_store.specs.declared.Access.TheVariants.{Fetch}
-use Rattle.s370_store.specs.Access.{Test, IsAway, Touches}
-use Rattle.s370_walk.specs.declared.parts.Kind.{Kind}
-use Rattle.s370_walk.specs.declared.parts.Kind.TheVariants.{Gives, Takes, TakesUpTo}
+use Rattle.s370_store.specs.Access.{Test, IsAbsent, Touches}
+use Rattle.s370_walk.specs.declared.parts.Direction.{Direction}
+use Rattle.s370_walk.specs.declared.parts.Direction.TheVariants.{Gives, Takes, TakesUpTo}
 use Rattle.s370_walk.specs.declared.parts.Position.{Position}
 use Rattle.s370_walk.specs.Blocks.{begins_block, block_number}
 use Rattle.s370_walk.specs.Hardware.{Machine, area}
@@ -12,7 +12,7 @@ use Rattle.s370_walk.specs.Walk.{Setting, State, Fetching, Moving, Over, Written
 use Rattle.s370_walk.specs.Walk.{place_in, index_of, rest, skips}
 
 -- whether the byte at a position is not stored: the word has the skip flag, and the device gives
-abbrev pub is_skipped : Position → Kind → Bool
+abbrev pub is_skipped : Position → Direction → Bool
 is_skipped p Gives = skips p.word
 is_skipped p Takes = false
 is_skipped p TakesUpTo = false
@@ -50,4 +50,4 @@ pub record IsStuck {D : Type 0} (w : Written) (h : Setting D) (present : ℕ →
   pub state : State D
   pub comes : Reaches (live w) h from state
   pub asked : IsAsked w h.machine state page
-  pub away : IsAway (size_in state) present page
+  pub away : IsAbsent (size_in state) present page

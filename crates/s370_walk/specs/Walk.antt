@@ -11,8 +11,8 @@ use Rattle.s370_walk.specs.declared.bits.ChannelStatus.{ChannelStatus}
 use Rattle.s370_walk.specs.declared.parts.Order.{Order}
 use Rattle.s370_walk.specs.declared.parts.Answer.{Answer}
 use Rattle.s370_walk.specs.declared.parts.Answer.TheVariants as answers
-use Rattle.s370_walk.specs.declared.parts.Kind.{Kind}
-use Rattle.s370_walk.specs.declared.parts.Kind.TheVariants.{Gives, Takes, TakesUpTo}
+use Rattle.s370_walk.specs.declared.parts.Direction.{Direction}
+use Rattle.s370_walk.specs.declared.parts.Direction.TheVariants.{Gives, Takes, TakesUpTo}
 use Rattle.s370_walk.specs.declared.parts.Transfer.{Transfer}
 use Rattle.s370_walk.specs.declared.parts.NextCcw.{NextCcw}
 use Rattle.s370_walk.specs.declared.parts.Position.{Position}
@@ -215,7 +215,7 @@ moving spot started w transfer =
     }
 
 -- the transfer that a word begins
-abbrev pub transfer_of : Ccw → Kind → ℕ → Transfer
+abbrev pub transfer_of : Ccw → Direction → ℕ → Transfer
 transfer_of w kind left = record { command = w.command; kind = kind; left = left }
 
 -- a refusal moves no byte and leaves the count whole; an immediate command does the same and ends
@@ -303,7 +303,8 @@ taken_from h p None load m d = stops h p.at program_check p.count m d
 taken_from h p (Some a) load m d = taken_at h p a load (fault_of m h.key (area Fetch a 1)) m d
 
 -- skip on input stores and tests nothing; on output it has no effect
-abbrev pub byte_moved : {D : Type 0} → Setting D → Position → Option ℕ → (ℕ → ℕ) → Kind → Memory → D
+abbrev pub byte_moved : {D : Type 0} → Setting D → Position → Option ℕ → (ℕ → ℕ) → Direction
+    → Memory → D
     → State D
 byte_moved h p place load Gives m d = if skips p.word
     then Moving (stepped p p.before) m (h.machine.gave d) else given_to h p place m d
@@ -313,7 +314,7 @@ byte_moved h p place load TakesUpTo m d = taken_from h p place load m d
 -- ---- A transfer
 
 -- an incorrect length is looked for but in an output of at most n bytes
-abbrev pub is_exact : Kind → Bool
+abbrev pub is_exact : Direction → Bool
 is_exact Gives = true
 is_exact Takes = true
 is_exact TakesUpTo = false

@@ -28,5 +28,5 @@ mod traits;
 
 pub use bits::{ChannelStatus, CommandCode, Flags, UnitStatus};
 pub use laws::{a_view_walks_as_its_device, a_walk_comes_to_one_end, steady_programs_end_alike};
-pub use parts::{Answer, Ccw, Ending, Kind, NextCcw, Order, Position, Progress, Transfer};
+pub use parts::{Answer, Ccw, Direction, Ending, NextCcw, Order, Position, Progress, Transfer};
 pub use traits::{Device, WordForm};

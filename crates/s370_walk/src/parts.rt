@@ -48,7 +48,7 @@ pub enum Answer {
 
 /// Which way bytes go.
 #[derive(Clone, Copy, PartialEq, Eq)]
-pub enum Kind {
+pub enum Direction {
     /// The device gives.
     Gives,
     /// The device takes exactly as many as it said.
@@ -63,7 +63,7 @@ pub struct Transfer {
     /// The command.
     pub command: CommandCode,
     /// Which way its bytes go.
-    pub kind: Kind,
+    pub kind: Direction,
     /// How many bytes are left of those that the device said.
     pub left: u32,
 }

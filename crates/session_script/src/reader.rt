@@ -162,7 +162,7 @@ fn read_event<'a>(
     requires { length users.now ≤ MOST_USERS }
     ensures users { IfSome result (IsOfUser users.now) }
     ensures devices { IfSome result (IsOfDevice users.now) }
-    ensures said { option_map said result ≡ said_of users.now line.now (lines_of after.now) }
+    ensures event { option_map said result ≡ said_of users.now line.now (lines_of after.now) }
 {
     let (verb, operands) = cut_word(line);
     let operands = operands?;
@@ -188,7 +188,7 @@ fn read_run<'a>(users: &[ScriptUser<'_>], operands: &'a [u8]) -> Option<ScriptEv
     requires { length users.now ≤ MOST_USERS }
     ensures users { IfSome result (IsOfUser users.now) }
     ensures devices { IfSome result (IsOfDevice users.now) }
-    ensures said { option_map said result ≡ run_of (names_of users.now) operands.now }
+    ensures event { option_map said result ≡ run_of (names_of users.now) operands.now }
 {
     let (name, digits) = cut_word(operands);
     let user = user_of(users, name)?;
@@ -205,7 +205,7 @@ fn read_typed<'a>(users: &[ScriptUser<'_>], operands: &'a [u8]) -> Option<Script
     requires { length users.now ≤ MOST_USERS }
     ensures users { IfSome result (IsOfUser users.now) }
     ensures devices { IfSome result (IsOfDevice users.now) }
-    ensures said { option_map said result ≡ typed_of (names_of users.now) operands.now }
+    ensures event { option_map said result ≡ typed_of (names_of users.now) operands.now }
 {
     let (name, text) = cut_word(operands);
     let user = user_of(users, name)?;
@@ -220,7 +220,7 @@ fn read_tick<'a>(users: &[ScriptUser<'_>], operands: &'a [u8]) -> Option<ScriptE
     requires { length users.now ≤ MOST_USERS }
     ensures users { IfSome result (IsOfUser users.now) }
     ensures devices { IfSome result (IsOfDevice users.now) }
-    ensures said { option_map said result ≡ tick_of (names_of users.now) operands.now }
+    ensures event { option_map said result ≡ tick_of (names_of users.now) operands.now }
 {
     let (name, more) = cut_word(operands);
     if more.is_some() {
@@ -235,7 +235,7 @@ fn read_serve<'a>(users: &[ScriptUser<'_>], operands: &'a [u8]) -> Option<Script
     requires { length users.now ≤ MOST_USERS }
     ensures users { IfSome result (IsOfUser users.now) }
     ensures devices { IfSome result (IsOfDevice users.now) }
-    ensures said { option_map said result ≡ serve_of users.now operands.now }
+    ensures event { option_map said result ≡ serve_of users.now operands.now }
 {
     let (name, digits) = cut_word(operands);
     let user = user_of(users, name)?;
@@ -268,7 +268,7 @@ fn read_deck<'a>(
     requires { length users.now ≤ MOST_USERS }
     ensures users { IfSome result (IsOfUser users.now) }
     ensures devices { IfSome result (IsOfDevice users.now) }
-    ensures said { option_map said result
+    ensures event { option_map said result
         ≡ deck_of (names_of users.now) operands.now (lines_of after.now) }
 {
     let (name, digits) = cut_word(operands);

@@ -13,8 +13,7 @@ abbrev pub but_printed : Installed → Installed
 but_printed s = record s { machines = map unprinted s.machines }
 
 -- the event that left this of another installation happens to this one too: the reply and the lines
--- that have joined consoles are
--- the same, and what it leaves goes on as what was left
+-- that have joined consoles are the same, and what it leaves goes on as what was left
 pub record HappensToo {W : Type 0} (i : Installation W) (one : W) (step : Step W) : Type 0 where
   pub left : W
   pub happens : i.Happens one step.said step.reply left
@@ -22,8 +21,7 @@ pub record HappensToo {W : Type 0} (i : Installation W) (one : W) (step : Step W
   pub alike : IsAlike i i (record step { left = left }) step
 
 -- What it is to go on as another. What is seen of both is the same, but for lines that were
--- printed; both are of one base; and what
--- happens to the other happens to this one too.
+-- printed; both are of one base; and what happens to the other happens to this one too.
 pub record IsToGoOn {W : Type 0} (i : Installation W) : Type 0 where
   pub reflexive : (one : W) → i.GoesOnAs one one
   pub transitive : (one other last : W) → i.GoesOnAs one other → i.GoesOnAs other last

@@ -11,8 +11,8 @@ use Rattle.user_names.specs.Users.{name_of}
 use Rattle.cp_console.specs.Responses.{text_of}
 use Rattle.cp_console.specs.ConsoleLine.{characters_of}
 use Rattle.unit_record.specs.Reader.{DeckValue}
-use Rattle.machine_devices.specs.declared.reply.Saying.{Saying}
-use Rattle.machine_devices.specs.declared.reply.Saying.TheVariants.{Nothing, Said, Files}
+use Rattle.machine_devices.specs.declared.reply.UserResponse.{UserResponse}
+use Rattle.machine_devices.specs.declared.reply.UserResponse.TheVariants.{Nothing, Said, Files}
 use Rattle.machine_devices.specs.Files.{file_lines}
 use Rattle.machine_devices.specs.declared.reply.Ended.{Ended}
 use Rattle.machine_devices.specs.declared.reply.Ended.TheVariants.{Ran, Served, Done, FramesOut}
@@ -36,7 +36,7 @@ abbrev pub queue_lines : List (List ℕ) → List ℕ → List DeckValue → Lis
 queue_lines names name decks = map (told_line name) (file_lines names decks)
 
 -- the lines at the user's terminal, where something was said to him, whose reader has these decks
-abbrev pub said_lines : List (List ℕ) → List ℕ → List DeckValue → Saying → List (List ℕ)
+abbrev pub said_lines : List (List ℕ) → List ℕ → List DeckValue → UserResponse → List (List ℕ)
 said_lines names name decks Nothing = []
 said_lines names name decks (Said response) = told_line name (text_of response) ∷ []
 said_lines names name decks Files = queue_lines names name decks

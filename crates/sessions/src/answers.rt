@@ -88,7 +88,7 @@ fn answer<I: Installation, W: HostWriter>(
         (I.goes.is_spent installation.new)
         (W.HostFile.failures writer.old) (W.HostFile.failures writer.new) }
 {
-    let reply = installation.happen(alloc, event)?;
+    let reply = installation.apply_event(alloc, event)?;
     let lines = print_reply(alloc, installation, detail, user_in(event), event, &reply)?;
     write_all(writer, &lines)?;
     Ok(())

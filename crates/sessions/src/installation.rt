@@ -105,7 +105,7 @@ pub trait Installation {
     /// # Errors
     ///
     /// A `Refused`: refused memory, or a spent installation.
-    fn happen(&mut self, alloc: Global, event: &ScriptEvent<'_>) -> Result<Reply, Refused>
+    fn apply_event(&mut self, alloc: Global, event: &ScriptEvent<'_>) -> Result<Reply, Refused>
         requires user { IsOfUser ((goes).seen self.old).users event.now }
         requires device { IsOfDevice ((goes).seen self.old).users event.now }
         requires event { IsEvent event.now }

@@ -13,7 +13,7 @@ ghost use Rattle.sessions.specs.Transcript.{served_word, told_line, end_lines, w
 use crate::installation::Installation;
 use crate::schedule::Detail;
 use cp_console::printing;
-use machine_devices::{Delivered, Delivery, Ended, Reply, Saying, deck_line};
+use machine_devices::{Delivered, Delivery, Ended, Reply, UserResponse, deck_line};
 use s370_intr::{Ran, Reason};
 use s370_num::DevAddr;
 use session_script::ScriptEvent;
@@ -59,7 +59,7 @@ fn print_said<I: Installation>(
     out: &mut Vec<u8>,
     installation: &I,
     user: UserNo,
-    said: Saying,
+    said: UserResponse,
 ) -> Result<(), AllocError>
     requires { user < length (I.goes.seen installation.now).users }
     ensures { let names = names_of (I.goes.seen installation.now) in OnOk result
@@ -68,15 +68,15 @@ fn print_said<I: Installation>(
         (user_at (I.goes.seen installation.now) user).devices.reader.decks said)) }
 {
     match said {
-        Saying::Said(response) => {
+        UserResponse::Said(response) => {
             let text = printing::reply(alloc, &response)?;
             print_line(out, installation.name(user), &text)
         }
-        Saying::Files => {
+        UserResponse::Files => {
             let names = names(alloc, installation)?;
             print_queue(alloc, out, installation, &names, user)
         }
-        Saying::Nothing => Ok(()),
+        UserResponse::Nothing => Ok(()),
     }
 }
 

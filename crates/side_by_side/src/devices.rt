@@ -3,10 +3,10 @@ use crate::machines::same;
 use crate::view::{SideError, View};
 use cp_spool::{SeenDeck, SpoolFile};
 use machine_devices::SeenDevices;
-use unit_record::{Console, Entry, Record};
+use unit_record::{Console, Entry, RecordBytes};
 
 /// Returns whether two records have the same bytes.
-fn is_same_record(one: Option<&Record>, other: Option<&Record>) -> bool {
+fn is_same_record(one: Option<&RecordBytes>, other: Option<&RecordBytes>) -> bool {
     match (one, other) {
         (Some(one), Some(other)) => one.as_slice() == other.as_slice(),
         (None, None) => true,

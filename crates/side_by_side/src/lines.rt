@@ -7,7 +7,9 @@ use cp_console::console_line::ConsoleLine;
 use cp_console::responses::Response;
 use cp_core::Event;
 use cp_spool::SpoolFile;
-use machine_devices::{Delivered, Delivery, Ended, LineOutcome, Saying, copy_of, is_logged_on};
+use machine_devices::{
+    Delivered, Delivery, Ended, LineOutcome, UserResponse, copy_of, is_logged_on,
+};
 use s370_num::DevAddr;
 use std::alloc::{AllocError, Global};
 use unit_record::{Card, Sender, Target};
@@ -32,23 +34,23 @@ impl Before {
 }
 
 /// Returns the response that was said, if there was one.
-fn response_of(said: &Saying) -> Option<Response> {
+fn response_of(said: &UserResponse) -> Option<Response> {
     match said {
-        Saying::Said(response) => Some(*response),
+        UserResponse::Said(response) => Some(*response),
         _ => None,
     }
 }
 
 /// Returns the response that a user gets if his bare machine says this and the next file has this
 /// number.
-fn said(reported: LineOutcome, number: u64) -> Saying {
+fn said(reported: LineOutcome, number: u64) -> UserResponse {
     match reported {
-        LineOutcome::Silent => Saying::Nothing,
-        LineOutcome::Said(response) => Saying::Said(response),
-        LineOutcome::Files => Saying::Files,
-        LineOutcome::Sent(_, _) => Saying::Said(Response::Sent),
-        LineOutcome::Closed(_) => Saying::Said(Response::FileClosed(number)),
-        LineOutcome::LoggedOff(_) => Saying::Said(Response::LogoffOk),
+        LineOutcome::Silent => UserResponse::Nothing,
+        LineOutcome::Said(response) => UserResponse::Said(response),
+        LineOutcome::Files => UserResponse::Files,
+        LineOutcome::Sent(_, _) => UserResponse::Said(Response::Sent),
+        LineOutcome::Closed(_) => UserResponse::Said(Response::FileClosed(number)),
+        LineOutcome::LoggedOff(_) => UserResponse::Said(Response::LogoffOk),
     }
 }
 
@@ -208,7 +210,7 @@ impl SideBySide {
             let copy = copy_of(alloc, cards)?;
             self.delivered = self.take_deck(user.number(), self.files, Sender::System, copy)?;
         }
-        let mut wanted = reply(Ended::Done, Saying::Nothing, 0);
+        let mut wanted = reply(Ended::Done, UserResponse::Nothing, 0);
         wanted.delivered = self.delivered;
         same(answered == wanted, View::Answer)
     }

@@ -6,7 +6,7 @@ use ckd_volume::Volume;
 use cp_console::responses::Response;
 use cp_core::{Event, Sizes, System};
 use cp_directory::{User, UserDevices, read_directory};
-use machine_devices::{Delivered, Ended, Places, Reply, Saying};
+use machine_devices::{Delivered, Ended, Places, Reply, UserResponse};
 use s370_intr::{Ran, Reason};
 use s370_num::DevAddr;
 use s370_store::PlainStorage;
@@ -66,7 +66,7 @@ fn machines_of(
 
 /// Returns the reply to an event that ended so, where this was reported and so many lines joined
 /// the console.
-pub(crate) fn reply(ended: Ended, said: Saying, lines: usize) -> Reply {
+pub(crate) fn reply(ended: Ended, said: UserResponse, lines: usize) -> Reply {
     Reply {
         ended,
         said,
@@ -164,7 +164,7 @@ impl SideBySide {
             return Ok(false);
         }
         self.out_of_frames = self.out_of_frames.saturating_add(1);
-        let nothing = reply(Ended::FramesOut, Saying::Nothing, 0);
+        let nothing = reply(Ended::FramesOut, UserResponse::Nothing, 0);
         same(answered == nothing, View::Answer)?;
         Ok(true)
     }
@@ -184,11 +184,15 @@ impl SideBySide {
         if ran.reason == Reason::FramesOut {
             self.out_of_frames = self.out_of_frames.saturating_add(1);
             same(ran.units == reported.ran.units, View::Answer)?;
-            let wanted = reply(answered.ended, Saying::Nothing, lines);
+            let wanted = reply(answered.ended, UserResponse::Nothing, lines);
             same(answered == wanted, View::Answer)?;
             return Ok(ran);
         }
-        let wanted = reply(Ended::Ran(reported.ran), Saying::of(reported.notice), lines);
+        let wanted = reply(
+            Ended::Ran(reported.ran),
+            UserResponse::of(reported.notice),
+            lines,
+        );
         same(answered == wanted, View::Answer)?;
         Ok(ran)
     }
@@ -202,7 +206,7 @@ impl SideBySide {
         self.bare_mut(user)?.tick();
         // The prover finds what a reply may hold only where a function names it.
         let silence: Option<Response> = None;
-        let wanted = reply(Ended::Done, Saying::of(silence), 0);
+        let wanted = reply(Ended::Done, UserResponse::of(silence), 0);
         same(answered == wanted, View::Answer)
     }
 
@@ -218,7 +222,7 @@ impl SideBySide {
         let lines = bare.printed().saturating_sub(before);
         // The prover finds what a reply may hold only where a function names it.
         let silence: Option<Response> = None;
-        let wanted = reply(Ended::Served(done), Saying::of(silence), lines);
+        let wanted = reply(Ended::Served(done), UserResponse::of(silence), lines);
         same(answered == wanted, View::Answer)?;
         Ok(done)
     }

@@ -8,7 +8,7 @@ ghost use Rattle.unit_record.specs.Console.{has_room, typed_byte, with_typed, wa
 
 use crate::front::{COMMAND_REJECT, NO_OPERATION, is_sense};
 use crate::outgoing::Outgoing;
-use crate::record::{RECORD_LENGTH, Record};
+use crate::record::{RECORD_LENGTH, RecordBytes};
 use s370_num::ebcdic::{ebcdic_of, printable};
 use s370_walk::{Answer, Device, Order, UnitStatus};
 use std::alloc::{AllocError, Global};
@@ -38,9 +38,9 @@ pub enum Arrival {
 /// A typewriter console: the lines that were written, and those that wait to be read.
 #[derive(Drop)]
 pub struct Console {
-    pub(crate) lines: Vec<Record>,
-    pub(crate) unfinished: Record,
-    pub(crate) waiting: VecDeque<Record>,
+    pub(crate) lines: Vec<RecordBytes>,
+    pub(crate) unfinished: RecordBytes,
+    pub(crate) waiting: VecDeque<RecordBytes>,
     pub(crate) sense: u8,
     pub(crate) wanted: usize,
     pub(crate) ends_line: bool,
@@ -90,7 +90,7 @@ impl Device for Console {
             READ => Ok(self.read()),
             NO_OPERATION => Ok(Answer::Immediate),
             _ if is_sense(order) => {
-                self.giving = Outgoing::of(Record::of(&[self.sense]));
+                self.giving = Outgoing::of(RecordBytes::of(&[self.sense]));
                 Ok(Answer::Input(1))
             }
             _ => {
@@ -117,7 +117,7 @@ impl Device for Console {
             return;
         }
         if self.unfinished.len() == RECORD_LENGTH {
-            let line = mem::replace(&mut self.unfinished, Record::new());
+            let line = mem::replace(&mut self.unfinished, RecordBytes::new());
             self.lines.push_reserved(line);
         }
         self.unfinished.push(printable(byte));
@@ -126,7 +126,7 @@ impl Device for Console {
 
     fn finish(&mut self) -> UnitStatus {
         if self.ends_line {
-            let line = mem::replace(&mut self.unfinished, Record::new());
+            let line = mem::replace(&mut self.unfinished, RecordBytes::new());
             self.lines.push_reserved(line);
             self.ends_line = false;
         }
@@ -144,7 +144,7 @@ impl Console {
     {
         Console {
             lines: Vec::new(alloc),
-            unfinished: Record::new(),
+            unfinished: RecordBytes::new(),
             waiting: VecDeque::new(alloc),
             sense: 0,
             wanted: 0,
@@ -206,7 +206,7 @@ impl Console {
     }
 
     /// Returns the lines that are finished, in characters.
-    pub fn lines(&self) -> &[Record]
+    pub fn lines(&self) -> &[RecordBytes]
         ensures { result.now ≡ self.now.lines }
     {
         self.lines.as_slice()
@@ -235,7 +235,7 @@ impl Console {
     }
 
     /// Returns a line that waits, as the bytes that a read would give.
-    pub fn waiting_line(&self, index: usize) -> Option<&Record>
+    pub fn waiting_line(&self, index: usize) -> Option<&RecordBytes>
         ensures { option_copied result ≡ slice_get self.now.waiting index }
     {
         self.waiting.get(index)
@@ -267,11 +267,11 @@ fn is_write(code: u8) -> bool
 }
 
 /// Returns a typed line as bytes.
-fn typed(text: &[u8]) -> Record
+fn typed(text: &[u8]) -> RecordBytes
     requires { length text.now ≤ RECORD_LENGTH }
     ensures { result ≡ map typed_byte text.now }
 {
-    let mut bytes = Record::new();
+    let mut bytes = RecordBytes::new();
     for character in text {
         bytes.push(typed_byte(*character));
     }

@@ -44,5 +44,5 @@ pub use output::{Entry, Target};
 pub use printer::Printer;
 pub use punch::Punch;
 pub use reader::{Card, Deck, Reader, Sender};
-pub use record::{RECORD_LENGTH, Record};
+pub use record::{RECORD_LENGTH, RecordBytes};
 pub use trials::{ConsoleTrial, PrinterTrial, PunchTrial, trials_view_their_devices};

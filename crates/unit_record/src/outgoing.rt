@@ -1,13 +1,13 @@
 //! Bytes that a device gives.
 ghost use Rattle.std.specs.Prelude.{◌≡◌, ◌∷◌, [], drop, slice_index, length};
 
-use crate::record::Record;
+use crate::record::RecordBytes;
 use std::marker::Model;
 
 /// The bytes of a record that are still to be given.
 #[derive(Drop)]
 pub struct Outgoing {
-    bytes: Record,
+    bytes: RecordBytes,
     given: usize,
 }
 
@@ -27,13 +27,13 @@ impl Outgoing {
         ensures { result ≡ [] }
     {
         Outgoing {
-            bytes: Record::new(),
+            bytes: RecordBytes::new(),
             given: 0,
         }
     }
 
     /// Returns a whole record.
-    pub fn of(bytes: Record) -> Outgoing
+    pub fn of(bytes: RecordBytes) -> Outgoing
         ensures { result ≡ bytes }
     {
         Outgoing { bytes, given: 0 }
@@ -43,7 +43,7 @@ impl Outgoing {
     pub fn copy(&self) -> Outgoing
         ensures { result ≡ self.now }
     {
-        Outgoing::of(Record::of(&self.bytes.as_slice()[self.given..]))
+        Outgoing::of(RecordBytes::of(&self.bytes.as_slice()[self.given..]))
     }
 
     /// Returns the bytes that are left.

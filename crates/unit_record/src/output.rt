@@ -1,7 +1,7 @@
 //! What a punch or a printer has made.
 ghost use Rattle.std.specs.Prelude.{◌≡◌, ◌<◌, ◌≤◌, [], ◌∷◌, ◌++◌, OnOk};
 
-use crate::record::Record;
+use crate::record::RecordBytes;
 use std::alloc::{AllocError, Global};
 use std::marker::Model;
 use std::mem;
@@ -19,7 +19,7 @@ pub enum Target {
 #[derive(Drop)]
 pub struct Entry {
     code: u8,
-    bytes: Record,
+    bytes: RecordBytes,
 }
 
 impl Model for Entry {
@@ -32,7 +32,7 @@ impl Model for Entry {
 
 impl Entry {
     /// Returns a file without entries.
-    pub fn new(code: u8, bytes: Record) -> Entry
+    pub fn new(code: u8, bytes: RecordBytes) -> Entry
         ensures code { result.code ≡ code }
         ensures bytes { result.bytes ≡ bytes }
     {

@@ -5,7 +5,7 @@ ghost use Rattle.unit_record.specs.Printer.{is_space};
 
 use crate::front::{COMMAND_REJECT, NO_OPERATION, is_sense};
 use crate::output::{Entry, Output};
-use crate::record::{RECORD_LENGTH, Record};
+use crate::record::{RECORD_LENGTH, RecordBytes};
 use s370_walk::{Answer, Device, Order, UnitStatus};
 use std::alloc::{AllocError, Global};
 use std::marker::Model;
@@ -17,7 +17,7 @@ pub struct Printer {
     pub(crate) output: Output,
     pub(crate) sense: u8,
     pub(crate) printing: Option<u8>,
-    pub(crate) line: Record,
+    pub(crate) line: RecordBytes,
 }
 
 impl Model for Printer {
@@ -49,12 +49,12 @@ impl Device for Printer {
             code if is_write(code) => {
                 self.output.reserve()?;
                 self.printing = Some(code);
-                self.line = Record::new();
+                self.line = RecordBytes::new();
                 Ok(Answer::OutputUpTo(132))
             }
             code if is_space(code) => {
                 self.output.reserve()?;
-                self.output.add(Entry::new(code, Record::new()));
+                self.output.add(Entry::new(code, RecordBytes::new()));
                 self.printing = None;
                 Ok(Answer::Immediate)
             }
@@ -87,7 +87,7 @@ impl Device for Printer {
 
     fn finish(&mut self) -> UnitStatus {
         if let Some(code) = self.printing {
-            let line = mem::replace(&mut self.line, Record::new());
+            let line = mem::replace(&mut self.line, RecordBytes::new());
             self.output.add(Entry::new(code, line));
             self.printing = None;
         }
@@ -104,7 +104,7 @@ impl Printer {
             output: Output::new(alloc),
             sense: 0,
             printing: None,
-            line: Record::new(),
+            line: RecordBytes::new(),
         }
     }
 
@@ -114,7 +114,7 @@ impl Printer {
     {
         self.sense = 0;
         self.printing = None;
-        self.line = Record::new();
+        self.line = RecordBytes::new();
     }
 
     /// Takes the entries of the open file, to be closed; the file has none then. This takes no
@@ -124,7 +124,7 @@ impl Printer {
         ensures after { self.new ≡ printer_emptied self.old }
     {
         self.printing = None;
-        self.line = Record::new();
+        self.line = RecordBytes::new();
         self.output.take(alloc)
     }
 

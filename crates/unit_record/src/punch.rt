@@ -4,7 +4,7 @@ ghost use Rattle.unit_record.specs.Punch.{punch_new, punch_reset, punch_emptied}
 
 use crate::front::{COMMAND_REJECT, NO_OPERATION, is_sense};
 use crate::output::{Entry, Output};
-use crate::record::Record;
+use crate::record::RecordBytes;
 use s370_walk::{Answer, Device, Order, UnitStatus};
 use std::alloc::{AllocError, Global};
 use std::marker::Model;
@@ -23,7 +23,7 @@ pub struct Punch {
     pub(crate) output: Output,
     pub(crate) sense: u8,
     pub(crate) is_punching: bool,
-    pub(crate) card: Record,
+    pub(crate) card: RecordBytes,
 }
 
 impl Model for Punch {
@@ -55,7 +55,7 @@ impl Device for Punch {
             PUNCH => {
                 self.output.reserve()?;
                 self.is_punching = true;
-                self.card = Record::new();
+                self.card = RecordBytes::new();
                 Ok(Answer::Output(80))
             }
             NO_OPERATION => Ok(Answer::Immediate),
@@ -88,7 +88,7 @@ impl Device for Punch {
     fn finish(&mut self) -> UnitStatus {
         if self.is_punching {
             self.card.pad_to(CARD_LENGTH, BLANK);
-            let card = mem::replace(&mut self.card, Record::new());
+            let card = mem::replace(&mut self.card, RecordBytes::new());
             self.output.add(Entry::new(PUNCH, card));
             self.is_punching = false;
         }
@@ -105,7 +105,7 @@ impl Punch {
             output: Output::new(alloc),
             sense: 0,
             is_punching: false,
-            card: Record::new(),
+            card: RecordBytes::new(),
         }
     }
 
@@ -115,7 +115,7 @@ impl Punch {
     {
         self.sense = 0;
         self.is_punching = false;
-        self.card = Record::new();
+        self.card = RecordBytes::new();
     }
 
     /// Takes the entries of the open file, to be closed; the file has none then. This takes no
@@ -125,7 +125,7 @@ impl Punch {
         ensures after { self.new ≡ punch_emptied self.old }
     {
         self.is_punching = false;
-        self.card = Record::new();
+        self.card = RecordBytes::new();
         self.output.take(alloc)
     }
 

@@ -7,7 +7,7 @@ ghost use Rattle.unit_record.specs.Reader.{with_deck_back, queued_at, purged};
 
 use crate::front::{COMMAND_REJECT, INTERVENTION_REQUIRED, NO_OPERATION, is_sense};
 use crate::outgoing::Outgoing;
-use crate::record::Record;
+use crate::record::RecordBytes;
 use s370_walk::{Answer, Device, Order, UnitStatus};
 use std::alloc::{AllocError, Global};
 use std::collections::VecDeque;
@@ -120,7 +120,7 @@ impl Device for Reader {
             READ => self.read(),
             NO_OPERATION => Answer::Immediate,
             _ if is_sense(order) => {
-                self.giving = Outgoing::of(Record::of(&[self.sense]));
+                self.giving = Outgoing::of(RecordBytes::of(&[self.sense]));
                 Answer::Input(1)
             }
             _ => {
@@ -179,7 +179,7 @@ impl Reader {
             self.place = None;
             return Answer::Refused(UnitStatus::UNIT_EXCEPTION);
         };
-        self.giving = Outgoing::of(Record::of(card));
+        self.giving = Outgoing::of(RecordBytes::of(card));
         self.place = Some(place + 1);
         Answer::Input(80)
     }

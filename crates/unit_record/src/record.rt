@@ -10,11 +10,11 @@ pub const RECORD_LENGTH: usize = 132;
 
 /// At most [`RECORD_LENGTH`] bytes: a card, or a line of a printer or a console.
 #[derive(Drop)]
-pub struct Record {
+pub struct RecordBytes {
     bytes: ArrayVec<u8, 132>,
 }
 
-impl Model for Record {
+impl Model for RecordBytes {
     ghost use Rattle.std.specs.Prelude.{ℕ, List, ◌≤◌, length};
 
     ghost Value = { List ℕ };
@@ -24,22 +24,22 @@ impl Model for Record {
     ghost invariant = { λ r. length r.bytes.items ≤ 132 };
 }
 
-impl Record {
+impl RecordBytes {
     /// Returns a record without a byte.
-    pub fn new() -> Record
+    pub fn new() -> RecordBytes
         ensures { result ≡ [] }
     {
-        Record {
+        RecordBytes {
             bytes: ArrayVec::new(),
         }
     }
 
     /// Returns a record of these bytes.
-    pub fn of(bytes: &[u8]) -> Record
+    pub fn of(bytes: &[u8]) -> RecordBytes
         requires { length bytes.now ≤ RECORD_LENGTH }
         ensures { result ≡ bytes.now }
     {
-        let mut made = Record::new();
+        let mut made = RecordBytes::new();
         for byte in bytes {
             made.push(*byte);
         }

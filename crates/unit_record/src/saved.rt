@@ -11,7 +11,7 @@ use crate::output::{Entry, Output, Target};
 use crate::printer::Printer;
 use crate::punch::Punch;
 use crate::reader::{Card, Sender};
-use crate::record::{RECORD_LENGTH, Record};
+use crate::record::{RECORD_LENGTH, RecordBytes};
 use saved_bytes::{Input, put_bytes, put_flag, put_number, put_one, put_zero};
 use std::alloc::{AllocError, Global};
 use std::collections::VecDeque;
@@ -80,12 +80,12 @@ pub fn card_of(input: &mut Input<'_>) -> Option<Card> {
 }
 
 /// Takes the record that is next.
-pub fn record_of(input: &mut Input<'_>) -> Option<Record> {
+pub fn record_of(input: &mut Input<'_>) -> Option<RecordBytes> {
     let bytes = input.bytes()?;
     if bytes.len() > RECORD_LENGTH {
         return None;
     }
-    Some(Record::of(bytes))
+    Some(RecordBytes::of(bytes))
 }
 
 /// Appends an entry.
@@ -126,7 +126,7 @@ pub fn entries_of(alloc: Global, input: &mut Input<'_>) -> Option<Vec<Entry>> {
 }
 
 /// Appends records.
-fn put_records(out: &mut Vec<u8>, records: &[Record]) -> Result<(), AllocError>
+fn put_records(out: &mut Vec<u8>, records: &[RecordBytes]) -> Result<(), AllocError>
     ensures { OnOk result (out.new.items ≡ out.old.items ++ each bytes records.now) }
 {
     for line in records {
@@ -137,7 +137,7 @@ fn put_records(out: &mut Vec<u8>, records: &[Record]) -> Result<(), AllocError>
 }
 
 /// Adds the records that are next to finished lines.
-fn take_lines(lines: &mut Vec<Record>, input: &mut Input<'_>) -> Option<()> {
+fn take_lines(lines: &mut Vec<RecordBytes>, input: &mut Input<'_>) -> Option<()> {
     for _ in 0..u64::MAX {
         if !input.flag()? {
             break;
@@ -148,7 +148,7 @@ fn take_lines(lines: &mut Vec<Record>, input: &mut Input<'_>) -> Option<()> {
 }
 
 /// Adds the records that are next to lines that wait.
-fn take_waiting(waiting: &mut VecDeque<Record>, input: &mut Input<'_>) -> Option<()> {
+fn take_waiting(waiting: &mut VecDeque<RecordBytes>, input: &mut Input<'_>) -> Option<()> {
     for _ in 0..u64::MAX {
         if !input.flag()? {
             break;

@@ -12,7 +12,7 @@ use crate::front::{COMMAND_REJECT, NO_OPERATION, is_sense};
 use crate::outgoing::Outgoing;
 use crate::printer::Printer;
 use crate::punch::Punch;
-use crate::record::Record;
+use crate::record::RecordBytes;
 use s370_walk::{Answer, Device, Order, UnitStatus};
 use std::alloc::AllocError;
 use std::collections::VecDeque;
@@ -21,7 +21,7 @@ use std::marker::Model;
 /// A console on trial: it reads the lines that wait where they are, and keeps none that is written.
 #[derive(Drop)]
 pub struct ConsoleTrial<'a> {
-    waiting: &'a VecDeque<Record>,
+    waiting: &'a VecDeque<RecordBytes>,
     read: usize,
     sense: u8,
     giving: Outgoing,
@@ -54,7 +54,7 @@ impl<'a> ConsoleTrial<'a> {
             None => Answer::Refused(UnitStatus::UNIT_EXCEPTION),
             Some(line) => {
                 let bytes = line.len();
-                self.giving = Outgoing::of(Record::of(line.as_slice()));
+                self.giving = Outgoing::of(RecordBytes::of(line.as_slice()));
                 self.read += 1;
                 Answer::Input(bytes as u32)
             }
@@ -76,7 +76,7 @@ impl<'a> Device for ConsoleTrial<'a> {
             0x0A => self.read(),
             NO_OPERATION => Answer::Immediate,
             _ if is_sense(order) => {
-                self.giving = Outgoing::of(Record::of(&[self.sense]));
+                self.giving = Outgoing::of(RecordBytes::of(&[self.sense]));
                 Answer::Input(1)
             }
             _ => {

@@ -4,7 +4,7 @@ use Rattle.clap.specs.Words.{App, Row, all_of, fault_of, first_of, matches_of, n
 use Rattle.clap.specs.Words.{takes, with_rule}
 use Rattle.programs.specs.Arguments.{IsFlag, follow_rule, terminals_rule, texts_of, volume_rule}
 use Rattle.vm370.specs.Options.{IsSized, directory_rule, with_options}
-use Rattle.vm370.specs.declared.follow_arguments.FollowOptions.{FollowOptions}
+use Rattle.vm370.specs.declared.follow_arguments.SystemFollowOptions.{SystemFollowOptions}
 
 -- `PROGRAM [--frames N] [--slots N] [--save] [--terminals] --follow DIRECTORY [VOLUME]...`
 abbrev pub command_of : List ℕ → App
@@ -29,7 +29,7 @@ unfoldable pub HasNoFault : List ℕ → List (List ℕ) → Type 0
 HasNoFault program words = fault_of (command_of program) words ≡ []
 
 -- the options are what these words give
-pub record IsNamed (rows : List Row) (options : FollowOptions) : Type 0 where
+pub record IsNamed (rows : List Row) (options : SystemFollowOptions) : Type 0 where
   pub sizes : IsSized rows options.sizes
   pub save : IsFlag (one_of (codes "save") rows) options.save
   pub terminals : IsFlag (one_of (codes "terminals") rows) options.terminals

@@ -14,7 +14,7 @@ use Rattle.programs.specs.Runs.{IsFailedFollowing, IsFailedRun, IsFollowing, IsR
 use Rattle.programs.specs.declared.faults.Failure.{Failure}
 use Rattle.vm370.specs.Goes.{system_goes}
 use Rattle.vm370.specs.declared.arguments.Options.{Options}
-use Rattle.vm370.specs.declared.follow_arguments.FollowOptions.{FollowOptions}
+use Rattle.vm370.specs.declared.follow_arguments.SystemFollowOptions.{SystemFollowOptions}
 
 -- the volumes of a system
 abbrev pub system_volumes : SystemView → List VolumeFormat
@@ -88,7 +88,7 @@ IsFailedWholeRun Gives remaining options deeds_old deeds_new writer_old writer_n
 -- a system was booted, the parts of a script were followed on that, and the images were saved if
 -- that was asked for, by the options and by the input
 pub record IsWholeFollowing {F : Type 0} (Gives : List ℕ → F → Type 0)
-    (remaining : F → Option (List ℕ)) (options : FollowOptions)
+    (remaining : F → Option (List ℕ)) (options : SystemFollowOptions)
     (deeds_old deeds_new : Option (List Deed))
     (reader_old reader_new writer_old writer_new : Option (List ℕ)) : Type 0 where
   pub first : SystemView
@@ -103,7 +103,8 @@ pub record IsWholeFollowing {F : Type 0} (Gives : List ℕ → F → Type 0)
 
 -- what a run that followed parts has done when it fails
 abbrev pub IsFailedWholeFollowing : {F : Type 0} → (List ℕ → F → Type 0) → (F → Option (List ℕ))
-    → FollowOptions → Option (List Deed) → Option (List Deed) → Option (List ℕ) → Option (List ℕ)
+    → SystemFollowOptions → Option (List Deed) → Option (List Deed) → Option (List ℕ)
+    → Option (List ℕ)
     → Option (List ℕ) → Option (List ℕ) → Failure → Type 0
 IsFailedWholeFollowing Gives remaining options deeds_old deeds_new reader_old reader_new writer_old
     writer_new failure =

@@ -18,7 +18,7 @@ use std::convert::AsStr;
 /// What the words of the program name:
 /// `vm370 [--frames N] [--slots N] [--save] [--terminals] --follow DIRECTORY [VOLUME]...`.
 #[derive(Drop)]
-pub struct FollowOptions<'a> {
+pub struct SystemFollowOptions<'a> {
     /// How many frames and slots the machine has.
     pub sizes: Sizes,
     /// The images of the volumes are written back at the end.
@@ -41,7 +41,7 @@ pub fn follow_arguments<'a, S: AsStr>(
     alloc: Global,
     program: &'a str,
     words: &'a [S],
-) -> Result<FollowOptions<'a>, UsageError>
+) -> Result<SystemFollowOptions<'a>, UsageError>
     ensures ok { IfOk result (IsNamed (rows_named program.entry.now (map S.text words.entry.now))) }
     ensures taken { OnOk result (HasNoFault program.entry.now (map S.text words.entry.now)) }
     ensures err { (sizes : SystemSizes)
@@ -58,7 +58,7 @@ pub fn follow_arguments<'a, S: AsStr>(
         return Err(usage(alloc, "a path is missing\n"));
     };
     let volumes = paths_of(alloc, &matches, "VOLUME")?;
-    Ok(FollowOptions {
+    Ok(SystemFollowOptions {
         sizes,
         save: is_given(&matches, "save"),
         terminals: is_given(&matches, "terminals"),

@@ -14,7 +14,7 @@ ghost use Rattle.vm370.specs.Goes.{GivesCards, HasCards, HasHappened, IsSpent, M
 ghost use Rattle.vm370.specs.Goes.{known_users, seen_in, system_goes};
 
 use cp_core::{CpError, Event, System, one_by_saved, printed_lines_do_not_matter};
-use cp_directory::{Minidisk, User, UserDevices};
+use cp_directory::{MinidiskStatement, User, UserDevices};
 use machine_devices::{FileNote, Reply, SeenDevices};
 use machine_panel::Mode;
 use s370_num::DevAddr;
@@ -132,7 +132,7 @@ impl Installation for SharedMachines {
         self.system.files().get(place).copied()
     }
 
-    fn happen(&mut self, alloc: Global, event: &ScriptEvent<'_>) -> Result<Reply, Refused> {
+    fn apply_event(&mut self, alloc: Global, event: &ScriptEvent<'_>) -> Result<Reply, Refused> {
         let Ok(cards) = cards_in(alloc, event) else {
             return Err(Refused::Memory);
         };
@@ -223,7 +223,7 @@ fn add_places(list: &mut Vec<u16>, devices: UserDevices) -> Result<(), AllocErro
 }
 
 /// Adds the addresses of disks.
-fn add_disks(list: &mut Vec<u16>, disks: &[Minidisk]) -> Result<(), AllocError>
+fn add_disks(list: &mut Vec<u16>, disks: &[MinidiskStatement]) -> Result<(), AllocError>
     ensures { OnOk result (list.new.items ≡ list.old.items
         ++ map (λ disk. disk.address) disks.now) }
 {
@@ -291,7 +291,7 @@ fn ask(system: &mut System, event: &ScriptEvent<'_>, cards: &[Card]) -> Result<R
 fn event_of<'a>(event: &ScriptEvent<'a>, cards: &'a [Card]) -> Event<'a>
     requires event { IsEvent event.now }
     requires cards { HasCards event.now cards.now }
-    ensures said { as_said result ≡ said event.now }
+    ensures event { as_said result ≡ said event.now }
 {
     match *event {
         ScriptEvent::Run(user, units) => Event::Run(user, units),

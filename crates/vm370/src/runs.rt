@@ -9,7 +9,7 @@ ghost use Rattle.vm370.specs.Runs.{system_volumes};
 
 use crate::arguments::Options;
 use crate::boot_faults::{boot_failure, names_of};
-use crate::follow_arguments::FollowOptions;
+use crate::follow_arguments::SystemFollowOptions;
 use crate::installation::SharedMachines;
 use ckd_volume::Volume;
 use cp_core::{Sizes, System};
@@ -65,7 +65,7 @@ pub fn run_files<F: FileStore, W: HostWriter>(
 pub fn follow_system<F: FileStore, R: HostReader, W: HostWriter>(
     alloc: Global,
     files: &mut F,
-    options: &FollowOptions<'_>,
+    options: &SystemFollowOptions<'_>,
     reader: &mut R,
     writer: &mut W,
 ) -> Result<(), Failure>

@@ -7,4 +7,4 @@ pub returns-clause-still : goal.returns-clause-still
 returns-clause-still c =
     λ yes. stands_still _ c.known.invariant c.args.dat.now c.args.caw
     (subst (λ (k : KnownProgram). IsAsKnown k c.args.dat.now c.args.caw) (sym c.known.view_is)
-    (c.is_as_cached.ensures.same yes))
+    (c.is_as_cached.ensures.as_cached yes))

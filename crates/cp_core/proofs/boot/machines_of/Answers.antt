@@ -9,21 +9,21 @@ use Rattle.cp_core.proofs.Owned.{owners_more}
 use Rattle.machine_devices.specs.declared.attaching.AttachError.TheVariants as attaching
 use Rattle.cp_directory.specs.Grammar.{HasLawfulDevices}
 use Rattle.cp_directory.specs.Users.{DirectoryUser, addresses_of}
-use Rattle.cp_directory.specs.declared.minidisk.Minidisk.{Minidisk}
+use Rattle.cp_directory.specs.declared.minidisk.MinidiskStatement.{MinidiskStatement}
 use Rattle.machine_channels.specs.Disks.{DiskAt}
 use Rattle.machine_devices.specs.Devices.{can_attach, devices_new, places_of}
 use Rattle.machine_devices.specs.declared.places.Places.{Places}
 use Rattle.cp_core.specs.Boot.{places_in}
 use Rattle.cp_core.specs.UserMachines.{IsUnused, unowned}
-use Rattle.cp_seating.specs.Seating.{AreDisks, AreLawful, seats_of}
-use Rattle.cp_seating.proofs.Seated.{are_disks}
+use Rattle.cp_placement.specs.Seating.{AreDisks, AreLawful, seats_of}
+use Rattle.cp_placement.proofs.Seated.{are_disks}
 use Rattle.cp_volumes.specs.Shared.{SharedMinidisk, disks_on, placements_of}
 use Rattle.cp_resident.specs.Reuse.{kept_none}
 use Rattle.cp_core.specs.Whole.{IsNew}
-use Rattle.cp_seating.specs.Seating.{lacks_volume, user_is_past, user_lacks}
+use Rattle.cp_placement.specs.Seating.{lacks_volume, user_is_past, user_lacks}
 use Rattle.std.specs.List.{list_any}
 use Rattle.cp_core.proofs.Boots.{err_same, lawful_attach, lawful_on, new_more, off_new, seat_addresses}
-use Rattle.cp_seating.proofs.Found.{unfound_at, unplaced_at}
+use Rattle.cp_placement.proofs.Found.{unfound_at, unplaced_at}
 use Rattle.cp_core.proofs.boot.machines_of.Goals as goal
 
 pub loop-user-preserved : goal.loop-user-preserved

@@ -1,7 +1,7 @@
 use Rattle.std.proofs.Common.{◌≡◌, take, length, map, ℕ, Some}
 use Rattle.std.specs.Prelude.{slice_get}
 use Rattle.cp_core.specs.UserMachines.{SeatParts, unowned}
-use Rattle.cp_seating.specs.Seating.{AreLawful, minidisks_at}
+use Rattle.cp_placement.specs.Seating.{AreLawful, minidisks_at}
 use Rattle.cp_core.specs.Whole.{AreNew}
 use Rattle.cp_core.proofs.boot.machines_of.Given as goal
 

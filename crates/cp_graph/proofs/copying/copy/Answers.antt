@@ -1,6 +1,6 @@
 use Rattle.std.proofs.Common.{◌≡◌, ◌≤◌, ◌<◌, ◌%◌, ◌∙◌, List, ap, arith, length, slice_index_or, subst, sym, ℕ}
 use Rattle.std.proofs.lemmas.List.{get_or_read, length-replicate}
-use Rattle.channel_laws.specs.declared.places.Place.{Place}
+use Rattle.channel_laws.specs.declared.places.CcwLocation.{CcwLocation}
 use Rattle.channel_laws.specs.Copy.{guest_of, past}
 use Rattle.cp_graph.specs.Closure.{IsReachedPlace}
 use Rattle.cp_graph.proofs.Tables.{copy_of, grown_length, rows_on, rows_none, held_push, held_none, linked_grown, linked_is_place}
@@ -34,7 +34,7 @@ copy_word-requires-clause-even g c =
     let at = c.len-in-places-2.result in
     let lt : at < length places = omega (arith, c.places-test.true, c.places.places.ok.0, c.places.nodes.ok.0) in
     let is : c.index-place.result.now ≡ slice_index_or places at (past at) = get_or_read places at _ lt c.index-place.ensures (past at) in
-    ap (λ (p : Place). p.address % 8) is ∙ c.places.invariant.known.even at lt
+    ap (λ (p : CcwLocation). p.address % 8) is ∙ c.places.invariant.known.even at lt
 
 pub places-preserved : goal.places-preserved
 places-preserved g c =
@@ -46,12 +46,12 @@ places-preserved g c =
     let lt : at < length places = omega (arith, c.places-test.true, c.places.places.ok.0, c.places.nodes.ok.0) in
     let number : at ≡ length nodes = omega (arith, c.places.nodes.ok.0) in
     let is : c.index-place.result.now ≡ slice_index_or places at (past at) = get_or_read places at _ lt c.index-place.ensures (past at) in
-    let address : c.index-place.result.now.address ≡ guest_of places (length nodes) = ap (λ (p : Place). p.address) is ∙ ap (guest_of places) number in
+    let address : c.index-place.result.now.address ≡ guest_of places (length nodes) = ap (λ (p : CcwLocation). p.address) is ∙ ap (guest_of places) number in
     let room : length new ≤ 2147483648 = omega (arith, c.in-Ok-copy_word.ensures.count, c.places.invariant.few, c.copy_word.new.places.ok.0) in
     let behind : length nodes < length places = omega (arith, lt, number) in
     record {
       rows = rows_on places new nodes c.push.new.self.items m c.index-place.result.now.address c.in-Ok-copy_word.node c.in-Ok-push.ensures.items c.in-Ok-copy_word.ensures.grown room behind address c.places.invariant.rows c.in-Ok-copy_word.ensures.row;
-      held = held_push nodes c.push.new.self.items c.in-Ok-copy_word.node _ _ c.in-Ok-push.ensures.items c.places.invariant.held c.in-Ok-copy_word.ensures.here;
+      held = held_push nodes c.push.new.self.items c.in-Ok-copy_word.node _ _ c.in-Ok-push.ensures.items c.places.invariant.held c.in-Ok-copy_word.ensures.present;
       reached = c.in-Ok-copy_word.ensures.reached c.args.start (subst (IsReachedPlace m c.args.start) (sym is) (c.places.invariant.reached at (past at) lt)) c.places.invariant.reached;
       known = c.in-Ok-copy_word.ensures.known;
       few = omega (arith, c.in-Ok-copy_word.ensures.count, c.places.invariant.few);

@@ -1,7 +1,7 @@
 use Rattle.std.proofs.Common.{◌≡◌, ℕ, ◌+◌, ◌-◌, ◌<◌, ◌≤◌, length, vec_len, slice_index_or, None, Some, true}
 use Rattle.std.specs.Prelude.{is_some}
 use Rattle.s370_channel.specs.Guest.{area_block}
-use Rattle.cp_graph.specs.Table.{IsPart, AreHere}
+use Rattle.cp_graph.specs.Table.{IsPart, AllPresent}
 use Rattle.cp_graph.proofs.lists.list_for.Given as goal
 
 abbrev pub invariant-blocks-2 : goal.invariant-blocks-2
@@ -11,7 +11,7 @@ invariant-blocks-2 g l = record {
   begun : (i : ℕ) → i < length l.list.items → is_some (slice_index_or l.list.items i None) ≡ true;
   some : 0 < length l.list.items;
   short : length l.list.items ≤ l.last + 1;
-  here : AreHere (length (g.S.Storage.memory l.storage).bytes) (g.S.Storage.present l.storage) l.list.items;
+  here : AllPresent (length (g.S.Storage.memory l.storage).bytes) (g.S.Storage.present l.storage) l.list.items;
 }
 
 abbrev pub decreases-blocks-2 : goal.decreases-blocks-2

@@ -11,13 +11,13 @@ returns-in-Err-clause-asked g c =
     asked_of m c.args.word.now c.blocks-2.byte _ has (omega (arith, c.blocks-2-test.true, c.blocks-2.invariant.counted))
     (c.blocks-2.invariant.begun c.blocks-2-test.true) c.in-Err.ensures.asked
 
-pub returns-in-Ok-None-clause-here : goal.returns-in-Ok-None-clause-here
-returns-in-Ok-None-clause-here g c =
+pub returns-in-Ok-None-clause-present : goal.returns-in-Ok-None-clause-present
+returns-in-Ok-None-clause-present g c =
     let m = g.S.Storage.memory c.args.storage.now in
     let has : tracks.has_area c.args.word.now ≡ true = sym c.has_area.ensures ∙ c.if-not-has_area.false in
     let w = c.args.word.now in
     let done = done_past m w (g.S.Storage.present c.args.storage.now) c.blocks-2.byte w.count c.blocks-2.invariant.done
-    (c.blocks-2.invariant.begun c.blocks-2-test.true) (sym c.in-Ok-None.ensures.said ∙ c.in-Ok-None.field-0-is)
+    (c.blocks-2.invariant.begun c.blocks-2-test.true) (sym c.in-Ok-None.ensures.block ∙ c.in-Ok-None.field-0-is)
     c.in-Ok-None.ensures.listed in
     pages_done m w (g.S.Storage.present c.args.storage.now) w.count has done (omega arith)
 
@@ -26,8 +26,8 @@ blocks-2-preserved g c =
     let m = g.S.Storage.memory c.args.storage.now in
     let w = c.args.word.now in
     let part = c.bytes_in_block-byte.ensures in
-    let said = sym c.in-Ok-Some.ensures.said ∙ c.in-Ok-Some.field-0-is in
-    let here = rw c.in-Ok-Some.field-0-is at c.in-Ok-Some.ensures.here in
+    let said = sym c.in-Ok-Some.ensures.block ∙ c.in-Ok-Some.field-0-is in
+    let here = rw c.in-Ok-Some.field-0-is at c.in-Ok-Some.ensures.present in
     let begun = c.blocks-2.invariant.begun c.blocks-2-test.true in
     let low = rw c.in-Ok-Some.field-0-is at c.in-Ok-Some.ensures.low in
     record {

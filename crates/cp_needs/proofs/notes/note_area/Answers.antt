@@ -12,7 +12,7 @@ returns-in-Ok-None-clause-marked g c =
     let w = c.args.word.now in
     let has : tracks.has_area w ≡ true = sym c.has_area.ensures ∙ c.if-not-has_area.false in
     list_past m w c.blocks-2.byte _ _ _ has (omega (arith, c.blocks-2-test.true, c.blocks-2.invariant.counted))
-    (c.blocks-2.invariant.begun c.blocks-2-test.true) (sym c.in-Ok-None.ensures.said ∙ c.in-Ok-None.field-0-is)
+    (c.blocks-2.invariant.begun c.blocks-2-test.true) (sym c.in-Ok-None.ensures.block ∙ c.in-Ok-None.field-0-is)
     c.blocks-2.invariant.marked c.in_ok-note_entry.ensures.marked
 
 pub returns-in-Ok-None-clause-stored : goal.returns-in-Ok-None-clause-stored
@@ -20,13 +20,13 @@ returns-in-Ok-None-clause-stored g c =
     let m = g.S.Storage.memory c.args.storage.now in
     let w = c.args.word.now in
     filled_past m w c.blocks-2.byte _ _ (c.blocks-2.invariant.begun c.blocks-2-test.true)
-    (sym c.in-Ok-None.ensures.said ∙ c.in-Ok-None.field-0-is) c.blocks-2.invariant.stored
+    (sym c.in-Ok-None.ensures.block ∙ c.in-Ok-None.field-0-is) c.blocks-2.invariant.stored
 
 pub returns-in-Ok-None-clause-paged : goal.returns-in-Ok-None-clause-paged
 returns-in-Ok-None-clause-paged g c =
     let m = g.S.Storage.memory c.args.storage.now in
     area_past m c.args.word.now c.blocks-2.byte _ _ (c.blocks-2.invariant.begun c.blocks-2-test.true)
-    (sym c.in-Ok-None.ensures.said ∙ c.in-Ok-None.field-0-is) c.blocks-2.invariant.paged
+    (sym c.in-Ok-None.ensures.block ∙ c.in-Ok-None.field-0-is) c.blocks-2.invariant.paged
 
 pub unreachable-requires : goal.unreachable-requires
 unreachable-requires g c =
@@ -37,7 +37,7 @@ unreachable-requires g c =
     let asked = asked_of m w c.blocks-2.byte page has
     (omega (arith, c.blocks-2-test.true, c.blocks-2.invariant.counted))
     (c.blocks-2.invariant.begun c.blocks-2-test.true) c.in-Err.ensures.asked in
-    not_away _ (g.S.Storage.present c.args.storage.now) page (c.requires.here page asked) c.in-Err.ensures.away
+    not_away _ (g.S.Storage.present c.args.storage.now) page (c.requires.here page asked) c.in-Err.ensures.absent
 
 pub blocks-2-preserved : goal.blocks-2-preserved
 blocks-2-preserved g c =
@@ -45,7 +45,7 @@ blocks-2-preserved g c =
     let w = c.args.word.now in
     let has : tracks.has_area w ≡ true = sym c.has_area.ensures ∙ c.if-not-has_area.false in
     let part = c.bytes_in_block-bytes.ensures in
-    let said = sym c.in-Ok-Some.ensures.said ∙ c.in-Ok-Some.field-0-is in
+    let said = sym c.in-Ok-Some.ensures.block ∙ c.in-Ok-Some.field-0-is in
     let low = rw c.in-Ok-Some.field-0-is at c.in-Ok-Some.ensures.low in
     let begun = c.blocks-2.invariant.begun c.blocks-2-test.true in
     record {

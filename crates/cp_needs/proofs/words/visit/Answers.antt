@@ -24,8 +24,8 @@ returns-clause-visited g c =
     let text : guest_text m c.args.address ≡ Some c.in-Some-found.word =
     sym c.in-Ok.ensures.word ∙ c.in-Some-found.is in
     visited_word m (g.S.Storage.present c.args.storage.now) _ c.args.address c.in-Some-found.word
-    c.absent_in_area.result c.follow.new.words.items _ c.requires.even text c.in_default.ensures.here
-    c.absent_in_area.ensures.here
+    c.absent_in_area.result c.follow.new.words.items _ c.requires.even text c.in_default.ensures.present
+    c.absent_in_area.ensures.present
     (rw (c.leads_on.ensures, ← c.in_ok-follow-2.ensures.size) at c.in_ok-follow.ensures.found)
     (rw c.may_skip.ensures at c.in_ok-follow-2.ensures.found)
     (rw c.may_skip.ensures at c.in_ok-follow-2.ensures.words)

@@ -46,7 +46,7 @@ returns-in-Some-clause-needed g c =
     get_or_read words c.words.done _ lt c.index-address.ensures 0 in
     needed_at m c.args.start words c.words.done c.index-address.result.now (g.S.Storage.present c.args.storage.now)
     c.in_ok-page.field-0 c.in-Some.page c.in-Some.is c.words.invariant.reached lt is c.in_ok-page.ensures.asked
-    c.in_ok-page.ensures.away
+    c.in_ok-page.ensures.absent
 
 pub words-preserved : goal.words-preserved
 words-preserved g c =

@@ -24,4 +24,4 @@ returns-clause-volume c =
     let m = lent_memory c.args.storage.now in
     let n = lent_memory c.load_tried.new.storage in
     load_keeps_ok m n c.args.mounted.now c.load_tried.new.device c.load_tried.result c.load_tried.ensures.walk
-    (c.load_tried.ensures.spared (λ d o. refl)) (λ out. (c.load_tried.ensures.same out).1)
+    (c.load_tried.ensures.spared (λ d o. refl)) (λ out. (c.load_tried.ensures.unchanged_without_frames out).1)

@@ -24,4 +24,4 @@ returns-clause-volume c =
     let m = lent_memory c.args.storage.now in
     let n = lent_memory c.run_tried.new.storage in
     keeps_ok c.args.start m n c.args.mounted.now c.run_tried.new.device c.run_tried.result c.run_tried.ensures.walk
-    (c.run_tried.ensures.spared (λ d o. refl)) (λ out. (c.run_tried.ensures.same out).1)
+    (c.run_tried.ensures.spared (λ d o. refl)) (λ out. (c.run_tried.ensures.unchanged_without_frames out).1)

@@ -1,6 +1,6 @@
 use Rattle.std.proofs.Common.{◌≡◌, ◌++◌, map, take}
 use Rattle.logon_desk.specs.declared.account.KeptLine.{KeptLine}
-use Rattle.logon_desk.specs.declared.output.Output.TheVariants.{ShowsAgain}
+use Rattle.logon_desk.specs.declared.output.DeskAction.TheVariants.{ShowsAgain}
 use Rattle.logon_desk.proofs.desk.show_again.Given as goal
 
 -- the lines so far are shown again

@@ -11,7 +11,7 @@ loop-units-preserved g c =
     let m' = state_of c.move_parts_quickly-parts.new.cpu (g.S.Storage.memory c.move_parts_quickly-parts.new.storage) in
     record {
       within = omega (arith, c.move_parts_quickly-parts.ensures.within);
-      here = c.move_parts_quickly-parts.ensures.here;
+      here = c.move_parts_quickly-parts.ensures.same_start;
       stands = c.move_parts_quickly-parts.ensures.stands;
       done = λ pending list e.
           (let before = c.loop-units.invariant.done pending list e in

@@ -10,8 +10,8 @@ returns-clause-done g c =
     let m' = state_of c.move_long_quickly.new.cpu (g.S.Storage.memory c.move_long_quickly.new.storage) in
     (parts_done c.move_long_quickly.result c.args.start c.args.second_byte (g.S.Storage.present c.args.storage.now) m m' (search rules) c.requires.here c.requires.stands c.move_long_quickly.ensures.parts).units
 
-pub returns-clause-here : goal.returns-clause-here
-returns-clause-here g c =
+pub returns-clause-same_start : goal.returns-clause-same_start
+returns-clause-same_start g c =
     let m = state_of c.args.cpu.now (g.S.Storage.memory c.args.storage.now) in
     let m' = state_of c.move_long_quickly.new.cpu (g.S.Storage.memory c.move_long_quickly.new.storage) in
     (parts_done c.move_long_quickly.result c.args.start c.args.second_byte (g.S.Storage.present c.args.storage.now) m m' (search rules) c.requires.here c.requires.stands c.move_long_quickly.ensures.parts).here

@@ -25,8 +25,8 @@ returns-in_err-write_all-clause-err g c =
     let i = g.I.Installation.goes in
     let old = g.W.HostWriter.contents c.args.writer.now in
     let new = g.W.HostWriter.contents c.write_all.new.writer in
-    let lines = told_alike i c.args.detail (said c.args.event.now) c.args.installation.now c.happen.new.self
-    c.in_ok-reply.reply c.user_in.result c.deref.result.now c.user_in.ensures c.happen.ensures.users
+    let lines = told_alike i c.args.detail (said c.args.event.now) c.args.installation.now c.apply_event.new.self
+    c.in_ok-reply.reply c.user_in.result c.deref.result.now c.user_in.ensures c.apply_event.ensures.users
     (c.deref.ensures.value ∙ c.in_ok-lines.ensures) in
     on_err c.from_residual-in_err-write_all.result
     (inr (record {
@@ -40,8 +40,8 @@ returns-clause-ok g c =
     let i = g.I.Installation.goes in
     let old = g.W.HostWriter.contents c.args.writer.now in
     let new = g.W.HostWriter.contents c.write_all.new.writer in
-    let lines = told_alike i c.args.detail (said c.args.event.now) c.args.installation.now c.happen.new.self
-    c.in_ok-reply.reply c.user_in.result c.deref.result.now c.user_in.ensures c.happen.ensures.users
+    let lines = told_alike i c.args.detail (said c.args.event.now) c.args.installation.now c.apply_event.new.self
+    c.in_ok-reply.reply c.user_in.result c.deref.result.now c.user_in.ensures c.apply_event.ensures.users
     (c.deref.ensures.value ∙ c.in_ok-lines.ensures) in
     record {
       reply = c.in_ok-reply.reply;

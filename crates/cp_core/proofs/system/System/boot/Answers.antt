@@ -5,7 +5,7 @@ use Rattle.ckd_volume.specs.Volume.{VolumeFormat}
 use Rattle.cp_directory.specs.Grammar.{HasLawfulDevices}
 use Rattle.cp_directory.specs.Users.{AreApart, DirectoryUser}
 use Rattle.cp_core.specs.declared.events.BootError.TheVariants as errors
-use Rattle.cp_seating.specs.Seating.{AreLawful, minidisks_at, user_is_past, user_lacks}
+use Rattle.cp_placement.specs.Seating.{AreLawful, minidisks_at, user_is_past, user_lacks}
 use Rattle.cp_volumes.specs.Shared.{AreThere}
 use Rattle.cp_core.specs.Boot.{AreNewUsers, free_supply}
 use Rattle.cp_core.specs.System.{placements_among, users_of}

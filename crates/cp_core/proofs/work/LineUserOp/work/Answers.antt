@@ -68,7 +68,7 @@ returns-clause-does c =
     subst Facts c.take-channels.ensures.hung (
       reported.ensures.lent,
       reported.ensures.ok,
-      reported.ensures.same,
+      reported.ensures.unchanged_without_frames,
       reported.ensures.kept,
       reported.ensures.memory,
     ) in

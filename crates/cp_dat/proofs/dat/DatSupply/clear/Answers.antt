@@ -31,6 +31,6 @@ returns-clause-cleared c = record {
     others = set_now _ _ _ _ c.release.ensures.storages;
   };
   supply = c.release.ensures.supply;
-  gone = λ page. ap is_some (c.release.ensures.gone page);
+  gone = λ page. ap is_some (c.release.ensures.unmapped page);
   gone_slots = λ page. ap is_some (c.release.ensures.gone_slots page);
 }

@@ -5,18 +5,18 @@ use Rattle.std.proofs.lemmas.List.{at_drop_more}
 use Rattle.std.proofs.lemmas.List.Folds.{find-append}
 use Rattle.cp_directory.specs.Extents.{Extent, conflicts}
 use Rattle.cp_directory.specs.Users.{DirectoryUser, first_conflict, minidisks_of}
-use Rattle.cp_directory.specs.declared.minidisk.Minidisk.{Minidisk}
+use Rattle.cp_directory.specs.declared.minidisk.MinidiskStatement.{MinidiskStatement}
 use Rattle.cp_directory.proofs.directory.Directory.first_conflict.Goals as goal
 
-mapped_or : (f : Minidisk → ℕ) (o p : Option Minidisk) → option_map f (option_or o p) ≡ option_or (option_map f o) (option_map f p)
+mapped_or : (f : MinidiskStatement → ℕ) (o p : Option MinidiskStatement) → option_map f (option_or o p) ≡ option_or (option_map f o) (option_map f p)
 mapped_or f None p = refl
 mapped_or f (Some d) p = refl
 
 -- the first of these users, and then the others
 of_first : (extent : Extent) (user : DirectoryUser) (users : List DirectoryUser) → first_conflict extent (minidisks_of (user ∷ users)) ≡ option_or (first_conflict extent user.minidisks) (first_conflict extent (minidisks_of users))
 of_first extent user users =
-    ap (option_map (λ (d : Minidisk). d.line)) (find-append (λ (d : Minidisk). conflicts extent d.extent) user.minidisks (minidisks_of users))
-    ∙ mapped_or (λ d. d.line) (find (λ (d : Minidisk). conflicts extent d.extent) user.minidisks) (find (λ (d : Minidisk). conflicts extent d.extent) (minidisks_of users))
+    ap (option_map (λ (d : MinidiskStatement). d.line)) (find-append (λ (d : MinidiskStatement). conflicts extent d.extent) user.minidisks (minidisks_of users))
+    ∙ mapped_or (λ d. d.line) (find (λ (d : MinidiskStatement). conflicts extent d.extent) user.minidisks) (find (λ (d : MinidiskStatement). conflicts extent d.extent) (minidisks_of users))
 
 -- the user at this place, and then those after
 at_place : (extent : Extent) (users : List DirectoryUser) (i : ℕ) (user : DirectoryUser) (o : Option ℕ) → i < length users → user ≡ get_or users i user → o ≡ first_conflict extent user.minidisks

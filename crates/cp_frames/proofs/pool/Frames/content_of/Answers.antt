@@ -17,7 +17,7 @@ returns-in-Some-clause-content c =
     let room = frame_within f user page frame c.self.invariant there in
     let read = get_or_read f.frames.items _ _ room c.index.ensures [] in
     rw (← c.self.view_is) (content_in_frame f user page frame c.whole.result.now c.self.invariant there
-    (c.whole.ensures.same ∙ read) c.whole.ensures.full inside)
+    (c.whole.ensures.unchanged ∙ read) c.whole.ensures.full inside)
 
 pub returns-in-Some-slot_of-clause-content : goal.returns-in-Some-slot_of-clause-content
 returns-in-Some-slot_of-clause-content c =
@@ -31,4 +31,4 @@ returns-in-Some-slot_of-clause-content c =
     let room = slot_within f user page slot c.self.invariant there in
     let read = get_or_read f.slots.items _ _ room c.index-in-Some-slot_of.ensures [] in
     rw (← c.self.view_is) (content_in_slot f user page slot c.whole-in-Some-slot_of.result.now c.self.invariant there
-    (c.whole-in-Some-slot_of.ensures.same ∙ read) c.whole-in-Some-slot_of.ensures.full inside)
+    (c.whole-in-Some-slot_of.ensures.unchanged ∙ read) c.whole-in-Some-slot_of.ensures.full inside)

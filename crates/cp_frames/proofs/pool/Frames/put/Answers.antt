@@ -20,7 +20,7 @@ fill-requires-in-Some-free_slot-clause-absent c =
     let free : get_or s.slots slot None ≡ None = c.in-Some-free_slot.ensures.free in
     let within : slot < length s.slots = c.in-Some-free_slot.ensures.within in
     let nowhere : frame_of s.slots user page ≡ None = sym c.in-None.ensures.slot in
-    rw (c.exchange-in-Some-free_slot.ensures.supply, c.free_slot.ensures.same)
+    rw (c.exchange-in-Some-free_slot.ensures.supply, c.free_slot.ensures.unchanged)
     (absent_set s.owners user page frame (get_or s.slots slot None) c.requires.absent (λ e. cc))
 
 pub fill-requires-in-Some-free_slot-clause-nowhere : goal.fill-requires-in-Some-free_slot-clause-nowhere
@@ -33,7 +33,7 @@ fill-requires-in-Some-free_slot-clause-nowhere c =
     let free : get_or s.slots slot None ≡ None = c.in-Some-free_slot.ensures.free in
     let within : slot < length s.slots = c.in-Some-free_slot.ensures.within in
     let nowhere : frame_of s.slots user page ≡ None = sym c.in-None.ensures.slot in
-    rw (c.exchange-in-Some-free_slot.ensures.supply, c.free_slot.ensures.same)
+    rw (c.exchange-in-Some-free_slot.ensures.supply, c.free_slot.ensures.unchanged)
     (absent_set s.slots user page slot (get_or s.owners frame None) nowhere
     (λ e. not_held s.owners user page frame c.requires.absent e))
 
@@ -47,5 +47,5 @@ returns-in-Some-free_slot-clause-put c =
     let free : get_or s.slots slot None ≡ None = c.in-Some-free_slot.ensures.free in
     let within : slot < length s.slots = c.in-Some-free_slot.ensures.within in
     let nowhere : frame_of s.slots user page ≡ None = sym c.in-None.ensures.slot in
-    rw (c.fill-in-Some-free_slot.ensures.supply, c.exchange-in-Some-free_slot.ensures.supply, c.free_slot.ensures.same)
+    rw (c.fill-in-Some-free_slot.ensures.supply, c.exchange-in-Some-free_slot.ensures.supply, c.free_slot.ensures.unchanged)
     (put_filled s user page frame slot nowhere within free)

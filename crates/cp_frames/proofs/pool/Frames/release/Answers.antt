@@ -36,8 +36,8 @@ returns-clause-storages c =
     rw (c.leave.ensures.owners, c.leave_slots.ensures.owners, ← c.unpin_all.ensures.storages, ← c.self.view_is, long)
     (released-storages f c.args.user ∙ storages-cleared (places_in f) (owners_in f) f.sizes.items c.args.user)
 
-pub returns-clause-gone : goal.returns-clause-gone
-returns-clause-gone c page = rw c.leave.ensures.owners (frame_of-cleared c.self.inside.owners.items c.args.user page)
+pub returns-clause-unmapped : goal.returns-clause-unmapped
+returns-clause-unmapped c page = rw c.leave.ensures.owners (frame_of-cleared c.self.inside.owners.items c.args.user page)
 
 pub returns-clause-gone_slots : goal.returns-clause-gone_slots
 returns-clause-gone_slots c page =

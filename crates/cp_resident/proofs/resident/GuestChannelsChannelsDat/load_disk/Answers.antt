@@ -117,7 +117,7 @@ returns-in-Err-load_disk-clause-whole c = λ is.
     (λ e. (
       c.load_disk.ensures.memory (out e) ∙ same,
       ap seen (subst (λ (r : Result Ending DryRunError). OnErr r (c.load_disk.new.self ≡ hung_on c.args.self.now))
-          (out e) c.load_disk.ensures.same),
+          (out e) c.load_disk.ensures.unchanged_on_error),
     ))))
 
 pub returns-in-Err-load_disk-clause-paged_in : goal.returns-in-Err-load_disk-clause-paged_in

@@ -140,7 +140,7 @@ returns-in-Ok-SelfModifying-clause-whole c = λ is.
       memory e,
       ap seen (subst
           (λ (r : Result Ending DryRunError). OnErr r (c.run_disk.new.self ≡ hung_on c.args.self.now)) e
-          c.run_disk.ensures.same),
+          c.run_disk.ensures.unchanged_on_error),
     ) in
     subst (λ (r : Result Ending ChannelError). IfErr r (WhereOut (length (lent_bytes old)) Needs (no_room new Needs) P))
     (sym c.reported.ensures)

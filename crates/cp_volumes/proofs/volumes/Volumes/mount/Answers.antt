@@ -5,8 +5,8 @@ use Rattle.ckd_volume.specs.Volume.{VolumeFormat}
 use Rattle.cp_volumes.specs.Shared.{SharedMinidisk, no_volume, volume_in}
 use Rattle.cp_volumes.proofs.volumes.Volumes.mount.Goals as goal
 
-pub returns-clause-away : goal.returns-clause-away
-returns-clause-away c =
+pub returns-clause-moved_out : goal.returns-clause-moved_out
+returns-clause-moved_out c =
     let i = c.disk.inside.volume in
     let units = c.self.inside.units.items in
     map-set volume_in units i c.take.new.self

@@ -48,13 +48,13 @@ pub returns-in-Ok-run_mounted-clause-confined : goal.returns-in-Ok-run_mounted-c
 returns-in-Ok-run_mounted-clause-confined c =
     confined_by c.args.self.now c.mount-mounted.new.self c.dismount.new.self c.args.disk.now c.mount-mounted.result
     c.run_mounted.new.mounted c.requires.seated c.mount-mounted.ensures.inside c.mount-mounted.ensures.mounted
-    c.run_mounted.ensures.volume c.mount-mounted.ensures.away c.dismount.ensures.volumes
+    c.run_mounted.ensures.volume c.mount-mounted.ensures.moved_out c.dismount.ensures.volumes
 
 pub returns-clause-confined : goal.returns-clause-confined
 returns-clause-confined c =
     confined_by c.args.self.now c.mount-mounted.new.self c.dismount-in-Err-run_mounted.new.self c.args.disk.now
     c.mount-mounted.result c.run_mounted.new.mounted c.requires.seated c.mount-mounted.ensures.inside
-    c.mount-mounted.ensures.mounted c.run_mounted.ensures.volume c.mount-mounted.ensures.away
+    c.mount-mounted.ensures.mounted c.run_mounted.ensures.volume c.mount-mounted.ensures.moved_out
     c.dismount-in-Err-run_mounted.ensures.volumes
 
 pub returns-in-Ok-run_mounted-clause-placements : goal.returns-in-Ok-run_mounted-clause-placements
@@ -68,11 +68,11 @@ returns-clause-placements c =
     c.run_mounted.new.mounted c.requires.seated c.mount-mounted.ensures.mounted c.run_mounted.ensures.volume
     c.dismount-in-Err-run_mounted.ensures.disk
 
-pub returns-clause-same : goal.returns-clause-same
-returns-clause-same c =
+pub returns-clause-unchanged_on_error : goal.returns-clause-unchanged_on_error
+returns-clause-unchanged_on_error c =
     same_by c.args.self.now c.mount-mounted.new.self c.dismount-in-Err-run_mounted.new.self c.args.disk.now
     c.mount-mounted.result c.run_mounted.new.mounted c.requires.seated c.mount-mounted.ensures.inside
-    c.mount-mounted.ensures.mounted c.in-Err-run_mounted.ensures.same c.mount-mounted.ensures.away
+    c.mount-mounted.ensures.mounted c.in-Err-run_mounted.ensures.unchanged_on_error c.mount-mounted.ensures.moved_out
     c.dismount-in-Err-run_mounted.ensures.volumes
 
 pub returns-clause-roomy : goal.returns-clause-roomy

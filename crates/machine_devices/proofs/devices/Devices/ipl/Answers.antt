@@ -1,8 +1,8 @@
 use Rattle.std.specs.Prelude.{◌≡◌, Option, Some}
 use Rattle.std.proofs.Common.{subst}
 use Rattle.machine_channels.specs.Channels.{Brings}
-use Rattle.machine_devices.specs.declared.places.Kind.{Kind}
-use Rattle.machine_devices.specs.declared.places.Kind.TheVariants as kinds
+use Rattle.machine_devices.specs.declared.places.AttachedDevice.{AttachedDevice}
+use Rattle.machine_devices.specs.declared.places.AttachedDevice.TheVariants as kinds
 use Rattle.machine_devices.specs.Devices.{kind_at}
 use Rattle.machine_devices.specs.Equipped.{Equipped, equipped}
 use Rattle.machine_devices.specs.Lent.{devices_on}
@@ -14,9 +14,9 @@ returns-in-Some-Disk-clause-paged_in g c =
     let memory = g.S.Storage.memory c.args.storage.now in
     let before : Equipped = equipped c.args.machine.now (devices_on c.args.self.now c.args.queues.now)
     (g.C.Disks.disks c.args.channels.now) memory in
-    let kind : Option Kind = kind_at before.devices before.disks c.args.device in
+    let kind : Option AttachedDevice = kind_at before.devices before.disks c.args.device in
     let found : Some (kinds.Disk c.in-Some-Disk.index) ≡ kind =
     (let a = c.in-Some-Disk.is in let b = c.in-Some-Disk.field-0-is in let e = c.kind_at.ensures.kind in cc) in
-    subst (λ (k : Option Kind).
+    subst (λ (k : Option AttachedDevice).
     Brings g.C.Channels.Came c.args.storage.now (KindLoads k before) c.load_disk.new.storage) found
     c.load_disk.ensures.paged_in

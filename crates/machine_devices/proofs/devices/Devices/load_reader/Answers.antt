@@ -6,7 +6,7 @@ use Rattle.cp_spool.specs.Alike.{reader_of}
 use Rattle.cp_spool.specs.Queues.{files_of}
 use Rattle.cp_spool.specs.Reader.{part_new}
 use Rattle.machine_channels.specs.Channels.{Brings, WalksLoading}
-use Rattle.machine_devices.specs.declared.places.Kind.TheVariants as kinds
+use Rattle.machine_devices.specs.declared.places.AttachedDevice.TheVariants as kinds
 use Rattle.machine_devices.specs.Equipped.{Equipped, equipped}
 use Rattle.machine_devices.specs.Lent.{DevicesParts, devices_on}
 use Rattle.machine_devices.specs.Lines.{KindLoads}

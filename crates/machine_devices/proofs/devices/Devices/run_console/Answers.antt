@@ -5,7 +5,7 @@ use Rattle.machine_devices.specs.Devices.{DevicesValue}
 use Rattle.cp_spool.specs.Queues.{files_of}
 use Rattle.machine_devices.specs.Lent.{DevicesParts, devices_on, devices_with}
 use Rattle.machine_channels.specs.Channels.{Brings, NoRoom, WhereOut}
-use Rattle.machine_devices.specs.declared.places.Kind.TheVariants as kinds
+use Rattle.machine_devices.specs.declared.places.AttachedDevice.TheVariants as kinds
 use Rattle.machine_devices.specs.Equipped.{Equipped, equipped}
 use Rattle.machine_devices.specs.Serve.{KindNeeds, RunsConsole}
 use Rattle.machine_devices.specs.Stopped.{KindHadRoom, StopsConsole}

@@ -4,8 +4,8 @@ use Rattle.s370_store.specs.Memory.{Memory}
 use Rattle.s370_subchannels.specs.Programs.{program_ended}
 use Rattle.machine_panel.specs.Machine.{Parts}
 use Rattle.machine_channels.specs.Disks.{DiskAt}
-use Rattle.machine_devices.specs.declared.places.Kind.{Kind}
-use Rattle.machine_devices.specs.declared.places.Kind.TheVariants as kinds
+use Rattle.machine_devices.specs.declared.places.AttachedDevice.{AttachedDevice}
+use Rattle.machine_devices.specs.declared.places.AttachedDevice.TheVariants as kinds
 use Rattle.machine_devices.specs.Equipped.{Equipped, equipped}
 use Rattle.machine_devices.specs.Lent.{DevicesParts, devices_on}
 use Rattle.machine_devices.specs.Serve.{RunsKind}
@@ -20,10 +20,10 @@ returns-in-Err-clause-stopped g c partly =
     let from : DevicesParts → Equipped =
     λ d. equipped c.args.machine.now (devices_on d c.args.queues.now) (g.C.Disks.disks c.args.channels.now)
     (g.S.Storage.memory c.args.storage.now) in
-    let Stops : Kind → DevicesParts
+    let Stops : AttachedDevice → DevicesParts
     → Type 0 = λ kind d. StopsKind g.C.Channels.reads (g.S.Storage.present c.args.storage.now) kind c.args.start
     (from d) c.in-Err.error in
-    subst (λ (kind : Kind). Stops kind c.args.self.now) (sym c.in-Punch.is)
+    subst (λ (kind : AttachedDevice). Stops kind c.args.self.now) (sym c.in-Punch.is)
     (subst (Stops kinds.Punch) c.self.view_is (c.in-Err.ensures.stopped partly))
 
 pub returns-in-Err-run-clause-stopped : goal.returns-in-Err-run-clause-stopped
@@ -31,10 +31,10 @@ returns-in-Err-run-clause-stopped g c partly =
     let from : DevicesParts → Equipped =
     λ d. equipped c.args.machine.now (devices_on d c.args.queues.now) (g.C.Disks.disks c.args.channels.now)
     (g.S.Storage.memory c.args.storage.now) in
-    let Stops : Kind → DevicesParts
+    let Stops : AttachedDevice → DevicesParts
     → Type 0 = λ kind d. StopsKind g.C.Channels.reads (g.S.Storage.present c.args.storage.now) kind c.args.start
     (from d) c.in-Err-run.error in
-    subst (λ (kind : Kind). Stops kind c.args.self.now) (sym c.in-Printer.is)
+    subst (λ (kind : AttachedDevice). Stops kind c.args.self.now) (sym c.in-Printer.is)
     (subst (Stops kinds.Printer) c.self-in-Printer.view_is (c.in-Err-run.ensures.stopped partly))
 
 pub returns-clause-runs : goal.returns-clause-runs

@@ -4,7 +4,7 @@ use Rattle.s370_channel.specs.declared.running.ChannelError.TheVariants as error
 use Rattle.s370_channel.specs.declared.running.ChannelError.{ChannelError}
 use Rattle.cp_spool.specs.Queues.{files_of}
 use Rattle.machine_channels.specs.Channels.{NoRoom, WhereOut}
-use Rattle.machine_devices.specs.declared.places.Kind.TheVariants as kinds
+use Rattle.machine_devices.specs.declared.places.AttachedDevice.TheVariants as kinds
 use Rattle.machine_devices.specs.Equipped.{Equipped, equipped}
 use Rattle.machine_devices.specs.Lent.{DevicesParts, devices_on}
 use Rattle.machine_devices.specs.Serve.{KindNeeds}

@@ -2,11 +2,11 @@
 ghost use Rattle.std.specs.Prelude.{◌≡◌, ◌<◌, false, true, IfOk};
 ghost use Rattle.std.specs.List.{list_any, position};
 ghost use Rattle.cp_directory.specs.Extents.{is_volser};
-ghost use Rattle.cp_seating.specs.Seating.{AreLawful, IsLawful, extent_in, has_volser};
-ghost use Rattle.cp_seating.specs.Seating.{lacks_volume, seat_of, seats_of};
+ghost use Rattle.cp_placement.specs.Seating.{AreLawful, IsLawful, extent_in, has_volser};
+ghost use Rattle.cp_placement.specs.Seating.{lacks_volume, seat_of, seats_of};
 
 use ckd_volume::Volume;
-use cp_directory::{DiskExtent, Minidisk, Volser};
+use cp_directory::{DiskExtent, MinidiskStatement, Volser};
 use cp_minidisk::Extent;
 use cp_volumes::SharedDisk;
 use std::alloc::{AllocError, Global};
@@ -20,7 +20,7 @@ use std::alloc::{AllocError, Global};
 pub fn seats_of(
     alloc: Global,
     volumes: &[Volume],
-    minidisks: &[Minidisk],
+    minidisks: &[MinidiskStatement],
 ) -> Result<Vec<SharedDisk>, AllocError>
     requires there { list_any (lacks_volume volumes.now) minidisks.now ≡ false }
     ensures seats { IfOk result (λ seats. seats.items ≡ seats_of volumes.now minidisks.now) }
@@ -35,7 +35,7 @@ pub fn seats_of(
 
 /// Returns a minidisk on its volume, as no program has used it.
 #[tactic(auto, using(crate::proofs::Found::unplaced, crate::proofs::Found::placed))]
-fn seat_of(volumes: &[Volume], minidisk: &Minidisk) -> SharedDisk
+fn seat_of(volumes: &[Volume], minidisk: &MinidiskStatement) -> SharedDisk
     requires { lacks_volume volumes.now minidisk.now ≡ false }
     ensures seat { result ≡ seat_of volumes.now minidisk.now }
     ensures lawful { IsLawful minidisk.now }

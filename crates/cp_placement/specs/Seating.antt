@@ -9,7 +9,7 @@ use Rattle.ckd_volume.specs.Volume.{VolumeFormat}
 use Rattle.machine_channels.specs.Disks.{DiskAt}
 use Rattle.cp_directory.specs.Extents.{Extent, is_read_only, is_volser, padded}
 use Rattle.cp_directory.specs.Users.{DirectoryUser}
-use Rattle.cp_directory.specs.declared.minidisk.Minidisk.{Minidisk}
+use Rattle.cp_directory.specs.declared.minidisk.MinidiskStatement.{MinidiskStatement}
 use Rattle.cp_minidisk.specs.Extent.{ExtentValue}
 use Rattle.cp_minidisk.specs.Minidisk.{minidisk_new, users_disk}
 use Rattle.cp_volumes.specs.Shared.{SharedMinidisk}
@@ -36,11 +36,11 @@ ends_past e (Some v) = not (nat_le (e.start + e.count) (length v.cylinders))
 -- ---- why a system is not booted
 
 -- there is no volume of its serial number
-abbrev pub lacks_volume : List VolumeFormat → Minidisk → Bool
+abbrev pub lacks_volume : List VolumeFormat → MinidiskStatement → Bool
 lacks_volume volumes m = not (is_some (volume_named volumes m.extent.volser))
 
 -- it ends past the last cylinder of its volume
-abbrev pub is_past : List VolumeFormat → Minidisk → Bool
+abbrev pub is_past : List VolumeFormat → MinidiskStatement → Bool
 is_past volumes m = ends_past m.extent (volume_named volumes m.extent.volser)
 
 -- whether the volume of one of a user's minidisks is missing
@@ -55,13 +55,14 @@ user_is_past volumes user = list_any (is_past volumes) user.minidisks
 abbrev pub first_missing : List VolumeFormat → Option DirectoryUser → Option (List ℕ)
 first_missing volumes None = None
 first_missing volumes (Some user) =
-    option_map (λ (m : Minidisk). m.extent.volser) (find (lacks_volume volumes) user.minidisks)
+    option_map (λ (m : MinidiskStatement). m.extent.volser)
+    (find (lacks_volume volumes) user.minidisks)
 
 -- the address of the first minidisk of a user that ends past its volume
 abbrev pub first_past : List VolumeFormat → Option DirectoryUser → Option ℕ
 first_past volumes None = None
 first_past volumes (Some user) =
-    option_map (λ (m : Minidisk). m.address) (find (is_past volumes) user.minidisks)
+    option_map (λ (m : MinidiskStatement). m.address) (find (is_past volumes) user.minidisks)
 
 -- the first user of whom a minidisk does, and the address of the first
 pub record IsFirstPast (volumes : List VolumeFormat) (users : List DirectoryUser)
@@ -78,13 +79,13 @@ has_twins (v ∷ vs) = if list_any (λ (other : VolumeFormat). bytes_eq other.vo
 -- ---- the disks of users
 
 -- a disk as no program has used it, with the cylinders of the extent
-abbrev pub IsDiskOn : Option VolumeFormat → Minidisk → DiskAt → Type 0
+abbrev pub IsDiskOn : Option VolumeFormat → MinidiskStatement → DiskAt → Type 0
 IsDiskOn None m disk = ⊥
 IsDiskOn (Some v) m disk =
     disk ≡ record { address = m.address; unit = users_disk v (minidisk_new (extent_in m.extent)) }
 
 -- of each minidisk of a user, in their order
-abbrev pub AreDisks : List VolumeFormat → List Minidisk → List DiskAt → Type 0
+abbrev pub AreDisks : List VolumeFormat → List MinidiskStatement → List DiskAt → Type 0
 AreDisks volumes [] [] = Unit {0}
 AreDisks volumes [] (disk ∷ disks) = ⊥
 AreDisks volumes (m ∷ ms) [] = ⊥
@@ -98,7 +99,7 @@ abbrev pub index_of : List VolumeFormat → List ℕ → ℕ
 index_of volumes volser = position_or_len (has_volser volser) volumes
 
 -- a minidisk that no program has used, on its volume
-abbrev pub seat_of : List VolumeFormat → Minidisk → SharedMinidisk
+abbrev pub seat_of : List VolumeFormat → MinidiskStatement → SharedMinidisk
 seat_of volumes m = record {
   address = m.address;
   volume = index_of volumes m.extent.volser;
@@ -106,21 +107,21 @@ seat_of volumes m = record {
 }
 
 -- the minidisks of a user on their volumes
-abbrev pub seats_of : List VolumeFormat → List Minidisk → List SharedMinidisk
+abbrev pub seats_of : List VolumeFormat → List MinidiskStatement → List SharedMinidisk
 seats_of volumes ms = map (seat_of volumes) ms
 
 -- the minidisks of the user of this number, and none past the last
-abbrev pub minidisks_at : List DirectoryUser → ℕ → List Minidisk
+abbrev pub minidisks_at : List DirectoryUser → ℕ → List MinidiskStatement
 minidisks_at [] k = []
 minidisks_at (user ∷ users) zero = user.minidisks
 minidisks_at (user ∷ users) (suc k) = minidisks_at users k
 
 -- what is true of every minidisk of a directory: its volume's serial number has letters and digits
 -- alone, and it has a cylinder
-pub record IsLawful (m : Minidisk) : Type 0 where
+pub record IsLawful (m : MinidiskStatement) : Type 0 where
   pub named : is_volser m.extent.volser ≡ true
   pub some : 0 < m.extent.count
 
 -- each minidisk is lawful
-abbrev pub AreLawful : List Minidisk → Type 0
+abbrev pub AreLawful : List MinidiskStatement → Type 0
 AreLawful ms = All IsLawful ms

@@ -10,7 +10,7 @@
 //! ```
 //! use ckd_volume::Volume;
 //! use cp_directory::read_directory;
-//! use cp_seating::{past_end, seats_of};
+//! use cp_placement::{past_end, seats_of};
 //! use user_names::UserNo;
 //! use s370_num::DevAddr;
 //!

@@ -4,12 +4,12 @@ ghost use Rattle.std.specs.Prelude.{◌≡◌, ◌<◌, ◌≤◌, IfSome, None,
 ghost use Rattle.std.specs.List.{find, list_any, position};
 ghost use Rattle.std.specs.Option.{option_copied};
 ghost use Rattle.std.specs.Str.{bytes_eq};
-ghost use Rattle.cp_seating.specs.Seating.{IsFirstPast, first_missing, first_past, has_twins};
-ghost use Rattle.cp_seating.specs.Seating.{is_past, lacks_volume};
-ghost use Rattle.cp_seating.specs.Seating.{user_is_past, user_lacks, volume_named};
+ghost use Rattle.cp_placement.specs.Seating.{IsFirstPast, first_missing, first_past, has_twins};
+ghost use Rattle.cp_placement.specs.Seating.{is_past, lacks_volume};
+ghost use Rattle.cp_placement.specs.Seating.{user_is_past, user_lacks, volume_named};
 
 use ckd_volume::Volume;
-use cp_directory::{Minidisk, User, Volser};
+use cp_directory::{MinidiskStatement, User, Volser};
 use s370_num::DevAddr;
 use user_names::UserNo;
 
@@ -40,14 +40,14 @@ fn volume_named(volumes: &[Volume], volser: Volser) -> Option<&Volume>
 }
 
 /// Returns whether there is no volume for a minidisk.
-fn lacks_volume(volumes: &[Volume], minidisk: &Minidisk) -> bool
+fn lacks_volume(volumes: &[Volume], minidisk: &MinidiskStatement) -> bool
     ensures { result ≡ lacks_volume volumes.now minidisk.now }
 {
     volume_named(volumes, minidisk.extent.volser()).is_none()
 }
 
 /// Returns whether a minidisk ends past the last cylinder of its volume.
-fn is_past(volumes: &[Volume], minidisk: &Minidisk) -> bool
+fn is_past(volumes: &[Volume], minidisk: &MinidiskStatement) -> bool
     ensures { result ≡ is_past volumes.now minidisk.now }
 {
     match volume_named(volumes, minidisk.extent.volser()) {
@@ -85,7 +85,10 @@ fn missing_user<'a>(volumes: &[Volume], users: &'a [User]) -> Option<&'a User>
 }
 
 /// Returns the first minidisk that has no volume.
-fn missing_minidisk<'a>(volumes: &[Volume], minidisks: &'a [Minidisk]) -> Option<&'a Minidisk>
+fn missing_minidisk<'a>(
+    volumes: &[Volume],
+    minidisks: &'a [MinidiskStatement],
+) -> Option<&'a MinidiskStatement>
     ensures { option_copied result ≡ find (lacks_volume volumes.now) minidisks.now }
 {
     minidisks
@@ -126,7 +129,10 @@ fn past_user(volumes: &[Volume], users: &[User]) -> Option<usize>
 }
 
 /// Returns the first minidisk that ends past its volume.
-fn past_minidisk<'a>(volumes: &[Volume], minidisks: &'a [Minidisk]) -> Option<&'a Minidisk>
+fn past_minidisk<'a>(
+    volumes: &[Volume],
+    minidisks: &'a [MinidiskStatement],
+) -> Option<&'a MinidiskStatement>
     ensures { option_copied result ≡ find (is_past volumes.now) minidisks.now }
 {
     minidisks.iter().find(|minidisk| is_past(volumes, minidisk))

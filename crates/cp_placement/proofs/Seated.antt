@@ -17,15 +17,15 @@ use Rattle.cp_directory.specs.Users.{DirectoryUser, minidisks_of}
 use Rattle.cp_directory.specs.Users.{AreApart as AreUsersApart}
 use Rattle.cp_directory.specs.declared.extent.DiskMode.{DiskMode}
 use Rattle.cp_directory.specs.declared.extent.DiskMode.TheVariants.{ReadOnly, Writable}
-use Rattle.cp_directory.specs.declared.minidisk.Minidisk.{Minidisk}
+use Rattle.cp_directory.specs.declared.minidisk.MinidiskStatement.{MinidiskStatement}
 use Rattle.cp_directory.proofs.Conflicts.{all_three, conflict_again, conflict_turned}
 use Rattle.cp_minidisk.specs.Minidisk.{minidisk_new, users_disk}
 use Rattle.cp_volumes.specs.Shared.{AllLeaveBe, AreApart, IsSeated, IsUsers, LeavesBe, Placement, disk_on, disks_on}
 use Rattle.cp_volumes.specs.Shared.{no_volume, placement_of, placements_of, volume_at}
-use Rattle.cp_seating.specs.Seating.{AreDisks, AreLawful, IsDiskOn, IsLawful, ends_past, extent_in, has_volser}
-use Rattle.cp_seating.specs.Seating.{index_of, is_past, lacks_volume, minidisks_at, seat_of, seats_of, user_is_past}
-use Rattle.cp_seating.specs.Seating.{user_lacks, volume_named}
-use Rattle.cp_seating.proofs.Found.{found_such, unplaced}
+use Rattle.cp_placement.specs.Seating.{AreDisks, AreLawful, IsDiskOn, IsLawful, ends_past, extent_in, has_volser}
+use Rattle.cp_placement.specs.Seating.{index_of, is_past, lacks_volume, minidisks_at, seat_of, seats_of, user_is_past}
+use Rattle.cp_placement.specs.Seating.{user_lacks, volume_named}
+use Rattle.cp_placement.proofs.Found.{found_such, unplaced}
 
 -- ---- what is at a place of a list
 
@@ -99,11 +99,11 @@ module _ {A : Type 0} where
 -- ---- the minidisks of one user among those of all
 
 -- where a minidisk of a user is among all
-record IsAmong (users : List DirectoryUser) (m : Minidisk) : Type 0 where
+record IsAmong (users : List DirectoryUser) (m : MinidiskStatement) : Type 0 where
   place : ℕ
   is : slice_get (minidisks_of users) place ≡ Some m
 
-among : (users : List DirectoryUser) (k i : ℕ) (m : Minidisk) → slice_get (minidisks_at users k) i ≡ Some m
+among : (users : List DirectoryUser) (k i : ℕ) (m : MinidiskStatement) → slice_get (minidisks_at users k) i ≡ Some m
     → IsAmong users m
 among [] k i m e = cc
 among (u ∷ us) zero i m e = record { place = i; is = of_first u.minidisks (minidisks_of us) i m e }
@@ -114,13 +114,13 @@ among (u ∷ us) (suc k) i m e =
       is = of_second u.minidisks (minidisks_of us) rest.place ∙ rest.is;
     }
 
-pairs_of_one : (R : Minidisk → Minidisk → Type 0) (users : List DirectoryUser) (k : ℕ) → ArePairs R (minidisks_of users)
+pairs_of_one : (R : MinidiskStatement → MinidiskStatement → Type 0) (users : List DirectoryUser) (k : ℕ) → ArePairs R (minidisks_of users)
     → ArePairs R (minidisks_at users k)
 pairs_of_one R [] k h = h
 pairs_of_one R (u ∷ us) zero h = pairs_first R u.minidisks (minidisks_of us) h
 pairs_of_one R (u ∷ us) (suc k) h = pairs_of_one R us k (pairs_second R u.minidisks (minidisks_of us) h)
 
-pairs_of_two : (R : Minidisk → Minidisk → Type 0) (users : List DirectoryUser) (j k i l : ℕ) (m n : Minidisk)
+pairs_of_two : (R : MinidiskStatement → MinidiskStatement → Type 0) (users : List DirectoryUser) (j k i l : ℕ) (m n : MinidiskStatement)
     → ArePairs R (minidisks_of users) → j < k → slice_get (minidisks_at users j) i ≡ Some m
     → slice_get (minidisks_at users k) l ≡ Some n → R m n
 pairs_of_two R [] j k i l m n h less a b = cc
@@ -170,14 +170,14 @@ one_volser a b p q e =
 -- ---- the volume of a minidisk
 
 -- it is at its index
-record IsFound (volumes : List VolumeFormat) (m : Minidisk) : Type 0 where
+record IsFound (volumes : List VolumeFormat) (m : MinidiskStatement) : Type 0 where
   volume : VolumeFormat
   named : volume_named volumes m.extent.volser ≡ Some volume
   here : slice_get volumes (index_of volumes m.extent.volser) ≡ Some volume
   at : volume_at volumes (index_of volumes m.extent.volser) ≡ volume
   volser : volume.volser ≡ padded m.extent.volser
 
-found_where : (volumes : List VolumeFormat) (m : Minidisk) (o : Option VolumeFormat)
+found_where : (volumes : List VolumeFormat) (m : MinidiskStatement) (o : Option VolumeFormat)
     → volume_named volumes m.extent.volser ≡ o → not (is_some o) ≡ false → IsFound volumes m
 found_where volumes m None is h = cc
 found_where volumes m (Some v) is h =
@@ -192,11 +192,11 @@ found_where volumes m (Some v) is h =
           (found_such (has_volser m.extent.volser) volumes v is);
     }
 
-is_found : (volumes : List VolumeFormat) (m : Minidisk) → lacks_volume volumes m ≡ false → IsFound volumes m
+is_found : (volumes : List VolumeFormat) (m : MinidiskStatement) → lacks_volume volumes m ≡ false → IsFound volumes m
 is_found volumes m h = found_where volumes m (volume_named volumes m.extent.volser) refl h
 
 -- minidisks on one volume have one serial number
-one_name : (volumes : List VolumeFormat) (m n : Minidisk) → IsFound volumes m → IsFound volumes n → IsLawful m
+one_name : (volumes : List VolumeFormat) (m n : MinidiskStatement) → IsFound volumes m → IsFound volumes n → IsLawful m
     → IsLawful n → index_of volumes m.extent.volser ≡ index_of volumes n.extent.volser
     → m.extent.volser ≡ n.extent.volser
 one_name volumes m n f g p q same =
@@ -235,12 +235,12 @@ extents_apart e f same mode p q free =
 -- ---- where they are
 
 -- the minidisk whose are is the one of this place
-record IsPlacementOf (volumes : List VolumeFormat) (ms : List Minidisk) (i : ℕ) (s : Placement) : Type 0 where
-  minidisk : Minidisk
+record IsPlacementOf (volumes : List VolumeFormat) (ms : List MinidiskStatement) (i : ℕ) (s : Placement) : Type 0 where
+  minidisk : MinidiskStatement
   at : slice_get ms i ≡ Some minidisk
   is : placement_of (seat_of volumes minidisk) ≡ s
 
-placement_of_one : (volumes : List VolumeFormat) (ms : List Minidisk) (i : ℕ) (s : Placement)
+placement_of_one : (volumes : List VolumeFormat) (ms : List MinidiskStatement) (i : ℕ) (s : Placement)
     → slice_get (placements_of (seats_of volumes ms)) i ≡ Some s → IsPlacementOf volumes ms i s
 placement_of_one volumes [] i s e = cc
 placement_of_one volumes (m ∷ ms) zero s e =
@@ -248,7 +248,7 @@ placement_of_one volumes (m ∷ ms) zero s e =
 placement_of_one volumes (m ∷ ms) (suc i) s e = let rest =
     placement_of_one volumes ms i s e in record { minidisk = rest.minidisk; at = rest.at; is = rest.is }
 
-seated_on : (volumes : List VolumeFormat) (m : Minidisk) → IsFound volumes m → is_past volumes m ≡ false
+seated_on : (volumes : List VolumeFormat) (m : MinidiskStatement) → IsFound volumes m → is_past volumes m ≡ false
     → IsSeated volumes (placement_of (seat_of volumes m))
 seated_on volumes m f h =
     let inside : ends_past m.extent (Some f.volume) ≡ false =
@@ -256,7 +256,7 @@ seated_on volumes m f h =
     subst (λ (v : VolumeFormat). m.extent.start + m.extent.count ≤ length v.cylinders) (sym f.at)
     (grind (arith, nat_tests))
 
-be_where : (volumes : List VolumeFormat) (m n : Minidisk) → IsFound volumes m → IsFound volumes n → IsLawful m
+be_where : (volumes : List VolumeFormat) (m n : MinidiskStatement) → IsFound volumes m → IsFound volumes n → IsLawful m
     → IsLawful n → (Conflicts m.extent n.extent → ⊥)
     → LeavesBe (placement_of (seat_of volumes m)) (placement_of (seat_of volumes n))
 be_where volumes m n f g p q free same mode =
@@ -265,7 +265,7 @@ be_where volumes m n f g p q free same mode =
 -- ---- the users of a directory
 
 -- what none of the users has, none of his minidisks has
-none_on : (q : Minidisk → Bool) (u : DirectoryUser) (us : List DirectoryUser) (b : Bool) → list_any q u.minidisks ≡ b
+none_on : (q : MinidiskStatement → Bool) (u : DirectoryUser) (us : List DirectoryUser) (b : Bool) → list_any q u.minidisks ≡ b
     → ((k : ℕ) → find (λ (v : DirectoryUser). list_any q v.minidisks) us ≡ None
     → list_any q (minidisks_at us k) ≡ false) → (k : ℕ)
     → (if b then Some u else find (λ (v : DirectoryUser). list_any q v.minidisks) us) ≡ None
@@ -274,7 +274,7 @@ none_on q u us true is rest k h = cc
 none_on q u us false is rest zero h = is
 none_on q u us false is rest (suc k) h = rest k h
 
-none_of_one : (q : Minidisk → Bool) (users : List DirectoryUser) (k : ℕ)
+none_of_one : (q : MinidiskStatement → Bool) (users : List DirectoryUser) (k : ℕ)
     → find (λ (u : DirectoryUser). list_any q u.minidisks) users ≡ None → list_any q (minidisks_at users k) ≡ false
 none_of_one q [] k h = refl
 none_of_one q (u ∷ us) k h = none_on q u us (list_any q u.minidisks) refl (λ j. none_of_one q us j) k h
@@ -310,10 +310,10 @@ all_lawful [] h k = All-nil IsLawful
 all_lawful (u ∷ us) h zero = h zero (omega arith)
 all_lawful (u ∷ us) h (suc k) = all_lawful us (λ j less. h (suc j) (omega arith)) k
 
-lawful_at : (ms : List Minidisk) (i : ℕ) (m : Minidisk) → AreLawful ms → slice_get ms i ≡ Some m → IsLawful m
+lawful_at : (ms : List MinidiskStatement) (i : ℕ) (m : MinidiskStatement) → AreLawful ms → slice_get ms i ≡ Some m → IsLawful m
 lawful_at ms i m h at = subst IsLawful (at_place ms i m m at) (h i m (within ms i m at))
 
-disks_where : (volumes : List VolumeFormat) (m : Minidisk) (o : Option VolumeFormat) (f : IsFound volumes m)
+disks_where : (volumes : List VolumeFormat) (m : MinidiskStatement) (o : Option VolumeFormat) (f : IsFound volumes m)
     → o ≡ Some f.volume → IsDiskOn o m (disk_on volumes (seat_of volumes m))
 disks_where volumes m None f e = cc
 disks_where volumes m (Some v) f e =
@@ -322,7 +322,7 @@ disks_where volumes m (Some v) f e =
     at
 
 -- the disks that a user sees are those of his minidisks
-pub are_disks : (volumes : List VolumeFormat) (ms : List Minidisk) → list_any (lacks_volume volumes) ms ≡ false
+pub are_disks : (volumes : List VolumeFormat) (ms : List MinidiskStatement) → list_any (lacks_volume volumes) ms ≡ false
     → AreDisks volumes ms (disks_on volumes (seats_of volumes ms))
 are_disks volumes [] h = tt
 are_disks volumes (m ∷ ms) h =
@@ -341,17 +341,17 @@ differ i j free = by (nat_lt i j) (nat_lt j i) refl refl
 
 module _ (volumes : List VolumeFormat) (users : List DirectoryUser) (apart : AreUsersApart users)
     (lawful : (j : ℕ) → AreLawful (minidisks_at users j)) (there : find (user_lacks volumes) users ≡ None) where
-  found_in : (k i : ℕ) (m : Minidisk) → slice_get (minidisks_at users k) i ≡ Some m → IsFound volumes m
+  found_in : (k i : ℕ) (m : MinidiskStatement) → slice_get (minidisks_at users k) i ≡ Some m → IsFound volumes m
   found_in k i m at = is_found volumes m
       (fails_at (lacks_volume volumes) (minidisks_at users k) i m (none_of_one (lacks_volume volumes) users k there) at)
 
-  abbrev Free : Minidisk → Minidisk → Type 0
+  abbrev Free : MinidiskStatement → MinidiskStatement → Type 0
   Free m n = conflicts m.extent n.extent ≡ false
 
   pairs : ArePairs Free (minidisks_of users)
   pairs = are_pairs Free (minidisks_of users) apart
 
-  free_where : (k i j : ℕ) (m n : Minidisk) → slice_get (minidisks_at users k) i ≡ Some m
+  free_where : (k i j : ℕ) (m n : MinidiskStatement) → slice_get (minidisks_at users k) i ≡ Some m
       → slice_get (minidisks_at users k) j ≡ Some n → (i < j) ⊎ (j < i) → Conflicts m.extent n.extent → ⊥
   free_where k i j m n a b (inl less) h =
       unconflicted m.extent n.extent ((pairs_of_one Free users k pairs).pair i j m n less a b) h
@@ -359,7 +359,7 @@ module _ (volumes : List VolumeFormat) (users : List DirectoryUser) (apart : Are
       unconflicted n.extent m.extent ((pairs_of_one Free users k pairs).pair j i n m less b a)
       (conflict_turned m.extent n.extent h)
 
-  free_of_two : (j k i l : ℕ) (m n : Minidisk) → slice_get (minidisks_at users j) i ≡ Some m
+  free_of_two : (j k i l : ℕ) (m n : MinidiskStatement) → slice_get (minidisks_at users j) i ≡ Some m
       → slice_get (minidisks_at users k) l ≡ Some n → (j < k) ⊎ (k < j) → Conflicts m.extent n.extent → ⊥
   free_of_two j k i l m n a b (inl less) h =
       unconflicted m.extent n.extent (pairs_of_two Free users j k i l m n pairs less a b) h

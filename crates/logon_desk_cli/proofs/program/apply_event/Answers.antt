@@ -1,5 +1,5 @@
 use Rattle.logon_desk_cli.proofs.Running.{events-of}
-use Rattle.logon_desk_cli.proofs.program.happen.Goals as goal
+use Rattle.logon_desk_cli.proofs.program.apply_event.Goals as goal
 
 pub returns : goal.returns
 returns c =
