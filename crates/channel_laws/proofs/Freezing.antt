@@ -9,7 +9,11 @@ use Rattle.channel_laws.specs.Frozen.{words_frozen}
 
 module _ {D : Type 0} (form : Form) (h : Setting D) (m0 : Memory) where
   steady_next : (s : State D) → IsSteady form h m0 s → IsSteady form h m0 (next form h s)
-  steady_next s steady = record { words = λ n. steady.words (suc n); places = λ n. steady.places (suc n); seeks = λ n. steady.seeks (suc n) }
+  steady_next s steady = record {
+    words = λ n. steady.words (suc n);
+    places = λ n. steady.places (suc n);
+    seeks = λ n. steady.seeks (suc n);
+  }
 
   words_step : (s : State D) → IsSteady form h m0 s → next form h s ≡ next (words_frozen form m0) h s
   words_step (Fetching spot m d) steady = ap (λ t. fetched h spot t m d) (steady.words 0 spot m d refl)

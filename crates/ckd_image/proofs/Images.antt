@@ -9,7 +9,8 @@ use Rattle.ckd_image.specs.Parts.{ReadTracks, IsTracksFault, IsEndFault}
 use Rattle.ckd_image.specs.declared.header.Version.{Version}
 use Rattle.ckd_image.specs.declared.header.Version.TheVariants.{One, Two}
 use Rattle.ckd_image.specs.declared.faults.ImageError.{ImageError}
-use Rattle.ckd_image.specs.declared.faults.ImageError.TheVariants.{Memory, BadMagic, Truncated, BadTrack, Trailing, Device, BadTotal}
+use Rattle.ckd_image.specs.declared.faults.ImageError.TheVariants.{Memory, BadMagic, Truncated, BadTrack, Trailing}
+use Rattle.ckd_image.specs.declared.faults.ImageError.TheVariants.{Device, BadTotal}
 use Rattle.ckd_image.proofs.Volumes.{all_length, all_total}
 
 pub fault_read : (bytes : List ℕ) (f : ImageError) → IsFault bytes f → IsReadingOrMemory bytes (Err f)
@@ -23,16 +24,33 @@ fault_read bytes BadTotal h = h
 
 -- a header, and good tracks after it
 begun : (bytes : List ℕ) (version : Version) (volser : List ℕ) (n : ℕ) (tracks : List TrackFormat) (rest : List ℕ)
-    → IsHeader (take 12 bytes) version volser n → All IsGood tracks → drop 12 bytes ≡ tracks_bytes tracks ++ rest → Begins bytes version volser n tracks rest
+    → IsHeader (take 12 bytes) version volser n → All IsGood tracks → drop 12 bytes ≡ tracks_bytes tracks ++ rest
+    → Begins bytes version volser n tracks rest
 begun bytes version volser n tracks rest h good e =
-    record { header = take 12 bytes; headed = h; good = good; whole = sym (take-append-drop 12 bytes) ∙ ap (λ x. take 12 bytes ++ x) e }
+    record {
+      header = take 12 bytes;
+      headed = h;
+      good = good;
+      whole = sym (take-append-drop 12 bytes)
+          ∙ ap (λ x. take 12 bytes ++ x) e;
+    }
 
-pub tracks_fault : (bytes : List ℕ) (version : Version) (volser : List ℕ) (n : ℕ) → IsHeader (take 12 bytes) version volser n
+pub tracks_fault : (bytes : List ℕ) (version : Version) (volser : List ℕ) (n : ℕ)
+    → IsHeader (take 12 bytes) version volser n
     → (f : ImageError) → IsTracksFault n (drop 12 bytes) f → IsFault bytes f
 tracks_fault bytes version volser n h Memory t = t.fault_is
 tracks_fault bytes version volser n h BadMagic t = absurd t.fault_is
 tracks_fault bytes version volser n h Truncated t =
-    inr (inl (record { version = version; volser = volser; count = n; tracks = t.tracks; rest = t.rest; begins = begun bytes version volser n t.tracks t.rest h t.good t.whole; next = t.next; cut = t.fault_is }))
+    inr (inl (record {
+      version = version;
+      volser = volser;
+      count = n;
+      tracks = t.tracks;
+      rest = t.rest;
+      begins = begun bytes version volser n t.tracks t.rest h t.good t.whole;
+      next = t.next;
+      cut = t.fault_is;
+    }))
 tracks_fault bytes version volser n h (BadTrack c i) t =
     let full = t.fault_is.2 in
     record {
@@ -42,7 +60,8 @@ tracks_fault bytes version volser n h (BadTrack c i) t =
       tracks = t.tracks;
       track = full.track;
       rest = full.rest;
-      begins = begun bytes version volser n t.tracks (track_bytes full.track ++ full.rest) h t.good (t.whole ∙ ap (λ x. tracks_bytes t.tracks ++ x) full.whole);
+      begins = begun bytes version volser n t.tracks (track_bytes full.track ++ full.rest) h t.good (t.whole
+          ∙ ap (λ x. tracks_bytes t.tracks ++ x) full.whole);
       cylinders = omega (arith, t.next, t.fault_is.0);
       heads = t.fault_is.1;
       next = t.fault_is.0;
@@ -59,26 +78,38 @@ pub record AreRead (bytes : List ℕ) (version : Version) (v : VolumeFormat) (re
   pub count : length (all_tracks v.cylinders) ≡ 19 * length v.cylinders
   pub heads : All (λ cylinder. length cylinder ≡ 19) v.cylinders
 
-pub all_read : (bytes : List ℕ) (version : Version) (volser : List ℕ) (n : ℕ) (old new : VolumeFormat) (rest : List ℕ) → IsHeader (take 12 bytes) version volser n
-    → old.volser ≡ volser → length old.cylinders ≡ n → ReadTracks old new (19 * length old.cylinders) (drop 12 bytes) rest → AreRead bytes version new rest
+pub all_read : (bytes : List ℕ) (version : Version) (volser : List ℕ) (n : ℕ) (old new : VolumeFormat) (rest : List ℕ)
+    → IsHeader (take 12 bytes) version volser n
+    → old.volser ≡ volser → length old.cylinders ≡ n → ReadTracks old new (19 * length old.cylinders)
+    (drop 12 bytes) rest → AreRead bytes version new rest
 all_read bytes version volser n old new rest h same long r =
     let count = all_length new.cylinders r.heads in
-    let all : take (19 * length old.cylinders) (all_tracks new.cylinders) ≡ all_tracks new.cylinders = take_all (19 * length old.cylinders) (all_tracks new.cylinders) (omega (arith, count, r.cylinders)) in
+    let all : take (19 * length old.cylinders) (all_tracks new.cylinders) ≡ all_tracks new.cylinders = take_all
+    (19 * length old.cylinders) (all_tracks new.cylinders) (omega (arith, count, r.cylinders)) in
     let named : volser ≡ new.volser = sym (r.volser ∙ same) in
     let counted : n ≡ length new.cylinders = sym (r.cylinders ∙ long) in
     let header : IsHeader (take 12 bytes) version new.volser (length new.cylinders) =
-    subst (λ x. IsHeader (take 12 bytes) version x (length new.cylinders)) named (subst (λ x. IsHeader (take 12 bytes) version volser x) counted h) in
+    subst (λ x. IsHeader (take 12 bytes) version x (length new.cylinders)) named
+    (subst (λ x. IsHeader (take 12 bytes) version volser x) counted h) in
     record {
-      begins = begun bytes version new.volser (length new.cylinders) (all_tracks new.cylinders) rest header (subst (All IsGood) all r.good) (r.whole ∙ ap (λ l. tracks_bytes l ++ rest) all);
+      begins = begun bytes version new.volser (length new.cylinders) (all_tracks new.cylinders) rest header
+          (subst (All IsGood) all r.good) (r.whole ∙ ap (λ l. tracks_bytes l ++ rest) all);
       count = count;
       heads = r.heads;
     }
 
-pub image_read : (bytes : List ℕ) (version : Version) (v : VolumeFormat) (rest : List ℕ) → AreRead bytes version v rest → rest ≡ end_of version (cylinders_total v.cylinders) → IsImage bytes v
+pub image_read : (bytes : List ℕ) (version : Version) (v : VolumeFormat) (rest : List ℕ) → AreRead bytes version v rest
+    → rest ≡ end_of version (cylinders_total v.cylinders) → IsImage bytes v
 image_read bytes version v rest r e =
-    record { version = version; heads = r.heads; begins = subst (Begins bytes version v.volser (length v.cylinders) (all_tracks v.cylinders)) e r.begins }
+    record {
+      version = version;
+      heads = r.heads;
+      begins = subst
+          (Begins bytes version v.volser (length v.cylinders) (all_tracks v.cylinders)) e r.begins;
+    }
 
-pub end_fault : (bytes : List ℕ) (version : Version) (v : VolumeFormat) (rest : List ℕ) (total : ℕ) → AreRead bytes version v rest → total ≡ cylinders_total v.cylinders
+pub end_fault : (bytes : List ℕ) (version : Version) (v : VolumeFormat) (rest : List ℕ) (total : ℕ)
+    → AreRead bytes version v rest → total ≡ cylinders_total v.cylinders
     → (f : ImageError) → IsEndFault version total rest f → IsFault bytes f
 end_fault bytes version v rest total r e Trailing (behind, some, whole) =
     record {
@@ -87,12 +118,21 @@ end_fault bytes version v rest total r e Trailing (behind, some, whole) =
       count = length v.cylinders;
       tracks = all_tracks v.cylinders;
       rest = behind;
-      begins = subst (Begins bytes version v.volser (length v.cylinders) (all_tracks v.cylinders)) (whole ∙ ap (λ n. end_of version n ++ behind) (e ∙ all_total v.cylinders)) r.begins;
+      begins = subst (Begins bytes version v.volser (length v.cylinders) (all_tracks v.cylinders)) (whole
+          ∙ ap (λ n. end_of version n ++ behind) (e ∙ all_total v.cylinders)) r.begins;
       all = r.count;
       some = some;
     }
 end_fault bytes Two v rest total r e Truncated short =
-    inr (inr (record { volser = v.volser; count = length v.cylinders; tracks = all_tracks v.cylinders; rest = rest; begins = r.begins; all = r.count; cut = short }))
+    inr (inr (record {
+      volser = v.volser;
+      count = length v.cylinders;
+      tracks = all_tracks v.cylinders;
+      rest = rest;
+      begins = r.begins;
+      all = r.count;
+      cut = short;
+    }))
 end_fault bytes Two v rest total r e BadTotal (other, behind, small, differs, whole) =
     record {
       volser = v.volser;

@@ -1,7 +1,10 @@
 -- Laws of volumes whose tracks are read one after another.
-use Rattle.std.specs.Prelude.{ℕ, zero, suc, ◌+◌, ◌*◌, ◌≡◌, ◌<◌, refl, List, [], ◌∷◌, ◌++◌, length, take, get_or, set, All}
-use Rattle.std.proofs.Common.{sym, ◌∙◌, ap, subst, arith, append_assoc, append-nil, length-append, length-set, length-take-le}
-use Rattle.std.proofs.lemmas.List.{take_more_set, set-append_left, get_or_append_left, get_or-append-add, get_or-set_other}
+use Rattle.std.specs.Prelude.{ℕ, zero, suc, ◌+◌, ◌*◌, ◌≡◌, ◌<◌, refl, List, [], ◌∷◌, ◌++◌, length, take, get_or, set}
+use Rattle.std.specs.Prelude.{All}
+use Rattle.std.proofs.Common.{sym, ◌∙◌, ap, subst, arith, append_assoc, append-nil, length-append, length-set}
+use Rattle.std.proofs.Common.{length-take-le}
+use Rattle.std.proofs.lemmas.List.{take_more_set, set-append_left, get_or_append_left, get_or-append-add}
+use Rattle.std.proofs.lemmas.List.{get_or-set_other}
 use Rattle.std.proofs.lemmas.List.Elements.{All-nil, All-cons, All-head, All-tail, All-push, All-set}
 use Rattle.ckd_track.specs.Track.{TrackFormat}
 use Rattle.ckd_volume.specs.Front.{Cylinder, no_track}
@@ -16,7 +19,8 @@ HaveHeads cs = All (λ cylinder. length cylinder ≡ 19) cs
 
 pub tracks_append : (ts us : List TrackFormat) → tracks_bytes (ts ++ us) ≡ tracks_bytes ts ++ tracks_bytes us
 tracks_append [] us = refl
-tracks_append (t ∷ ts) us = ap (λ l. track_bytes t ++ l) (tracks_append ts us) ∙ sym (append_assoc (track_bytes t) (tracks_bytes ts) (tracks_bytes us))
+tracks_append (t ∷ ts) us = ap (λ l. track_bytes t ++ l) (tracks_append ts us)
+    ∙ sym (append_assoc (track_bytes t) (tracks_bytes ts) (tracks_bytes us))
 
 pub all_bytes : (cs : List Cylinder) → cylinders_bytes cs ≡ tracks_bytes (all_tracks cs)
 all_bytes [] = refl
@@ -32,15 +36,23 @@ all_total (c ∷ cs) = omega (arith, all_total cs, total_append c (all_tracks cs
 
 pub all_length : (cs : List Cylinder) → HaveHeads cs → length (all_tracks cs) ≡ 19 * length cs
 all_length [] h = refl
-all_length (c ∷ cs) h = omega (arith, length-append c (all_tracks cs), All-head (λ cylinder. length cylinder ≡ 19) c cs h, all_length cs (All-tail (λ cylinder. length cylinder ≡ 19) c cs h))
+all_length (c ∷ cs) h = omega (
+  arith,
+  length-append c (all_tracks cs),
+  All-head (λ cylinder. length cylinder ≡ 19) c cs h,
+  all_length cs
+      (All-tail (λ cylinder. length cylinder ≡ 19) c cs h),
+)
 
 -- a track of a cylinder, among all tracks
-pub track_among : (cs : List Cylinder) (c h : ℕ) → HaveHeads cs → c < length cs → h < 19 → get_or (get_or cs c []) h no_track ≡ get_or (all_tracks cs) (19 * c + h) no_track
+pub track_among : (cs : List Cylinder) (c h : ℕ) → HaveHeads cs → c < length cs → h < 19
+    → get_or (get_or cs c []) h no_track ≡ get_or (all_tracks cs) (19 * c + h) no_track
 track_among [] c h heads lt low = absurd (omega arith)
 track_among (x ∷ cs) zero h heads lt low =
     let nineteen : length x ≡ 19 = All-head (λ cylinder. length cylinder ≡ 19) x cs heads in
     let place : 19 * 0 + h ≡ h = omega arith in
-    sym (get_or_append_left x (all_tracks cs) no_track h (omega (arith, nineteen))) ∙ ap (λ i. get_or (x ++ all_tracks cs) i no_track) (sym place)
+    sym (get_or_append_left x (all_tracks cs) no_track h (omega (arith, nineteen)))
+    ∙ ap (λ i. get_or (x ++ all_tracks cs) i no_track) (sym place)
 track_among (x ∷ cs) (suc c) h heads lt low =
     let nineteen : length x ≡ 19 = All-head (λ cylinder. length cylinder ≡ 19) x cs heads in
     let place : 19 * suc c + h ≡ length x + (19 * c + h) = omega (arith, nineteen) in
@@ -51,7 +63,8 @@ track_among (x ∷ cs) (suc c) h heads lt low =
 
 set_behind : {A : Type 0} (xs ys : List A) (n : ℕ) (a : A) → set (xs ++ ys) (length xs + n) a ≡ xs ++ set ys n a
 set_behind {A} [] ys n a = let e : length {A = A} [] + n ≡ n = omega arith in ap (λ i. set ys i a) e
-set_behind {A} (x ∷ xs) ys n a = let e : length (x ∷ xs) + n ≡ suc (length xs + n) = omega arith in ap (λ i. set (x ∷ (xs ++ ys)) i a) e ∙ ap (λ l. x ∷ l) (set_behind xs ys n a)
+set_behind {A} (x ∷ xs) ys n a = let e : length (x ∷ xs) + n ≡ suc (length xs + n) = omega arith in
+    ap (λ i. set (x ∷ (xs ++ ys)) i a) e ∙ ap (λ l. x ∷ l) (set_behind xs ys n a)
 
 pub set_among : (cs : List Cylinder) (c h : ℕ) (t : TrackFormat) → HaveHeads cs → c < length cs → h < 19
     → all_tracks (set cs c (set (get_or cs c []) h t)) ≡ set (all_tracks cs) (19 * c + h) t
@@ -59,7 +72,8 @@ set_among [] c h t heads lt low = absurd (omega arith)
 set_among (x ∷ cs) zero h t heads lt low =
     let nineteen : length x ≡ 19 = All-head (λ cylinder. length cylinder ≡ 19) x cs heads in
     let place : 19 * 0 + h ≡ h = omega arith in
-    sym (set-append_left x (all_tracks cs) h t (omega (arith, nineteen))) ∙ ap (λ i. set (x ++ all_tracks cs) i t) (sym place)
+    sym (set-append_left x (all_tracks cs) h t (omega (arith, nineteen)))
+    ∙ ap (λ i. set (x ++ all_tracks cs) i t) (sym place)
 set_among (x ∷ cs) (suc c) h t heads lt low =
     let nineteen : length x ≡ 19 = All-head (λ cylinder. length cylinder ≡ 19) x cs heads in
     let place : 19 * suc c + h ≡ length x + (19 * c + h) = omega (arith, nineteen) in
@@ -68,18 +82,23 @@ set_among (x ∷ cs) (suc c) h t heads lt low =
     ∙ sym (set_behind x (all_tracks cs) (19 * c + h) t)
     ∙ ap (λ i. set (x ++ all_tracks cs) i t) (sym place)
 
-heads_among : (cs : List Cylinder) (c h : ℕ) (t : TrackFormat) → HaveHeads cs → c < length cs → HaveHeads (set cs c (set (get_or cs c []) h t))
+heads_among : (cs : List Cylinder) (c h : ℕ) (t : TrackFormat) → HaveHeads cs → c < length cs
+    → HaveHeads (set cs c (set (get_or cs c []) h t))
 heads_among cs c h t heads lt =
-    All-set (λ cylinder. length cylinder ≡ 19) cs c (set (get_or cs c []) h t) (length-set (get_or cs c []) h t ∙ heads c [] lt) heads
+    All-set (λ cylinder. length cylinder ≡ 19) cs c (set (get_or cs c []) h t) (length-set (get_or cs c []) h t
+    ∙ heads c [] lt) heads
 
 -- one track more
-pub one_more_track : (old mid new : VolumeFormat) (k c h : ℕ) (bytes rest behind : List ℕ) → ReadTracks old mid k bytes rest
-    → c < length mid.cylinders → h < 19 → k ≡ 19 * c + h → ReadTrack mid new c h rest behind → ReadTracks old new (k + 1) bytes behind
+pub one_more_track : (old mid new : VolumeFormat) (k c h : ℕ) (bytes rest behind : List ℕ)
+    → ReadTracks old mid k bytes rest
+    → c < length mid.cylinders → h < 19 → k ≡ 19 * c + h → ReadTrack mid new c h rest behind
+    → ReadTracks old new (k + 1) bytes behind
 one_more_track old mid new k c h bytes rest behind r lt low at t =
     let cs = mid.cylinders in
     let written : new.cylinders ≡ set cs c (set (get_or cs c []) h t.track) = ap (λ v. v.cylinders) t.placed in
     let among : all_tracks new.cylinders ≡ set (all_tracks cs) k t.track =
-    ap all_tracks written ∙ set_among cs c h t.track r.heads lt low ∙ ap (λ i. set (all_tracks cs) i t.track) (sym at) in
+    ap all_tracks written ∙ set_among cs c h t.track r.heads lt low
+    ∙ ap (λ i. set (all_tracks cs) i t.track) (sym at) in
     let long : k < length (all_tracks cs) = omega (arith, all_length cs r.heads) in
     let front : take (k + 1) (all_tracks new.cylinders) ≡ take k (all_tracks cs) ++ t.track ∷ [] =
     ap (λ l. take (k + 1) l) among ∙ take_more_set (all_tracks cs) k t.track long in
@@ -91,7 +110,8 @@ one_more_track old mid new k c h bytes rest behind r lt low at t =
           ∙ ap (λ l. tracks_bytes l ++ behind) (sym front);
       good = subst (All IsGood) (sym front) (All-push IsGood (take k (all_tracks cs)) t.track r.good t.good);
       blank = λ i le. ap (λ l. (get_or l i no_track).records) among
-          ∙ ap (λ x. x.records) (get_or-set_other (all_tracks cs) k i t.track no_track (omega (arith, le))) ∙ r.blank i (omega (arith, le));
+          ∙ ap (λ x. x.records) (get_or-set_other (all_tracks cs) k i t.track no_track (omega (arith, le)))
+          ∙ r.blank i (omega (arith, le));
       heads = subst HaveHeads (sym written) (heads_among cs c h t.track r.heads lt);
       cylinders = ap length written ∙ length-set cs c (set (get_or cs c []) h t.track) ∙ r.cylinders;
       volser = ap (λ v. v.volser) t.placed ∙ r.volser;
@@ -114,34 +134,40 @@ blank_append (t ∷ ts) us h k = blank_cons t (ts ++ us) (h 0) (blank_append ts 
 
 blank_tracks_are : (c h n : ℕ) → AreBlank (blank_tracks c h n)
 blank_tracks_are c h zero = blank_nil
-blank_tracks_are c h (suc n) = blank_cons (record { home = home_of c h; records = [] }) (blank_tracks c (h + 1) n) refl (blank_tracks_are c (h + 1) n)
+blank_tracks_are c h (suc n) = blank_cons (record { home = home_of c h; records = [] }) (blank_tracks c (h + 1) n) refl
+    (blank_tracks_are c (h + 1) n)
 
 blank_cylinders_are : (c n : ℕ) → AreBlank (all_tracks (blank_cylinders c n))
 blank_cylinders_are c zero = blank_nil
-blank_cylinders_are c (suc n) = blank_append (blank_tracks c 0 19) (all_tracks (blank_cylinders (c + 1) n)) (blank_tracks_are c 0 19) (blank_cylinders_are (c + 1) n)
+blank_cylinders_are c (suc n) = blank_append (blank_tracks c 0 19) (all_tracks (blank_cylinders (c + 1) n))
+    (blank_tracks_are c 0 19) (blank_cylinders_are (c + 1) n)
 
 blank_heads : (c n : ℕ) → HaveHeads (blank_cylinders c n)
 blank_heads c zero = All-nil (λ cylinder. length cylinder ≡ 19)
-blank_heads c (suc n) = All-cons (λ cylinder. length cylinder ≡ 19) (blank_tracks c 0 19) (blank_cylinders (c + 1) n) refl (blank_heads (c + 1) n)
+blank_heads c (suc n) = All-cons (λ cylinder. length cylinder ≡ 19) (blank_tracks c 0 19)
+    (blank_cylinders (c + 1) n) refl (blank_heads (c + 1) n)
 
 pub blank_count : (c n : ℕ) → length (blank_cylinders c n) ≡ n
 blank_count c zero = refl
 blank_count c (suc n) = ap suc (blank_count (c + 1) n)
 
 -- no track was read yet
-pub no_tracks : (v : VolumeFormat) (bytes : List ℕ) → v.cylinders ≡ blank_cylinders 0 (length v.cylinders) → ReadTracks v v 0 bytes bytes
+pub no_tracks : (v : VolumeFormat) (bytes : List ℕ) → v.cylinders ≡ blank_cylinders 0 (length v.cylinders)
+    → ReadTracks v v 0 bytes bytes
 no_tracks v bytes e =
     record {
       whole = refl;
       good = All-nil IsGood;
-      blank = λ i le. subst (λ cs. (get_or (all_tracks cs) i no_track).records ≡ []) (sym e) (blank_cylinders_are 0 (length v.cylinders) i);
+      blank = λ i le. subst (λ cs. (get_or (all_tracks cs) i no_track).records ≡ []) (sym e)
+          (blank_cylinders_are 0 (length v.cylinders) i);
       heads = subst HaveHeads (sym e) (blank_heads 0 (length v.cylinders));
       cylinders = refl;
       volser = refl;
     }
 
 -- the next track is wrong
-pub wrong_track : (old mid : VolumeFormat) (k : ℕ) (bytes rest : List ℕ) (fault : ImageError) → ReadTracks old mid k bytes rest
+pub wrong_track : (old mid : VolumeFormat) (k : ℕ) (bytes rest : List ℕ) (fault : ImageError)
+    → ReadTracks old mid k bytes rest
     → k < 19 * length old.cylinders → IsNextFault k rest fault → IsTracksFault (length old.cylinders) bytes fault
 wrong_track old mid k bytes rest fault r lt f =
     let among : length (take k (all_tracks mid.cylinders)) ≡ k =

@@ -1,5 +1,6 @@
 -- Laws of the ends of writes.
-use Rattle.std.specs.Prelude.{ℕ, ◌-◌, zero, suc, ◌≡◌, ◌<◌, ◌≤◌, refl, List, [], ◌∷◌, ◌++◌, length, take, replicate, slice_set, slice_index_or}
+use Rattle.std.specs.Prelude.{ℕ, ◌-◌, zero, suc, ◌≡◌, ◌<◌, ◌≤◌, refl, List, [], ◌∷◌, ◌++◌, length, take, replicate}
+use Rattle.std.specs.Prelude.{slice_set, slice_index_or}
 use Rattle.std.proofs.Common.{sym, ◌∙◌, ap, arith, append_assoc}
 use Rattle.std.proofs.lemmas.List.{length-append, length-replicate, length-take}
 use Rattle.ckd_volume.specs.End.{padded, zeros_to}
@@ -22,13 +23,20 @@ set_own (x ∷ xs) (suc i) d = ap (λ ys. x ∷ ys) (set_own xs i d)
 
 pub padded_long : (n : ℕ) (xs : List ℕ) → length (padded n xs) ≡ n
 padded_long n xs =
-    omega (arith, length-append (take n xs) (replicate (n - length (take n xs)) 0), length-replicate (n - length (take n xs)) zero, length-take n xs)
+    omega (
+      arith,
+      length-append (take n xs) (replicate (n - length (take n xs)) 0),
+      length-replicate (n - length (take n xs)) zero,
+      length-take n xs,
+    )
 
 -- one more zero
 pub zero_on : (xs : List ℕ) (n : ℕ) → length xs < n → zeros_to n (xs ++ 0 ∷ []) ≡ zeros_to n xs
 zero_on xs n lt =
     let left : n - length (xs ++ 0 ∷ []) ≡ n - length xs - 1 = omega (arith, length-append xs (0 ∷ [])) in
-    append_assoc xs (0 ∷ []) (replicate (n - length (xs ++ 0 ∷ [])) zero) ∙ ap (λ k. xs ++ (zero ∷ replicate k zero)) left ∙ ap (λ l. xs ++ l) (sym (by_one (n - length xs) (omega arith)))
+    append_assoc xs (0 ∷ []) (replicate (n - length (xs ++ 0 ∷ [])) zero)
+    ∙ ap (λ k. xs ++ (zero ∷ replicate k zero)) left ∙ ap (λ l. xs ++ l)
+    (sym (by_one (n - length xs) (omega arith)))
   where
     by_one : (k : ℕ) → 0 < k → replicate k zero ≡ zero ∷ replicate (k - 1) zero
     by_one zero lt = absurd (omega arith)

@@ -1,5 +1,6 @@
 -- Laws of bytes that move in slices.
-use Rattle.std.specs.Prelude.{ℕ, zero, suc, ◌+◌, ◌-◌, ◌≡◌, ◌<◌, ◌≤◌, refl, false, true, nat_lt, nat_le, List, [], ◌∷◌, ◌++◌, length, take, drop, slice_index}
+use Rattle.std.specs.Prelude.{ℕ, zero, suc, ◌+◌, ◌-◌, ◌≡◌, ◌<◌, ◌≤◌, refl, false, true, nat_lt, nat_le, List, [], ◌∷◌}
+use Rattle.std.specs.Prelude.{◌++◌, length, take, drop, slice_index}
 use Rattle.std.specs.List.{slice_range}
 use Rattle.std.proofs.Common.{sym, ◌∙◌, ap, arith, inl, inr, ◌⊎◌, append_assoc, append-nil, length-append}
 use Rattle.std.proofs.lemmas.List.{drop_more, get_or_append_left, length-take}
@@ -26,16 +27,19 @@ order i j = grind arith
 gave_one : (f : Front) → f.given < length f.bytes → gave f ≡ gave_slice f 1
 gave_one f lt = rw (below f.given (length f.bytes) lt) refl
 
-slice_more : (bytes : List ℕ) (i n : ℕ) → i < length bytes → slice_range bytes i (i + suc n) ≡ slice_index bytes i ∷ slice_range bytes (i + 1) (i + 1 + n)
+slice_more : (bytes : List ℕ) (i n : ℕ) → i < length bytes → slice_range bytes i
+    (i + suc n) ≡ slice_index bytes i ∷ slice_range bytes (i + 1) (i + 1 + n)
 slice_more bytes i n lt =
     let long : i + suc n - i ≡ suc n = omega arith in
     let short : n ≡ i + 1 + n - (i + 1) = omega arith in
-    ap (λ k. take k (drop i bytes)) long ∙ ap (take (suc n)) (drop_more bytes i 0 lt) ∙ ap (λ k. slice_index bytes i ∷ take k (drop (i + 1) bytes)) short
+    ap (λ k. take k (drop i bytes)) long ∙ ap (take (suc n)) (drop_more bytes i 0 lt)
+    ∙ ap (λ k. slice_index bytes i ∷ take k (drop (i + 1) bytes)) short
 
 slice_none : (bytes : List ℕ) (i : ℕ) → [] ≡ slice_range bytes i (i + 0)
 slice_none bytes i = let none : 0 ≡ i + 0 - i = omega arith in ap (λ k. take k (drop i bytes)) none
 
-pub given_slice : (d : Disk) (n : ℕ) → d.front.given + n ≤ length d.front.bytes → given disk_machine d n ≡ slice_range d.front.bytes d.front.given (d.front.given + n)
+pub given_slice : (d : Disk) (n : ℕ) → d.front.given + n ≤ length d.front.bytes
+    → given disk_machine d n ≡ slice_range d.front.bytes d.front.given (d.front.given + n)
 given_slice d zero le = slice_none d.front.bytes d.front.given
 given_slice d (suc n) le =
     let more : d.front.given < length d.front.bytes = omega arith in
@@ -44,7 +48,8 @@ given_slice d (suc n) le =
     ∙ ap (λ bs. slice_index d.front.bytes d.front.given ∷ bs) (given_slice (keeps d (gave_slice d.front 1)) n rest)
     ∙ sym (slice_more d.front.bytes d.front.given n more)
 
-pub after_giving_slice : (d : Disk) (n : ℕ) → d.front.given + n ≤ length d.front.bytes → after_giving disk_machine d n ≡ keeps d (gave_slice d.front n)
+pub after_giving_slice : (d : Disk) (n : ℕ) → d.front.given + n ≤ length d.front.bytes
+    → after_giving disk_machine d n ≡ keeps d (gave_slice d.front n)
 after_giving_slice d zero le =
     let with : ℕ → Disk = λ k. keeps d (record (d.front) { given = k }) in
     let none : d.front.given ≡ d.front.given + 0 = omega arith in
@@ -67,7 +72,8 @@ took_none : (f : Front) (b : ℕ) → longest ≤ length f.bytes → took f b �
 took_none f b le = rw (not_below (length f.bytes) longest le) refl
 
 -- one byte, and then others, as far as there is room
-room_more : (xs bs : List ℕ) (b : ℕ) → length xs < longest → (xs ++ b ∷ []) ++ take (longest - length (xs ++ b ∷ [])) bs ≡ xs ++ take (longest - length xs) (b ∷ bs)
+room_more : (xs bs : List ℕ) (b : ℕ) → length xs < longest → (xs ++ b ∷ []) ++ take
+    (longest - length (xs ++ b ∷ [])) bs ≡ xs ++ take (longest - length xs) (b ∷ bs)
 room_more xs bs b lt =
     let less : longest - length (xs ++ b ∷ []) ≡ longest - length xs - 1 = omega (arith, length-append xs (b ∷ [])) in
     let one : longest - length xs ≡ suc (longest - length xs - 1) = omega arith in
@@ -78,7 +84,8 @@ room_more xs bs b lt =
 room_none : (xs bs : List ℕ) → longest ≤ length xs → xs ++ take (longest - length xs) bs ≡ xs
 room_none xs bs le = let none : longest - length xs ≡ 0 = omega arith in ap (λ k. xs ++ take k bs) none ∙ append-nil xs
 
-pub after_taking_slice : (d : Disk) (bytes : List ℕ) → after_taking disk_machine d bytes ≡ keeps d (took_slice d.front bytes)
+pub after_taking_slice : (d : Disk) (bytes : List ℕ) → after_taking disk_machine d bytes ≡ keeps d
+    (took_slice d.front bytes)
 after_taking_slice d [] =
     let with : List ℕ → Disk = λ bs. keeps d (record (d.front) { bytes = bs }) in
     ap with (sym (take_nothing (longest - length d.front.bytes) d.front.bytes))
@@ -122,13 +129,15 @@ same_done f k (jobs.WriteRecord i) = refl
 gave_none : (f : Front) → length f.bytes ≤ f.given → gave f ≡ f
 gave_none f le = rw (not_below f.given (length f.bytes) le) refl
 
-pub done_giving : (d : Disk) (n : ℕ) → is_done d.front d.front.job ≡ false → disk_machine.done (after_giving disk_machine d n) ≡ false
+pub done_giving : (d : Disk) (n : ℕ) → is_done d.front d.front.job ≡ false
+    → disk_machine.done (after_giving disk_machine d n) ≡ false
 done_giving d zero going = going
 done_giving d (suc n) going =
     elim (order d.front.given (length d.front.bytes)) [
       | inl lt ↦ (ap (λ f. disk_machine.done (after_giving disk_machine (keeps d f) n)) (gave_one d.front lt)
           ∙ done_giving (keeps d (gave_slice d.front 1)) n (same_done d.front (d.front.given + 1) d.front.job ∙ going))
-      | inr le ↦ (ap (λ f. disk_machine.done (after_giving disk_machine (keeps d f) n)) (gave_none d.front le) ∙ done_giving d n going)
+      | inr le ↦ (ap (λ f. disk_machine.done (after_giving disk_machine (keeps d f) n)) (gave_none d.front le)
+          ∙ done_giving d n going)
     ]
 
 lacks_short : (bytes : List ℕ) → length bytes < 8 → lacks bytes ≡ 8 - length bytes
@@ -148,18 +157,23 @@ whole_told xs ys le =
 not_whole : (xs ys : List ℕ) → length ys < lacks xs → is_whole (xs ++ ys) ≡ false
 not_whole xs ys few =
     elim (order (length xs) 8) [
-      | inl lt ↦ (let short : nat_le 8 (length (xs ++ ys)) ≡ false = not_at_most 8 (length (xs ++ ys)) (omega (arith, length-append xs ys, lacks_short xs lt)) in rw short refl)
-      | inr le ↦ (let long : nat_le 8 (length (xs ++ ys)) ≡ true = at_most 8 (length (xs ++ ys)) (omega (arith, length-append xs ys)) in
+      | inl lt ↦ (let short : nat_le 8 (length (xs ++ ys)) ≡ false = not_at_most 8 (length (xs ++ ys))
+          (omega (arith, length-append xs ys, lacks_short xs lt)) in rw short refl)
+      | inr le ↦ (let long : nat_le 8 (length (xs ++ ys)) ≡ true = at_most 8 (length (xs ++ ys))
+          (omega (arith, length-append xs ys)) in
           let more : nat_le (whole_length (xs ++ ys)) (length (xs ++ ys)) ≡ false
-          = not_at_most (whole_length (xs ++ ys)) (length (xs ++ ys)) (omega (arith, length-append xs ys, lacks_long xs le, whole_told xs ys le)) in
+          = not_at_most (whole_length (xs ++ ys)) (length (xs ++ ys))
+          (omega (arith, length-append xs ys, lacks_long xs le, whole_told xs ys le)) in
           rw (long, more) refl)
     ]
 
-pub done_taking : (d : Disk) (bytes : List ℕ) → is_done d.front d.front.job ≡ false → length bytes < ready d.front d.front.job → disk_machine.done (after_taking disk_machine d bytes) ≡ false
+pub done_taking : (d : Disk) (bytes : List ℕ) → is_done d.front d.front.job ≡ false
+    → length bytes < ready d.front d.front.job → disk_machine.done (after_taking disk_machine d bytes) ≡ false
 done_taking d bytes going few =
     ap disk_machine.done (after_taking_slice d bytes) ∙ still d.front d.front.job going few
   where
-    still : (f : Front) (job : PendingCommand) → is_done f job ≡ false → length bytes < ready f job → is_done (took_slice f bytes) job ≡ false
+    still : (f : Front) (job : PendingCommand) → is_done f job ≡ false → length bytes < ready f job
+        → is_done (took_slice f bytes) job ≡ false
     still f jobs.Nothing e lt = refl
     still f (jobs.Give status) e lt = refl
     still f jobs.SetMask e lt = refl
@@ -169,4 +183,5 @@ done_taking d bytes going few =
     still f (jobs.SearchKey i) e lt = refl
     still f (jobs.WriteData i) e lt = refl
     still f (jobs.WriteBoth i) e lt = refl
-    still f (jobs.WriteRecord i) e lt = not_whole f.bytes (take (longest - length f.bytes) bytes) (omega (arith, length-take (longest - length f.bytes) bytes))
+    still f (jobs.WriteRecord i) e lt = not_whole f.bytes (take (longest - length f.bytes) bytes)
+        (omega (arith, length-take (longest - length f.bytes) bytes))

@@ -159,7 +159,8 @@ module _ (d e : Dat) (held : List PageInFrame) (size : length (lent_bytes e) ≡
           ap (λ (o : Option ℕ). at_frame o (a % 4096)) (frame_same a noted inside (there (omega (arith, inside))))
 
 -- it is as well translated for those who have the same pages in the same frames
-pub translated_for : (d e : Dat) (places : List CcwLocation) (old new : List Node) (held : List PageInFrame) (m0 : Memory)
+pub translated_for : (d e : Dat) (places : List CcwLocation) (old new : List Node) (held : List PageInFrame)
+    (m0 : Memory)
     → IsCopyOf places (program_of old) (live guest_written) m0 → AreRealNodes (real_in d) old new
     → AreNoted d held (program_of old)
     → ((a : ℕ) → Named (program_of old) a → a < length (lent_bytes d) → is_lent_page d (a / 4096) ≡ true)

@@ -63,7 +63,8 @@ pub lent_in : (r : Real) → length (lent_bytes r.dat.now) ≤ 4294967295
 lent_in r small = lent (lent_bytes r.dat.now) (lent_keys r.dat.now) r.area.now (lent_pool r.dat.now).supply.owners
     (user_of r.dat.now) small (few_frames r)
 
-module _ {D : Type 0} (h : Setting D) (places : List CcwLocation) (nodes : List Node) (start : ℕ) (m0 : Memory) (r : Real)
+module _ {D : Type 0} (h : Setting D) (places : List CcwLocation) (nodes : List Node) (start : ℕ) (m0 : Memory)
+    (r : Real)
     (d : D) (t : IsTranslatedFor r.dat.now places nodes m0) (small : length (lent_bytes r.dat.now) ≤ 4294967295)
     (whole : length (lent_bytes r.dat.now) % 4096 ≡ 0) where
   written_is : table_written nodes ≡ real_written (real_in r.dat.now) t.guests

@@ -381,7 +381,8 @@ given following rule place change reads spells word [] begins p =
 given following rule place change reads spells word (digits ∷ words) begins p =
     given_on following rule place change reads spells word digits words (rule digits) begins p refl
 
-change_on : (following : List ℕ) → (word : List ℕ) (words : List (List ℕ)) (place : DisplayItem) → place_of word ≡ Some place
+change_on : (following : List ℕ) → (word : List ℕ) (words : List (List ℕ)) (place : DisplayItem)
+    → place_of word ≡ Some place
     → Tells (codes "STORE" ∷ word ∷ words) following (change_of place words)
 change_on following word [] places.Psw p =
     record {

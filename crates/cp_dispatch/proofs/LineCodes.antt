@@ -14,8 +14,13 @@ program_code =
 pub lines_code : IsCode lines_bytes
 lines_code =
     of_parts (both (each number) (both (each program_bytes) number))
-    (both_code (each number) (both (each program_bytes) number) (each_code number number_code) (both_code (each program_bytes) number (each_code program_bytes program_code) number_code))
-    (λ (l : Lines). (l.users, (l.programs, l.most_users))) (λ p. record { users = p.0; programs = p.1.0; most_users = p.1.1 }) (λ l. refl)
+    (both_code (each number) (both (each program_bytes) number) (each_code number number_code)
+    (both_code (each program_bytes) number (each_code program_bytes program_code) number_code))
+    (λ (l : Lines). (l.users, (l.programs, l.most_users))) (λ p. record {
+      users = p.0;
+      programs = p.1.0;
+      most_users = p.1.1;
+    }) (λ l. refl)
 
 pub one_policy : IsOneBySaved
 one_policy = one_value lines_bytes lines_code

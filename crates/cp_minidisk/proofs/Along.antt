@@ -15,7 +15,10 @@ use Rattle.s370_walk.specs.declared.parts.Progress.TheVariants.{At, Ended}
 use Rattle.s370_walk.specs.declared.parts.Ccw.{Ccw}
 use Rattle.s370_store.specs.Memory.{Memory}
 use Rattle.s370_walk.specs.Hardware.{fault_of, area}
-use Rattle.s370_walk.specs.Walk.{Form, Setting, State, Fetching, Moving, Over, Verdict, Bad, Jump, Good, next, walk, Reaches, fetched, obeyed, entered, answered, judged, fails, closed, closes, state_of, moved, rest, tells_length, chains_data, order_of, no_status, given_at, given_to, taken_at, taken_from, byte_moved, stepped, skips}
+use Rattle.s370_walk.specs.Walk.{Form, Setting, State, Fetching, Moving, Over, Verdict, Bad, Jump, Good, next, walk}
+use Rattle.s370_walk.specs.Walk.{Reaches, fetched, obeyed, entered, answered, judged, fails, closed, closes, state_of}
+use Rattle.s370_walk.specs.Walk.{moved, rest, tells_length, chains_data, order_of, no_status, given_at, given_to}
+use Rattle.s370_walk.specs.Walk.{taken_at, taken_from, byte_moved, stepped, skips}
 use Rattle.cp_minidisk.specs.Kept.{device_in, Keeps}
 
 module _ {D : Type 0} (h : Setting D) (holds : D → Type 0) (keeps : Keeps h.machine holds) where
@@ -23,25 +26,32 @@ module _ {D : Type 0} (h : Setting D) (holds : D → Type 0) (keeps : Keeps h.ma
   of_state (At spot) m d i = i
   of_state (Ended e) m d i = i
 
-  of_failure : (role : Option Transfer) (at : ℕ) (m : Memory) (d : D) → holds d → holds (device_in (fails h role at m d))
+  of_failure : (role : Option Transfer) (at : ℕ) (m : Memory) (d : D) → holds d
+      → holds (device_in (fails h role at m d))
   of_failure None at m d i = i
   of_failure (Some t) at m d i = keeps.finished d i
 
   of_closing : (wrong : Bool) (p : Position) (m : Memory) (d : D) → holds d → holds (device_in (closes h wrong p m d))
-  of_closing wrong p m d i = of_state (closed h.prefix wrong (h.machine.status d) p.at p.started p.word p.count) m (h.machine.finished d) (keeps.finished d i)
+  of_closing wrong p m d i = of_state (closed h.prefix wrong (h.machine.status d) p.at p.started p.word p.count) m
+      (h.machine.finished d) (keeps.finished d i)
 
-  of_answer : (spot : NextCcw) (w : Ccw) (a : Answer) (m : Memory) (d : D) → holds d → holds (device_in (answered h.prefix spot w a m d))
+  of_answer : (spot : NextCcw) (w : Ccw) (a : Answer) (m : Memory) (d : D) → holds d
+      → holds (device_in (answered h.prefix spot w a m d))
   of_answer spot w (answers.Refused status) m d i = i
-  of_answer spot w answers.Immediate m d i = of_state (closed h.prefix false no_status spot.at (spot.started + 1) w w.count) m d i
+  of_answer spot w answers.Immediate m d i = of_state (closed h.prefix false no_status spot.at
+      (spot.started + 1) w w.count) m d i
   of_answer spot w (answers.Input n) m d i = i
   of_answer spot w (answers.Output n) m d i = i
   of_answer spot w (answers.OutputUpTo n) m d i = i
 
-  pub of_entry : (spot : NextCcw) (w : Ccw) (role : Option Transfer) (m : Memory) (d : D) → holds d → holds (device_in (entered h spot w role m d))
-  of_entry spot w None m d i = of_answer spot w (h.machine.answer d (order_of h.prefix spot w)) m (h.machine.started d (order_of h.prefix spot w)) (keeps.started d (order_of h.prefix spot w) i)
+  pub of_entry : (spot : NextCcw) (w : Ccw) (role : Option Transfer) (m : Memory) (d : D) → holds d
+      → holds (device_in (entered h spot w role m d))
+  of_entry spot w None m d i = of_answer spot w (h.machine.answer d (order_of h.prefix spot w)) m
+      (h.machine.started d (order_of h.prefix spot w)) (keeps.started d (order_of h.prefix spot w) i)
   of_entry spot w (Some t) m d i = i
 
-  of_obeying : (spot : NextCcw) (w : Ccw) (v : Verdict) (m : Memory) (d : D) → holds d → holds (device_in (obeyed h spot w v m d))
+  of_obeying : (spot : NextCcw) (w : Ccw) (v : Verdict) (m : Memory) (d : D) → holds d
+      → holds (device_in (obeyed h spot w v m d))
   of_obeying spot w Bad m d i = of_failure spot.role spot.at m d i
   of_obeying spot w Jump m d i = i
   of_obeying spot w Good m d i = of_entry spot w spot.role m d i
@@ -50,23 +60,27 @@ module _ {D : Type 0} (h : Setting D) (holds : D → Type 0) (keeps : Keeps h.ma
   of_fetch spot None m d i = of_failure spot.role spot.at m d i
   of_fetch spot (Some w) m d i = of_obeying spot w (judged h.limit spot w) m d i
 
-  of_given : (p : Position) (a : ℕ) (fault : Option Fault) (m : Memory) (d : D) → holds d → holds (device_in (given_at h p a fault m d))
+  of_given : (p : Position) (a : ℕ) (fault : Option Fault) (m : Memory) (d : D) → holds d
+      → holds (device_in (given_at h p a fault m d))
   of_given p a None m d i = keeps.gave d i
   of_given p a (Some Protection) m d i = keeps.finished d i
   of_given p a (Some Addressing) m d i = keeps.finished d i
   of_given p a (Some (Absent page)) m d i = keeps.finished d i
 
-  of_giving : (p : Position) (place : Option ℕ) (m : Memory) (d : D) → holds d → holds (device_in (given_to h p place m d))
+  of_giving : (p : Position) (place : Option ℕ) (m : Memory) (d : D) → holds d
+      → holds (device_in (given_to h p place m d))
   of_giving p None m d i = keeps.finished d i
   of_giving p (Some a) m d i = of_given p a (fault_of m h.key (area Store a 1)) m d i
 
-  of_taken : (p : Position) (a : ℕ) (load : ℕ → ℕ) (fault : Option Fault) (m : Memory) (d : D) → holds d → holds (device_in (taken_at h p a load fault m d))
+  of_taken : (p : Position) (a : ℕ) (load : ℕ → ℕ) (fault : Option Fault) (m : Memory) (d : D) → holds d
+      → holds (device_in (taken_at h p a load fault m d))
   of_taken p a load None m d i = keeps.took d (load a) i
   of_taken p a load (Some Protection) m d i = keeps.finished d i
   of_taken p a load (Some Addressing) m d i = keeps.finished d i
   of_taken p a load (Some (Absent page)) m d i = keeps.finished d i
 
-  of_taking : (p : Position) (place : Option ℕ) (load : ℕ → ℕ) (m : Memory) (d : D) → holds d → holds (device_in (taken_from h p place load m d))
+  of_taking : (p : Position) (place : Option ℕ) (load : ℕ → ℕ) (m : Memory) (d : D) → holds d
+      → holds (device_in (taken_from h p place load m d))
   of_taking p None load m d i = keeps.finished d i
   of_taking p (Some a) load m d i = of_taken p a load (fault_of m h.key (area Fetch a 1)) m d i
 
@@ -75,18 +89,25 @@ module _ {D : Type 0} (h : Setting D) (holds : D → Type 0) (keeps : Keeps h.ma
   of_skip p place m d true i = keeps.gave d i
   of_skip p place m d false i = of_giving p place m d i
 
-  of_byte : (p : Position) (place : Option ℕ) (load : ℕ → ℕ) (kind : Direction) (m : Memory) (d : D) → holds d → holds (device_in (byte_moved h p place load kind m d))
+  of_byte : (p : Position) (place : Option ℕ) (load : ℕ → ℕ) (kind : Direction) (m : Memory) (d : D) → holds d
+      → holds (device_in (byte_moved h p place load kind m d))
   of_byte p place load Gives m d i = of_skip p place m d (skips p.word) i
   of_byte p place load Takes m d i = of_taking p place load m d i
   of_byte p place load TakesUpTo m d i = of_taking p place load m d i
 
   of_chain : (p : Position) (left : ℕ) (m : Memory) (d : D) (chains : Bool) → holds d
-      → holds (device_in (if chains then Fetching (record { at = p.word.next; role = Some p.transfer; jumped = false; started = p.started }) m d
+      → holds (device_in (if chains then Fetching (record {
+        at = p.word.next;
+        role = Some p.transfer;
+        jumped = false;
+        started = p.started;
+      }) m d
       else closes h (not (left == 0) && tells_length p) p m d))
   of_chain p left m d true i = i
   of_chain p left m d false i = of_closing (not (left == 0) && tells_length p) p m d i
 
-  of_move : (p : Position) (place : Option ℕ) (load : ℕ → ℕ) (count left : ℕ) (m : Memory) (d : D) → holds d → holds (device_in (moved h p place load count left m d))
+  of_move : (p : Position) (place : Option ℕ) (load : ℕ → ℕ) (count left : ℕ) (m : Memory) (d : D) → holds d
+      → holds (device_in (moved h p place load count left m d))
   of_move p place load zero left m d i = of_chain p left m d (chains_data p.word) i
   of_move p place load (suc count) zero m d i = of_closing (tells_length p) p m d i
   of_move p place load (suc count) (suc left) m d i = of_byte p place load p.transfer.kind m d i
@@ -101,4 +122,5 @@ module _ {D : Type 0} (h : Setting D) (holds : D → Type 0) (keeps : Keeps h.ma
   walk_keeps form (suc n) s i = walk_keeps form n (next form h s) (next_keeps form s i)
 
   pub reach_keeps : (form : Form) (s t : State D) → Reaches form h s t → holds (device_in s) → holds (device_in t)
-  reach_keeps form s t to i = let there : holds (device_in (walk form h to.steps s)) = walk_keeps form to.steps s i in rw (← to.comes) there
+  reach_keeps form s t to i = let there : holds (device_in (walk form h to.steps s)) = walk_keeps form to.steps s i in
+      rw (← to.comes) there

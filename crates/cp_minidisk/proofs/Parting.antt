@@ -38,10 +38,12 @@ pub walks_as_its_disk : (form : Form) (h : Setting Part) (s t : State Part) → 
     → Reaches form h s t → Reaches form (on_device h disk_machine) (seen (λ p. p.disk) s) (seen (λ p. p.disk) t)
 walks_as_its_disk form h s t e to = reaches_seen (λ p. p.disk) h disk_machine (follows_for h.machine e) form s t to
 
-pub keeps_for : (holds : Part → Type 0) (machine : Machine Part) → machine ≡ part_machine → Keeps part_machine holds → Keeps machine holds
+pub keeps_for : (holds : Part → Type 0) (machine : Machine Part) → machine ≡ part_machine → Keeps part_machine holds
+    → Keeps machine holds
 keeps_for holds machine e keeps = rw e keeps
 
-along : (holds : Part → Type 0) → Keeps part_machine holds → (form : Form) (h : Setting Part) (s t : State Part) → h.machine ≡ part_machine
+along : (holds : Part → Type 0) → Keeps part_machine holds → (form : Form) (h : Setting Part) (s t : State Part)
+    → h.machine ≡ part_machine
     → Reaches form h s t → holds (device_in s) → holds (device_in t)
 along holds keeps form h s t e to = reach_keeps h holds (keeps_for holds h.machine e keeps) form s t to
 
@@ -63,7 +65,12 @@ finished_volser d = by_job (is_seeking d.front.job)
 pub neighbours_kept : (q : Part) → Keeps part_machine (HasSameOtherDisks q)
 neighbours_kept q =
     record {
-      started = λ p order i. record { volser = started_volser p.disk (is_ipl order) ∙ i.volser; below = i.below; above = i.above };
+      started = λ p order i. record {
+        volser = started_volser p.disk (is_ipl order)
+            ∙ i.volser;
+        below = i.below;
+        above = i.above;
+      };
       gave = λ p i. record { volser = i.volser; below = i.below; above = i.above };
       took = λ p byte i. record { volser = i.volser; below = i.below; above = i.above };
       finished = λ p i. record { volser = finished_volser p.disk ∙ i.volser; below = i.below; above = i.above };
@@ -72,7 +79,8 @@ neighbours_kept q =
 pub leaves_its_neighbours : (form : Form) (h : Setting Part) (s t : State Part) → h.machine ≡ part_machine
     → Reaches form h s t → HasSameOtherDisks (device_in s) (device_in t)
 leaves_its_neighbours form h s t e to =
-    along (HasSameOtherDisks (device_in s)) (neighbours_kept (device_in s)) form h s t e to (record { volser = refl; below = refl; above = refl })
+    along (HasSameOtherDisks (device_in s)) (neighbours_kept (device_in s)) form h s t e to
+    (record { volser = refl; below = refl; above = refl })
 
 -- of what an extent is made of
 pub record HasExtentOf (x : ExtentValue) (p : Part) : Type 0 where
@@ -83,10 +91,24 @@ pub record HasExtentOf (x : ExtentValue) (p : Part) : Type 0 where
 pub extent_kept : (x : ExtentValue) → Keeps part_machine (HasExtentOf x)
 extent_kept x =
     record {
-      started = λ p order i. record { start = i.start; count = started_size p.disk order ∙ i.count; mode = (disk_mode x.writable).started p.disk order i.mode };
+      started = λ p order i. record {
+        start = i.start;
+        count = started_size p.disk order
+            ∙ i.count;
+        mode = (disk_mode x.writable).started p.disk order i.mode;
+      };
       gave = λ p i. record { start = i.start; count = i.count; mode = (disk_mode x.writable).gave p.disk i.mode };
-      took = λ p byte i. record { start = i.start; count = i.count; mode = (disk_mode x.writable).took p.disk byte i.mode };
-      finished = λ p i. record { start = i.start; count = finished_size p.disk ∙ i.count; mode = (disk_mode x.writable).finished p.disk i.mode };
+      took = λ p byte i. record {
+        start = i.start;
+        count = i.count;
+        mode = (disk_mode x.writable).took p.disk byte i.mode;
+      };
+      finished = λ p i. record {
+        start = i.start;
+        count = finished_size p.disk
+            ∙ i.count;
+        mode = (disk_mode x.writable).finished p.disk i.mode;
+      };
     }
 
 pub extent_same : (x : ExtentValue) (p : Part) → HasExtentOf x p → extent_of p ≡ x
@@ -96,7 +118,8 @@ pub keeps_its_extent : (form : Form) (h : Setting Part) (s t : State Part) → h
     → Reaches form h s t → extent_of (device_in t) ≡ extent_of (device_in s)
 keeps_its_extent form h s t e to =
     let x : ExtentValue = extent_of (device_in s) in
-    extent_same x (device_in t) (along (HasExtentOf x) (extent_kept x) form h s t e to (record { start = refl; count = refl; mode = refl }))
+    extent_same x (device_in t) (along (HasExtentOf x) (extent_kept x) form h s t e to
+    (record { start = refl; count = refl; mode = refl }))
 
 pub read_only_kept : (cylinders : List Cylinder) → Keeps part_machine (λ p. IsReadOnly cylinders p.disk)
 read_only_kept cylinders =
@@ -113,5 +136,6 @@ pub never_writes : (form : Form) (h : Setting Part) (s t : State Part) → h.mac
 never_writes form h s t e i to =
     let others : HasSameOtherDisks (device_in s) (device_in t) = leaves_its_neighbours form h s t e to in
     let still : IsReadOnly (device_in s).disk.cylinders (device_in t).disk
-    = along (λ p. IsReadOnly (device_in s).disk.cylinders p.disk) (read_only_kept (device_in s).disk.cylinders) form h s t e to i in
+    = along (λ p. IsReadOnly (device_in s).disk.cylinders p.disk)
+    (read_only_kept (device_in s).disk.cylinders) form h s t e to i in
     rw (others.below, others.above, still.same) refl

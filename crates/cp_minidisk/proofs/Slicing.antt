@@ -10,13 +10,15 @@ use Rattle.cp_minidisk.specs.Extent.{ExtentValue, IsWithin}
 use Rattle.cp_minidisk.specs.Placed.{placed, IsOnDisk}
 use Rattle.cp_minidisk.specs.Minidisk.{HasExtent, slice, before, behind}
 
-pub in_parts : (v : VolumeFormat) (e : ExtentValue) → HasExtent v.cylinders e → before v e ++ ((slice v e).cylinders ++ behind v e) ≡ v.cylinders
+pub in_parts : (v : VolumeFormat) (e : ExtentValue) → HasExtent v.cylinders e
+    → before v e ++ ((slice v e).cylinders ++ behind v e) ≡ v.cylinders
 in_parts v e inside =
     ap (λ l. before v e ++ ((slice v e).cylinders ++ l)) (sym (drop-drop e.count e.start v.cylinders))
     ∙ ap (λ l. before v e ++ l) (take-append-drop e.count (drop e.start v.cylinders))
     ∙ take-append-drop e.start v.cylinders
 
-has_slice : (before behind cylinders : List Cylinder) → slice_of (before ++ (cylinders ++ behind)) (length before) (length cylinders) ≡ cylinders
+has_slice : (before behind cylinders : List Cylinder) → slice_of (before ++ (cylinders ++ behind)) (length before)
+    (length cylinders) ≡ cylinders
 has_slice before behind cylinders =
     ap (take (length cylinders)) (drop-append_seam before (cylinders ++ behind)) ∙ take-append_seam cylinders behind
 
@@ -32,7 +34,8 @@ slice_size v e inside =
 abbrev pub Fits : ExtentValue → Disk → Type 0
 Fits extent d = IsOnDisk d × (length d.cylinders ≡ extent.count)
 
-module _ (extent : ExtentValue) (below above : List Cylinder) (d : Disk) (starts : length below ≡ extent.start) (fits : Fits extent d) where
+module _ (extent : ExtentValue) (below above : List Cylinder) (d : Disk) (starts : length below ≡ extent.start)
+    (fits : Fits extent d) where
   pub part : slice_of (below ++ (d.cylinders ++ above)) extent.start extent.count ≡ d.cylinders
   part =
       ap (λ n. slice_of (below ++ (d.cylinders ++ above)) n extent.count) (sym starts)
@@ -45,7 +48,8 @@ module _ (extent : ExtentValue) (below above : List Cylinder) (d : Disk) (starts
       (omega (arith, starts), omega (arith, starts, low, fits.1))
 
   pub same_before : before (volume_of (placed below above d)) extent ≡ below
-  same_before = ap (λ n. take n (below ++ (d.cylinders ++ above))) (sym starts) ∙ take-append_seam below (d.cylinders ++ above)
+  same_before = ap (λ n. take n (below ++ (d.cylinders ++ above))) (sym starts)
+      ∙ take-append_seam below (d.cylinders ++ above)
 
   pub same_behind : behind (volume_of (placed below above d)) extent ≡ above
   same_behind =

@@ -98,7 +98,8 @@ module _ {D : Type 0} (h : Setting D) (n : ℕ) where
   of_skip p place m d true i = i
   of_skip p place m d false i = of_giving p place m d i
 
-  of_byte : (p : Position) (place : Option ℕ) (load : ℕ → ℕ) (kind : Direction) (m : Memory) (d : D) → length m.bytes ≡ n
+  of_byte : (p : Position) (place : Option ℕ) (load : ℕ → ℕ) (kind : Direction) (m : Memory) (d : D)
+      → length m.bytes ≡ n
       → size_in (byte_moved h p place load kind m d) ≡ n
   of_byte p place load Gives m d i = of_skip p place m d (skips p.word) i
   of_byte p place load Takes m d i = of_taking p place load m d i

@@ -114,13 +114,15 @@ among (u ∷ us) (suc k) i m e =
       is = of_second u.minidisks (minidisks_of us) rest.place ∙ rest.is;
     }
 
-pairs_of_one : (R : MinidiskStatement → MinidiskStatement → Type 0) (users : List DirectoryUser) (k : ℕ) → ArePairs R (minidisks_of users)
+pairs_of_one : (R : MinidiskStatement → MinidiskStatement → Type 0) (users : List DirectoryUser) (k : ℕ)
+    → ArePairs R (minidisks_of users)
     → ArePairs R (minidisks_at users k)
 pairs_of_one R [] k h = h
 pairs_of_one R (u ∷ us) zero h = pairs_first R u.minidisks (minidisks_of us) h
 pairs_of_one R (u ∷ us) (suc k) h = pairs_of_one R us k (pairs_second R u.minidisks (minidisks_of us) h)
 
-pairs_of_two : (R : MinidiskStatement → MinidiskStatement → Type 0) (users : List DirectoryUser) (j k i l : ℕ) (m n : MinidiskStatement)
+pairs_of_two : (R : MinidiskStatement → MinidiskStatement → Type 0) (users : List DirectoryUser) (j k i l : ℕ)
+    (m n : MinidiskStatement)
     → ArePairs R (minidisks_of users) → j < k → slice_get (minidisks_at users j) i ≡ Some m
     → slice_get (minidisks_at users k) l ≡ Some n → R m n
 pairs_of_two R [] j k i l m n h less a b = cc
@@ -265,7 +267,8 @@ be_where volumes m n f g p q free same mode =
 -- ---- the users of a directory
 
 -- what none of the users has, none of his minidisks has
-none_on : (q : MinidiskStatement → Bool) (u : DirectoryUser) (us : List DirectoryUser) (b : Bool) → list_any q u.minidisks ≡ b
+none_on : (q : MinidiskStatement → Bool) (u : DirectoryUser) (us : List DirectoryUser) (b : Bool)
+    → list_any q u.minidisks ≡ b
     → ((k : ℕ) → find (λ (v : DirectoryUser). list_any q v.minidisks) us ≡ None
     → list_any q (minidisks_at us k) ≡ false) → (k : ℕ)
     → (if b then Some u else find (λ (v : DirectoryUser). list_any q v.minidisks) us) ≡ None
@@ -310,7 +313,8 @@ all_lawful [] h k = All-nil IsLawful
 all_lawful (u ∷ us) h zero = h zero (omega arith)
 all_lawful (u ∷ us) h (suc k) = all_lawful us (λ j less. h (suc j) (omega arith)) k
 
-lawful_at : (ms : List MinidiskStatement) (i : ℕ) (m : MinidiskStatement) → AreLawful ms → slice_get ms i ≡ Some m → IsLawful m
+lawful_at : (ms : List MinidiskStatement) (i : ℕ) (m : MinidiskStatement) → AreLawful ms → slice_get ms i ≡ Some m
+    → IsLawful m
 lawful_at ms i m h at = subst IsLawful (at_place ms i m m at) (h i m (within ms i m at))
 
 disks_where : (volumes : List VolumeFormat) (m : MinidiskStatement) (o : Option VolumeFormat) (f : IsFound volumes m)

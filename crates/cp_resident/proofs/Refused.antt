@@ -101,14 +101,15 @@ room_of d0 d1 d2 pages needs page rest brought all refused taken =
     let R : FrameSupply → ℕ → Type 0 = λ supply u. HasNoRoom supply u page
     ⊎ (IsFilled supply u page × ((held : ℕ) → is_there supply.owners u held ≡ true → needs held)) in
     let now : R between user = elim refused.stuck [
-      | inl pinned ↦ (let each = all_pinned user pages needs (lent_pool d0).supply between rest paged all pinned in inr (
-        record {
-          absent = ap (λ (o : Option ℕ). is_some o) refused.absent;
-          owned = λ frame within. (let one = each frame within in
-              record { page = one.page; such = tt; here = one.here });
-        },
-        each_needed between.owners user needs each,
-      ))
+      | inl pinned ↦ (let each = all_pinned user pages needs (lent_pool d0).supply between rest paged all pinned in
+          inr (
+            record {
+              absent = ap (λ (o : Option ℕ). is_some o) refused.absent;
+              owned = λ frame within. (let one = each frame within in
+                  record { page = one.page; such = tt; here = one.here });
+            },
+            each_needed between.owners user needs each,
+          ))
       | inr none ↦ inl (record {
         absent = ap (λ (o : Option ℕ). is_some o) refused.absent;
         nowhere = ap (λ (o : Option ℕ). is_some o) none.1;

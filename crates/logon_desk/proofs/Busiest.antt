@@ -1,5 +1,6 @@
 -- The search for the busiest address.
-use Rattle.std.proofs.Common.{◌≡◌, ◌+◌, ◌<◌, ◌≤◌, ℕ, IfNone, IfSome, List, Option, Some, None, Bool, true, false, get_or, length, refl, sym, subst, arith, below_more}
+use Rattle.std.proofs.Common.{◌≡◌, ◌+◌, ◌<◌, ◌≤◌, ℕ, IfNone, IfSome, List, Option, Some, None, Bool, true, false}
+use Rattle.std.proofs.Common.{get_or, length, refl, sym, subst, arith, below_more}
 use Rattle.logon_desk.specs.Connection.{gone}
 use Rattle.logon_desk.specs.Strangers.{is_stranger, strangers_from}
 use Rattle.logon_desk.specs.declared.connection.Connection.{Connection}
@@ -11,29 +12,38 @@ pub record SoFar (connections : List Connection) (place : ℕ) (found : Option �
   pub count : IfSome found (λ (c : ℕ). strangers_from connections (get_or connections c gone).address ≡ most)
   pub none : IfNone found ((k : ℕ) → k < place → is_stranger (get_or connections k gone) ≡ false)
   pub zero : IfNone found (most + latest ≡ 0)
-  pub fewer : (k : ℕ) → k < place → is_stranger (get_or connections k gone) ≡ true → strangers_from connections (get_or connections k gone).address ≤ most
+  pub fewer : (k : ℕ) → k < place → is_stranger (get_or connections k gone) ≡ true
+      → strangers_from connections (get_or connections k gone).address ≤ most
 
 abbrev IsFewer : List Connection → ℕ → ℕ → Type 0
-IsFewer connections most k = is_stranger (get_or connections k gone) ≡ true → strangers_from connections (get_or connections k gone).address ≤ most
+IsFewer connections most k = is_stranger (get_or connections k gone) ≡ true
+    → strangers_from connections (get_or connections k gone).address ≤ most
 
-pub found_more : (connections : List Connection) (place : ℕ) (found : Option ℕ) (most latest count deadline : ℕ) → SoFar connections place found most latest → place < length connections → is_stranger (get_or connections place gone) ≡ true
-    → count ≡ strangers_from connections (get_or connections place gone).address → most ≤ count → SoFar connections (place + 1) (Some place) count deadline
+pub found_more : (connections : List Connection) (place : ℕ) (found : Option ℕ) (most latest count deadline : ℕ)
+    → SoFar connections place found most latest → place < length connections
+    → is_stranger (get_or connections place gone) ≡ true
+    → count ≡ strangers_from connections (get_or connections place gone).address → most ≤ count
+    → SoFar connections (place + 1) (Some place) count deadline
 found_more connections place found most latest count deadline so within is counts le = record {
   within = within;
   stranger = is;
   count = sym counts;
   none = tt;
   zero = tt;
-  fewer = below_more (IsFewer connections count) place (λ k h t. let f = so.fewer k h t in omega arith) (λ t. omega arith);
+  fewer = below_more (IsFewer connections count) place (λ k h t. let f = so.fewer k h t in omega arith)
+      (λ t. omega arith);
 }
 
-kept_none : (connections : List Connection) (place : ℕ) (found : Option ℕ) (most latest : ℕ) → IfNone found (most + latest ≡ 0) → 0 < most + latest
+kept_none : (connections : List Connection) (place : ℕ) (found : Option ℕ) (most latest : ℕ)
+    → IfNone found (most + latest ≡ 0) → 0 < most + latest
     → IfNone found ((k : ℕ) → k < place + 1 → is_stranger (get_or connections k gone) ≡ false)
 kept_none connections place None most latest zero h = absurd (omega arith)
 kept_none connections place (Some c) most latest zero h = tt
 
-pub kept_more : (connections : List Connection) (place : ℕ) (found : Option ℕ) (most latest count : ℕ) → SoFar connections place found most latest
-    → count ≡ strangers_from connections (get_or connections place gone).address → count ≤ most → 0 < most + latest → SoFar connections (place + 1) found most latest
+pub kept_more : (connections : List Connection) (place : ℕ) (found : Option ℕ) (most latest count : ℕ)
+    → SoFar connections place found most latest
+    → count ≡ strangers_from connections (get_or connections place gone).address → count ≤ most → 0 < most + latest
+    → SoFar connections (place + 1) found most latest
 kept_more connections place found most latest count so counts le h = record {
   within = so.within;
   stranger = so.stranger;
@@ -43,26 +53,34 @@ kept_more connections place found most latest count so counts le h = record {
   fewer = below_more (IsFewer connections most) place so.fewer (λ t. omega arith);
 }
 
-passed_none : (connections : List Connection) (place : ℕ) (found : Option ℕ) → is_stranger (get_or connections place gone) ≡ false
-    → IfNone found ((k : ℕ) → k < place → is_stranger (get_or connections k gone) ≡ false) → IfNone found ((k : ℕ) → k < place + 1 → is_stranger (get_or connections k gone) ≡ false)
-passed_none connections place None is none = below_more (λ k. is_stranger (get_or connections k gone) ≡ false) place none is
+passed_none : (connections : List Connection) (place : ℕ) (found : Option ℕ)
+    → is_stranger (get_or connections place gone) ≡ false
+    → IfNone found ((k : ℕ) → k < place → is_stranger (get_or connections k gone) ≡ false)
+    → IfNone found ((k : ℕ) → k < place + 1 → is_stranger (get_or connections k gone) ≡ false)
+passed_none connections place None is none = below_more (λ k. is_stranger (get_or connections k gone) ≡ false) place
+    none is
 passed_none connections place (Some c) is none = tt
 
 not_both : (b : Bool) → b ≡ false → b ≡ true → ⊥
 not_both b f t = cc
 
-pub passed_more : (connections : List Connection) (place : ℕ) (found : Option ℕ) (most latest : ℕ) → SoFar connections place found most latest → is_stranger (get_or connections place gone) ≡ false → SoFar connections (place + 1) found most latest
+pub passed_more : (connections : List Connection) (place : ℕ) (found : Option ℕ) (most latest : ℕ)
+    → SoFar connections place found most latest → is_stranger (get_or connections place gone) ≡ false
+    → SoFar connections (place + 1) found most latest
 passed_more connections place found most latest so is = record {
   within = so.within;
   stranger = so.stranger;
   count = so.count;
   none = passed_none connections place found is so.none;
   zero = so.zero;
-  fewer = below_more (IsFewer connections most) place so.fewer (λ t. absurd (not_both (is_stranger (get_or connections place gone)) is t));
+  fewer = below_more (IsFewer connections most) place so.fewer
+      (λ t. absurd (not_both (is_stranger (get_or connections place gone)) is t));
 }
 
-pub renamed : (connections : List Connection) (place : ℕ) (found other : Option ℕ) (most count latest later : ℕ) → other ≡ found → count ≡ most → later ≡ latest
+pub renamed : (connections : List Connection) (place : ℕ) (found other : Option ℕ) (most count latest later : ℕ)
+    → other ≡ found → count ≡ most → later ≡ latest
     → SoFar connections place found most latest → SoFar connections place other count later
 renamed connections place found other most count latest later f m l so =
     subst (λ (o : Option ℕ). SoFar connections place o count later) (sym f)
-    (subst (λ (n : ℕ). SoFar connections place found n later) (sym m) (subst (λ (n : ℕ). SoFar connections place found most n) (sym l) so))
+    (subst (λ (n : ℕ). SoFar connections place found n later) (sym m)
+    (subst (λ (n : ℕ). SoFar connections place found most n) (sym l) so))

@@ -69,7 +69,8 @@ leads-on whole before out after d new here rest leads does =
     ) in
     (desk-is, outputs-are)
 
-pub leads-end : (whole : Step) (before out : List DeskAction) (d : Desk) → Leads whole before d out [] → Does whole before d
+pub leads-end : (whole : Step) (before out : List DeskAction) (d : Desk) → Leads whole before d out []
+    → Does whole before d
     out
 leads-end whole before out d leads = (leads.0, sym (append-nil out) ∙ leads.1)
 
@@ -122,7 +123,8 @@ taken-end whole before out d left c now none leads =
 -- places that are served
 
 -- nothing is due at a place that the desk has not
-pub wakes-nowhere : (d : Desk) (c now : ℕ) (out : List DeskAction) → length d.connections ≤ c → IsStep d (Wakes c now) out d
+pub wakes-nowhere : (d : Desk) (c now : ℕ) (out : List DeskAction) → length d.connections ≤ c
+    → IsStep d (Wakes c now) out d
     out
 wakes-nowhere d c now out past =
     let none : connection_at d c ≡ gone = get_or_past d.connections c gone past in

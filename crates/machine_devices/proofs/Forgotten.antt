@@ -254,7 +254,8 @@ module _ (gone : List (List ℕ)) where
   runs_kind reads (kinds.Disk index) device start old new h =
       record { ending = h.ending; walk = h.walk; left = ap (having_printed gone) h.left; devices = h.devices }
 
-  serves : (reads : Reading) (kind : Option AttachedDevice) (start : Option Caw) (device : ℕ) (old : Equipped) (done : Bool)
+  serves : (reads : Reading) (kind : Option AttachedDevice) (start : Option Caw) (device : ℕ) (old : Equipped)
+      (done : Bool)
       (new : Equipped)
       → Serves reads kind start device old done new
       → Serves reads kind start device (having gone old) done (having gone new)

@@ -156,7 +156,8 @@ module _ (reads : Reading) where
       all_one a b (overs_are_one device start.key e f old.machine a.machine b.machine left right one.ending one.memory)
       d disks
 
-  kinds_are_one : (k : AttachedDevice) (device : ℕ) (start : Caw) (old a b : Equipped) → RunsKind reads k device start old a
+  kinds_are_one : (k : AttachedDevice) (device : ℕ) (start : Caw) (old a b : Equipped)
+      → RunsKind reads k device start old a
       → RunsKind reads k device start old b → a ≡ b
   kinds_are_one kinds.Console device start old a b l r = consoles_are_one device start old a b l r
   kinds_are_one kinds.Reader device start old a b l r =

@@ -7,7 +7,8 @@ length-string_of zero f = refl
 length-string_of (suc n) f = ap suc (length-string_of n f)
 
 -- a list that has f of each place from the right
-pub string_is : (xs : List ℕ) (f : ℕ → ℕ) (n : ℕ) → length xs ≡ n → ((j : ℕ) → j < n → get_or xs j 0 ≡ f (n - 1 - j)) → xs ≡ string_of n f
+pub string_is : (xs : List ℕ) (f : ℕ → ℕ) (n : ℕ) → length xs ≡ n → ((j : ℕ) → j < n → get_or xs j 0 ≡ f (n - 1 - j))
+    → xs ≡ string_of n f
 string_is [] f zero l h = refl
 string_is [] f (suc n) l h = absurd (omega arith)
 string_is (x ∷ xs) f zero l h = absurd (omega arith)

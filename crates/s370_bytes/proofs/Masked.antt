@@ -1,10 +1,12 @@
 -- Bytes that a mask chooses.
-use Rattle.std.proofs.Common.{◌≡◌, ⊎_elim, ℕ, zero, suc, ◌+◌, ◌<◌, ◌≤◌, true, List, [], ◌∷◌, length, get_or, refl, ap, arith}
+use Rattle.std.proofs.Common.{◌≡◌, ⊎_elim, ℕ, zero, suc, ◌+◌, ◌<◌, ◌≤◌, true, List, [], ◌∷◌, length, get_or, refl, ap}
+use Rattle.std.proofs.Common.{arith}
 use Rattle.std.proofs.lemmas.Bool.{cases_eq}
 use Rattle.s370_bytes.specs.Masks.{is_chosen, chosen_before, byte_inserted, inserted, chosen_count}
 
 -- a list of four bytes, each of which is the one that is inserted
-pub inserted_is : (mask : ℕ) (xs ys zs : List ℕ) → length zs ≡ 4 → ((j : ℕ) → j < 4 → get_or zs j 0 ≡ byte_inserted mask xs ys j) → zs ≡ inserted mask xs ys
+pub inserted_is : (mask : ℕ) (xs ys zs : List ℕ) → length zs ≡ 4
+    → ((j : ℕ) → j < 4 → get_or zs j 0 ≡ byte_inserted mask xs ys j) → zs ≡ inserted mask xs ys
 unfolding inserted
 inserted_is mask xs ys [] l h = absurd (omega arith)
 inserted_is mask xs ys (a ∷ []) l h = absurd (omega arith)

@@ -1,5 +1,6 @@
 -- A string loaded over pads.
-use Rattle.std.proofs.Common.{◌≡◌, ℕ, zero, suc, ◌+◌, ◌-◌, ◌<◌, ◌≤◌, List, [], ◌∷◌, ◌++◌, length, get_or, drop, take, replicate, refl, ap, sym, ◌∙◌, arith}
+use Rattle.std.proofs.Common.{◌≡◌, ℕ, zero, suc, ◌+◌, ◌-◌, ◌<◌, ◌≤◌, List, [], ◌∷◌, ◌++◌, length, get_or, drop, take}
+use Rattle.std.proofs.Common.{replicate, refl, ap, sym, ◌∙◌, arith}
 use Rattle.std.specs.List.{slice_range}
 use Rattle.std.proofs.lemmas.List.{length-take-le}
 use Rattle.s370_bytes.specs.Strings.{padded}
@@ -12,22 +13,26 @@ drop_replicate (suc n) zero pad = let e : suc n - 0 ≡ suc n = omega arith in r
 drop_replicate (suc n) (suc k) pad = let e : suc n - suc k ≡ n - k = omega arith in rw e (drop_replicate n k pad)
 
 -- a string loaded over pads
-pub padded_is : (xs pads : List ℕ) (pad k n : ℕ) → pads ≡ replicate n pad → length xs ≡ k → xs ++ drop k pads ≡ padded xs pad n
+pub padded_is : (xs pads : List ℕ) (pad k n : ℕ) → pads ≡ replicate n pad → length xs ≡ k
+    → xs ++ drop k pads ≡ padded xs pad n
 padded_is xs pads pad k n p l =
     rw (p, l) (ap (λ (ys : List ℕ). xs ++ ys) (drop_replicate n k pad))
 
 pub padded_none : (pad n : ℕ) → padded [] pad n ≡ replicate n pad
 padded_none pad n = let e : n - 0 ≡ n = omega arith in rw e refl
 
-pub loaded_is : (bytes xs pads made : List ℕ) (from k pad n : ℕ) → from + k ≤ length bytes → pads ≡ replicate n pad → k ≤ length pads
-    → xs ≡ slice_range bytes from (from + length (take k pads)) → made ≡ xs ++ drop k pads → made ≡ padded (slice_range bytes from (from + k)) pad n
+pub loaded_is : (bytes xs pads made : List ℕ) (from k pad n : ℕ) → from + k ≤ length bytes → pads ≡ replicate n pad
+    → k ≤ length pads
+    → xs ≡ slice_range bytes from (from + length (take k pads)) → made ≡ xs ++ drop k pads
+    → made ≡ padded (slice_range bytes from (from + k)) pad n
 loaded_is bytes xs pads made from k pad n h p l e f =
     let t : length (take k pads) ≡ k = length-take-le k pads l in
     let r : xs ≡ slice_range bytes from (from + k) = e ∙ ap (λ (i : ℕ). slice_range bytes from (from + i)) t in
     let m : length (slice_range bytes from (from + k)) ≡ k = length-range bytes from k h in
     f ∙ ap (λ (ys : List ℕ). ys ++ drop k pads) r ∙ padded_is (slice_range bytes from (from + k)) pads pad k n p m
 
-pub unloaded_is : (bytes pads made : List ℕ) (from k pad n : ℕ) → k ≤ 0 → pads ≡ replicate n pad → made ≡ pads → made ≡ padded (slice_range bytes from (from + k)) pad n
+pub unloaded_is : (bytes pads made : List ℕ) (from k pad n : ℕ) → k ≤ 0 → pads ≡ replicate n pad → made ≡ pads
+    → made ≡ padded (slice_range bytes from (from + k)) pad n
 unloaded_is bytes pads made from zero pad n h p f =
     let e : from + 0 - from ≡ 0 = omega arith in
     f ∙ p ∙ sym (rw e (padded_none pad n))
@@ -37,7 +42,8 @@ pub length-replicate : (n pad : ℕ) → length (replicate n pad) ≡ n
 length-replicate zero pad = refl
 length-replicate (suc n) pad = ap suc (length-replicate n pad)
 
-pub replicate_is : (xs : List ℕ) (pad n : ℕ) → length xs ≡ n → ((j : ℕ) → j < n → get_or xs j 0 ≡ pad) → xs ≡ replicate n pad
+pub replicate_is : (xs : List ℕ) (pad n : ℕ) → length xs ≡ n → ((j : ℕ) → j < n → get_or xs j 0 ≡ pad)
+    → xs ≡ replicate n pad
 replicate_is [] pad zero l h = refl
 replicate_is [] pad (suc n) l h = absurd (omega arith)
 replicate_is (x ∷ xs) pad zero l h = absurd (omega arith)

@@ -1,5 +1,6 @@
 -- The strings that rows store, each no longer than the range that its row tests: what laws over all rows cite.
-use Rattle.std.proofs.Common.{◌≡◌, ℕ, zero, suc, ◌+◌, ◌-◌, ◌*◌, ◌≤◌, Bool, true, false, if◌then◌else◌, slice_index, ◌∙◌, List, [], ◌∷◌, ◌++◌, length, replicate, refl, arith, length-append}
+use Rattle.std.proofs.Common.{◌≡◌, ℕ, zero, suc, ◌+◌, ◌-◌, ◌*◌, ◌≤◌, Bool, true, false, if◌then◌else◌, slice_index, ◌∙◌}
+use Rattle.std.proofs.Common.{List, [], ◌∷◌, ◌++◌, length, replicate, refl, arith, length-append}
 use Rattle.std.proofs.lemmas.Grind.{common_steps}
 use Rattle.std.specs.List.{slice_range}
 use Rattle.std.specs.Int.{w64, to_be_bytes}
@@ -28,7 +29,12 @@ translation_within bytes a t n = range_within (translated bytes a t n) a n
 pub padded_within : (bytes : List ℕ) (b j pad k : ℕ) → j ≤ k → length (padded (slice_range bytes b (b + j)) pad k) ≤ k
 padded_within bytes b j pad k h =
     let xs = slice_range bytes b (b + j) in
-    omega (arith, range_within bytes b j, length-append xs (replicate (k - length xs) pad), length-replicate (k - length xs) pad)
+    omega (
+      arith,
+      range_within bytes b j,
+      length-append xs (replicate (k - length xs) pad),
+      length-replicate (k - length xs) pad,
+    )
 
 -- MVO, PACK, UNPK
 pub string_within : (n : ℕ) (f : ℕ → ℕ) → length (string_of n f) ≤ n

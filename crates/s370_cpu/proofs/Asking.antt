@@ -4,7 +4,8 @@ use Rattle.std.specs.Prelude.{if◌then◌else◌}
 use Rattle.s370_psw.specs.declared.ProgramCode.{ProgramCode}
 use Rattle.s370_rows.specs.declared.cpu.Cpu.{Cpu}
 use Rattle.s370_rows.specs.declared.ending.Completion.{Completion}
-use Rattle.s370_rows.specs.declared.ending.Completion.TheVariants.{Done, Branch, Again, Interrupted, SupervisorCall as Called, InputOutput as Asked}
+use Rattle.s370_rows.specs.declared.ending.Completion.TheVariants.{Done, Branch, Again, Interrupted}
+use Rattle.s370_rows.specs.declared.ending.Completion.TheVariants.{SupervisorCall as Called, InputOutput as Asked}
 use Rattle.s370_rows.specs.declared.ending.IoOperation.{IoOperation}
 use Rattle.s370_rows.specs.declared.instruction.Instruction.{Instruction}
 use Rattle.s370_rows.specs.declared.place.Place.{Place}
@@ -15,15 +16,24 @@ use Rattle.s370_rows.specs.Results.{over_result}
 use Rattle.s370_rows.specs.Rows.{Row, Left, Outcome, judged, unless, outcome_of, fault_of}
 use Rattle.s370_bytes.specs.Decimal.{binary_left, over_result as over_number}
 use Rattle.s370_cpu.specs.declared.opcodes.Opcode.{Opcode}
-use Rattle.s370_cpu.specs.declared.opcodes.Opcode.TheVariants.{Invalid, Supervised, SupervisorCall, Execute, Computes, Fetches, Stores}
+use Rattle.s370_cpu.specs.declared.opcodes.Opcode.TheVariants.{Invalid, Supervised, SupervisorCall, Execute, Computes}
+use Rattle.s370_cpu.specs.declared.opcodes.Opcode.TheVariants.{Fetches, Stores}
 use Rattle.s370_cpu.specs.declared.opcodes.Branching.{Branching}
 use Rattle.s370_cpu.specs.declared.opcodes.Branching.TheVariants.{Count, Condition, Link}
 use Rattle.s370_cpu.specs.declared.opcodes.RegisterRow.{RegisterRow}
-use Rattle.s370_cpu.specs.declared.opcodes.RegisterRow.TheVariants.{SetProgramMask, Register, Multiply, Divide, LoadAddress, ShiftWord, ShiftPair, BranchRegister, BranchTo, BranchOnIndex}
+use Rattle.s370_cpu.specs.declared.opcodes.RegisterRow.TheVariants.{SetProgramMask, Register, Multiply, Divide}
+use Rattle.s370_cpu.specs.declared.opcodes.RegisterRow.TheVariants.{LoadAddress, ShiftWord, ShiftPair, BranchRegister}
+use Rattle.s370_cpu.specs.declared.opcodes.RegisterRow.TheVariants.{BranchTo, BranchOnIndex}
 use Rattle.s370_cpu.specs.declared.opcodes.FetchRow.{FetchRow}
-use Rattle.s370_cpu.specs.declared.opcodes.FetchRow.TheVariants.{Word, Halfword, MultiplyWord, MultiplyHalfword, DivideWord, ConvertToBinary, InsertCharacter, InsertCharacters, CompareCharacters, LoadMultiple, TestByte, CompareStrings, ScanString, CompareLong}
+use Rattle.s370_cpu.specs.declared.opcodes.FetchRow.TheVariants.{Word, Halfword, MultiplyWord, MultiplyHalfword}
+use Rattle.s370_cpu.specs.declared.opcodes.FetchRow.TheVariants.{DivideWord, ConvertToBinary, InsertCharacter}
+use Rattle.s370_cpu.specs.declared.opcodes.FetchRow.TheVariants.{InsertCharacters, CompareCharacters, LoadMultiple}
+use Rattle.s370_cpu.specs.declared.opcodes.FetchRow.TheVariants.{TestByte, CompareStrings, ScanString, CompareLong}
 use Rattle.s370_cpu.specs.declared.opcodes.StoreRow.{StoreRow}
-use Rattle.s370_cpu.specs.declared.opcodes.StoreRow.TheVariants.{StoreWord, StoreHalfword, StoreCharacter, StoreCharacters, StoreMultiple, ConvertToDecimal, ChangeByte, SwapWord, SwapDoubleword, CombineStrings, Translate, LayOut, MoveLong}
+use Rattle.s370_cpu.specs.declared.opcodes.StoreRow.TheVariants.{StoreWord, StoreHalfword, StoreCharacter}
+use Rattle.s370_cpu.specs.declared.opcodes.StoreRow.TheVariants.{StoreCharacters, StoreMultiple, ConvertToDecimal}
+use Rattle.s370_cpu.specs.declared.opcodes.StoreRow.TheVariants.{ChangeByte, SwapWord, SwapDoubleword, CombineStrings}
+use Rattle.s370_cpu.specs.declared.opcodes.StoreRow.TheVariants.{Translate, LayOut, MoveLong}
 use Rattle.s370_cpu.specs.Opcodes.{opcode_at}
 use Rattle.s370_cpu.specs.RegisterRows.{branched, register_row}
 use Rattle.s370_cpu.specs.FetchRows.{fetch_row}
@@ -79,12 +89,14 @@ binary_none cpu r None = tt
 binary_none cpu r (Some z) = search (either_asks)
 
 -- one line for each family of the table
-branch_none : (b : Branching) (cpu : Cpu) (place : Place) (i : Instruction) (may : Bool) (target : ℕ) → AsksNone (branched b cpu place i may target).ending
+branch_none : (b : Branching) (cpu : Cpu) (place : Place) (i : Instruction) (may : Bool) (target : ℕ)
+    → AsksNone (branched b cpu place i may target).ending
 branch_none Count cpu place i may target = search (either_asks)
 branch_none Condition cpu place i may target = search (either_asks)
 branch_none Link cpu place i may target = search (either_asks)
 
-register_none : (row : RegisterRow) (cpu : Cpu) (place : Place) (i : Instruction) → EndsNone (register_row row cpu place i)
+register_none : (row : RegisterRow) (cpu : Cpu) (place : Place) (i : Instruction)
+    → EndsNone (register_row row cpu place i)
 register_none SetProgramMask cpu place i = tt
 register_none (Register op) cpu place i = search (either_asks)
 register_none Multiply cpu place i = search (result_either)
@@ -127,7 +139,8 @@ store_none Translate m i = tt
 store_none (LayOut layout) m i = tt
 store_none MoveLong m i = search (row_either, ended_either)
 
-row_none : (op : Opcode) (m : State) (place : Place) (i : Instruction) → is_supervised op ≡ false → LeavesNone (row_named op m place i).leaves
+row_none : (op : Opcode) (m : State) (place : Place) (i : Instruction) → is_supervised op ≡ false
+    → LeavesNone (row_named op m place i).leaves
 row_none Invalid m place i h = tt
 row_none (Supervised c) m place i h = absurd (let e : true ≡ false = h in cc)
 row_none SupervisorCall m place i h = tt
@@ -149,7 +162,10 @@ outcome_none m (Err code) h = tt
 outcome_none m (Ok l) h = h
 
 -- no row that is not for the supervisor state ends with a device that is asked
-pub never_asks : (m new : State) (place : Place) (i : Instruction) (operation : IoOperation) (device : ℕ) → is_supervised (opcode_at i.opcode) ≡ false → (let o : Result Outcome ProgramCode = Ok (record { ending = Asked operation device; state = new }) in outcome_of m (judged m (row_of m place i)) ≡ o) → ⊥
+pub never_asks : (m new : State) (place : Place) (i : Instruction) (operation : IoOperation) (device : ℕ)
+    → is_supervised (opcode_at i.opcode) ≡ false → (let o : Result Outcome ProgramCode = Ok
+    (record { ending = Asked operation device; state = new }) in outcome_of m (judged m (row_of m place i)) ≡ o) → ⊥
 never_asks m new place i operation device h e =
     let r = row_of m place i in
-    subst OutcomeNone e (outcome_none m (judged m r) (unless_none r.refused (unless (fault_of m r.tests) r.leaves) (unless_none (fault_of m r.tests) r.leaves (row_none (opcode_at i.opcode) m place i h))))
+    subst OutcomeNone e (outcome_none m (judged m r) (unless_none r.refused (unless (fault_of m r.tests) r.leaves)
+    (unless_none (fault_of m r.tests) r.leaves (row_none (opcode_at i.opcode) m place i h))))

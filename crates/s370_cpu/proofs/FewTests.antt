@@ -1,6 +1,7 @@
 -- Each row of the table tests at most two ranges, each of at most 256 bytes; and one range at most where it may
 -- interrupt.
-use Rattle.std.proofs.Common.{◌≡◌, ℕ, zero, suc, ◌+◌, ◌*◌, ◌/◌, ◌%◌, ◌^◌, ◌<◌, ◌≤◌, Bool, true, false, [], ◌∷◌, length, Option, Some, None, Result, Ok, Err, refl, arith}
+use Rattle.std.proofs.Common.{◌≡◌, ℕ, zero, suc, ◌+◌, ◌*◌, ◌/◌, ◌%◌, ◌^◌, ◌<◌, ◌≤◌, Bool, true, false, [], ◌∷◌, length}
+use Rattle.std.proofs.Common.{Option, Some, None, Result, Ok, Err, refl, arith}
 use Rattle.std.specs.Prelude.{◌==◌, ◌&&◌, if◌then◌else◌, All, min}
 use Rattle.std.proofs.lemmas.List.Elements.{All-nil, All-cons}
 use Rattle.s370_psw.specs.declared.ProgramCode.{ProgramCode}
@@ -8,7 +9,8 @@ use Rattle.s370_psw.specs.declared.ProgramCode.TheVariants.{PrivilegedOperation,
 use Rattle.s370_store.specs.Access.{Test}
 use Rattle.s370_store.specs.declared.Access.{Access}
 use Rattle.s370_rows.specs.declared.ending.Completion.{Completion}
-use Rattle.s370_rows.specs.declared.ending.Completion.TheVariants.{Done, Branch, Again, Interrupted, SupervisorCall as Called, InputOutput as Asked}
+use Rattle.s370_rows.specs.declared.ending.Completion.TheVariants.{Done, Branch, Again, Interrupted}
+use Rattle.s370_rows.specs.declared.ending.Completion.TheVariants.{SupervisorCall as Called, InputOutput as Asked}
 use Rattle.s370_rows.specs.declared.instruction.Instruction.{Instruction}
 use Rattle.s370_rows.specs.declared.place.Place.{Place}
 use Rattle.s370_rows.specs.State.{State}
@@ -19,13 +21,22 @@ use Rattle.s370_bytes.specs.Long.{operand_of, destroys, longest, part_moved, par
 use Rattle.s370_bytes.specs.Masks.{is_chosen, chosen_before, chosen_count, tested_count}
 use Rattle.s370_bytes.specs.Multiple.{register_count}
 use Rattle.s370_cpu.specs.declared.opcodes.Control.{Control}
-use Rattle.s370_cpu.specs.declared.opcodes.Control.TheVariants.{SetStorageKey, InsertStorageKey, SetSystemMask, LoadPsw, StoreThenAnd, StoreThenOr, StoreControl, LoadControl, InputOutput}
+use Rattle.s370_cpu.specs.declared.opcodes.Control.TheVariants.{SetStorageKey, InsertStorageKey, SetSystemMask, LoadPsw}
+use Rattle.s370_cpu.specs.declared.opcodes.Control.TheVariants.{StoreThenAnd, StoreThenOr, StoreControl, LoadControl}
+use Rattle.s370_cpu.specs.declared.opcodes.Control.TheVariants.{InputOutput}
 use Rattle.s370_cpu.specs.declared.opcodes.FetchRow.{FetchRow}
-use Rattle.s370_cpu.specs.declared.opcodes.FetchRow.TheVariants.{Word, Halfword, MultiplyWord, MultiplyHalfword, DivideWord, ConvertToBinary, InsertCharacter, InsertCharacters, CompareCharacters, LoadMultiple, TestByte, CompareStrings, ScanString, CompareLong}
+use Rattle.s370_cpu.specs.declared.opcodes.FetchRow.TheVariants.{Word, Halfword, MultiplyWord, MultiplyHalfword}
+use Rattle.s370_cpu.specs.declared.opcodes.FetchRow.TheVariants.{DivideWord, ConvertToBinary, InsertCharacter}
+use Rattle.s370_cpu.specs.declared.opcodes.FetchRow.TheVariants.{InsertCharacters, CompareCharacters, LoadMultiple}
+use Rattle.s370_cpu.specs.declared.opcodes.FetchRow.TheVariants.{TestByte, CompareStrings, ScanString, CompareLong}
 use Rattle.s370_cpu.specs.declared.opcodes.StoreRow.{StoreRow}
-use Rattle.s370_cpu.specs.declared.opcodes.StoreRow.TheVariants.{StoreWord, StoreHalfword, StoreCharacter, StoreCharacters, StoreMultiple, ConvertToDecimal, ChangeByte, SwapWord, SwapDoubleword, CombineStrings, Translate, LayOut, MoveLong}
+use Rattle.s370_cpu.specs.declared.opcodes.StoreRow.TheVariants.{StoreWord, StoreHalfword, StoreCharacter}
+use Rattle.s370_cpu.specs.declared.opcodes.StoreRow.TheVariants.{StoreCharacters, StoreMultiple, ConvertToDecimal}
+use Rattle.s370_cpu.specs.declared.opcodes.StoreRow.TheVariants.{ChangeByte, SwapWord, SwapDoubleword, CombineStrings}
+use Rattle.s370_cpu.specs.declared.opcodes.StoreRow.TheVariants.{Translate, LayOut, MoveLong}
 use Rattle.s370_cpu.specs.declared.opcodes.Opcode.{Opcode}
-use Rattle.s370_cpu.specs.declared.opcodes.Opcode.TheVariants.{Invalid, Supervised, SupervisorCall, Execute, Computes, Fetches, Stores}
+use Rattle.s370_cpu.specs.declared.opcodes.Opcode.TheVariants.{Invalid, Supervised, SupervisorCall, Execute, Computes}
+use Rattle.s370_cpu.specs.declared.opcodes.Opcode.TheVariants.{Fetches, Stores}
 use Rattle.s370_cpu.specs.Opcodes.{opcode_at}
 use Rattle.s370_cpu.specs.Control.{control_named, named_block, storage_key_set, storage_key_inserted}
 use Rattle.s370_cpu.specs.FetchRows.{only_where, fetch_row}
@@ -61,7 +72,8 @@ either_fits false r s h k = k
 
 -- ---- a row without a test, with one, and with two
 
-none_fits : (refused : Option ProgramCode) (x : Result Left ProgramCode) → Fits (record { refused = refused; tests = []; leaves = x })
+none_fits : (refused : Option ProgramCode) (x : Result Left ProgramCode)
+    → Fits (record { refused = refused; tests = []; leaves = x })
 none_fits refused x = record { ranges = omega arith; short = All-nil (λ (t : Test). t.count ≤ 256) }
 
 one_ending : (e : Completion) → AsksNone e → 1 ≤ ranges_for e
@@ -76,10 +88,15 @@ one_range : (x : Result Left ProgramCode) → LeavesNone x → 1 ≤ most_ranges
 one_range (Err code) h = omega arith
 one_range (Ok l) h = one_ending l.ending h
 
-one_fits : (access : Access) (a n : ℕ) (x : Result Left ProgramCode) → n ≤ 256 → LeavesNone x → Fits (record { refused = None; tests = record { access = access; start = a; count = n } ∷ []; leaves = x })
+one_fits : (access : Access) (a n : ℕ) (x : Result Left ProgramCode) → n ≤ 256 → LeavesNone x
+    → Fits (record { refused = None; tests = record { access = access; start = a; count = n } ∷ []; leaves = x })
 one_fits access a n x few h =
     let P : Test → Type 0 = λ t. t.count ≤ 256 in
-    record { ranges = one_range x h; short = All-cons P (record { access = access; start = a; count = n }) [] few (All-nil P) }
+    record {
+      ranges = one_range x h;
+      short = All-cons P (record { access = access; start = a; count = n }) [] few
+          (All-nil P);
+    }
 
 abbrev IsQuiet : Completion → Type 0
 IsQuiet e = ranges_for e ≡ 2
@@ -89,13 +106,18 @@ either_quiet true x y h k = h
 either_quiet false x y h k = k
 
 two_fit : (access access' : Access) (a n b k : ℕ) (l : Left) → n ≤ 256 → k ≤ 256 → IsQuiet l.ending →
-    Fits (checked (record { access = access; start = a; count = n } ∷ record { access = access'; start = b; count = k } ∷ []) l)
+    Fits (checked (record { access = access; start = a; count = n } ∷ record {
+      access = access';
+      start = b;
+      count = k;
+    } ∷ []) l)
 two_fit access access' a n b k l few less quiet =
     let P : Test → Type 0 = λ t. t.count ≤ 256 in
     let second : Test = record { access = access'; start = b; count = k } in
     record {
       ranges = omega (arith, quiet);
-      short = All-cons P (record { access = access; start = a; count = n }) (second ∷ []) few (All-cons P second [] less (All-nil P));
+      short = All-cons P (record { access = access; start = a; count = n }) (second ∷ []) few
+          (All-cons P second [] less (All-nil P));
     }
 
 -- a row that is carried out only where something holds
@@ -136,8 +158,10 @@ control_fits SetSystemMask m i = one_fits _ _ 1 _ (omega arith) tt
 control_fits LoadPsw m i = only_fits (based_address m.cpu i.second_half % 8 == 0) _ (one_fits _ _ 8 _ (omega arith) tt)
 control_fits StoreThenAnd m i = one_fits _ _ 1 _ (omega arith) tt
 control_fits StoreThenOr m i = one_fits _ _ 1 _ (omega arith) tt
-control_fits StoreControl m i = only_fits (based_address m.cpu i.second_half % 4 == 0) _ (one_fits _ _ _ _ (registers_few (r1_of i) (r2_of i)) tt)
-control_fits LoadControl m i = only_fits (based_address m.cpu i.second_half % 4 == 0) _ (one_fits _ _ _ _ (registers_few (r1_of i) (r2_of i)) tt)
+control_fits StoreControl m i = only_fits (based_address m.cpu i.second_half % 4 == 0) _
+    (one_fits _ _ _ _ (registers_few (r1_of i) (r2_of i)) tt)
+control_fits LoadControl m i = only_fits (based_address m.cpu i.second_half % 4 == 0) _
+    (one_fits _ _ _ _ (registers_few (r1_of i) (r2_of i)) tt)
 control_fits (InputOutput operation) m i = none_fits _ _
 
 part_compared_fits : (m : State) (r1 r2 : ℕ) → Fits (part_compared m r1 r2)
@@ -157,20 +181,23 @@ fetch_fits (Word op) m i h = one_fits _ _ 4 _ (omega arith) (fetch_none (Word op
 fetch_fits (Halfword op) m i h = one_fits _ _ 2 _ (omega arith) (fetch_none (Halfword op) m i)
 fetch_fits MultiplyWord m i h = only_fits (r1_of i % 2 == 0) _ (one_fits _ _ 4 _ (omega arith) tt)
 fetch_fits MultiplyHalfword m i h = one_fits _ _ 2 _ (omega arith) tt
-fetch_fits DivideWord m i h = only_fits (r1_of i % 2 == 0) _ (one_fits _ _ 4 _ (omega arith) (over_none _ (division_none m.cpu (r1_of i) _)))
+fetch_fits DivideWord m i h = only_fits (r1_of i % 2 == 0) _
+    (one_fits _ _ 4 _ (omega arith) (over_none _ (division_none m.cpu (r1_of i) _)))
 fetch_fits ConvertToBinary m i h = one_fits _ _ 8 _ (omega arith) (fetch_none ConvertToBinary m i)
 fetch_fits InsertCharacter m i h = one_fits _ _ 1 _ (omega arith) tt
 fetch_fits InsertCharacters m i h = one_fits _ _ _ _ (characters_few (r2_of i)) tt
 fetch_fits CompareCharacters m i h = one_fits _ _ _ _ (characters_few (r2_of i)) tt
 fetch_fits LoadMultiple m i h = one_fits _ _ _ _ (registers_few (r1_of i) (r2_of i)) tt
 fetch_fits (TestByte test) m i h = one_fits _ _ 1 _ (omega arith) tt
-fetch_fits CompareStrings m i h = let n = i.second_byte + 1 in two_fit _ _ _ n _ n _ (omega (arith, h)) (omega (arith, h)) refl
+fetch_fits CompareStrings m i h = let n = i.second_byte + 1 in
+    two_fit _ _ _ n _ n _ (omega (arith, h)) (omega (arith, h)) refl
 fetch_fits ScanString m i h = two_fit _ _ _ (i.second_byte + 1) _ 256 _ (omega (arith, h)) (omega arith) refl
 fetch_fits CompareLong m i h =
     let r1 = r1_of i in
     let r2 = r2_of i in
     only_fits ((r1 % 2 == 0) && (r2 % 2 == 0)) _
-    (either_fits (((operand_of m.cpu r1).count == 0) && ((operand_of m.cpu r2).count == 0)) _ _ (none_fits _ _) (part_compared_fits m r1 r2))
+    (either_fits (((operand_of m.cpu r1).count == 0) && ((operand_of m.cpu r2).count == 0)) _ _ (none_fits _ _)
+    (part_compared_fits m r1 r2))
 
 store_fits : (row : StoreRow) (m : State) (i : Instruction) → i.second_byte < 2 ^ 8 → Fits (store_row row m i)
 store_fits StoreWord m i h = one_fits _ _ 4 _ (omega arith) tt
@@ -182,8 +209,10 @@ store_fits ConvertToDecimal m i h = one_fits _ _ 8 _ (omega arith) tt
 store_fits (ChangeByte change) m i h = one_fits _ _ 1 _ (omega arith) tt
 store_fits SwapWord m i h = only_fits (based_address m.cpu i.second_half % 4 == 0) _ (one_fits _ _ 4 _ (omega arith) tt)
 store_fits SwapDoubleword m i h =
-    only_fits ((r1_of i % 2 == 0) && ((r2_of i % 2 == 0) && (based_address m.cpu i.second_half % 8 == 0))) _ (one_fits _ _ 8 _ (omega arith) tt)
-store_fits (CombineStrings op) m i h = let n = i.second_byte + 1 in two_fit _ _ _ n _ n _ (omega (arith, h)) (omega (arith, h)) refl
+    only_fits ((r1_of i % 2 == 0) && ((r2_of i % 2 == 0) && (based_address m.cpu i.second_half % 8 == 0))) _
+    (one_fits _ _ 8 _ (omega arith) tt)
+store_fits (CombineStrings op) m i h = let n = i.second_byte + 1 in
+    two_fit _ _ _ n _ n _ (omega (arith, h)) (omega (arith, h)) refl
 store_fits Translate m i h = two_fit _ _ _ (i.second_byte + 1) _ 256 _ (omega (arith, h)) (omega arith) refl
 store_fits (LayOut layout) m i h =
     two_fit _ _ _ (i.second_byte / 16 + 1) _ (i.second_byte % 16 + 1) _ (omega (arith, h)) (omega arith) refl
@@ -193,13 +222,16 @@ store_fits MoveLong m i h =
     let o1 = operand_of m.cpu r1 in
     let o2 = operand_of m.cpu r2 in
     only_fits ((r1 % 2 == 0) && (r2 % 2 == 0)) _
-    (either_fits (o1.count == 0) _ _ (none_fits _ _) (either_fits (destroys o1 o2) _ _ (none_fits _ _) (part_moved_fits m r1 r2)))
+    (either_fits (o1.count == 0) _ _ (none_fits _ _) (either_fits (destroys o1 o2) _ _ (none_fits _ _)
+    (part_moved_fits m r1 r2)))
 
 -- ---- all rows
 
-named_fits : (op : Opcode) (m : State) (place : Place) (i : Instruction) → i.second_byte < 2 ^ 8 → Fits (row_named op m place i)
+named_fits : (op : Opcode) (m : State) (place : Place) (i : Instruction) → i.second_byte < 2 ^ 8
+    → Fits (row_named op m place i)
 named_fits Invalid m place i h = none_fits _ _
-named_fits (Supervised c) m place i h = either_fits m.cpu.psw.problem (suppressed PrivilegedOperation) (control_named c m i) (none_fits _ _) (control_fits c m i)
+named_fits (Supervised c) m place i h = either_fits m.cpu.psw.problem (suppressed PrivilegedOperation)
+    (control_named c m i) (none_fits _ _) (control_fits c m i)
 named_fits SupervisorCall m place i h = none_fits _ _
 named_fits Execute m place i h = none_fits _ _
 named_fits (Computes row) m place i h = none_fits _ _
@@ -224,4 +256,5 @@ most_few None (Ok l) = ending_few l.ending
 
 pub few_tests : FewTests
 few_tests m place i h =
-    let r = row_of m place i in let fits = row_fits m place i h in (omega (arith, fits.ranges, most_few r.refused r.leaves), fits.short)
+    let r = row_of m place i in let fits = row_fits m place i h in
+    (omega (arith, fits.ranges, most_few r.refused r.leaves), fits.short)

@@ -6,16 +6,21 @@ use Rattle.s370_psw.specs.declared.ProgramCode.{ProgramCode}
 use Rattle.s370_psw.specs.declared.ProgramCode.TheVariants.{PrivilegedOperation}
 use Rattle.s370_rows.specs.declared.cpu.Cpu.{Cpu}
 use Rattle.s370_rows.specs.declared.ending.Completion.{Completion}
-use Rattle.s370_rows.specs.declared.ending.Completion.TheVariants.{Done, Branch, Again, Interrupted, SupervisorCall as Called, InputOutput as Asked}
+use Rattle.s370_rows.specs.declared.ending.Completion.TheVariants.{Done, Branch, Again, Interrupted}
+use Rattle.s370_rows.specs.declared.ending.Completion.TheVariants.{SupervisorCall as Called, InputOutput as Asked}
 use Rattle.s370_rows.specs.declared.instruction.Instruction.{Instruction}
 use Rattle.s370_rows.specs.declared.place.Place.{Place}
 use Rattle.s370_rows.specs.State.{State}
 use Rattle.s370_rows.specs.Rows.{Row, Left, judged, unless, outcome_of, suppressed, fault_of}
-use Rattle.s370_cpu.specs.declared.conclude.Stop.TheVariants.{Done as DoneStop, Program, Svc, InputOutput as AskedStop, Privileged, Absent}
+use Rattle.s370_cpu.specs.declared.conclude.Stop.TheVariants.{Done as DoneStop, Program, Svc, InputOutput as AskedStop}
+use Rattle.s370_cpu.specs.declared.conclude.Stop.TheVariants.{Privileged, Absent}
 use Rattle.s370_cpu.specs.declared.opcodes.Opcode.{Opcode}
-use Rattle.s370_cpu.specs.declared.opcodes.Opcode.TheVariants.{Invalid, Supervised, SupervisorCall, Execute, Computes, Fetches, Stores}
+use Rattle.s370_cpu.specs.declared.opcodes.Opcode.TheVariants.{Invalid, Supervised, SupervisorCall, Execute, Computes}
+use Rattle.s370_cpu.specs.declared.opcodes.Opcode.TheVariants.{Fetches, Stores}
 use Rattle.s370_cpu.specs.declared.opcodes.Control.{Control}
-use Rattle.s370_cpu.specs.declared.opcodes.Control.TheVariants.{SetStorageKey, InsertStorageKey, SetSystemMask, LoadPsw, StoreThenAnd, StoreThenOr, StoreControl, LoadControl, InputOutput}
+use Rattle.s370_cpu.specs.declared.opcodes.Control.TheVariants.{SetStorageKey, InsertStorageKey, SetSystemMask, LoadPsw}
+use Rattle.s370_cpu.specs.declared.opcodes.Control.TheVariants.{StoreThenAnd, StoreThenOr, StoreControl, LoadControl}
+use Rattle.s370_cpu.specs.declared.opcodes.Control.TheVariants.{InputOutput}
 use Rattle.s370_cpu.specs.Opcodes.{opcode_at}
 use Rattle.s370_cpu.specs.Control.{control_named, named_block, storage_key_set, storage_key_inserted}
 use Rattle.s370_cpu.specs.Table.{is_supervised, row_named, row_of}
@@ -36,15 +41,18 @@ abbrev LeavesUndone : State → Result Left ProgramCode → Type 0
 LeavesUndone m (Err code) = Unit {0}
 LeavesUndone m (Ok l) = IsUndone m l.ending l
 
-either_undone : (m : State) (b : Bool) (r s : Row) → LeavesUndone m r.leaves → LeavesUndone m s.leaves → LeavesUndone m (if b then r else s).leaves
+either_undone : (m : State) (b : Bool) (r s : Row) → LeavesUndone m r.leaves → LeavesUndone m s.leaves
+    → LeavesUndone m (if b then r else s).leaves
 either_undone m true r s h k = h
 either_undone m false r s h k = k
 
-key_set_undone : (m : State) (i : Instruction) (block : Result ℕ ProgramCode) → LeavesUndone m (storage_key_set m i block).leaves
+key_set_undone : (m : State) (i : Instruction) (block : Result ℕ ProgramCode)
+    → LeavesUndone m (storage_key_set m i block).leaves
 key_set_undone m i (Ok block) = tt
 key_set_undone m i (Err code) = tt
 
-key_inserted_undone : (m : State) (i : Instruction) (block : Result ℕ ProgramCode) → LeavesUndone m (storage_key_inserted m i block).leaves
+key_inserted_undone : (m : State) (i : Instruction) (block : Result ℕ ProgramCode)
+    → LeavesUndone m (storage_key_inserted m i block).leaves
 key_inserted_undone m i (Ok block) = tt
 key_inserted_undone m i (Err code) = tt
 
@@ -59,9 +67,11 @@ control_undone StoreControl m i = search (either_undone)
 control_undone LoadControl m i = search (either_undone)
 control_undone (InputOutput operation) m i = refl
 
-row_undone : (op : Opcode) (m : State) (place : Place) (i : Instruction) → is_supervised op ≡ true → LeavesUndone m (row_named op m place i).leaves
+row_undone : (op : Opcode) (m : State) (place : Place) (i : Instruction) → is_supervised op ≡ true
+    → LeavesUndone m (row_named op m place i).leaves
 row_undone Invalid m place i e = cc
-row_undone (Supervised c) m place i e = either_undone m m.cpu.psw.problem (suppressed PrivilegedOperation) (control_named c m i) tt (control_undone c m i)
+row_undone (Supervised c) m place i e = either_undone m m.cpu.psw.problem (suppressed PrivilegedOperation)
+    (control_named c m i) tt (control_undone c m i)
 row_undone SupervisorCall m place i e = cc
 row_undone Execute m place i e = cc
 row_undone (Computes row) m place i e = cc
@@ -81,7 +91,8 @@ MovesOn m place r = elim r.stop [
   | Absent page ↦ Unit {0}
 ]
 
-ended_undone : (m : State) (place : Place) (ending : Completion) (l : Left) → IsUndone m ending l → MovesOn m place (concluded m place (outcome_of m (Ok (record l { ending = ending }))))
+ended_undone : (m : State) (place : Place) (ending : Completion) (l : Left) → IsUndone m ending l
+    → MovesOn m place (concluded m place (outcome_of m (Ok (record l { ending = ending }))))
 ended_undone m place Done l h = tt
 ended_undone m place (Branch a) l h = tt
 ended_undone m place Again l h = tt
@@ -89,15 +100,19 @@ ended_undone m place (Interrupted code) l h = rw h refl
 ended_undone m place (Called n) l h = rw h refl
 ended_undone m place (Asked operation device) l h = rw h refl
 
-concluded_undone : (m : State) (place : Place) (r : Result Left ProgramCode) → LeavesUndone m r → MovesOn m place (concluded m place (outcome_of m r))
+concluded_undone : (m : State) (place : Place) (r : Result Left ProgramCode) → LeavesUndone m r
+    → MovesOn m place (concluded m place (outcome_of m r))
 concluded_undone m place (Err code) h = refl
 concluded_undone m place (Ok l) h = ended_undone m place l.ending l h
 
-unless_undone : (m : State) (o : Option ProgramCode) (r : Result Left ProgramCode) → LeavesUndone m r → LeavesUndone m (unless o r)
+unless_undone : (m : State) (o : Option ProgramCode) (r : Result Left ProgramCode) → LeavesUndone m r
+    → LeavesUndone m (unless o r)
 unless_undone m None r h = h
 unless_undone m (Some code) r h = tt
 
-pub supervised_moves_on : (m : State) (place : Place) (i : Instruction) → is_supervised (opcode_at i.opcode) ≡ true → MovesOn m place (carried row_of m place i).ran
+pub supervised_moves_on : (m : State) (place : Place) (i : Instruction) → is_supervised (opcode_at i.opcode) ≡ true
+    → MovesOn m place (carried row_of m place i).ran
 supervised_moves_on m place i e =
     let r = row_of m place i in
-    concluded_undone m place (judged m r) (unless_undone m r.refused (unless (fault_of m r.tests) r.leaves) (unless_undone m (fault_of m r.tests) r.leaves (row_undone (opcode_at i.opcode) m place i e)))
+    concluded_undone m place (judged m r) (unless_undone m r.refused (unless (fault_of m r.tests) r.leaves)
+    (unless_undone m (fault_of m r.tests) r.leaves (row_undone (opcode_at i.opcode) m place i e)))

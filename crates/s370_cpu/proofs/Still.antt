@@ -6,7 +6,8 @@ use Rattle.s370_psw.specs.declared.ProgramCode.TheVariants.{PrivilegedOperation}
 use Rattle.s370_store.specs.Access.{Test}
 use Rattle.s370_rows.specs.declared.cpu.Cpu.{Cpu}
 use Rattle.s370_rows.specs.declared.ending.Completion.{Completion}
-use Rattle.s370_rows.specs.declared.ending.Completion.TheVariants.{Done, Branch, Again, Interrupted, SupervisorCall as Called, InputOutput as Asked}
+use Rattle.s370_rows.specs.declared.ending.Completion.TheVariants.{Done, Branch, Again, Interrupted}
+use Rattle.s370_rows.specs.declared.ending.Completion.TheVariants.{SupervisorCall as Called, InputOutput as Asked}
 use Rattle.s370_rows.specs.declared.instruction.Instruction.{Instruction}
 use Rattle.s370_rows.specs.declared.place.Place.{Place}
 use Rattle.s370_rows.specs.State.{State}
@@ -14,15 +15,25 @@ use Rattle.s370_rows.specs.Registers.{Ended}
 use Rattle.s370_rows.specs.Results.{over_result}
 use Rattle.s370_rows.specs.Rows.{Row, Left, judged, unless, outcome_of, over, suppressed, fault_of}
 use Rattle.s370_bytes.specs.Decimal.{over_result as over_number}
-use Rattle.s370_cpu.specs.declared.conclude.Stop.TheVariants.{Done as DoneStop, Program, Svc, InputOutput as AskedStop, Privileged, Absent}
+use Rattle.s370_cpu.specs.declared.conclude.Stop.TheVariants.{Done as DoneStop, Program, Svc, InputOutput as AskedStop}
+use Rattle.s370_cpu.specs.declared.conclude.Stop.TheVariants.{Privileged, Absent}
 use Rattle.s370_cpu.specs.declared.opcodes.Opcode.{Opcode}
-use Rattle.s370_cpu.specs.declared.opcodes.Opcode.TheVariants.{Invalid, Supervised, SupervisorCall, Execute, Computes, Fetches, Stores}
+use Rattle.s370_cpu.specs.declared.opcodes.Opcode.TheVariants.{Invalid, Supervised, SupervisorCall, Execute, Computes}
+use Rattle.s370_cpu.specs.declared.opcodes.Opcode.TheVariants.{Fetches, Stores}
 use Rattle.s370_cpu.specs.declared.opcodes.FetchRow.{FetchRow}
-use Rattle.s370_cpu.specs.declared.opcodes.FetchRow.TheVariants.{Word, Halfword, MultiplyWord, MultiplyHalfword, DivideWord, ConvertToBinary, InsertCharacter, InsertCharacters, CompareCharacters, LoadMultiple, TestByte, CompareStrings, ScanString, CompareLong}
+use Rattle.s370_cpu.specs.declared.opcodes.FetchRow.TheVariants.{Word, Halfword, MultiplyWord, MultiplyHalfword}
+use Rattle.s370_cpu.specs.declared.opcodes.FetchRow.TheVariants.{DivideWord, ConvertToBinary, InsertCharacter}
+use Rattle.s370_cpu.specs.declared.opcodes.FetchRow.TheVariants.{InsertCharacters, CompareCharacters, LoadMultiple}
+use Rattle.s370_cpu.specs.declared.opcodes.FetchRow.TheVariants.{TestByte, CompareStrings, ScanString, CompareLong}
 use Rattle.s370_cpu.specs.declared.opcodes.StoreRow.{StoreRow}
-use Rattle.s370_cpu.specs.declared.opcodes.StoreRow.TheVariants.{StoreWord, StoreHalfword, StoreCharacter, StoreCharacters, StoreMultiple, ConvertToDecimal, ChangeByte, SwapWord, SwapDoubleword, CombineStrings, Translate, LayOut, MoveLong}
+use Rattle.s370_cpu.specs.declared.opcodes.StoreRow.TheVariants.{StoreWord, StoreHalfword, StoreCharacter}
+use Rattle.s370_cpu.specs.declared.opcodes.StoreRow.TheVariants.{StoreCharacters, StoreMultiple, ConvertToDecimal}
+use Rattle.s370_cpu.specs.declared.opcodes.StoreRow.TheVariants.{ChangeByte, SwapWord, SwapDoubleword, CombineStrings}
+use Rattle.s370_cpu.specs.declared.opcodes.StoreRow.TheVariants.{Translate, LayOut, MoveLong}
 use Rattle.s370_cpu.specs.declared.opcodes.Control.{Control}
-use Rattle.s370_cpu.specs.declared.opcodes.Control.TheVariants.{SetStorageKey, InsertStorageKey, SetSystemMask, LoadPsw, StoreThenAnd, StoreThenOr, StoreControl, LoadControl, InputOutput}
+use Rattle.s370_cpu.specs.declared.opcodes.Control.TheVariants.{SetStorageKey, InsertStorageKey, SetSystemMask, LoadPsw}
+use Rattle.s370_cpu.specs.declared.opcodes.Control.TheVariants.{StoreThenAnd, StoreThenOr, StoreControl, LoadControl}
+use Rattle.s370_cpu.specs.declared.opcodes.Control.TheVariants.{InputOutput}
 use Rattle.s370_cpu.specs.Fetch.{fetched, halfwords_of}
 use Rattle.s370_cpu.specs.Execute.{executed}
 use Rattle.s370_cpu.specs.Opcodes.{opcode_at}
@@ -59,7 +70,8 @@ still_over (Asked operation device) l s k = (s, k)
 over_still : (e : Ended) → LeavesStill (Ok (over e))
 over_still e = still_over e.ending (over e) refl refl
 
-either_still : (b : Bool) (r s : Row) → LeavesStill r.leaves → LeavesStill s.leaves → LeavesStill (if b then r else s).leaves
+either_still : (b : Bool) (r s : Row) → LeavesStill r.leaves → LeavesStill s.leaves
+    → LeavesStill (if b then r else s).leaves
 either_still true r s h k = h
 either_still false r s h k = k
 
@@ -72,15 +84,18 @@ number_still (Ok e) = over_still e
 number_still (Err code) = tt
 
 -- what is done, or done in part, may have stored
-part_still : (b : Bool) (x y : Cpu) (l : Left) → (let e : Ended = if b then (record { ending = Done; cpu = x }) else (record { ending = Again; cpu = y }) in IsStill e.ending l)
+part_still : (b : Bool) (x y : Cpu) (l : Left) → (let e : Ended = if b then (record { ending = Done; cpu = x }) else
+    (record { ending = Again; cpu = y }) in IsStill e.ending l)
 part_still true x y l = tt
 part_still false x y l = tt
 
-key_set_still : (m : State) (i : Instruction) (block : Result ℕ ProgramCode) → LeavesStill (storage_key_set m i block).leaves
+key_set_still : (m : State) (i : Instruction) (block : Result ℕ ProgramCode)
+    → LeavesStill (storage_key_set m i block).leaves
 key_set_still m i (Ok block) = tt
 key_set_still m i (Err code) = tt
 
-key_inserted_still : (m : State) (i : Instruction) (block : Result ℕ ProgramCode) → LeavesStill (storage_key_inserted m i block).leaves
+key_inserted_still : (m : State) (i : Instruction) (block : Result ℕ ProgramCode)
+    → LeavesStill (storage_key_inserted m i block).leaves
 key_inserted_still m i (Ok block) = tt
 key_inserted_still m i (Err code) = tt
 
@@ -129,7 +144,8 @@ store_still MoveLong m i = search (either_still, over_still, part_still)
 
 row_still : (op : Opcode) (m : State) (place : Place) (i : Instruction) → LeavesStill (row_named op m place i).leaves
 row_still Invalid m place i = tt
-row_still (Supervised c) m place i = either_still m.cpu.psw.problem (suppressed PrivilegedOperation) (control_named c m i) tt (control_still c m i)
+row_still (Supervised c) m place i = either_still m.cpu.psw.problem (suppressed PrivilegedOperation)
+    (control_named c m i) tt (control_still c m i)
 row_still SupervisorCall m place i = (refl, refl)
 row_still Execute m place i = tt
 row_still (Computes row) m place i = result_still (register_row row m.cpu place i)
@@ -149,7 +165,8 @@ StaysStill m r = elim r.stop [
   | Absent page ↦ Unit {0}
 ]
 
-ended_still : (m : State) (place : Place) (ending : Completion) (l : Left) → IsStill ending l → StaysStill m (concluded m place (outcome_of m (Ok (record l { ending = ending }))))
+ended_still : (m : State) (place : Place) (ending : Completion) (l : Left) → IsStill ending l
+    → StaysStill m (concluded m place (outcome_of m (Ok (record l { ending = ending }))))
 ended_still m place Done l h = tt
 ended_still m place (Branch a) l h = tt
 ended_still m place Again l h = tt
@@ -157,7 +174,8 @@ ended_still m place (Interrupted code) l h = rw (h.0, h.1) (refl, refl)
 ended_still m place (Called n) l h = rw (h.0, h.1) (refl, refl)
 ended_still m place (Asked operation device) l h = rw (h.0, h.1) (refl, refl)
 
-concluded_still : (m : State) (place : Place) (r : Result Left ProgramCode) → LeavesStill r → StaysStill m (concluded m place (outcome_of m r))
+concluded_still : (m : State) (place : Place) (r : Result Left ProgramCode) → LeavesStill r
+    → StaysStill m (concluded m place (outcome_of m r))
 concluded_still m place (Err code) h = (refl, refl)
 concluded_still m place (Ok l) h = ended_still m place l.ending l h
 
@@ -168,13 +186,16 @@ unless_still (Some code) r h = tt
 pub carried_still : (m : State) (place : Place) (i : Instruction) → StaysStill m (carried row_of m place i).ran
 carried_still m place i =
     let r = row_of m place i in
-    concluded_still m place (judged m r) (unless_still r.refused (unless (fault_of m r.tests) r.leaves) (unless_still (fault_of m r.tests) r.leaves (row_still (opcode_at i.opcode) m place i)))
+    concluded_still m place (judged m r) (unless_still r.refused (unless (fault_of m r.tests) r.leaves)
+    (unless_still (fault_of m r.tests) r.leaves (row_still (opcode_at i.opcode) m place i)))
 
-executed_still : (m : State) (ss : List (List Test)) (place : Place) (r : Result Instruction ProgramCode) → StaysStill m (unit_executed row_of m ss place r).ran
+executed_still : (m : State) (ss : List (List Test)) (place : Place) (r : Result Instruction ProgramCode)
+    → StaysStill m (unit_executed row_of m ss place r).ran
 executed_still m ss place (Err code) = (refl, refl)
 executed_still m ss place (Ok i) = carried_still m place i
 
-fetched_still : (m : State) (ss : List (List Test)) (r : Result Instruction ProgramCode) → StaysStill m (unit_fetched row_of m ss r).ran
+fetched_still : (m : State) (ss : List (List Test)) (r : Result Instruction ProgramCode)
+    → StaysStill m (unit_fetched row_of m ss r).ran
 fetched_still m ss (Err code) = (refl, refl)
 fetched_still m ss (Ok i) = let x = executed m i in executed_still m _ (place_at m (halfwords_of i.opcode)) x.result
 

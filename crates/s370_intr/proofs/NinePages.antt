@@ -1,6 +1,7 @@
 -- The pages that a unit needs are in one list: by the table of today eight at most, since no instruction of two ranges
 -- is ever interrupted.
-use Rattle.std.proofs.Common.{◌≡◌, ℕ, zero, suc, ◌+◌, ◌*◌, ◌<◌, ◌≤◌, ◌⊎◌, [], ◌∷◌, Option, Some, None, sym, subst, arith, inl, inr}
+use Rattle.std.proofs.Common.{◌≡◌, ℕ, zero, suc, ◌+◌, ◌*◌, ◌<◌, ◌≤◌, ◌⊎◌, [], ◌∷◌, Option, Some, None, sym, subst}
+use Rattle.std.proofs.Common.{arith, inl, inr}
 use Rattle.std.proofs.lemmas.Bool.{cases_eq}
 use Rattle.std.proofs.lemmas.List.Elements.{All-nil, All-cons}
 use Rattle.s370_store.specs.Access.{Test}
@@ -12,7 +13,8 @@ use Rattle.s370_cpu.specs.declared.conclude.Stop.TheVariants.{Done, Program, Svc
 use Rattle.s370_cpu.specs.Fetch.{Asks}
 use Rattle.s370_cpu.specs.Table.{unit}
 use Rattle.s370_cpu.specs.Laws.{AreAtMost}
-use Rattle.s370_cpu.proofs.FewPages.{at_most, at_most_of, none_at_all, either_at_most, touched, operand_pages, unit_asks}
+use Rattle.s370_cpu.proofs.FewPages.{at_most, at_most_of, none_at_all, either_at_most, touched, operand_pages}
+use Rattle.s370_cpu.proofs.FewPages.{unit_asks}
 use Rattle.s370_subchannels.specs.declared.subchannel.DeviceState.{DeviceState}
 use Rattle.s370_subchannels.specs.declared.subchannel.DeviceState.TheVariants.{Idle, Working, Pending}
 use Rattle.s370_subchannels.specs.declared.subchannel.Subchannel.{Subchannel}
@@ -96,7 +98,8 @@ instruction_needs c =
     let u = unit c.processor in
     let stop = u.ran.stop in
     let left : Configuration = record c { processor = u.ran.state } in
-    let both = either_at_most (4 + operand_pages stop) (follow_pages stop) (Asks c.processor u.stages) (FollowNeeds stop left) (unit_asks c.processor) (follow_needs stop left) in
+    let both = either_at_most (4 + operand_pages stop) (follow_pages stop) (Asks c.processor u.stages)
+    (FollowNeeds stop left) (unit_asks c.processor) (follow_needs stop left) in
     at_most ((4 + operand_pages stop) + follow_pages stop) 8 (InstructionNeeds c) (omega (arith, in_place stop)) both
 
 pub eight_pages : (l : Next) (c : Core) → AreAtMost 8 (NeedsAt l c)
@@ -125,19 +128,25 @@ needed_before c zero = none_at_all (NeededBefore c 0) (λ page h. omega (arith, 
 needed_before c (suc n) =
     let last = (run n c).core in
     let both = either_at_most 9 (9 * n) (Needs last) (NeededBefore c n) (nine_pages last) (needed_before c n) in
-    at_most (9 + 9 * n) (9 * suc n) (NeededBefore c (suc n)) (omega arith) (at_most_of (9 + 9 * n) (λ page. Needs last page ⊎ NeededBefore c n page) (NeededBefore c (suc n)) (one_of_more c n) both)
+    at_most (9 + 9 * n) (9 * suc n) (NeededBefore c (suc n)) (omega arith)
+    (at_most_of (9 + 9 * n) (λ page. Needs last page ⊎ NeededBefore c n page) (NeededBefore c (suc n))
+    (one_of_more c n) both)
 
-needed_by : (c : Core) (units page : ℕ) (reason : Reason) → (reason ≡ FramesOut → ⊥) → RunNeeds c units reason page → NeededBefore c units page
+needed_by : (c : Core) (units page : ℕ) (reason : Reason) → (reason ≡ FramesOut → ⊥) → RunNeeds c units reason page
+    → NeededBefore c units page
 needed_by c units page reason other (k, inl l, need) = (k, l, need)
 needed_by c units page reason other (k, inr h, need) = absurd (other h.1)
 
-needed_with : (c : Core) (units page : ℕ) (reason : Reason) → RunNeeds c units reason page → NeededBefore c (1 + units) page
+needed_with : (c : Core) (units page : ℕ) (reason : Reason) → RunNeeds c units reason page
+    → NeededBefore c (1 + units) page
 needed_with c units page reason (k, inl l, need) = (k, omega (arith, l), need)
 needed_with c units page reason (k, inr h, need) = (k, omega (arith, h.0), need)
 
-needed_whole : (c : Core) (units : ℕ) (reason : Reason) → (reason ≡ FramesOut → ⊥) → AreAtMost (9 * units) (RunNeeds c units reason)
+needed_whole : (c : Core) (units : ℕ) (reason : Reason) → (reason ≡ FramesOut → ⊥)
+    → AreAtMost (9 * units) (RunNeeds c units reason)
 needed_whole c units reason other =
-    at_most_of (9 * units) (NeededBefore c units) (RunNeeds c units reason) (λ page h. needed_by c units page reason other h) (needed_before c units)
+    at_most_of (9 * units) (NeededBefore c units) (RunNeeds c units reason)
+    (λ page h. needed_by c units page reason other h) (needed_before c units)
 
 pub nine_pages_each : NinePagesEach
 nine_pages_each c units Stopped = needed_whole c units Stopped (λ e. cc)
@@ -146,4 +155,5 @@ nine_pages_each c units EcMode = needed_whole c units EcMode (λ e. cc)
 nine_pages_each c units Wait = needed_whole c units Wait (λ e. cc)
 nine_pages_each c units DisabledWait = needed_whole c units DisabledWait (λ e. cc)
 nine_pages_each c units FramesOut =
-    at_most_of (9 * (1 + units)) (NeededBefore c (1 + units)) (RunNeeds c units FramesOut) (λ page h. needed_with c units page FramesOut h) (needed_before c (1 + units))
+    at_most_of (9 * (1 + units)) (NeededBefore c (1 + units)) (RunNeeds c units FramesOut)
+    (λ page h. needed_with c units page FramesOut h) (needed_before c (1 + units))

@@ -1,5 +1,6 @@
 -- A run of units done, and what comes after it.
-use Rattle.std.proofs.Common.{◌≡◌, ℕ, ◌+◌, ◌<◌, ◌≤◌, zero, suc, Bool, true, false, Option, None, Some, length, replicate, List, [], ◌∷◌, ◌++◌, refl, sym, ◌∙◌, ap, arith, subst}
+use Rattle.std.proofs.Common.{◌≡◌, ℕ, ◌+◌, ◌<◌, ◌≤◌, zero, suc, Bool, true, false, Option, None, Some, length}
+use Rattle.std.proofs.Common.{replicate, List, [], ◌∷◌, ◌++◌, refl, sym, ◌∙◌, ap, arith, subst}
 use Rattle.std.specs.Prelude.{if◌then◌else◌, ◌==◌, not}
 use Rattle.s370_intr.specs.declared.pending.Pending.{Pending}
 use Rattle.s370_intr.specs.declared.next.Next.{Next}
@@ -24,7 +25,8 @@ use Rattle.s370_cpu.specs.Table.{unit}
 use Rattle.s370_cpu.specs.Unit.{Ran}
 use Rattle.s370_quick.specs.Quick.{DoesUnits}
 use Rattle.s370_intr.specs.InputOutput.{Configuration, configuration_of}
-use Rattle.s370_intr.specs.Units.{Core, core_of, followed, instructed, look, offered, unit_at, with_configuration, enabled_of, is_any, Needs, NeedsAt}
+use Rattle.s370_intr.specs.Units.{Core, core_of, followed, instructed, look, offered, unit_at, with_configuration}
+use Rattle.s370_intr.specs.Units.{enabled_of, is_any, Needs, NeedsAt}
 use Rattle.s370_intr.specs.Run.{Run, run, looked, one_more, AllNeeded, EachBrings, IsLacking, IsCut, TellsRun}
 
 abbrev pub all_done : ℕ → Core → Run
@@ -37,7 +39,9 @@ Goes (Accepts taken) = Unit {0}
 Goes (AcceptsStatus status) = Unit {0}
 Goes Instructs = Unit {0}
 
-same_run : (c c' : Core) (units units' : ℕ) (reason reason' : Reason) → c ≡ c' → units ≡ units' → reason ≡ reason' → (let r : Run = record { core = c; units = units; reason = reason } in r ≡ record { core = c'; units = units'; reason = reason' })
+same_run : (c c' : Core) (units units' : ℕ) (reason reason' : Reason) → c ≡ c' → units ≡ units' → reason ≡ reason'
+    → (let r : Run = record { core = c; units = units; reason = reason } in
+    r ≡ record { core = c'; units = units'; reason = reason' })
 same_run c c' units units' reason reason' a b d = rw (a, b, d) refl
 
 -- where a run of one unit more was done whole, its first unit was, and so was the rest
@@ -46,7 +50,8 @@ one_less c' k rest e =
     let u : rest.units ≡ k = omega (arith, ap (λ (r : Run). r.units) e) in
     same_run rest.core c' rest.units k rest.reason Count (ap (λ (r : Run). r.core) e) u (ap (λ (r : Run). r.reason) e)
 
-rest_done : (l : Next) (c c' : Core) (k : ℕ) (rest : Run) → looked l c rest ≡ all_done (suc k) c' → Goes l × (rest ≡ all_done k c')
+rest_done : (l : Next) (c c' : Core) (k : ℕ) (rest : Run) → looked l c rest ≡ all_done (suc k) c' → Goes l
+    × (rest ≡ all_done k c')
 rest_done (Stops reason) c c' k rest e = absurd (omega (arith, ap (λ (r : Run). r.units) e))
 rest_done (Accepts taken) c c' k rest e = (tt, one_less c' k rest e)
 rest_done (AcceptsStatus status) c c' k rest e = (tt, one_less c' k rest e)
@@ -59,7 +64,8 @@ goes_on (AcceptsStatus status) c rest h = refl
 goes_on Instructs c rest h = refl
 
 -- one unit more
-pub does_more : (k : ℕ) (c c' c'' : Core) → run k c ≡ all_done k c' → Goes (look c') → c'' ≡ unit_at (look c') c' → run (k + 1) c ≡ all_done (k + 1) c''
+pub does_more : (k : ℕ) (c c' c'' : Core) → run k c ≡ all_done k c' → Goes (look c') → c'' ≡ unit_at (look c') c'
+    → run (k + 1) c ≡ all_done (k + 1) c''
 does_more zero c c' c'' e h u =
     let same : c ≡ c' = ap (λ (r : Run). r.core) e in
     let h1 : Goes (look c) = subst (λ (x : Core). Goes (look x)) (sym same) h in
@@ -68,11 +74,14 @@ does_more zero c c' c'' e h u =
 does_more (suc k) c c' c'' e h u =
     let first = rest_done (look c) c c' k (run k (unit_at (look c) c)) e in
     let more = does_more k (unit_at (look c) c) c' c'' first.1 h u in
-    let g : run (suc k + 1) c ≡ looked (look c) c (run (k + 1) (unit_at (look c) c)) = (let a : suc k + 1 ≡ suc (k + 1) = omega arith in rw a refl) in
-    g ∙ goes_on (look c) c (run (k + 1) (unit_at (look c) c)) first.0 ∙ ap one_more more ∙ ap (λ (n : ℕ). all_done n c'') (omega arith)
+    let g : run (suc k + 1) c ≡ looked (look c) c (run (k + 1) (unit_at (look c) c)) =
+    (let a : suc k + 1 ≡ suc (k + 1) = omega arith in rw a refl) in
+    g ∙ goes_on (look c) c (run (k + 1) (unit_at (look c) c)) first.0 ∙ ap one_more more
+    ∙ ap (λ (n : ℕ). all_done n c'') (omega arith)
 
 -- so many units more
-pub does_many : (k n : ℕ) (c c' c'' : Core) → run k c ≡ all_done k c' → run n c' ≡ all_done n c'' → run (k + n) c ≡ all_done (k + n) c''
+pub does_many : (k n : ℕ) (c c' c'' : Core) → run k c ≡ all_done k c' → run n c' ≡ all_done n c''
+    → run (k + n) c ≡ all_done (k + n) c''
 does_many zero n c c' c'' e h =
     let same : c' ≡ c = sym (ap (λ (r : Run). r.core) e) in
     let all : run n c ≡ all_done n c'' = subst (λ (x : Core). run n x ≡ all_done n c'') same h in
@@ -80,37 +89,51 @@ does_many zero n c c' c'' e h =
 does_many (suc k) n c c' c'' e h =
     let first = rest_done (look c) c c' k (run k (unit_at (look c) c)) e in
     let more = does_many k n (unit_at (look c) c) c' c'' first.1 h in
-    let g : run (suc k + n) c ≡ looked (look c) c (run (k + n) (unit_at (look c) c)) = (let a : suc k + n ≡ suc (k + n) = omega arith in rw a refl) in
-    g ∙ goes_on (look c) c (run (k + n) (unit_at (look c) c)) first.0 ∙ ap one_more more ∙ ap (λ (x : ℕ). all_done x c'') (omega arith)
+    let g : run (suc k + n) c ≡ looked (look c) c (run (k + n) (unit_at (look c) c)) =
+    (let a : suc k + n ≡ suc (k + n) = omega arith in rw a refl) in
+    g ∙ goes_on (look c) c (run (k + n) (unit_at (look c) c)) first.0 ∙ ap one_more more
+    ∙ ap (λ (x : ℕ). all_done x c'') (omega arith)
 
-stops_here : (l : Next) (c : Core) (rest : Run) (reason : Reason) → l ≡ Stops reason → looked l c rest ≡ record { core = c; units = 0; reason = reason }
+stops_here : (l : Next) (c : Core) (rest : Run) (reason : Reason) → l ≡ Stops reason
+    → looked l c rest ≡ record { core = c; units = 0; reason = reason }
 stops_here l c rest reason e = rw e refl
 
 -- no more than these, for this reason
-pub does_no_more : (k n : ℕ) (c c' : Core) (reason : Reason) → run k c ≡ all_done k c' → k < n → look c' ≡ Stops reason → run n c ≡ record { core = c'; units = k; reason = reason }
+pub does_no_more : (k n : ℕ) (c c' : Core) (reason : Reason) → run k c ≡ all_done k c' → k < n → look c' ≡ Stops reason
+    → run n c ≡ record { core = c'; units = k; reason = reason }
 does_no_more k zero c c' reason e l h = absurd (omega arith)
 does_no_more zero (suc n) c c' reason e l h =
     let same : c ≡ c' = ap (λ (r : Run). r.core) e in
-    stops_here (look c) c (run n (unit_at (look c) c)) reason (ap look same ∙ h) ∙ ap (λ (x : Core). record { core = x; units = 0; reason = reason }) same
+    stops_here (look c) c (run n (unit_at (look c) c)) reason (ap look same ∙ h)
+    ∙ ap (λ (x : Core). record { core = x; units = 0; reason = reason }) same
 does_no_more (suc k) (suc n) c c' reason e l h =
     let first = rest_done (look c) c c' k (run k (unit_at (look c) c)) e in
     let more = does_no_more k n (unit_at (look c) c) c' reason first.1 (omega arith) h in
-    goes_on (look c) c (run n (unit_at (look c) c)) first.0 ∙ ap one_more more ∙ ap (λ (u : ℕ). record { core = c'; units = u; reason = reason }) (omega arith)
+    goes_on (look c) c (run n (unit_at (look c) c)) first.0 ∙ ap one_more more
+    ∙ ap (λ (u : ℕ). record { core = c'; units = u; reason = reason }) (omega arith)
 
 -- ---- the pages that a run needs
 
-pub all_needed : (needs : ℕ → Type 0) (xs ys : List ℕ) → AllNeeded needs xs → AllNeeded needs ys → AllNeeded needs (xs ++ ys)
+pub all_needed : (needs : ℕ → Type 0) (xs ys : List ℕ) → AllNeeded needs xs → AllNeeded needs ys
+    → AllNeeded needs (xs ++ ys)
 all_needed needs [] ys a b = b
 all_needed needs (x ∷ xs) ys a b = (a.0, all_needed needs xs ys a.1 b)
 
-pub more_needs : (needs others : ℕ → Type 0) (xs : List ℕ) → ((page : ℕ) → needs page → others page) → AllNeeded needs xs → AllNeeded others xs
+pub more_needs : (needs others : ℕ → Type 0) (xs : List ℕ) → ((page : ℕ) → needs page → others page)
+    → AllNeeded needs xs → AllNeeded others xs
 more_needs needs others [] f a = tt
 more_needs needs others (x ∷ xs) f a = (f x a.0, more_needs needs others xs f a.1)
 
 -- what units bring, and units after them
-pub each_on : (old : Core) (unit : ℕ) (before after : List (List ℕ)) → EachBrings old unit before → EachBrings old (length before + unit) after → EachBrings old unit (before ++ after)
+pub each_on : (old : Core) (unit : ℕ) (before after : List (List ℕ)) → EachBrings old unit before
+    → EachBrings old (length before + unit) after → EachBrings old unit (before ++ after)
 each_on old unit [] after a b = subst (λ (n : ℕ). EachBrings old n after) (omega arith) b
-each_on old unit (pages ∷ before) after a b = (a.0, a.1, each_on old (suc unit) before after a.2 (subst (λ (n : ℕ). EachBrings old n after) (omega arith) b))
+each_on old unit (pages ∷ before) after a b = (
+  a.0,
+  a.1,
+  each_on old (suc unit) before after a.2
+      (subst (λ (n : ℕ). EachBrings old n after) (omega arith) b),
+)
 
 -- units that bring nothing
 pub each_none : (old : Core) (unit n : ℕ) → EachBrings old unit (replicate n [])
@@ -118,10 +141,13 @@ each_none old unit zero = tt
 each_none old unit (suc n) = (tt, omega arith, each_none old (suc unit) n)
 
 -- a run, and the next unit
-pub each_more : (old c : Core) (k : ℕ) (units : List (List ℕ)) (pages : List ℕ) → run k old ≡ all_done k c → EachBrings old 0 units → length units ≡ k → AllNeeded (NeedsAt (look c) c) pages → length pages ≤ 9 → EachBrings old 0 (units ++ pages ∷ [])
+pub each_more : (old c : Core) (k : ℕ) (units : List (List ℕ)) (pages : List ℕ) → run k old ≡ all_done k c
+    → EachBrings old 0 units → length units ≡ k → AllNeeded (NeedsAt (look c) c) pages → length pages ≤ 9
+    → EachBrings old 0 (units ++ pages ∷ [])
 each_more old c k units pages e each many needed few =
     let here : length units + 0 ≡ k = omega (arith, many) in
-    let needs : AllNeeded (Needs (run k old).core) pages = subst (λ (r : Run). AllNeeded (Needs r.core) pages) (sym e) needed in
+    let needs : AllNeeded (Needs (run k old).core) pages = subst (λ (r : Run). AllNeeded (Needs r.core) pages)
+    (sym e) needed in
     each_on old 0 units (pages ∷ []) each (subst (λ (n : ℕ). EachBrings old n (pages ∷ [])) (sym here) (needs, few, tt))
 
 -- ---- what a run says
@@ -133,7 +159,8 @@ not_stopped (Accepts taken) f = tt
 not_stopped (AcceptsStatus status) f = tt
 not_stopped Instructs f = tt
 
-waits_for_frames : (wait : Bool) (disabled : Bool) → (if wait then (if disabled then Stops DisabledWait else Stops Wait) else Instructs) ≡ Stops FramesOut → ⊥
+waits_for_frames : (wait : Bool) (disabled : Bool) → (if wait then
+    (if disabled then Stops DisabledWait else Stops Wait) else Instructs) ≡ Stops FramesOut → ⊥
 waits_for_frames true true e = cc
 waits_for_frames true false e = cc
 waits_for_frames false disabled e = cc
@@ -143,13 +170,15 @@ offered_for_frames None psw e = waits_for_frames psw.wait (psw.system_mask == 0)
 offered_for_frames (Some status) psw e = cc
 
 -- no look stops for lack of frames
-looks_for_frames : (extended any : Bool) (taken : Pending) (other : Next) → (other ≡ Stops FramesOut → ⊥) → (if extended then Stops EcMode else (if any then Accepts taken else other)) ≡ Stops FramesOut → ⊥
+looks_for_frames : (extended any : Bool) (taken : Pending) (other : Next) → (other ≡ Stops FramesOut → ⊥)
+    → (if extended then Stops EcMode else (if any then Accepts taken else other)) ≡ Stops FramesOut → ⊥
 looks_for_frames true any taken other n e = cc
 looks_for_frames false true taken other n e = cc
 looks_for_frames false false taken other n e = n e
 
 -- a run that stops by itself
-pub tells_stop : (k n : ℕ) (c c' : Core) (reason : Reason) (is_short : ℕ → Type 0) → run k c ≡ all_done k c' → k < n → look c' ≡ Stops reason → TellsRun n c (record { core = c'; units = k; reason = reason }) is_short
+pub tells_stop : (k n : ℕ) (c c' : Core) (reason : Reason) (is_short : ℕ → Type 0) → run k c ≡ all_done k c' → k < n
+    → look c' ≡ Stops reason → TellsRun n c (record { core = c'; units = k; reason = reason }) is_short
 tells_stop k n c c' Stopped is_short e l h = does_no_more k n c c' Stopped e l h
 tells_stop k n c c' Count is_short e l h = does_no_more k n c c' Count e l h
 tells_stop k n c c' EcMode is_short e l h = does_no_more k n c c' EcMode e l h
@@ -158,55 +187,83 @@ tells_stop k n c c' DisabledWait is_short e l h = does_no_more k n c c' Disabled
 tells_stop k n c c' FramesOut is_short e l h =
     let psw = c'.processor.cpu.psw in
     let enabled = enabled_of c'.processor.cpu c'.pending in
-    absurd (looks_for_frames psw.extended (is_any enabled) enabled (offered (first_status psw c'.subchannels) psw) (offered_for_frames (first_status psw c'.subchannels) psw) h)
+    absurd (looks_for_frames psw.extended (is_any enabled) enabled (offered (first_status psw c'.subchannels) psw)
+    (offered_for_frames (first_status psw c'.subchannels) psw) h)
 
 -- a run that needs an absent page
-pub tells_cut : (k n : ℕ) (first c new : Core) (l : Next) (is_short : ℕ → Type 0) → run k first ≡ all_done k c → k < n → l ≡ look c → new ≡ c → IsLacking (NeedsAt l c) (length c.processor.bytes) is_short → TellsRun n first (record { core = new; units = k; reason = FramesOut }) is_short
+pub tells_cut : (k n : ℕ) (first c new : Core) (l : Next) (is_short : ℕ → Type 0) → run k first ≡ all_done k c → k < n
+    → l ≡ look c → new ≡ c → IsLacking (NeedsAt l c) (length c.processor.bytes) is_short
+    → TellsRun n first (record { core = new; units = k; reason = FramesOut }) is_short
 tells_cut k n first c new l is_short e less same kept h =
-    let lacking : IsLacking (Needs c) (length c.processor.bytes) is_short = subst (λ (x : Next). IsLacking (NeedsAt x c) (length c.processor.bytes) is_short) same h in
-    let cut : IsCut n first (record { core = c; units = k; reason = FramesOut }) is_short = record { done = e; fewer = less; lacking = lacking } in
+    let lacking : IsLacking (Needs c) (length c.processor.bytes) is_short = subst
+    (λ (x : Next). IsLacking (NeedsAt x c) (length c.processor.bytes) is_short) same h in
+    let cut : IsCut n first (record { core = c; units = k; reason = FramesOut }) is_short = record {
+      done = e;
+      fewer = less;
+      lacking = lacking;
+    } in
     subst (λ (x : Core). IsCut n first (record { core = x; units = k; reason = FramesOut }) is_short) (sym kept) cut
 
 -- ---- an instruction that is done, and changes no rights
 
-first_status_same : (psw psw' : Fields) (list : List Subchannel) → psw'.system_mask ≡ psw.system_mask → first_status psw' list ≡ first_status psw list
+first_status_same : (psw psw' : Fields) (list : List Subchannel) → psw'.system_mask ≡ psw.system_mask
+    → first_status psw' list ≡ first_status psw list
 first_status_same psw psw' [] e = refl
 first_status_same psw psw' (s ∷ ss) e = rw (e, first_status_same psw psw' ss e) refl
 
-offered_same : (o : Option Status) (psw psw' : Fields) → psw'.wait ≡ psw.wait → psw'.system_mask ≡ psw.system_mask → offered o psw' ≡ offered o psw
+offered_same : (o : Option Status) (psw psw' : Fields) → psw'.wait ≡ psw.wait → psw'.system_mask ≡ psw.system_mask
+    → offered o psw' ≡ offered o psw
 offered_same None psw psw' w e = rw (w, e) refl
 offered_same (Some status) psw psw' w e = refl
 
-enabled_same : (cpu cpu' : Cpu) (pending : Pending) → cpu'.control ≡ cpu.control → cpu'.psw.system_mask ≡ cpu.psw.system_mask → enabled_of cpu' pending ≡ enabled_of cpu pending
+enabled_same : (cpu cpu' : Cpu) (pending : Pending) → cpu'.control ≡ cpu.control
+    → cpu'.psw.system_mask ≡ cpu.psw.system_mask → enabled_of cpu' pending ≡ enabled_of cpu pending
 enabled_same cpu cpu' pending c e = rw (c, e) refl
 
-said_same : (extended extended' : Bool) (taken taken' : Pending) (other other' : Next) → extended' ≡ extended → taken' ≡ taken → other' ≡ other → (if extended' then Stops EcMode else (if is_any taken' then Accepts taken' else other')) ≡ (if extended then Stops EcMode else (if is_any taken then Accepts taken else other))
+said_same : (extended extended' : Bool) (taken taken' : Pending) (other other' : Next) → extended' ≡ extended
+    → taken' ≡ taken → other' ≡ other → (if extended' then Stops EcMode else
+    (if is_any taken' then Accepts taken' else other')) ≡ (if extended then Stops EcMode else
+    (if is_any taken then Accepts taken else other))
 said_same extended extended' taken taken' other other' x t o = rw (x, t, o) refl
 
 -- the look before the next unit says the same
-pub looks_same : (m m' : State) (pending : Pending) (list : List Subchannel) → rights_of m' ≡ rights_of m → look (core_of m' pending list) ≡ look (core_of m pending list)
+pub looks_same : (m m' : State) (pending : Pending) (list : List Subchannel) → rights_of m' ≡ rights_of m
+    → look (core_of m' pending list) ≡ look (core_of m pending list)
 looks_same m m' pending list e =
     let psw = m.cpu.psw in
     let psw' = m'.cpu.psw in
     let mask : psw'.system_mask ≡ psw.system_mask = ap (λ (r : Rights). r.system_mask) e in
     let wait : psw'.wait ≡ psw.wait = ap (λ (r : Rights). r.wait) e in
     let control : m'.cpu.control ≡ m.cpu.control = ap (λ (r : Rights). r.control) e in
-    let status = ap (λ (o : Option Status). offered o psw') (first_status_same psw psw' list mask) ∙ offered_same (first_status psw list) psw psw' wait mask in
-    said_same psw.extended psw'.extended (enabled_of m.cpu pending) (enabled_of m'.cpu pending) _ _ (ap (λ (r : Rights). r.extended) e) (enabled_same m.cpu m'.cpu pending control mask) status
+    let status = ap (λ (o : Option Status). offered o psw') (first_status_same psw psw' list mask)
+    ∙ offered_same (first_status psw list) psw psw' wait mask in
+    said_same psw.extended psw'.extended (enabled_of m.cpu pending) (enabled_of m'.cpu pending) _ _
+    (ap (λ (r : Rights). r.extended) e) (enabled_same m.cpu m'.cpu pending control mask) status
 
-pub done_unit : (m m' : State) (pending : Pending) (list : List Subchannel) → (unit m).ran ≡ record { stop = Done; state = m' } → core_of m' pending list ≡ unit_at Instructs (core_of m pending list)
-done_unit m m' pending list e = sym (ap (λ (r : Ran). with_configuration (core_of m pending list) (followed r.stop (configuration_of r.state list))) e)
+pub done_unit : (m m' : State) (pending : Pending) (list : List Subchannel)
+    → (unit m).ran ≡ record { stop = Done; state = m' } → core_of m' pending list ≡ unit_at Instructs
+    (core_of m pending list)
+done_unit m m' pending list e = sym (ap (λ (r : Ran). with_configuration (core_of m pending list)
+    (followed r.stop (configuration_of r.state list))) e)
 
 -- units that are done one after another
-pub units_done : (n : ℕ) (present : ℕ → Bool) (m m' : State) (pending : Pending) (list : List Subchannel) → DoesUnits n present m m' → look (core_of m pending list) ≡ Instructs
-    → (run n (core_of m pending list) ≡ all_done n (core_of m' pending list)) × (look (core_of m' pending list) ≡ Instructs)
-units_done zero present m m' pending list same e =
-    (ap (λ (x : State). all_done 0 (core_of x pending list)) (sym same), ap (λ (x : State). look (core_of x pending list)) same ∙ e)
+pub units_done : (n : ℕ) (present : ℕ → Bool) (m m' : State) (pending : Pending) (list : List Subchannel)
+    → DoesUnits n present m m' → look (core_of m pending list) ≡ Instructs
+    → (run n (core_of m pending list) ≡ all_done n (core_of m' pending list))
+    × (look (core_of m' pending list) ≡ Instructs)
+units_done zero present m m' pending list same e = (
+  ap (λ (x : State). all_done 0 (core_of x pending list)) (sym same),
+  ap (λ (x : State). look (core_of x pending list)) same ∙ e,
+)
 units_done (suc n) present m m' pending list (next, done, rights, rest) e =
     let c = core_of m pending list in
     let step : core_of next pending list ≡ unit_at (look c) c = rw e (done_unit m next pending list done) in
-    let more = units_done n present next m' pending list rest (looks_same m next pending list rights ∙ e) in
-    (goes_on (look c) c (run n (unit_at (look c) c)) (subst Goes (sym e) tt) ∙ ap one_more (ap (run n) (sym step) ∙ more.0) ∙ ap (λ (k : ℕ). all_done k (core_of m' pending list)) (omega arith), more.1)
+    let more = units_done n present next m' pending list rest (looks_same m next pending list rights ∙ e) in (
+      goes_on (look c) c (run n (unit_at (look c) c)) (subst Goes (sym e) tt)
+          ∙ ap one_more (ap (run n) (sym step) ∙ more.0) ∙ ap (λ (k : ℕ). all_done k (core_of m' pending list))
+          (omega arith),
+      more.1,
+    )
 
 -- ---- an instruction that is carried out whole
 
@@ -217,14 +274,19 @@ is_so false e = cc
 pub one_instruction : (c c' : Core) → look c ≡ Instructs → c' ≡ unit_at Instructs c → run 1 c ≡ all_done 1 c'
 one_instruction c c' e u = does_more 0 c c c' refl (subst Goes (sym e) tt) (rw e u)
 
-pub instructed_core : (m m' : State) (pending : Pending) (list list' : List Subchannel) → configuration_of m' list' ≡ instructed (configuration_of m list) → core_of m' pending list' ≡ unit_at Instructs (core_of m pending list)
+pub instructed_core : (m m' : State) (pending : Pending) (list list' : List Subchannel)
+    → configuration_of m' list' ≡ instructed (configuration_of m list)
+    → core_of m' pending list' ≡ unit_at Instructs (core_of m pending list)
 instructed_core m m' pending list list' e = ap (λ (x : Configuration). with_configuration (core_of m pending list) x) e
 
-pub same_core : (m m' : State) (pending : Pending) (list list' : List Subchannel) → configuration_of m' list' ≡ configuration_of m list → core_of m' pending list' ≡ core_of m pending list
+pub same_core : (m m' : State) (pending : Pending) (list list' : List Subchannel)
+    → configuration_of m' list' ≡ configuration_of m list → core_of m' pending list' ≡ core_of m pending list
 same_core m m' pending list list' e = ap (λ (x : Configuration). with_configuration (core_of m pending list) x) e
 
 -- what may be accessed in a block, may be as long as size, keys and pages are the same
-pub still_accesses : {access : Access} {size size' : ℕ} {keys keys' : List ℕ} {present present' : ℕ → Bool} (key first : ℕ) → size' ≡ size → keys' ≡ keys → present' ≡ present → MayAccess access size keys present key first → MayAccess access size' keys' present' key first
+pub still_accesses : {access : Access} {size size' : ℕ} {keys keys' : List ℕ} {present present' : ℕ → Bool}
+    (key first : ℕ) → size' ≡ size → keys' ≡ keys → present' ≡ present → MayAccess access size keys present key first
+    → MayAccess access size' keys' present' key first
 still_accesses key first s k p h = record {
   aligned = h.aligned;
   inside = rw s h.inside;
@@ -232,7 +294,10 @@ still_accesses key first s k p h = record {
   here = rw p h.here;
 }
 
-held_still : {access : Access} {is_placed is_placed' : Block → Type 0} {m m' : Memory} {present present' : ℕ → Bool} (key : ℕ) (block : Block) → ((b : Block) → is_placed b → is_placed' b) → length m'.bytes ≡ length m.bytes → m'.keys ≡ m.keys → present' ≡ present → IsHeld access is_placed m present key block → IsHeld access is_placed' m' present' key block
+held_still : {access : Access} {is_placed is_placed' : Block → Type 0} {m m' : Memory} {present present' : ℕ → Bool}
+    (key : ℕ) (block : Block) → ((b : Block) → is_placed b → is_placed' b) → length m'.bytes ≡ length m.bytes
+    → m'.keys ≡ m.keys → present' ≡ present → IsHeld access is_placed m present key block
+    → IsHeld access is_placed' m' present' key block
 held_still key block moves s k p h = record {
   far = h.far;
   may_access = λ low. still_accesses key block.first s k p (h.may_access low);
@@ -240,7 +305,10 @@ held_still key block moves s k p h = record {
 }
 
 -- what is held for operands stays so, where no block moves and no key changes
-pub still_held : {is_placed is_placed' : Block → Type 0} {m m' : Memory} {present present' : ℕ → Bool} (key : ℕ) (held : HeldBlock) → ((b : Block) → is_placed b → is_placed' b) → length m'.bytes ≡ length m.bytes → m'.keys ≡ m.keys → present' ≡ present → AreHeld is_placed m present key held → AreHeld is_placed' m' present' key held
+pub still_held : {is_placed is_placed' : Block → Type 0} {m m' : Memory} {present present' : ℕ → Bool} (key : ℕ)
+    (held : HeldBlock) → ((b : Block) → is_placed b → is_placed' b) → length m'.bytes ≡ length m.bytes
+    → m'.keys ≡ m.keys → present' ≡ present → AreHeld is_placed m present key held
+    → AreHeld is_placed' m' present' key held
 still_held key held moves s k p h = record {
   fetched = held_still key held.fetched moves s k p h.fetched;
   stored = held_still key held.stored moves s k p h.stored;

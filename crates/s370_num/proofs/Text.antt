@@ -1,5 +1,6 @@
 -- What the holes of a format write for bytes as hexadecimal digits.
-use Rattle.std.proofs.Common.{◌≡◌, ℕ, ◌-◌, ◌/◌, ◌%◌, ◌^◌, ◌<◌, ◌≤◌, inl, inr, nat_lt, true, false, Option, Some, List, [], ◌∷◌, if◌then◌else◌, refl, arith}
+use Rattle.std.proofs.Common.{◌≡◌, ℕ, ◌-◌, ◌/◌, ◌%◌, ◌^◌, ◌<◌, ◌≤◌, inl, inr, nat_lt, true, false, Option, Some, List}
+use Rattle.std.proofs.Common.{[], ◌∷◌, if◌then◌else◌, refl, arith}
 use Rattle.std.proofs.lemmas.Bool.{cases_lt}
 use Rattle.std.proofs.lemmas.Bool.Decides.{nat_tests}
 use Rattle.std.proofs.lemmas.Fmt.{hex_one_digit, hex_two_digits, hex_byte}
@@ -13,10 +14,12 @@ byte_hole n = padded_integral (format_spec 32 0 4 2 (2 ^ 64 - 1)) false [] (digi
 byte_shown : (n : ℕ) → n < 256 → byte_hole n ≡ two_digits n
 byte_shown n small = hex_byte true n small
 
-channel_shown : (n : ℕ) → n < 2 ^ 16 → digits 16 true (n / 256) ≡ (if nat_lt n 4096 then digit_of (n / 256) ∷ [] else two_digits (n / 256))
+channel_shown : (n : ℕ) → n < 2 ^ 16 → digits 16 true (n / 256) ≡
+    (if nat_lt n 4096 then digit_of (n / 256) ∷ [] else two_digits (n / 256))
 channel_shown n small =
     elim (cases_lt n 4096) [
-      | inl below ↦ let one : n / 256 < 16 = omega arith in rw (hex_one_digit true (n / 256) one) (grind (arith, nat_tests))
+      | inl below ↦ let one : n / 256 < 16 = omega arith in rw (hex_one_digit true (n / 256) one)
+          (grind (arith, nat_tests))
       | inr above ↦ let two : 16 ≤ n / 256 = omega arith in let byte : n / 256 < 256 = omega arith in
           rw (hex_two_digits true (n / 256) two byte) (grind (arith, nat_tests))
     ]
@@ -36,8 +39,10 @@ address_shown first second third n small f s t =
     let low : n % 256 < 256 = omega arith in
     rw (f, s, t, byte_shown (n / 65536) high, byte_shown (n / 256 % 256) middle, byte_shown (n % 256) low) refl
 
-pub word_shown : (first second third fourth : Option (List ℕ)) (n : ℕ) → n < 2 ^ 32 → first ≡ Some (byte_hole (n / 16777216))
-    → second ≡ Some (byte_hole (n / 65536 % 256)) → third ≡ Some (byte_hole (n / 256 % 256)) → fourth ≡ Some (byte_hole (n % 256))
+pub word_shown : (first second third fourth : Option (List ℕ)) (n : ℕ) → n < 2 ^ 32
+    → first ≡ Some (byte_hole (n / 16777216))
+    → second ≡ Some (byte_hole (n / 65536 % 256)) → third ≡ Some (byte_hole (n / 256 % 256))
+    → fourth ≡ Some (byte_hole (n % 256))
     → (first ++? (second ++? (third ++? fourth))) ≡ Some (word_text n)
 word_shown first second third fourth n small f s t l =
     let highest : n / 16777216 < 256 = omega arith in

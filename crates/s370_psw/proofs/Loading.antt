@@ -8,7 +8,8 @@ bit_le : (b : Bool) → bit b ≤ 1
 bit_le true = omega arith
 bit_le false = omega arith
 
-word_fits : (f : Fields) (code length_code : ℕ) → IsInRange f → code < 2 ^ 16 → length_code < 2 ^ 2 → word_of f code length_code < 2 ^ 64
+word_fits : (f : Fields) (code length_code : ℕ) → IsInRange f → code < 2 ^ 16 → length_code < 2 ^ 2
+    → word_of f code length_code < 2 ^ 64
 word_fits f code length_code range c l =
     omega (arith, bit_le f.extended, bit_le f.machine_check, bit_le f.wait, bit_le f.problem)
 

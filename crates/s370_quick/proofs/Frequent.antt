@@ -1,10 +1,12 @@
 -- A frequent instruction that is done: its row, its rights, and the unit that it makes.
-use Rattle.std.proofs.Common.{◌≡◌, ℕ, Bool, true, false, List, Option, Some, None, Result, Ok, Err, refl, sym, ◌∙◌, ap, subst}
+use Rattle.std.proofs.Common.{◌≡◌, ℕ, Bool, true, false, List, Option, Some, None, Result, Ok, Err, refl, sym, ◌∙◌, ap}
+use Rattle.std.proofs.Common.{subst}
 use Rattle.std.specs.Prelude.{◌&&◌, if◌then◌else◌}
 use Rattle.s370_psw.specs.declared.ProgramCode.{ProgramCode}
 use Rattle.s370_rows.specs.declared.cpu.Cpu.{Cpu}
 use Rattle.s370_rows.specs.declared.ending.Completion.{Completion}
-use Rattle.s370_rows.specs.declared.ending.Completion.TheVariants.{Done, Branch, Again, Interrupted, SupervisorCall, InputOutput}
+use Rattle.s370_rows.specs.declared.ending.Completion.TheVariants.{Done, Branch, Again, Interrupted, SupervisorCall}
+use Rattle.s370_rows.specs.declared.ending.Completion.TheVariants.{InputOutput}
 use Rattle.s370_rows.specs.declared.instruction.Instruction.{Instruction}
 use Rattle.s370_rows.specs.declared.place.Place.{Place}
 use Rattle.s370_rows.specs.Branches.{branches}
@@ -35,19 +37,23 @@ abbrev IsQuietOutcome : State → Result Outcome ProgramCode → Type 0
 IsQuietOutcome m (Ok o) = GoesOnQuietly m o.ending o.state
 IsQuietOutcome m (Err code) = Unit {0}
 
-quiet_outcome : (m : State) (refused fault : Option ProgramCode) (leaves : Result Left ProgramCode) → LeavesQuiet m leaves → IsQuietOutcome m (outcome_of m (unless refused (unless fault leaves)))
+quiet_outcome : (m : State) (refused fault : Option ProgramCode) (leaves : Result Left ProgramCode)
+    → LeavesQuiet m leaves → IsQuietOutcome m (outcome_of m (unless refused (unless fault leaves)))
 quiet_outcome m None None (Ok l) h = (h.goes_on, h.rights)
 quiet_outcome m None None (Err code) h = tt
 quiet_outcome m None (Some code) leaves h = tt
 quiet_outcome m (Some code) fault leaves h = tt
 
 -- a row that is quiet, where it was carried out
-pub quick_done : (r : Row) (present : ℕ → Bool) (m : State) (ending : Completion) (m' : State) → LeavesQuiet m r.leaves → MeetsRow r present m (Ok ending) m' → MeetsQuick r present m (Some ending) m'
+pub quick_done : (r : Row) (present : ℕ → Bool) (m : State) (ending : Completion) (m' : State) → LeavesQuiet m r.leaves
+    → MeetsRow r present m (Ok ending) m' → MeetsQuick r present m (Some ending) m'
 quick_done r present m ending m' h e =
-    let q : GoesOnQuietly m ending m' = subst (λ (x : Result Outcome ProgramCode). IsQuietOutcome m x) e (quiet_outcome m r.refused (fault_of m r.tests) r.leaves h) in
+    let q : GoesOnQuietly m ending m' = subst (λ (x : Result Outcome ProgramCode). IsQuietOutcome m x) e
+    (quiet_outcome m r.refused (fault_of m r.tests) r.leaves h) in
     (e, q.0, q.1)
 
-pub quick_of : (r : Row) (present : ℕ → Bool) (m : State) (answer : Option Completion) (m' : State) → LeavesQuiet m r.leaves → MeetsAtOnce r present m answer m' → MeetsQuick r present m answer m'
+pub quick_of : (r : Row) (present : ℕ → Bool) (m : State) (answer : Option Completion) (m' : State)
+    → LeavesQuiet m r.leaves → MeetsAtOnce r present m answer m' → MeetsQuick r present m answer m'
 quick_of r present m None m' h e = e
 quick_of r present m (Some ending) m' h e = quick_done r present m ending m' h e
 
@@ -60,15 +66,20 @@ no_overflow true c code e = rw e tt
 no_overflow false c code e = tt
 
 -- a part of a long move goes on, or is the last
-part_quiet : (m : State) (b : Bool) (x y : Cpu) (ss : List Stored) → rights_of (record m { cpu = x }) ≡ rights_of m → rights_of (record m { cpu = y }) ≡ rights_of m → (let e : Ended = if b then (record { ending = Done; cpu = x }) else (record { ending = Again; cpu = y }) in IsQuiet m (record { ending = e.ending; cpu = e.cpu; stores = ss; keyed = None }))
+part_quiet : (m : State) (b : Bool) (x y : Cpu) (ss : List Stored) → rights_of (record m { cpu = x }) ≡ rights_of m
+    → rights_of (record m { cpu = y }) ≡ rights_of m → (let e : Ended = if b then
+    (record { ending = Done; cpu = x }) else (record { ending = Again; cpu = y }) in
+    IsQuiet m (record { ending = e.ending; cpu = e.cpu; stores = ss; keyed = None }))
 part_quiet m true x y ss h k = record { goes_on = tt; rights = h }
 part_quiet m false x y ss h k = record { goes_on = tt; rights = k }
 
-pub either_quiet : (m : State) (b : Bool) (r s : Row) → LeavesQuiet m r.leaves → LeavesQuiet m s.leaves → LeavesQuiet m (if b then r else s).leaves
+pub either_quiet : (m : State) (b : Bool) (r s : Row) → LeavesQuiet m r.leaves → LeavesQuiet m s.leaves
+    → LeavesQuiet m (if b then r else s).leaves
 either_quiet m true r s h k = h
 either_quiet m false r s h k = k
 
-pub over_quiet : (m : State) (cpu : Cpu) → rights_of (record m { cpu = cpu }) ≡ rights_of m → LeavesQuiet m (Ok (over (record { ending = Done; cpu = cpu })))
+pub over_quiet : (m : State) (cpu : Cpu) → rights_of (record m { cpu = cpu }) ≡ rights_of m
+    → LeavesQuiet m (Ok (over (record { ending = Done; cpu = cpu })))
 over_quiet m cpu h = record { goes_on = tt; rights = h }
 
 pub long_quiet : (m : State) (i : Instruction) → LeavesQuiet m (long_moved m i).leaves
@@ -76,7 +87,9 @@ long_quiet m i = search (either_quiet, over_quiet, part_quiet)
 
 -- ---- the unit
 
-went : (m : State) (place : Place) (ending : Completion) (cpu' : Cpu) (m' : State) → stopped (Ok ending) place m'.cpu ≡ record { stop = DoneStop; cpu = cpu' } → GoesOn ending → rights_of (record m' { cpu = cpu' }) ≡ rights_of m'
+went : (m : State) (place : Place) (ending : Completion) (cpu' : Cpu) (m' : State)
+    → stopped (Ok ending) place m'.cpu ≡ record { stop = DoneStop; cpu = cpu' } → GoesOn ending
+    → rights_of (record m' { cpu = cpu' }) ≡ rights_of m'
 went m place Done cpu' m' e h = rw (sym (ap (λ (s : Stopped). s.cpu) e)) refl
 went m place (Branch a) cpu' m' e h = rw (sym (ap (λ (s : Stopped). s.cpu) e)) refl
 went m place Again cpu' m' e h = rw (sym (ap (λ (s : Stopped). s.cpu) e)) refl
@@ -84,11 +97,18 @@ went m place (Interrupted code) cpu' m' e h = absurd h
 went m place (SupervisorCall n) cpu' m' e h = absurd h
 went m place (InputOutput operation device) cpu' m' e h = absurd h
 
-pub quick_rights : (m : State) (place : Place) (r : Row) (present : ℕ → Bool) (ending : Completion) (cpu' : Cpu) (m' : State) → MeetsQuick r present m (Some ending) m' → stopped (Ok ending) place m'.cpu ≡ record { stop = DoneStop; cpu = cpu' } → rights_of (record m' { cpu = cpu' }) ≡ rights_of m
+pub quick_rights : (m : State) (place : Place) (r : Row) (present : ℕ → Bool) (ending : Completion) (cpu' : Cpu)
+    (m' : State) → MeetsQuick r present m (Some ending) m' → stopped
+    (Ok ending) place m'.cpu ≡ record { stop = DoneStop; cpu = cpu' }
+    → rights_of (record m' { cpu = cpu' }) ≡ rights_of m
 quick_rights m place r present ending cpu' m' q e = went m place ending cpu' m' e q.1 ∙ q.2
 
-pub quick_unit : (m : State) (ilc : ℕ) (i : Instruction) (ending : Completion) (cpu' : Cpu) (present : ℕ → Bool) (m' : State) → Carries m ilc i → MeetsRow (row_of m (place_at m ilc) i) present m (Ok ending) m' → stopped (Ok ending) (place_at m ilc) m'.cpu ≡ record { stop = DoneStop; cpu = cpu' } → MeetsUnit (unit m) present m DoneStop (record m' { cpu = cpu' })
+pub quick_unit : (m : State) (ilc : ℕ) (i : Instruction) (ending : Completion) (cpu' : Cpu) (present : ℕ → Bool)
+    (m' : State) → Carries m ilc i → MeetsRow (row_of m (place_at m ilc) i) present m (Ok ending) m'
+    → stopped (Ok ending) (place_at m ilc) m'.cpu ≡ record { stop = DoneStop; cpu = cpu' }
+    → MeetsUnit (unit m) present m DoneStop (record m' { cpu = cpu' })
 quick_unit m ilc i ending cpu' present m' c h e =
     let s = stopped (Ok ending) (place_at m ilc) m'.cpu in
     subst (λ (t : Stopped). MeetsUnit (unit m) present m t.stop (record m' { cpu = t.cpu })) e
-    (whole_meets row_of m ilc i s.stop (record m' { cpu = s.cpu }) present c (carried_meets row_of present m (place_at m ilc) i (Ok ending) m' h))
+    (whole_meets row_of m ilc i s.stop (record m' { cpu = s.cpu }) present c
+    (carried_meets row_of present m (place_at m ilc) i (Ok ending) m' h))

@@ -1,6 +1,7 @@
 -- Each row of a steady operation code is quiet, if none of its overflows interrupts: the processor goes on after it,
 -- and it changes no rights.
-use Rattle.std.proofs.Common.{◌≡◌, ℕ, ◌-◌, ◌==◌, Bool, true, false, List, Option, Some, None, Result, Ok, Err, refl, slice_index}
+use Rattle.std.proofs.Common.{◌≡◌, ℕ, ◌-◌, ◌==◌, Bool, true, false, List, Option, Some, None, Result, Ok, Err, refl}
+use Rattle.std.proofs.Common.{slice_index}
 use Rattle.std.specs.Prelude.{if◌then◌else◌, ◌&&◌, nat_le, nat_lt}
 use Rattle.s370_psw.specs.declared.ProgramCode.{ProgramCode}
 use Rattle.s370_psw.specs.declared.ProgramCode.TheVariants.{Specification}
@@ -25,13 +26,22 @@ use Rattle.s370_bytes.specs.Long.{compared_to, operand_of, part_ordered}
 use Rattle.s370_cpu.specs.declared.opcodes.Branching.{Branching}
 use Rattle.s370_cpu.specs.declared.opcodes.Branching.TheVariants.{Count, Condition, Link}
 use Rattle.s370_cpu.specs.declared.opcodes.RegisterRow.{RegisterRow}
-use Rattle.s370_cpu.specs.declared.opcodes.RegisterRow.TheVariants.{SetProgramMask, Register, Multiply, Divide, LoadAddress, ShiftWord, ShiftPair, BranchRegister, BranchTo, BranchOnIndex}
+use Rattle.s370_cpu.specs.declared.opcodes.RegisterRow.TheVariants.{SetProgramMask, Register, Multiply, Divide}
+use Rattle.s370_cpu.specs.declared.opcodes.RegisterRow.TheVariants.{LoadAddress, ShiftWord, ShiftPair, BranchRegister}
+use Rattle.s370_cpu.specs.declared.opcodes.RegisterRow.TheVariants.{BranchTo, BranchOnIndex}
 use Rattle.s370_cpu.specs.declared.opcodes.FetchRow.{FetchRow}
-use Rattle.s370_cpu.specs.declared.opcodes.FetchRow.TheVariants.{Word, Halfword, MultiplyWord, MultiplyHalfword, DivideWord, ConvertToBinary, InsertCharacter, InsertCharacters, CompareCharacters, LoadMultiple, TestByte, CompareStrings, ScanString, CompareLong}
+use Rattle.s370_cpu.specs.declared.opcodes.FetchRow.TheVariants.{Word, Halfword, MultiplyWord, MultiplyHalfword}
+use Rattle.s370_cpu.specs.declared.opcodes.FetchRow.TheVariants.{DivideWord, ConvertToBinary, InsertCharacter}
+use Rattle.s370_cpu.specs.declared.opcodes.FetchRow.TheVariants.{InsertCharacters, CompareCharacters, LoadMultiple}
+use Rattle.s370_cpu.specs.declared.opcodes.FetchRow.TheVariants.{TestByte, CompareStrings, ScanString, CompareLong}
 use Rattle.s370_cpu.specs.declared.opcodes.StoreRow.{StoreRow}
-use Rattle.s370_cpu.specs.declared.opcodes.StoreRow.TheVariants.{StoreWord, StoreHalfword, StoreCharacter, StoreCharacters, StoreMultiple, ConvertToDecimal, ChangeByte, SwapWord, SwapDoubleword, CombineStrings, Translate, LayOut, MoveLong}
+use Rattle.s370_cpu.specs.declared.opcodes.StoreRow.TheVariants.{StoreWord, StoreHalfword, StoreCharacter}
+use Rattle.s370_cpu.specs.declared.opcodes.StoreRow.TheVariants.{StoreCharacters, StoreMultiple, ConvertToDecimal}
+use Rattle.s370_cpu.specs.declared.opcodes.StoreRow.TheVariants.{ChangeByte, SwapWord, SwapDoubleword, CombineStrings}
+use Rattle.s370_cpu.specs.declared.opcodes.StoreRow.TheVariants.{Translate, LayOut, MoveLong}
 use Rattle.s370_cpu.specs.declared.opcodes.Opcode.{Opcode}
-use Rattle.s370_cpu.specs.declared.opcodes.Opcode.TheVariants.{Invalid, Supervised, SupervisorCall, Execute, Computes, Fetches, Stores}
+use Rattle.s370_cpu.specs.declared.opcodes.Opcode.TheVariants.{Invalid, Supervised, SupervisorCall, Execute, Computes}
+use Rattle.s370_cpu.specs.declared.opcodes.Opcode.TheVariants.{Fetches, Stores}
 use Rattle.s370_cpu.specs.Laws.{rights_of}
 use Rattle.s370_cpu.specs.RegisterRows.{branched, register_row}
 use Rattle.s370_cpu.specs.FetchRows.{fetch_row}
@@ -40,14 +50,16 @@ use Rattle.s370_cpu.specs.Opcodes.{opcode_at}
 use Rattle.s370_cpu.specs.Table.{is_steady, may_overflow, row_named, row_of}
 use Rattle.s370_quick.specs.Quick.{GoesOn, MeetsAtOnce, MeetsQuick}
 use Rattle.s370_quick.proofs.Overflow.{NoOverflow, arithmetic_quiet, pair_shift_quiet, word_shift_quiet}
-use Rattle.s370_quick.proofs.Frequent.{IsQuiet, LeavesQuiet, branches_go_on, either_quiet, long_quiet, no_overflow, over_quiet, quick_of}
+use Rattle.s370_quick.proofs.Frequent.{IsQuiet, LeavesQuiet, branches_go_on, either_quiet, long_quiet, no_overflow}
+use Rattle.s370_quick.proofs.Frequent.{over_quiet, quick_of}
 
 abbrev EndsQuiet : State → Result Ended ProgramCode → Type 0
 EndsQuiet m (Err code) = Unit {0}
 EndsQuiet m (Ok e) = IsQuiet m (over e)
 
 -- what is left of registers
-kept : (m : State) (e : Ended) → GoesOn e.ending → rights_of (record m { cpu = e.cpu }) ≡ rights_of m → EndsQuiet m (Ok e)
+kept : (m : State) (e : Ended) → GoesOn e.ending → rights_of (record m { cpu = e.cpu }) ≡ rights_of m
+    → EndsQuiet m (Ok e)
 kept m e g h = record { goes_on = g; rights = h }
 
 left_quiet : (m : State) (l : Left) → GoesOn l.ending → rights_of (after m l) ≡ rights_of m → LeavesQuiet m (Ok l)
@@ -59,7 +71,8 @@ result_quiet : (m : State) (r : Result Ended ProgramCode) → EndsQuiet m r → 
 result_quiet m (Err code) h = tt
 result_quiet m (Ok e) h = h
 
-even_quiet : (m : State) (b : Bool) (r : Result Ended ProgramCode) → EndsQuiet m r → EndsQuiet m (if b then r else Err Specification)
+even_quiet : (m : State) (b : Bool) (r : Result Ended ProgramCode) → EndsQuiet m r
+    → EndsQuiet m (if b then r else Err Specification)
 even_quiet m true r h = h
 even_quiet m false r h = tt
 
@@ -67,12 +80,14 @@ division_quiet : (m : State) (r : ℕ) (d : Option Division) → EndsQuiet m (di
 division_quiet m r None = tt
 division_quiet m r (Some d) = record { goes_on = tt; rights = refl }
 
-branched_quiet : (b : Branching) (m : State) (place : Place) (i : Instruction) (may : Bool) (target : ℕ) → IsQuiet m (over (branched b m.cpu place i may target))
+branched_quiet : (b : Branching) (m : State) (place : Place) (i : Instruction) (may : Bool) (target : ℕ)
+    → IsQuiet m (over (branched b m.cpu place i may target))
 branched_quiet Count m place i may target = record { goes_on = branches_go_on _ _; rights = refl }
 branched_quiet Condition m place i may target = record { goes_on = branches_go_on _ _; rights = refl }
 branched_quiet Link m place i may target = record { goes_on = branches_go_on _ _; rights = refl }
 
-register_quiet : (row : RegisterRow) (m : State) (place : Place) (i : Instruction) → NoOverflow (may_overflow (Computes row)) m → EndsQuiet m (register_row row m.cpu place i)
+register_quiet : (row : RegisterRow) (m : State) (place : Place) (i : Instruction)
+    → NoOverflow (may_overflow (Computes row)) m → EndsQuiet m (register_row row m.cpu place i)
 register_quiet SetProgramMask m place i none = record { goes_on = tt; rights = refl }
 register_quiet (Register op) m place i none = arithmetic_quiet op m _ _ none
 register_quiet Multiply m place i none = even_quiet m _ (Ok _) (kept m _ tt refl)
@@ -86,25 +101,33 @@ register_quiet (BranchOnIndex b) m place i none = record { goes_on = branches_go
 
 -- ---- rows that fetch
 
-scanned_rights : (m : State) (b : Bool) (x y : Cpu) → rights_of (record m { cpu = x }) ≡ rights_of m → rights_of (record m { cpu = y }) ≡ rights_of m → rights_of (record m { cpu = if b then x else y }) ≡ rights_of m
+scanned_rights : (m : State) (b : Bool) (x y : Cpu) → rights_of (record m { cpu = x }) ≡ rights_of m
+    → rights_of (record m { cpu = y }) ≡ rights_of m → rights_of (record m { cpu = if b then x else y }) ≡ rights_of m
 scanned_rights m true x y h k = h
 scanned_rights m false x y h k = k
 
-ended_quiet : (m : State) (b : Bool) (cpu : Cpu) (code : ℕ) → rights_of (record m { cpu = cpu }) ≡ rights_of m → (let e : Ended = if b then done (with_condition cpu code) else (record { ending = Again; cpu = cpu }) in IsQuiet m (over e))
+ended_quiet : (m : State) (b : Bool) (cpu : Cpu) (code : ℕ) → rights_of (record m { cpu = cpu }) ≡ rights_of m
+    → (let e : Ended = if b then done (with_condition cpu code) else (record { ending = Again; cpu = cpu }) in
+    IsQuiet m (over e))
 ended_quiet m true cpu code h = record { goes_on = tt; rights = h }
 ended_quiet m false cpu code h = record { goes_on = tt; rights = h }
 
-unequal_quiet : (m : State) (b c : Bool) (cpu : Cpu) (code : ℕ) → rights_of (record m { cpu = cpu }) ≡ rights_of m → (let e : Ended = if b then done (with_condition cpu code) else (if c then done (with_condition cpu 0) else (record { ending = Again; cpu = cpu })) in IsQuiet m (over e))
+unequal_quiet : (m : State) (b c : Bool) (cpu : Cpu) (code : ℕ) → rights_of (record m { cpu = cpu }) ≡ rights_of m
+    → (let e : Ended = if b then done (with_condition cpu code) else
+    (if c then done (with_condition cpu 0) else (record { ending = Again; cpu = cpu })) in IsQuiet m (over e))
 unequal_quiet m true c cpu code h = record { goes_on = tt; rights = h }
 unequal_quiet m false c cpu code h = ended_quiet m c cpu 0 h
 
-ordered_quiet : (m : State) (r1 r2 k j1 j2 : ℕ) (xs ys : List ℕ) → IsQuiet m (over (part_ordered m.cpu r1 r2 k j1 j2 xs ys))
+ordered_quiet : (m : State) (r1 r2 k j1 j2 : ℕ) (xs ys : List ℕ)
+    → IsQuiet m (over (part_ordered m.cpu r1 r2 k j1 j2 xs ys))
 ordered_quiet m r1 r2 k j1 j2 xs ys =
     let n = equal_pairs xs ys in
     let all = ((operand_of m.cpu r1).count - j1 == 0) && ((operand_of m.cpu r2).count - j2 == 0) in
-    unequal_quiet m (nat_lt n k) all (compared_to m.cpu r1 r2 j1 j2 n) (order_code (slice_index xs n) (slice_index ys n)) refl
+    unequal_quiet m (nat_lt n k) all (compared_to m.cpu r1 r2 j1 j2 n)
+    (order_code (slice_index xs n) (slice_index ys n)) refl
 
-fetch_quiet : (row : FetchRow) (m : State) (i : Instruction) → NoOverflow (may_overflow (Fetches row)) m → is_steady (Fetches row) ≡ true → LeavesQuiet m (fetch_row row m i).leaves
+fetch_quiet : (row : FetchRow) (m : State) (i : Instruction) → NoOverflow (may_overflow (Fetches row)) m
+    → is_steady (Fetches row) ≡ true → LeavesQuiet m (fetch_row row m i).leaves
 fetch_quiet (Word op) m i none steady = arithmetic_quiet op m _ _ none
 fetch_quiet (Halfword op) m i none steady = arithmetic_quiet op m _ _ none
 fetch_quiet MultiplyWord m i none steady = search (either_quiet, over_quiet)
@@ -122,7 +145,8 @@ fetch_quiet CompareLong m i none steady = search (either_quiet, over_quiet, orde
 
 -- ---- rows that store
 
-condition_rights : (op : Combine) (m : State) (xs : List ℕ) → rights_of (record m { cpu = combined_condition op m.cpu xs }) ≡ rights_of m
+condition_rights : (op : Combine) (m : State) (xs : List ℕ) → rights_of
+    (record m { cpu = combined_condition op m.cpu xs }) ≡ rights_of m
 condition_rights Move m xs = refl
 condition_rights MoveNumerics m xs = refl
 condition_rights MoveZones m xs = refl
@@ -130,11 +154,17 @@ condition_rights And m xs = refl
 condition_rights Or m xs = refl
 condition_rights ExclusiveOr m xs = refl
 
-swap_quiet : (m : State) (a r1 r3 operand : ℕ) (b : Bool) → (let s : Swapped = if b then (record { cpu = with_condition m.cpu 0; stored = Some (slice_index m.cpu.general r3) }) else (record { cpu = with_condition (with_register m.cpu r1 operand) 1; stored = None }) in LeavesQuiet m (Ok (record { ending = Done; cpu = s.cpu; stores = word_taken a s.stored; keyed = None })))
+swap_quiet : (m : State) (a r1 r3 operand : ℕ) (b : Bool) → (let s : Swapped = if b then
+    (record { cpu = with_condition m.cpu 0; stored = Some (slice_index m.cpu.general r3) }) else
+    (record { cpu = with_condition (with_register m.cpu r1 operand) 1; stored = None }) in
+    LeavesQuiet m (Ok (record { ending = Done; cpu = s.cpu; stores = word_taken a s.stored; keyed = None })))
 swap_quiet m a r1 r3 operand true = record { goes_on = tt; rights = refl }
 swap_quiet m a r1 r3 operand false = record { goes_on = tt; rights = refl }
 
-swap_pair_quiet : (m : State) (a r1 r3 operand : ℕ) (b : Bool) → (let s : Swapped = if b then (record { cpu = with_condition m.cpu 0; stored = Some (pair_of m.cpu r3) }) else (record { cpu = with_condition (with_pair m.cpu r1 operand) 1; stored = None }) in LeavesQuiet m (Ok (record { ending = Done; cpu = s.cpu; stores = doubleword_taken a s.stored; keyed = None })))
+swap_pair_quiet : (m : State) (a r1 r3 operand : ℕ) (b : Bool)
+    → (let s : Swapped = if b then (record { cpu = with_condition m.cpu 0; stored = Some (pair_of m.cpu r3) }) else
+    (record { cpu = with_condition (with_pair m.cpu r1 operand) 1; stored = None }) in
+    LeavesQuiet m (Ok (record { ending = Done; cpu = s.cpu; stores = doubleword_taken a s.stored; keyed = None })))
 swap_pair_quiet m a r1 r3 operand true = record { goes_on = tt; rights = refl }
 swap_pair_quiet m a r1 r3 operand false = record { goes_on = tt; rights = refl }
 
@@ -155,7 +185,8 @@ store_quiet MoveLong m i = long_quiet m i
 
 -- ---- all rows
 
-pub steady_quiet : (op : Opcode) (m : State) (place : Place) (i : Instruction) → is_steady op ≡ true → NoOverflow (may_overflow op) m → LeavesQuiet m (row_named op m place i).leaves
+pub steady_quiet : (op : Opcode) (m : State) (place : Place) (i : Instruction) → is_steady op ≡ true
+    → NoOverflow (may_overflow op) m → LeavesQuiet m (row_named op m place i).leaves
 steady_quiet Invalid m place i steady none = tt
 steady_quiet (Supervised c) m place i steady none = absurd (let e : false ≡ true = steady in cc)
 steady_quiet SupervisorCall m place i steady none = absurd (let e : false ≡ true = steady in cc)
@@ -165,6 +196,8 @@ steady_quiet (Fetches row) m place i steady none = fetch_quiet row m i none stea
 steady_quiet (Stores row) m place i steady none = store_quiet row m i
 
 -- a row of a steady operation code, carried out at once or not at all
-pub steady_of : (m : State) (place : Place) (i : Instruction) (present : ℕ → Bool) (answer : Option Completion) (m' : State) → is_steady (opcode_at i.opcode) ≡ true → NoOverflow (may_overflow (opcode_at i.opcode)) m → MeetsAtOnce (row_of m place i) present m answer m' → MeetsQuick (row_of m place i) present m answer m'
+pub steady_of : (m : State) (place : Place) (i : Instruction) (present : ℕ → Bool) (answer : Option Completion)
+    (m' : State) → is_steady (opcode_at i.opcode) ≡ true → NoOverflow (may_overflow (opcode_at i.opcode)) m
+    → MeetsAtOnce (row_of m place i) present m answer m' → MeetsQuick (row_of m place i) present m answer m'
 steady_of m place i present answer m' steady none row =
     quick_of (row_of m place i) present m answer m' (steady_quiet (opcode_at i.opcode) m place i steady none) row

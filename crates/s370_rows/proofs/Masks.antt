@@ -1,8 +1,10 @@
 -- Steps of a walk over the four bytes that a mask selects from.
-use Rattle.std.proofs.Common.{◌≡◌, ℕ, zero, suc, ◌+◌, ◌<◌, ◌≤◌, ◌≢◌, true, false, List, [], ◌∷◌, ◌++◌, length, get_or, set, eqb-true, arith, refl, add-one, below_more, get_or-set_same, get_or-set_other}
+use Rattle.std.proofs.Common.{◌≡◌, ℕ, zero, suc, ◌+◌, ◌<◌, ◌≤◌, ◌≢◌, true, false, List, [], ◌∷◌, ◌++◌, length, get_or}
+use Rattle.std.proofs.Common.{set, eqb-true, arith, refl, add-one, below_more, get_or-set_same, get_or-set_other}
 use Rattle.std.proofs.lemmas.Bool.Decides.{nat_tests}
 use Rattle.std.proofs.lemmas.List.{append-nil}
-use Rattle.s370_rows.specs.Mask.{byte_at, inserted_byte, mask_bit, selected_before, selected_count, selected_front, selects}
+use Rattle.s370_rows.specs.Mask.{byte_at, inserted_byte, mask_bit, selected_before, selected_count, selected_front}
+use Rattle.s370_rows.specs.Mask.{selects}
 
 selected_bit : (mask k : ℕ) → selects mask k ≡ true → mask_bit mask k ≡ 1
 selected_bit mask k s = eqb-true (mask_bit mask k) 1 s
@@ -24,20 +26,25 @@ is_counted mask (suc (suc zero)) l s = let b = selected_bit mask 2 s in omega ar
 is_counted mask (suc (suc (suc zero))) l s = let b = selected_bit mask 3 s in omega arith
 is_counted mask (suc (suc (suc (suc k)))) l s = absurd (omega arith)
 
-pub front_selected : (word mask k : ℕ) → selects mask k ≡ true → selected_front word mask (k + 1) ≡ selected_front word mask k ++ (byte_at word k ∷ [])
+pub front_selected : (word mask k : ℕ) → selects mask k ≡ true
+    → selected_front word mask (k + 1) ≡ selected_front word mask k ++ (byte_at word k ∷ [])
 front_selected word mask k s = rw (add-one, s) refl
 
-pub front_passed : (word mask k : ℕ) → selects mask k ≡ false → selected_front word mask (k + 1) ≡ selected_front word mask k
+pub front_passed : (word mask k : ℕ) → selects mask k ≡ false
+    → selected_front word mask (k + 1) ≡ selected_front word mask k
 front_passed word mask k s = rw (add-one, s) (append-nil (selected_front word mask k))
 
-pub inserted_selected : (word mask : ℕ) (bytes : List ℕ) (k : ℕ) → selects mask k ≡ true → inserted_byte word mask bytes k ≡ get_or bytes (selected_before mask k) 0
+pub inserted_selected : (word mask : ℕ) (bytes : List ℕ) (k : ℕ) → selects mask k ≡ true
+    → inserted_byte word mask bytes k ≡ get_or bytes (selected_before mask k) 0
 inserted_selected word mask bytes k s = rw s refl
 
-pub inserted_passed : (word mask : ℕ) (bytes : List ℕ) (k : ℕ) → selects mask k ≡ false → inserted_byte word mask bytes k ≡ byte_at word k
+pub inserted_passed : (word mask : ℕ) (bytes : List ℕ) (k : ℕ) → selects mask k ≡ false
+    → inserted_byte word mask bytes k ≡ byte_at word k
 inserted_passed word mask bytes k s = rw s refl
 
 -- one more element is what it is to be
-pub one_more_done : (xs : List ℕ) (n v : ℕ) (f : ℕ → ℕ) → n < length xs → v ≡ f n → ((k : ℕ) → k < n → get_or xs k 0 ≡ f k)
+pub one_more_done : (xs : List ℕ) (n v : ℕ) (f : ℕ → ℕ) → n < length xs → v ≡ f n
+    → ((k : ℕ) → k < n → get_or xs k 0 ≡ f k)
     → (k : ℕ) → k < n + 1 → get_or (set xs n v) k 0 ≡ f k
 one_more_done xs n v f l e done =
     let P : ℕ → Type 0 = λ k. get_or (set xs n v) k 0 ≡ f k in

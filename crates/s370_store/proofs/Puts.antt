@@ -1,11 +1,14 @@
 -- What a write leaves as it was.
-use Rattle.std.proofs.Common.{◌≡◌, ◌≢◌, ℕ, ◌+◌, ◌-◌, ◌<◌, ◌≤◌, List, [], ◌++◌, length, get_or, take, drop, refl, ◌∙◌, ap, arith, inl, inr}
+use Rattle.std.proofs.Common.{◌≡◌, ◌≢◌, ℕ, ◌+◌, ◌-◌, ◌<◌, ◌≤◌, List, [], ◌++◌, length, get_or, take, drop, refl, ◌∙◌}
+use Rattle.std.proofs.Common.{ap, arith, inl, inr}
 use Rattle.std.proofs.lemmas.Bool.{cases_lt}
-use Rattle.std.proofs.lemmas.List.{get_or-take, get_or-drop, get_or-append_right, get_or_append_left, length-take-le, take-append-drop}
+use Rattle.std.proofs.lemmas.List.{get_or-take, get_or-drop, get_or-append_right, get_or_append_left, length-take-le}
+use Rattle.std.proofs.lemmas.List.{take-append-drop}
 use Rattle.std.proofs.lemmas.Grind.{common_steps}
 use Rattle.s370_store.specs.Access.{put}
 
-pub length-put : (bytes xs : List ℕ) (start : ℕ) → start + length xs ≤ length bytes → length (put bytes start xs) ≡ length bytes
+pub length-put : (bytes xs : List ℕ) (start : ℕ) → start + length xs ≤ length bytes
+    → length (put bytes start xs) ≡ length bytes
 unfolding put
 length-put bytes xs start h = grind (arith, common_steps)
 
@@ -13,13 +16,16 @@ pub put-nothing : (bytes : List ℕ) (start : ℕ) → put bytes start [] ≡ by
 unfolding put
 put-nothing bytes start = take-append-drop start bytes
 
-pub put_before : (bytes xs : List ℕ) (start a : ℕ) → start + length xs ≤ length bytes → a < start → get_or (put bytes start xs) a 0 ≡ get_or bytes a 0
+pub put_before : (bytes xs : List ℕ) (start a : ℕ) → start + length xs ≤ length bytes → a < start
+    → get_or (put bytes start xs) a 0 ≡ get_or bytes a 0
 unfolding put
 put_before bytes xs start a h lt =
     let long : length (take start bytes) ≡ start = length-take-le start bytes (omega arith) in
-    get_or_append_left (take start bytes) (xs ++ drop (length xs) (drop start bytes)) 0 a (omega arith) ∙ get_or-take start bytes a 0 lt
+    get_or_append_left (take start bytes) (xs ++ drop (length xs) (drop start bytes)) 0 a (omega arith)
+    ∙ get_or-take start bytes a 0 lt
 
-pub put_after : (bytes xs : List ℕ) (start a : ℕ) → start + length xs ≤ length bytes → start + length xs ≤ a → get_or (put bytes start xs) a 0 ≡ get_or bytes a 0
+pub put_after : (bytes xs : List ℕ) (start a : ℕ) → start + length xs ≤ length bytes → start + length xs ≤ a
+    → get_or (put bytes start xs) a 0 ≡ get_or bytes a 0
 unfolding put
 put_after bytes xs start a h low =
     let long : length (take start bytes) ≡ start = length-take-le start bytes (omega arith) in
@@ -31,7 +37,8 @@ put_after bytes xs start a h low =
     ∙ ap (λ k. get_or bytes k 0) place
 
 -- a byte that a write has changed is one of those that it wrote
-pub changed_within : (bytes xs : List ℕ) (start a : ℕ) → start + length xs ≤ length bytes → get_or (put bytes start xs) a 0 ≢ get_or bytes a 0 → (start ≤ a) × (a < start + length xs)
+pub changed_within : (bytes xs : List ℕ) (start a : ℕ) → start + length xs ≤ length bytes
+    → get_or (put bytes start xs) a 0 ≢ get_or bytes a 0 → (start ≤ a) × (a < start + length xs)
 changed_within bytes xs start a h changed =
     elim (cases_lt a start) [
       | inl before ↦ absurd (changed (put_before bytes xs start a h before))

@@ -25,7 +25,8 @@ pub subchannel_code : IsCode subchannel_bytes
 subchannel_code =
     let last = both_code flag number flag_code number_code in
     let state = both_code state_bytes (both flag number) state_code last in
-    of_parts (both number (both state_bytes (both flag number))) (both_code number (both state_bytes (both flag number)) number_code state)
+    of_parts (both number (both state_bytes (both flag number)))
+    (both_code number (both state_bytes (both flag number)) number_code state)
     (λ (s : Subchannel). (s.address, (s.state, (s.attention, s.last_start))))
     (λ p. record { address = p.0; state = p.1.0; attention = p.1.1.0; last_start = p.1.1.1 })
     (λ s. refl)

@@ -1,5 +1,6 @@
 -- A text cut at its first LF, and a line at its first blank.
-use Rattle.std.proofs.Common.{◌≡◌, ℕ, ◌+◌, ◌<◌, zero, suc, Bool, true, false, cond, not, eqb, ltb, List, [], ◌∷◌, length, get_or, take, drop, Some, None, refl, ap, add-one, arith}
+use Rattle.std.proofs.Common.{◌≡◌, ℕ, ◌+◌, ◌<◌, zero, suc, Bool, true, false, cond, not, eqb, ltb, List, [], ◌∷◌}
+use Rattle.std.proofs.Common.{length, get_or, take, drop, Some, None, refl, ap, add-one, arith}
 use Rattle.std.specs.List.{onto_first, position, position_or_len}
 use Rattle.std.proofs.lemmas.List.Sums.{prefix_len_passes}
 use Rattle.std.proofs.lemmas.Bool.{ltb-false}
@@ -14,23 +15,31 @@ record First (byte : ℕ) (xs : List ℕ) (at : ℕ) : Type 0 where
   before : (k : ℕ) → k < at → eqb (get_or xs k 0) byte ≡ false
 
 first : (byte : ℕ) (xs : List ℕ) (at : ℕ) → position (λ c. eqb c byte) xs ≡ Some at → First byte xs at
-first byte xs at e = let h = position-Some (λ c. eqb c byte) xs at 0 e in record { within = h.0; here = h.1; before = h.2 }
+first byte xs at e = let h = position-Some (λ c. eqb c byte) xs at 0 e in
+    record { within = h.0; here = h.1; before = h.2 }
 
 later : (byte c : ℕ) (cs : List ℕ) (at : ℕ) → First byte (c ∷ cs) (suc at) → First byte cs at
-later byte c cs at h = record { within = omega (arith, h.within); here = h.here; before = λ k less. h.before (suc k) (omega arith) }
+later byte c cs at h = record {
+  within = omega (arith, h.within);
+  here = h.here;
+  before = λ k less. h.before (suc k) (omega arith);
+}
 
 lines_cut : (xs : List ℕ) (at : ℕ) → First 10 xs at → lines_of xs ≡ take at xs ∷ lines_of (drop (suc at) xs)
 lines_cut [] at h = absurd (omega (arith, h.within))
 lines_cut (c ∷ cs) zero h = rw h.here refl
-lines_cut (c ∷ cs) (suc at) h = rw (h.before zero (omega arith)) (ap (onto_first c) (lines_cut cs at (later 10 c cs at h)))
+lines_cut (c ∷ cs) (suc at) h = rw (h.before zero (omega arith))
+    (ap (onto_first c) (lines_cut cs at (later 10 c cs at h)))
 
-pub lines_at : (xs : List ℕ) (at : ℕ) → position (λ c. eqb c 10) xs ≡ Some at → lines_of xs ≡ take at xs ∷ lines_of (drop (at + 1) xs)
+pub lines_at : (xs : List ℕ) (at : ℕ) → position (λ c. eqb c 10) xs ≡ Some at
+    → lines_of xs ≡ take at xs ∷ lines_of (drop (at + 1) xs)
 lines_at xs at e = rw add-one (lines_cut xs at (first 10 xs at e))
 
 word_cut : (xs : List ℕ) (at : ℕ) → First 32 xs at → word_of xs ≡ take at xs
 word_cut [] at h = absurd (omega (arith, h.within))
 word_cut (c ∷ cs) zero h = rw h.here refl
-word_cut (c ∷ cs) (suc at) h = rw (h.before zero (omega arith)) (ap (λ (l : List ℕ). c ∷ l) (word_cut cs at (later 32 c cs at h)))
+word_cut (c ∷ cs) (suc at) h = rw (h.before zero (omega arith))
+    (ap (λ (l : List ℕ). c ∷ l) (word_cut cs at (later 32 c cs at h)))
 
 pub word_at : (xs : List ℕ) (at : ℕ) → position (λ c. eqb c 32) xs ≡ Some at → word_of xs ≡ take at xs
 word_at xs at e = word_cut xs at (first 32 xs at e)
@@ -43,14 +52,17 @@ after_cut (c ∷ cs) (suc at) h = rw (h.before zero (omega arith)) (after_cut cs
 pub after_at : (xs : List ℕ) (at : ℕ) → position (λ c. eqb c 32) xs ≡ Some at → after_word xs ≡ Some (drop (at + 1) xs)
 after_at xs at e = rw add-one (after_cut xs at (first 32 xs at e))
 
-pub line_alone : (xs : List ℕ) → 0 < length xs → ((k : ℕ) → k < length xs → eqb (get_or xs k 0) 10 ≡ false) → lines_of xs ≡ xs ∷ []
+pub line_alone : (xs : List ℕ) → 0 < length xs → ((k : ℕ) → k < length xs → eqb (get_or xs k 0) 10 ≡ false)
+    → lines_of xs ≡ xs ∷ []
 line_alone [] some h = absurd (omega arith)
 line_alone (c ∷ []) some h = rw (h zero (omega arith)) refl
-line_alone (c ∷ d ∷ ds) some h = rw (h zero (omega arith)) (ap (onto_first c) (line_alone (d ∷ ds) (omega arith) (λ k less. h (suc k) (omega arith))))
+line_alone (c ∷ d ∷ ds) some h = rw (h zero (omega arith)) (ap (onto_first c)
+    (line_alone (d ∷ ds) (omega arith) (λ k less. h (suc k) (omega arith))))
 
 pub word_alone : (xs : List ℕ) → ((k : ℕ) → k < length xs → eqb (get_or xs k 0) 32 ≡ false) → word_of xs ≡ xs
 word_alone [] h = refl
-word_alone (c ∷ cs) h = rw (h zero (omega arith)) (ap (λ (l : List ℕ). c ∷ l) (word_alone cs (λ k less. h (suc k) (omega arith))))
+word_alone (c ∷ cs) h = rw (h zero (omega arith)) (ap (λ (l : List ℕ). c ∷ l)
+    (word_alone cs (λ k less. h (suc k) (omega arith))))
 
 pub after_none : (xs : List ℕ) → ((k : ℕ) → k < length xs → eqb (get_or xs k 0) 32 ≡ false) → after_word xs ≡ None
 after_none [] h = refl
@@ -65,7 +77,9 @@ fails true e = cc
 fails false e = refl
 
 -- where no place is found, it is nowhere
-pub nowhere : (byte : ℕ) (xs : List ℕ) → position (λ c. eqb c byte) xs ≡ None → (k : ℕ) → k < length xs → eqb (get_or xs k 0) byte ≡ false
+pub nowhere : (byte : ℕ) (xs : List ℕ) → position (λ c. eqb c byte) xs ≡ None → (k : ℕ) → k < length xs
+    → eqb (get_or xs k 0) byte ≡ false
 nowhere byte xs e k less =
     let none : ltb (position_or_len (λ c. eqb c byte) xs) (length xs) ≡ false = past _ _ e in
-    fails (eqb (get_or xs k 0) byte) (prefix_len_passes (λ c. not (eqb c byte)) xs k 0 (omega (arith, ltb-false _ _ none)))
+    fails (eqb (get_or xs k 0) byte) (prefix_len_passes (λ c. not (eqb c byte)) xs k 0
+    (omega (arith, ltb-false _ _ none)))

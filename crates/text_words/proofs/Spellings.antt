@@ -1,5 +1,6 @@
 -- A line by its first word and what follows, both ways.
-use Rattle.std.proofs.Common.{◌≡◌, ℕ, ◌⊎◌, inl, inr, Bool, true, false, cond, eqb, List, [], ◌∷◌, ◌++◌, Some, None, refl, ap, arith}
+use Rattle.std.proofs.Common.{◌≡◌, ℕ, ◌⊎◌, inl, inr, Bool, true, false, cond, eqb, List, [], ◌∷◌, ◌++◌, Some, None}
+use Rattle.std.proofs.Common.{refl, ap, arith}
 use Rattle.std.proofs.lemmas.Bool.Decides.{nat_tests}
 use Rattle.text_words.specs.Words.{NoBlank, word_of, after_word}
 
@@ -19,7 +20,8 @@ word_whole (c ∷ cs) = whole_on c (eqb c 32) (word_of cs) refl (word_whole cs)
 blank_is : (c : ℕ) → eqb c 32 ≡ true → c ≡ 32
 blank_is c h = grind (arith, nat_tests)
 
-parts_on : (c : ℕ) (cs rest w : List ℕ) (b : Bool) → eqb c 32 ≡ b → (after_word cs ≡ Some rest → cs ≡ w ++ 32 ∷ rest) → cond b (Some cs) (after_word cs) ≡ Some rest → c ∷ cs ≡ cond b [] (c ∷ w) ++ 32 ∷ rest
+parts_on : (c : ℕ) (cs rest w : List ℕ) (b : Bool) → eqb c 32 ≡ b → (after_word cs ≡ Some rest → cs ≡ w ++ 32 ∷ rest)
+    → cond b (Some cs) (after_word cs) ≡ Some rest → c ∷ cs ≡ cond b [] (c ∷ w) ++ 32 ∷ rest
 parts_on c cs rest w true e hyp h = let here = blank_is c e in let same : cs ≡ rest = cc in rw (here, same) refl
 parts_on c cs rest w false e hyp h = ap (λ (l : List ℕ). c ∷ l) (hyp h)
 
@@ -28,7 +30,8 @@ pub parts : (line rest : List ℕ) → after_word line ≡ Some rest → line �
 parts [] rest h = cc
 parts (c ∷ cs) rest h = parts_on c cs rest (word_of cs) (eqb c 32) refl (parts cs rest) h
 
-alone_on : (c : ℕ) (cs w : List ℕ) (b : Bool) → (after_word cs ≡ None → w ≡ cs) → cond b (Some cs) (after_word cs) ≡ None → cond b [] (c ∷ w) ≡ c ∷ cs
+alone_on : (c : ℕ) (cs w : List ℕ) (b : Bool) → (after_word cs ≡ None → w ≡ cs)
+    → cond b (Some cs) (after_word cs) ≡ None → cond b [] (c ∷ w) ≡ c ∷ cs
 alone_on c cs w true hyp h = cc
 alone_on c cs w false hyp h = ap (λ (l : List ℕ). c ∷ l) (hyp h)
 

@@ -10,7 +10,8 @@ returns-in-Ok g c =
     let old = c.args.copy.now in
     record {
       tried = tried_for (setting g.T.Device.machine loading_limits)
-          (loading g.T.Device.machine (trial_memory old) c.args.trial.now) c.load_supplied.new.device c.in-Ok.field-0 old
+          (loading g.T.Device.machine (trial_memory old) c.args.trial.now) c.load_supplied.new.device c.in-Ok.field-0
+          old
           c.load_supplied.new.storage paged_in.0 c.requires.untouched c.in-Ok.ensures.reaches paged_in.1 paged_in.2
           c.load_supplied.ensures.keys;
     }

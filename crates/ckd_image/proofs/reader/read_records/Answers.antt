@@ -18,16 +18,22 @@ loop-preserved c = elim c.if-fits.branch [
   | then-fits w ↦
       let ok = w.fits-is ∙ w.is_ok-fits.ensures.value in
       tried c.args.track.now c.loop.track c.if-fits.track c.loop.counter c.args.bytes.now c.loop.rest.now
-      (subst (λ b. ReadRecords c.args.track.now c.loop.track c.loop.counter c.args.bytes.now b c.loop.rest.now) w.if-fits.true c.loop.invariant)
-      (record_with c.in_ok-record.record.id c.in_ok-record.record.key.now c.in_ok-record.record.content.now) c.in_ok-record.behind.now c.in_ok-record.ensures.some
+      (subst (λ b. ReadRecords c.args.track.now c.loop.track c.loop.counter c.args.bytes.now b c.loop.rest.now)
+      w.if-fits.true c.loop.invariant)
+      (record_with c.in_ok-record.record.id c.in_ok-record.record.key.now c.in_ok-record.record.content.now)
+      c.in_ok-record.behind.now c.in_ok-record.ensures.some
       c.if-fits.fits (ok ∙ w.push.ensures.cases)
       (λ t. w.track-is ∙ when_ok w.push.result w.push.ensures.ok (sym ok ∙ t))
       (λ f. w.track-is ∙ when_err w.push.result w.push.ensures.err (sym ok ∙ f))
   | else-fits w ↦
       let same = w.fits-is ∙ w.if-fits.false in
       let step = passed c.args.track.now c.loop.track c.loop.counter c.args.bytes.now c.loop.rest.now
-      (subst (λ b. ReadRecords c.args.track.now c.loop.track c.loop.counter c.args.bytes.now b c.loop.rest.now) w.if-fits.false c.loop.invariant)
-      (record_with c.in_ok-record.record.id c.in_ok-record.record.key.now c.in_ok-record.record.content.now) c.in_ok-record.behind.now c.in_ok-record.ensures.some in
-      subst (λ b. ReadRecords c.args.track.now c.if-fits.track (c.loop.counter + 1) c.args.bytes.now b c.in_ok-record.behind.now) (sym same)
-      (subst (λ t. ReadRecords c.args.track.now t (c.loop.counter + 1) c.args.bytes.now false c.in_ok-record.behind.now) (sym w.track-is) step)
+      (subst (λ b. ReadRecords c.args.track.now c.loop.track c.loop.counter c.args.bytes.now b c.loop.rest.now)
+      w.if-fits.false c.loop.invariant)
+      (record_with c.in_ok-record.record.id c.in_ok-record.record.key.now c.in_ok-record.record.content.now)
+      c.in_ok-record.behind.now c.in_ok-record.ensures.some in
+      subst (λ b. ReadRecords c.args.track.now c.if-fits.track
+      (c.loop.counter + 1) c.args.bytes.now b c.in_ok-record.behind.now) (sym same)
+      (subst (λ t. ReadRecords c.args.track.now t (c.loop.counter + 1) c.args.bytes.now false c.in_ok-record.behind.now)
+      (sym w.track-is) step)
 ]

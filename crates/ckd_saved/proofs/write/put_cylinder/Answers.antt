@@ -7,4 +7,9 @@ use Rattle.ckd_saved.proofs.write.put_cylinder.Goals as goal
 
 pub loop-head-preserved : goal.loop-head-preserved
 loop-head-preserved c =
-    grind (arith, common_steps, each_on track_bytes c.loop-head.out.items c.args.cylinder.now c.loop-head.head no_track (omega arith))
+    grind (
+      arith,
+      common_steps,
+      each_on track_bytes c.loop-head.out.items c.args.cylinder.now c.loop-head.head no_track
+          (omega arith),
+    )

@@ -6,4 +6,9 @@ use Rattle.ckd_saved.proofs.write.put_cylinders.Goals as goal
 
 pub loop-index-preserved : goal.loop-index-preserved
 loop-index-preserved c =
-    grind (arith, common_steps, each_on cylinder_bytes c.loop-index.out.items c.args.volume.now.cylinders c.loop-index.index [] (omega arith))
+    grind (
+      arith,
+      common_steps,
+      each_on cylinder_bytes c.loop-index.out.items c.args.volume.now.cylinders
+          c.loop-index.index [] (omega arith),
+    )

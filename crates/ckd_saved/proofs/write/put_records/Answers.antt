@@ -7,4 +7,9 @@ use Rattle.ckd_saved.proofs.write.put_records.Goals as goal
 
 pub loop-index-preserved : goal.loop-index-preserved
 loop-index-preserved c =
-    grind (arith, common_steps, each_on record_bytes c.loop-index.out.items c.args.track.now.records c.loop-index.index no_record (omega arith))
+    grind (
+      arith,
+      common_steps,
+      each_on record_bytes c.loop-index.out.items c.args.track.now.records c.loop-index.index
+          no_record (omega arith),
+    )

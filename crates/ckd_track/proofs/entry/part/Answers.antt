@@ -7,17 +7,21 @@ returns-clause-id c = id_here c.args.entries.now c.args.area.now c.args.i c.requ
 
 pub returns-clause-key : goal.returns-clause-key
 returns-clause-key c =
-    key_here c.args.entries.now c.args.area.now c.args.i c.span_of-span.result.start c.span_of-span.result.middle c.requires.within c.span_of-span.ensures.start c.span_of-span.ensures.middle
+    key_here c.args.entries.now c.args.area.now c.args.i c.span_of-span.result.start c.span_of-span.result.middle
+    c.requires.within c.span_of-span.ensures.start c.span_of-span.ensures.middle
 
 pub returns-clause-content : goal.returns-clause-content
 returns-clause-content c =
-    content_here c.args.entries.now c.args.area.now c.args.i c.span_of-span.result.start c.span_of-span.result.middle c.span_of-span.result.end c.requires.within c.span_of-span.ensures.start c.span_of-span.ensures.middle c.span_of-span.ensures.end
+    content_here c.args.entries.now c.args.area.now c.args.i c.span_of-span.result.start c.span_of-span.result.middle
+    c.span_of-span.result.end c.requires.within c.span_of-span.ensures.start c.span_of-span.ensures.middle
+    c.span_of-span.ensures.end
 
 pub returns-clause-short_key : goal.returns-clause-short_key
 returns-clause-short_key c =
     omega (
       arith,
-      ap length (key_here c.args.entries.now c.args.area.now c.args.i c.span_of-span.result.start c.span_of-span.result.middle c.requires.within c.span_of-span.ensures.start c.span_of-span.ensures.middle)
+      ap length (key_here c.args.entries.now c.args.area.now c.args.i c.span_of-span.result.start
+          c.span_of-span.result.middle c.requires.within c.span_of-span.ensures.start c.span_of-span.ensures.middle)
           ∙ key_long c.args.entries.now c.args.area.now c.args.i c.requires.whole c.requires.within,
       c.span_of-span.ensures.short_key,
       c.span_of-span.ensures.middle,
@@ -27,9 +31,12 @@ pub returns-clause-short : goal.returns-clause-short
 returns-clause-short c =
     omega (
       arith,
-      ap length (key_here c.args.entries.now c.args.area.now c.args.i c.span_of-span.result.start c.span_of-span.result.middle c.requires.within c.span_of-span.ensures.start c.span_of-span.ensures.middle)
+      ap length (key_here c.args.entries.now c.args.area.now c.args.i c.span_of-span.result.start
+          c.span_of-span.result.middle c.requires.within c.span_of-span.ensures.start c.span_of-span.ensures.middle)
           ∙ key_long c.args.entries.now c.args.area.now c.args.i c.requires.whole c.requires.within,
-      ap length (content_here c.args.entries.now c.args.area.now c.args.i c.span_of-span.result.start c.span_of-span.result.middle c.span_of-span.result.end c.requires.within c.span_of-span.ensures.start c.span_of-span.ensures.middle c.span_of-span.ensures.end)
+      ap length (content_here c.args.entries.now c.args.area.now c.args.i c.span_of-span.result.start
+          c.span_of-span.result.middle c.span_of-span.result.end c.requires.within c.span_of-span.ensures.start
+          c.span_of-span.ensures.middle c.span_of-span.ensures.end)
           ∙ content_long c.args.entries.now c.args.area.now c.args.i c.requires.whole c.requires.within,
       short_content c.args.entries.now c.args.i c.requires.fits c.requires.within,
     )

@@ -11,5 +11,11 @@ loop-number-preserved c =
       ap (λ l. l ++ blank_cylinders (c.loop-number.number + 1) (c.args.count - (c.loop-number.number + 1))) more
           ∙ cylinders_on c.loop-number.number c.args.count c.loop-number.cylinders.items lt
           ∙ c.loop-number.invariant.0,
-      omega (arith, ap length more, length-append c.loop-number.cylinders.items (blank_tracks c.loop-number.number 0 19 ∷ []), c.loop-number.invariant.1),
+      omega (
+        arith,
+        ap length more,
+        length-append c.loop-number.cylinders.items
+            (blank_tracks c.loop-number.number 0 19 ∷ []),
+        c.loop-number.invariant.1,
+      ),
     )

@@ -7,7 +7,8 @@ use Rattle.cp_directory.specs.Names.{is_letter_or_digit}
 use Rattle.cp_directory.specs.Extents.{is_volser}
 use Rattle.cp_directory.proofs.extent.is_volser.Goals as goal
 
-by_letters : (word : List ℕ) → false ≡ eqb (length word) 0 → length word ≤ 6 → list_all is_letter_or_digit word ≡ is_volser word
+by_letters : (word : List ℕ) → false ≡ eqb (length word) 0 → length word ≤ 6
+    → list_all is_letter_or_digit word ≡ is_volser word
 by_letters word e h =
     let least : leb 1 (length word) ≡ true = grind (arith, nat_tests) in
     let most : leb (length word) 6 ≡ true = grind (arith, nat_tests) in
@@ -15,5 +16,6 @@ by_letters word e h =
 
 pub returns : goal.returns
 returns c =
-    let letters = all_from_yields_List is_letter_or_digit _ _ c.all.result c.all.ensures.ran (YieldsList-from_slice c.args.word.now cc) (λ x b q k. search (rules, tests)) in
+    let letters = all_from_yields_List is_letter_or_digit _ _ c.all.result c.all.ensures.ran
+    (YieldsList-from_slice c.args.word.now cc) (λ x b q k. search (rules, tests)) in
     letters ∙ by_letters c.args.word.now c.if-is_empty.ensures c.if-word-gt6.false

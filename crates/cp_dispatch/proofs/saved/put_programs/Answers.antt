@@ -6,4 +6,9 @@ use Rattle.cp_dispatch.proofs.saved.put_programs.Goals as goal
 
 pub loop-program-preserved : goal.loop-program-preserved
 loop-program-preserved c =
-    grind (arith, common_steps, each_on program_bytes c.loop-program.out.items c.args.programs.now c.loop-program.program-index c.program-item.result c.loop-program-test.true)
+    grind (
+      arith,
+      common_steps,
+      each_on program_bytes c.loop-program.out.items c.args.programs.now
+          c.loop-program.program-index c.program-item.result c.loop-program-test.true,
+    )

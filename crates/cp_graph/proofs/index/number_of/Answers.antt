@@ -11,5 +11,6 @@ returns-clause-count c =
     let free : slice_index index c.slot-slot.result ≡ 0 = sym c.get-known.ensures ∙ c.if-known-ne0.false in
     let some : c.len-number.result + 1 ≢ 0 = λ e. omega (arith, e) in
     let fewer = marked index c.slot-slot.result (c.len-number.result + 1) room free some in
-    let kept : unmarked c.set.new.self ≡ unmarked (slice_set index c.slot-slot.result (c.len-number.result + 1)) = ap unmarked c.in_ok-set.ensures.ok in
+    let kept : unmarked c.set.new.self ≡ unmarked (slice_set index c.slot-slot.result (c.len-number.result + 1)) = ap
+    unmarked c.in_ok-set.ensures.ok in
     omega (arith, fewer, kept, c.in_ok-push.ensures.len)

@@ -8,7 +8,8 @@ use Rattle.cp_placement.specs.Seating.{AreLawful, IsLawful, seat_of, seats_of}
 use Rattle.cp_placement.proofs.seats.seats_of.Goals as goal
 
 -- one minidisk more
-seats_more : (volumes : List VolumeFormat) (ms : List MinidiskStatement) (m : MinidiskStatement) (seats : List SharedMinidisk)
+seats_more : (volumes : List VolumeFormat) (ms : List MinidiskStatement) (m : MinidiskStatement)
+    (seats : List SharedMinidisk)
     (seat : SharedMinidisk) → seats ≡ seats_of volumes ms → seat ≡ seat_of volumes m
     → seats ++ seat ∷ [] ≡ seats_of volumes (ms ++ m ∷ [])
 seats_more volumes ms m seats seat h s = rw (h, s) (sym (map-append (seat_of volumes) ms (m ∷ [])))

@@ -121,7 +121,8 @@ returns-in-Nothing-clause-ok g c =
     let y = g.W.HostWriter.contents c.close-in-Nothing.new.writer in
     let read = is_next c.in_ok-request.field-0 nexts.Nothing s t c.in-Nothing.is c.in_ok-request.ensures.ok in (
       followed_to i c.args.detail c.args.installation c.in_ok-close-in-Nothing.field-0 c.loop.follower []
-          (left c.args.reader.now) s t w x y c.loop.invariant.so_far c.in_ok-close-in-Nothing.ensures.installation read.0
+          (left c.args.reader.now) s t w x y c.loop.invariant.so_far c.in_ok-close-in-Nothing.ensures.installation
+          read.0
           c.in_ok-close-in-Nothing.ensures.ok,
       read.1,
     )

@@ -7,11 +7,14 @@ use Rattle.s370_bytes.proofs.combine.combine_at.Given.{Over}
 use Rattle.s370_bytes.proofs.combine.combine_at.Goals.{After-store}
 use Rattle.s370_bytes.proofs.combine.combine_at.Goals as goal
 
-made_here : (g : Over) (c : After-store g) → c.combine_all.new.target ≡ made_of c.args.operation (g.S.Storage.memory c.args.storage.now).bytes c.args.to c.args.from (length c.args.made.now)
+made_here : (g : Over) (c : After-store g) → c.combine_all.new.target ≡ made_of c.args.operation
+    (g.S.Storage.memory c.args.storage.now).bytes c.args.to c.args.from (length c.args.made.now)
 made_here g c =
-    let n = length-range (g.S.Storage.memory c.args.storage.now).bytes c.args.to (length c.args.made.now) c.requires.target.inside in
+    let n = length-range (g.S.Storage.memory c.args.storage.now).bytes c.args.to
+    (length c.args.made.now) c.requires.target.inside in
     let l : length c.load.new.into ≡ length c.args.made.now = ap length c.load.ensures ∙ n in
-    made_is c.args.operation (g.S.Storage.memory c.args.storage.now).bytes c.load.new.into c.load-2.new.into c.combine_all.new.target c.args.to c.args.from (length c.args.made.now) c.lag_of-lag.result
+    made_is c.args.operation (g.S.Storage.memory c.args.storage.now).bytes c.load.new.into c.load-2.new.into
+    c.combine_all.new.target c.args.to c.args.from (length c.args.made.now) c.lag_of-lag.result
     c.requires.target.inside (c.combine_all.ensures.size ∙ l) c.load.ensures (search rules) (search rules)
     (λ j s. c.combine_all.ensures.each j (omega arith))
 

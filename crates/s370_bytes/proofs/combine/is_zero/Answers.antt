@@ -6,7 +6,8 @@ use Rattle.s370_bytes.proofs.combine.is_zero.Goals as goal
 
 pub returns-then-byte-ne0 : goal.returns-then-byte-ne0
 returns-then-byte-ne0 c =
-    let h : 0 < number c.args.bytes.now = number_some c.args.bytes.now c.loop-byte.byte-index (search rules) (search rules) in
+    let h : 0 < number c.args.bytes.now = number_some c.args.bytes.now c.loop-byte.byte-index (search rules)
+    (search rules) in
     grind (arith, nat_tests)
 
 pub returns : goal.returns

@@ -9,8 +9,10 @@ pub returns-clause-stored : goal.returns-clause-stored
 returns-clause-stored g c =
     let before = (g.S.Storage.memory c.args.storage.now).bytes in
     let n = length c.args.bytes.now in
-    let l : length c.load.new.into ≡ n = ap length c.load.ensures ∙ length-range before c.args.from n c.requires.source.inside in
+    let l : length c.load.new.into ≡ n = ap length c.load.ensures
+    ∙ length-range before c.args.from n c.requires.source.inside in
     c.store.ensures.stored ∙ ap (with_stored (g.S.Storage.memory c.args.storage.now) c.args.to)
-    (made_is Move before (slice_range before c.args.to (c.args.to + n)) c.load.new.into c.repeat.new.bytes c.args.to c.args.from n c.lag_of-lag.result
+    (made_is Move before (slice_range before c.args.to (c.args.to + n)) c.load.new.into c.repeat.new.bytes c.args.to
+    c.args.from n c.lag_of-lag.result
     c.requires.target.inside (c.repeat.ensures.size ∙ l) (search rules) c.load.ensures (search rules)
     (λ j s. c.repeat.ensures.each j (omega arith)))

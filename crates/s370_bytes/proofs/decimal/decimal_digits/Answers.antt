@@ -24,14 +24,16 @@ overflow_mul-scale c =
 
 pub loop-k-preserved : goal.loop-k-preserved
 loop-k-preserved c = record {
-  number = number_more 16 10 c.loop-k._k c.loop-k.rest c.loop-k.value c.loop-k.scale _ c.loop-k-test.true c.loop-k.invariant.number;
+  number = number_more 16 10 c.loop-k._k c.loop-k.rest c.loop-k.value c.loop-k.scale _ c.loop-k-test.true
+      c.loop-k.invariant.number;
   scaled = ap (λ (n : ℕ). n * 16) c.loop-k.invariant.scaled ∙ sym (power_next 16 c.loop-k._k);
   below = below_more c.loop-k.value c.loop-k.scale (c.loop-k.rest % 10) 16 c.loop-k.invariant.below (omega arith);
 }
 
 pub returns : goal.returns
 returns c =
-    let n = all_number 16 10 c.loop-k._k c.loop-k.rest c.loop-k.value c.loop-k.scale _ c.loop-k-test.false c.loop-k.invariant.number in
+    let n = all_number 16 10 c.loop-k._k c.loop-k.rest c.loop-k.value c.loop-k.scale _ c.loop-k-test.false
+    c.loop-k.invariant.number in
     let k : c.loop-k._k ≡ 15 = omega arith in
     let s : c.loop-k.scale ≡ 16 ^ 15 = c.loop-k.invariant.scaled ∙ ap (λ (i : ℕ). 16 ^ i) k in
     record { value = n; below = omega (arith, s) }

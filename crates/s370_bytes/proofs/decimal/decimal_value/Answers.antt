@@ -1,6 +1,7 @@
 use Rattle.std.proofs.Common.{rules, arith, ◌≡◌, ℕ, ◌+◌, ◌*◌, ◌%◌, ◌^◌, ◌<◌, ◌∙◌, sym, ap, refl}
 use Rattle.std.proofs.lemmas.Nat.{mul-le}
-use Rattle.s370_bytes.proofs.Bases.{tens, number_more, all_number, digits_more, digits_wrong, digits_all, below_more, power_next}
+use Rattle.s370_bytes.proofs.Bases.{tens, number_more, all_number, digits_more, digits_wrong, digits_all, below_more}
+use Rattle.s370_bytes.proofs.Bases.{power_next}
 use Rattle.s370_bytes.proofs.decimal.decimal_value.Goals as goal
 
 pub overflow_mul-value : goal.overflow_mul-value
@@ -30,7 +31,8 @@ returns-then-digit-gt9 c =
 pub loop-k-preserved : goal.loop-k-preserved
 loop-k-preserved c = record {
   digits = c.loop-k.invariant.digits ∙ digits_more c.loop-k._k c.loop-k.rest c.loop-k-test.true c.if-digit-gt9.false;
-  number = number_more 10 16 c.loop-k._k c.loop-k.rest c.loop-k.value c.loop-k.scale _ c.loop-k-test.true c.loop-k.invariant.number;
+  number = number_more 10 16 c.loop-k._k c.loop-k.rest c.loop-k.value c.loop-k.scale _ c.loop-k-test.true
+      c.loop-k.invariant.number;
   scaled = ap (λ (n : ℕ). n * 10) c.loop-k.invariant.scaled ∙ sym (power_next 10 c.loop-k._k);
   below = below_more c.loop-k.value c.loop-k.scale (c.loop-k.rest % 16) 10 c.loop-k.invariant.below (omega arith);
 }
@@ -38,7 +40,8 @@ loop-k-preserved c = record {
 pub returns : goal.returns
 returns c =
     let d = c.loop-k.invariant.digits ∙ digits_all c.loop-k._k c.loop-k.rest c.loop-k-test.false in
-    let n = all_number 10 16 c.loop-k._k c.loop-k.rest c.loop-k.value c.loop-k.scale _ c.loop-k-test.false c.loop-k.invariant.number in
+    let n = all_number 10 16 c.loop-k._k c.loop-k.rest c.loop-k.value c.loop-k.scale _ c.loop-k-test.false
+    c.loop-k.invariant.number in
     let k : c.loop-k._k ≡ 15 = omega arith in
     let s : c.loop-k.scale ≡ 10 ^ 15 = c.loop-k.invariant.scaled ∙ ap (λ (i : ℕ). 10 ^ i) k in
     record { value = rw (d, n) refl; below = omega (arith, s) }

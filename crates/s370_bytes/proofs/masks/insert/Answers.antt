@@ -10,4 +10,5 @@ bounds-from-place c =
 
 pub returns : goal.returns
 returns c =
-    inserted_is c.args.mask c.args.bytes.now c.args.from.now c.loop-k.bytes c.loop-k.invariant.size (λ j s. c.loop-k.invariant.made j (omega arith))
+    inserted_is c.args.mask c.args.bytes.now c.args.from.now c.loop-k.bytes c.loop-k.invariant.size
+    (λ j s. c.loop-k.invariant.made j (omega arith))

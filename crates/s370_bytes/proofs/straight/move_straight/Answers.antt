@@ -13,5 +13,6 @@ returns-clause-moved g c yes_it_is =
     let all : n ≡ c.lag_of.result = omega (arith, c.lag_of.ensures.within, c.if-lag_of-count.false) in
     c.copy_in.ensures.stored ∙ ap (with_stored (g.S.Storage.memory c.args.storage.now) c.args.to)
     (made_is Move before (slice_range before c.args.to (c.args.to + n)) source source c.args.to c.args.from n n
-    c.requires.target_inside (length-range before c.args.from n c.requires.source_inside) refl refl (all ∙ c.lag_of.ensures.value)
+    c.requires.target_inside (length-range before c.args.from n c.requires.source_inside) refl refl (all
+    ∙ c.lag_of.ensures.value)
     (λ j s. sym (lagged_source source source n j s)))

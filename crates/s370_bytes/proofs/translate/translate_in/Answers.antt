@@ -8,8 +8,10 @@ pub returns-clause-stored : goal.returns-clause-stored
 returns-clause-stored g c =
     let before = (g.S.Storage.memory c.args.storage.now).bytes in
     let n = length c.args.bytes.now in
-    let l : length c.load_in.new.into ≡ n = ap length c.load_in.ensures ∙ length-range before c.args.to n c.requires.target_inside in
+    let l : length c.load_in.new.into ≡ n = ap length c.load_in.ensures
+    ∙ length-range before c.args.to n c.requires.target_inside in
     c.store_in.ensures.stored ∙ ap (with_stored (g.S.Storage.memory c.args.storage.now) c.args.to)
-    (made_is before c.load_in.new.into c.load_in-2.new.into c.translate_all.new.bytes c.args.to c.args.from n c.requires.apart
+    (made_is before c.load_in.new.into c.load_in-2.new.into c.translate_all.new.bytes c.args.to c.args.from n
+    c.requires.apart
     c.requires.target_inside (c.translate_all.ensures.size ∙ l) c.load_in.ensures (search rules) (λ j. search rules)
     (λ j s. c.translate_all.ensures.each j (omega arith)))

@@ -14,8 +14,10 @@ returns-in-At-clause-reaches g c =
     let h = setting g.D.Device.machine loading_limits in
     let m = g.S.Storage.memory c.args.storage.now in
     let n = g.S.Storage.memory c.begin.new.storage in
-    let P : NextCcw → Type 0 = λ s. Reaches form h (entered h s implied_word None m c.args.device.now) (Fetching c.in-At.spot n c.begin.new.device) in
-    then_ends form h _ _ c.go_on.result (subst P c.first_spot.ensures (reach_word c.in-At.is c.in_ok-spot.ensures.reaches)) c.go_on.ensures.reaches
+    let P : NextCcw → Type 0 = λ s. Reaches form h (entered h s implied_word None m c.args.device.now)
+    (Fetching c.in-At.spot n c.begin.new.device) in
+    then_ends form h _ _ c.go_on.result (subst P c.first_spot.ensures
+    (reach_word c.in-At.is c.in_ok-spot.ensures.reaches)) c.go_on.ensures.reaches
 
 pub returns-in-At-clause-halts : goal.returns-in-At-clause-halts
 returns-in-At-clause-halts g c =
@@ -23,5 +25,9 @@ returns-in-At-clause-halts g c =
     let h = setting g.D.Device.machine loading_limits in
     let m = g.S.Storage.memory c.args.storage.now in
     let n = g.S.Storage.memory c.begin.new.storage in
-    let P : NextCcw → Type 0 = λ s. Reaches form h (entered h s implied_word None m c.args.device.now) (Fetching c.in-At.spot n c.begin.new.device) in
-    loading_halts (g.F.WordForm.written c.args.program.now) g.D.Device.machine g.D.Device.needs_memory m c.args.device.now _ _ c.go_on.result (subst P c.first_spot.ensures (reach_word c.in-At.is c.in_ok-spot.ensures.reaches)) (g.met.S.Storage.keeps_present _ _ c.in_ok-spot.ensures.rest) c.go_on.ensures.halts
+    let P : NextCcw → Type 0 = λ s. Reaches form h (entered h s implied_word None m c.args.device.now)
+    (Fetching c.in-At.spot n c.begin.new.device) in
+    loading_halts (g.F.WordForm.written c.args.program.now) g.D.Device.machine g.D.Device.needs_memory m
+    c.args.device.now _ _ c.go_on.result (subst P c.first_spot.ensures
+    (reach_word c.in-At.is c.in_ok-spot.ensures.reaches))
+    (g.met.S.Storage.keeps_present _ _ c.in_ok-spot.ensures.rest) c.go_on.ensures.halts

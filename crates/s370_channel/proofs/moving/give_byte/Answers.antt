@@ -5,5 +5,7 @@ use Rattle.s370_channel.proofs.moving.give_byte.Goals as goal
 
 pub returns-in-Err-Absent-clause-lacks : goal.returns-in-Err-Absent-clause-lacks
 returns-in-Err-Absent-clause-lacks g c =
-    let absent = absent_verdict _ _ _ _ _ c.check.result c.in-Err-Absent.field-0 c.in-Err-Absent.page c.in-Err-Absent.is c.in-Err-Absent.field-0-is c.check.ensures in
-    lacks_giving_byte c.in-Some.address Store c.requires.count c.requires.left c.requires.gives (sym c.has.ensures ∙ c.if-has.false) (sym c.in_ok-address.ensures ∙ c.in-Some.is) absent.0 absent.1
+    let absent = absent_verdict _ _ _ _ _ c.check.result c.in-Err-Absent.field-0 c.in-Err-Absent.page c.in-Err-Absent.is
+    c.in-Err-Absent.field-0-is c.check.ensures in
+    lacks_giving_byte c.in-Some.address Store c.requires.count c.requires.left c.requires.gives (sym c.has.ensures
+    ∙ c.if-has.false) (sym c.in_ok-address.ensures ∙ c.in-Some.is) absent.0 absent.1

@@ -15,7 +15,8 @@ bytes-preserved g c =
     let on = further_done c.in-Done.is c.in_ok-then.ensures.on in
     let same : c.in-Done.then.word.count ≡ c.bytes.p.word.count = ap (λ w. w.count) on.word in
     record {
-      reaches = reach_on form h before.reaches (reach_done form h (Moving c.bytes.p m c.bytes.device) n c.move_on.new.device c.in-Done.is c.in_ok-then.ensures.reaches);
+      reaches = reach_on form h before.reaches (reach_done form h
+          (Moving c.bytes.p m c.bytes.device) n c.move_on.new.device c.in-Done.is c.in_ok-then.ensures.reaches);
       present = g.met.S.Storage.keeps_present _ _ c.in_ok-then.ensures.rest ∙ before.present;
       rest = g.met.S.Storage.keeps_on _ _ _ before.rest c.in_ok-then.ensures.rest;
       started = on.started ∙ before.started;

@@ -13,5 +13,8 @@ returns-clause-reaches g c w at =
     let some : 0 < n = omega (arith, c.if-n-lt2.false) in
     let last : (c.in_ok-end.end - 1) + 1 ≡ c.args.address + n = omega (arith, c.in_ok-end.ensures.1, some) in
     let all = sym c.has.ensures ∙ c.if-has.false in
-    let there = gives_piece w h some c.piece-n.ensures.count c.piece-n.ensures.left c.requires.gives all c.piece-n.ensures.giving at c.piece-n.ensures.block c.in_ok-end.ensures.0 (c.in-Ok.ensures.1.0 some) c.in-Ok.ensures.0 last c.give_piece.ensures.stored c.give_piece.ensures.device in
-    subst (λ (x : Position). Reaches (live w) h (Moving c.args.p.now m c.args.device.now) (Moving x (g.S.Storage.memory c.give_piece.new.storage) c.give_piece.new.device)) (sym c.many_on.ensures) there
+    let there = gives_piece w h some c.piece-n.ensures.count c.piece-n.ensures.left c.requires.gives all
+    c.piece-n.ensures.giving at c.piece-n.ensures.block c.in_ok-end.ensures.0
+    (c.in-Ok.ensures.1.0 some) c.in-Ok.ensures.0 last c.give_piece.ensures.stored c.give_piece.ensures.device in
+    subst (λ (x : Position). Reaches (live w) h (Moving c.args.p.now m c.args.device.now)
+    (Moving x (g.S.Storage.memory c.give_piece.new.storage) c.give_piece.new.device)) (sym c.many_on.ensures) there

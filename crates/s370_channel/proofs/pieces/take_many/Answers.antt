@@ -12,5 +12,8 @@ returns-clause-reaches g c w at =
     let n = c.piece-n.result in
     let some : 0 < n = omega (arith, c.if-n-lt2.false) in
     let last : (c.in_ok-end.end - 1) + 1 ≡ c.args.address + n = omega (arith, c.in_ok-end.ensures.1, some) in
-    let there = takes_piece w h some c.piece-n.ensures.count c.piece-n.ensures.left c.requires.takes c.piece-n.ensures.taking at c.piece-n.ensures.block c.in_ok-end.ensures.0 (c.in-Ok.ensures.1.0 some) c.in-Ok.ensures.0 last c.take_piece.ensures in
-    subst (λ (x : Position). Reaches (live w) h (Moving c.args.p.now m c.args.device.now) (Moving x m c.take_piece.new.device)) (sym c.many_on.ensures) there
+    let there = takes_piece w h some c.piece-n.ensures.count c.piece-n.ensures.left c.requires.takes
+    c.piece-n.ensures.taking at c.piece-n.ensures.block c.in_ok-end.ensures.0
+    (c.in-Ok.ensures.1.0 some) c.in-Ok.ensures.0 last c.take_piece.ensures in
+    subst (λ (x : Position). Reaches (live w) h (Moving c.args.p.now m c.args.device.now)
+    (Moving x m c.take_piece.new.device)) (sym c.many_on.ensures) there

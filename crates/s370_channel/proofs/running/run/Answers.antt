@@ -11,5 +11,6 @@ returns-in-Err-clause-stuck g c =
     let h = setting g.D.Device.machine c.args.limits.now in
     let m = g.S.Storage.memory c.args.storage.now in
     let reported = halts_told w h g.D.Device.needs_memory _ _ _ _ c.in-Err.halt c.in-Err.ensures.halts in
-    let P : NextCcw → Type 0 = λ s. MatchStuck w h g.D.Device.needs_memory (g.S.Storage.present c.args.storage.now) (Fetching s m c.args.device.now) c.error.result in
+    let P : NextCcw → Type 0 = λ s. MatchStuck w h g.D.Device.needs_memory (g.S.Storage.present c.args.storage.now)
+    (Fetching s m c.args.device.now) c.error.result in
     subst P c.first_spot.ensures (rw c.error.ensures reported)

@@ -15,7 +15,8 @@ invariant-unit g l =
       ready : IsReady l.place;
       between : g.S.UnitSupply.IsBetween l.storage;
       ample : g.S.AmpleSupply.IsAmple l.storage;
-      paged_in : (units : List (List ℕ)) × g.S.UnitSupply.Came l.fn.storage units l.storage × EachSuch (IsTouched guest_written h first) units;
+      paged_in : (units : List (List ℕ)) × g.S.UnitSupply.Came l.fn.storage units l.storage
+          × EachSuch (IsTouched guest_written h first) units;
       keys : (g.S.Storage.memory l.storage).keys ≡ (g.S.Storage.memory l.fn.storage).keys;
     }
 

@@ -10,7 +10,8 @@ invariant-page g l = record {
   memory : g.S.Storage.memory l.storage ≡ g.S.Storage.memory l.fn.storage;
   device : l.device ≡ l.fn.device;
   supply : (pages : List ℕ) × g.S.Supply.Brought l.fn.storage pages l.storage
-      × IsAskedFor guest_written g.D.Device.machine (stands l.fn.from (g.S.Storage.memory l.fn.storage) l.fn.device) (length (g.S.Storage.memory l.fn.storage).bytes) pages
+      × IsAskedFor guest_written g.D.Device.machine (stands l.fn.from (g.S.Storage.memory l.fn.storage) l.fn.device)
+      (length (g.S.Storage.memory l.fn.storage).bytes) pages
       × AreDistinct pages;
 }
 

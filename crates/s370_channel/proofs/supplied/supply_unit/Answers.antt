@@ -15,10 +15,19 @@ unreachable-requires g c =
     let s = step.supply in
     let h = setting g.D.Device.machine c.args.limits.now in
     let first = stands c.args.from (g.S.Storage.memory c.args.storage.now) c.args.device.now in
-    let lack = lack_is (IsLack guest_written h g.D.Device.needs_memory first (length (g.S.Storage.memory c.supply_step-gone.new.storage).bytes) (g.S.Supply.IsShort c.supply_step-gone.new.storage)) c.supply_step-gone.result c.in-Err.lack lacks.Room c.in-Err.is c.in-Room.is step.lack in
-    let out = g.met.S.UnitSupply.let_go_out _ _ _ s.0 lack.0 c.requires.between s.1 s.3 lack.2 c.let_go.ensures.let_go in
-    let ample = g.met.S.AmpleSupply.ample_let_go _ _ c.let_go.ensures.let_go (ap (λ (m : Memory). length m.bytes) c.let_go.ensures.memory) (g.met.S.AmpleSupply.ample_brought _ _ s.0 s.1 step.size (λ page at. listed (λ (p : ℕ). p * 4096 < length (g.S.Storage.memory c.args.storage.now).bytes) s.0 page s.2.inside at) c.requires.ample) in
-    let inside : lack.0 * 4096 < length (g.S.Storage.memory c.let_go.new.self).bytes = subst (λ (n : ℕ). lack.0 * 4096 < n) (sym (ap (λ (m : Memory). length m.bytes) c.let_go.ensures.memory)) lack.1 in
+    let lack = lack_is (IsLack guest_written h g.D.Device.needs_memory first
+    (length (g.S.Storage.memory c.supply_step-gone.new.storage).bytes)
+    (g.S.Supply.IsShort c.supply_step-gone.new.storage)) c.supply_step-gone.result c.in-Err.lack lacks.Room
+    c.in-Err.is c.in-Room.is step.lack in
+    let out = g.met.S.UnitSupply.let_go_out _ _ _ s.0 lack.0 c.requires.between s.1 s.3 lack.2 c.let_go.ensures.let_go
+    in
+    let ample = g.met.S.AmpleSupply.ample_let_go _ _ c.let_go.ensures.let_go
+    (ap (λ (m : Memory). length m.bytes) c.let_go.ensures.memory)
+    (g.met.S.AmpleSupply.ample_brought _ _ s.0 s.1 step.size
+    (λ page at. listed (λ (p : ℕ). p * 4096 < length (g.S.Storage.memory c.args.storage.now).bytes) s.0 page
+    s.2.inside at) c.requires.ample) in
+    let inside : lack.0 * 4096 < length (g.S.Storage.memory c.let_go.new.self).bytes = subst
+    (λ (n : ℕ). lack.0 * 4096 < n) (sym (ap (λ (m : Memory). length m.bytes) c.let_go.ensures.memory)) lack.1 in
     g.met.S.AmpleSupply.ample_out _ lack.0 ample inside out
 
 pub returns-in-Memory-clause-paged_in : goal.returns-in-Memory-clause-paged_in
@@ -35,4 +44,8 @@ pub returns-in-Memory-clause-ample : goal.returns-in-Memory-clause-ample
 returns-in-Memory-clause-ample g c =
     let step = c.supply_step-gone.ensures in
     let s = step.supply in
-    g.met.S.AmpleSupply.ample_let_go _ _ c.let_go.ensures.let_go (ap (λ (m : Memory). length m.bytes) c.let_go.ensures.memory) (g.met.S.AmpleSupply.ample_brought _ _ s.0 s.1 step.size (λ page at. listed (λ (p : ℕ). p * 4096 < length (g.S.Storage.memory c.args.storage.now).bytes) s.0 page s.2.inside at) c.requires.ample)
+    g.met.S.AmpleSupply.ample_let_go _ _ c.let_go.ensures.let_go
+    (ap (λ (m : Memory). length m.bytes) c.let_go.ensures.memory)
+    (g.met.S.AmpleSupply.ample_brought _ _ s.0 s.1 step.size
+    (λ page at. listed (λ (p : ℕ). p * 4096 < length (g.S.Storage.memory c.args.storage.now).bytes) s.0 page
+    s.2.inside at) c.requires.ample)

@@ -9,8 +9,12 @@ returns-clause-unit g c =
     let m = state_of c.args.cpu.now (g.S.Storage.memory c.args.storage.now) in
     let m' = state_of c.perform_control-outcome.new.cpu (g.S.Storage.memory c.perform_control-outcome.new.storage) in
     let ilc = c.args.ilc in
-    let e : c.wrapping_add-next.result ≡ (m.cpu.psw.address + 2 * ilc) % 2 ^ 24 = rw (c.wrapping_add-next.ensures, c.get.ensures.value, c.address.ensures) in
-    supervised_meets m ilc c.args.i c.in-Supervised.control c.conclude.result c.conclude.new.cpu (g.S.Storage.present c.args.storage.now) c.perform_control-outcome.result m'
+    let e : c.wrapping_add-next.result ≡ (m.cpu.psw.address + 2 * ilc) % 2 ^ 24 = rw
+    (c.wrapping_add-next.ensures, c.get.ensures.value, c.address.ensures) in
+    supervised_meets m ilc c.args.i c.in-Supervised.control c.conclude.result c.conclude.new.cpu
+    (g.S.Storage.present c.args.storage.now) c.perform_control-outcome.result m'
     (sym c.in-Supervised.ensures)
     c.perform_control-outcome.ensures.row
-    (subst (λ (n : ℕ). stopped c.perform_control-outcome.result (record { next = n; ilc = ilc }) m'.cpu ≡ record { stop = c.conclude.result; cpu = c.conclude.new.cpu }) e c.conclude.ensures)
+    (subst (λ (n : ℕ). stopped c.perform_control-outcome.result
+    (record { next = n; ilc = ilc }) m'.cpu ≡ record { stop = c.conclude.result; cpu = c.conclude.new.cpu }) e
+    c.conclude.ensures)

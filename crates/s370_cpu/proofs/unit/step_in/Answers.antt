@@ -7,4 +7,5 @@ use Rattle.s370_cpu.proofs.unit.step_in.Goals as goal
 pub carry_in-requires-clause-found : goal.carry_in-requires-clause-found
 carry_in-requires-clause-found g c =
     let m = state_of c.args.cpu.now (g.S.Storage.memory c.args.storage.now) in
-    fetch_finds m c.args.start c.requires.even (block_passes _ _ _ _ c.args.block.first c.args.start 6 c.requires.may_fetch c.requires.begins (omega (arith, c.requires.ends)))
+    fetch_finds m c.args.start c.requires.even (block_passes _ _ _ _ c.args.block.first c.args.start 6
+    c.requires.may_fetch c.requires.begins (omega (arith, c.requires.ends)))

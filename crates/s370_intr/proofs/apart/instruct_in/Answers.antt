@@ -7,5 +7,7 @@ use Rattle.s370_intr.proofs.apart.instruct_in.Goals as goal
 pub call_supervisor-requires-clause-found : goal.call_supervisor-requires-clause-found
 call_supervisor-requires-clause-found g c =
     let m = state_of c.args.cpu.now (g.S.Storage.memory c.args.storage.now) in
-    let passes = block_passes _ _ _ _ c.args.block.first c.args.start 6 c.requires.may_fetch c.requires.begins (omega (arith, c.requires.ends)) in
-    fetch_finds m c.args.start c.requires.even passes ∙ ap Ok (sym (rw c.get-then-load_byte_in-eq-SUPERVISOR_CALL.ensures.value at c.load_known_in-call.ensures.instruction))
+    let passes = block_passes _ _ _ _ c.args.block.first c.args.start 6 c.requires.may_fetch c.requires.begins
+    (omega (arith, c.requires.ends)) in
+    fetch_finds m c.args.start c.requires.even passes ∙ ap Ok
+    (sym (rw c.get-then-load_byte_in-eq-SUPERVISOR_CALL.ensures.value at c.load_known_in-call.ensures.instruction))

@@ -5,8 +5,10 @@ pub returns-clause-unit : goal.returns-clause-unit
 returns-clause-unit g c =
     let s = c.bring_pages-done.ensures.supply in
     rw c.let_go.ensures.memory
-    (supplied_for c.args.said _ _ c.bring_pages-done.result (g.S.Supply.IsShort c.bring_pages-done.new.storage) (g.S.UnitSupply.IsOut c.let_go.new.self)
-    (λ page short. g.met.S.UnitSupply.let_go_out _ _ _ s.0 page c.requires.between s.1 s.3 short c.let_go.ensures.let_go)
+    (supplied_for c.args.said _ _ c.bring_pages-done.result (g.S.Supply.IsShort c.bring_pages-done.new.storage)
+    (g.S.UnitSupply.IsOut c.let_go.new.self)
+    (λ page short. g.met.S.UnitSupply.let_go_out _ _ _ s.0 page c.requires.between s.1 s.3 short
+    c.let_go.ensures.let_go)
     c.bring_pages-done.ensures.unit)
 
 pub returns-clause-supply : goal.returns-clause-supply

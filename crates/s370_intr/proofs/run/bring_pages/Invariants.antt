@@ -10,7 +10,8 @@ invariant-loop-page g l =
     let first = core_of (state_of l.fn.cpu (g.S.Storage.memory l.fn.storage)) l.fn.pending l.fn.subchannels in
     record {
       state : core_of (state_of l.cpu (g.S.Storage.memory l.storage)) l.pending l.subchannels ≡ first;
-      supply : (pages : List ℕ) × g.S.Supply.Brought l.fn.storage pages l.storage × AllNeeded (NeedsAt l.fn.said first) pages × AreDistinct pages;
+      supply : (pages : List ℕ) × g.S.Supply.Brought l.fn.storage pages l.storage
+          × AllNeeded (NeedsAt l.fn.said first) pages × AreDistinct pages;
       size : length (g.S.Storage.memory l.storage).bytes ≡ length (g.S.Storage.memory l.fn.storage).bytes;
     }
 

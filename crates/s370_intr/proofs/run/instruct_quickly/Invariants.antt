@@ -13,7 +13,8 @@ invariant-loop-units g l =
     record {
       within : l.units ≤ l.limit;
       plain : (m : Memory) → look (core_of (state_of l.cpu m) l.fn.pending l.subchannels) ≡ Instructs;
-      done : run l.units first ≡ all_done l.units (core_of (state_of l.cpu (g.S.Storage.memory l.storage)) l.fn.pending l.subchannels);
+      done : run l.units first ≡ all_done l.units (core_of (state_of l.cpu (g.S.Storage.memory l.storage)) l.fn.pending
+          l.subchannels);
       rest : g.S.Keyed.KeepsRest l.fn.storage l.storage;
     }
 

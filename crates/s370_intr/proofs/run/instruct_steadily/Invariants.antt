@@ -13,9 +13,11 @@ invariant-loop-units g l =
       here : l.next ≡ m.cpu.psw.address;
       key : l.key ≡ m.cpu.psw.key;
       low : l.block.first < 16777216;
-      may_fetch : MayFetch (length (g.S.Storage.memory l.storage).bytes) (g.S.Storage.memory l.storage).keys (g.S.Storage.present l.storage) l.key l.block.first;
+      may_fetch : MayFetch (length (g.S.Storage.memory l.storage).bytes) (g.S.Storage.memory l.storage).keys
+          (g.S.Storage.present l.storage) l.key l.block.first;
       placed : g.S.Storage.IsPlaced l.storage l.block;
-      operands : AreHeld (g.S.Storage.IsPlaced l.storage) (g.S.Storage.memory l.storage) (g.S.Storage.present l.storage) l.key l.held;
+      operands : AreHeld (g.S.Storage.IsPlaced l.storage) (g.S.Storage.memory l.storage)
+          (g.S.Storage.present l.storage) l.key l.held;
       done : DoesInstructions l.units m0 m;
       rest : g.S.Storage.Keeps l.fn.storage l.storage;
     }

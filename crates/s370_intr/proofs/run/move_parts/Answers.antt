@@ -15,7 +15,12 @@ loop-units-preserved g c =
       stands = c.move_parts_quickly-parts.ensures.stands;
       done = λ pending list e.
           (let before = c.loop-units.invariant.done pending list e in
-          let parts = units_done c.move_parts_quickly-parts.result (g.S.Storage.present c.loop-units.storage) m m' pending list c.move_parts_quickly-parts.ensures.done before.1 in
-          (does_many c.loop-units.units c.move_parts_quickly-parts.result (core_of m0 pending list) (core_of m pending list) (core_of m' pending list) before.0 parts.0, parts.1));
+          let parts = units_done c.move_parts_quickly-parts.result
+          (g.S.Storage.present c.loop-units.storage) m m' pending list c.move_parts_quickly-parts.ensures.done
+          before.1 in (
+            does_many c.loop-units.units c.move_parts_quickly-parts.result (core_of m0 pending list)
+                (core_of m pending list) (core_of m' pending list) before.0 parts.0,
+            parts.1,
+          ));
       rest = g.met.S.Storage.keeps_on _ _ _ c.loop-units.invariant.rest c.move_parts_quickly-parts.ensures.rest;
     }

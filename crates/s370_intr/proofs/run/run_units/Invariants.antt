@@ -12,10 +12,13 @@ invariant-loop-units g l =
     let first = core_of (state_of l.fn.cpu (g.S.Storage.memory l.fn.storage)) l.fn.pending l.fn.subchannels in
     record {
       within : l.units ≤ l.count;
-      ran : run l.units first ≡ all_done l.units (core_of (state_of l.cpu (g.S.Storage.memory l.storage)) l.pending l.subchannels);
-      supply : (units : List (List ℕ)) × g.S.UnitSupply.Came l.fn.storage units l.storage × EachBrings first 0 units × (length units ≡ l.units);
+      ran : run l.units first ≡ all_done l.units (core_of (state_of l.cpu (g.S.Storage.memory l.storage)) l.pending
+          l.subchannels);
+      supply : (units : List (List ℕ)) × g.S.UnitSupply.Came l.fn.storage units l.storage × EachBrings first 0 units
+          × (length units ≡ l.units);
       between : g.S.UnitSupply.IsBetween l.storage;
-      plain : (m : Memory) → l.went.is_plain ≡ true → look (core_of (state_of l.cpu m) l.pending l.subchannels) ≡ Instructs;
+      plain : (m : Memory) → l.went.is_plain ≡ true → look (core_of (state_of l.cpu m) l.pending l.subchannels) ≡
+          Instructs;
     }
 
 abbrev pub decreases-loop-units : goal.decreases-loop-units

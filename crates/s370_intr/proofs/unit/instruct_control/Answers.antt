@@ -17,11 +17,17 @@ returns-in-Err g c =
     let devices = c.args.subchannels.now in
     let before = g.S.Storage.present c.args.storage.now in
     let after = g.S.Storage.present c.control-stop.new.storage in
-    let whole : MeetsUnit (unit m) before m c.control-stop.result m1 = handed_back m m m1 c.args.i c.args.ilc c.control-stop.result before c.requires.handed c.control-stop.ensures.unit in
+    let whole : MeetsUnit (unit m) before m c.control-stop.result m1 = handed_back m m m1 c.args.i c.args.ilc
+    c.control-stop.result before c.requires.handed c.control-stop.ensures.unit in
     let c2 = configuration_of m2 c.follow.new.subchannels in
-    let back : record c2.processor.cpu { psw = m.cpu.psw } ≡ m.cpu = moved_back m m1 c.args.i c.args.ilc devices c2 before after c.control-stop.result c.in-Err.page c.requires.handed.1 c.control-stop.ensures.unit c.in-Err.ensures.followed in
+    let back : record c2.processor.cpu { psw = m.cpu.psw } ≡ m.cpu = moved_back m m1 c.args.i c.args.ilc devices c2
+    before after c.control-stop.result c.in-Err.page c.requires.handed.1 c.control-stop.ensures.unit
+    c.in-Err.ensures.followed in
     record {
-      instruction = subst (λ (cpu : Cpu). MeetsInstruction before (configuration_of m devices) (Err c.in-Err.page) (record c2 { processor = record c2.processor { cpu = cpu } })) (sym back)
-          (following_misses m m1 devices c2 before after c.control-stop.result c.in-Err.page whole (g.met.S.Keyed.rest_present _ _ c.control-stop.ensures.rest) c.in-Err.ensures.followed);
-      rest = g.met.S.Keyed.rest_on _ _ _ c.control-stop.ensures.rest (g.met.S.Keyed.rest_kept _ _ c.follow.ensures.rest);
+      instruction = subst (λ (cpu : Cpu). MeetsInstruction before (configuration_of m devices) (Err c.in-Err.page)
+          (record c2 { processor = record c2.processor { cpu = cpu } })) (sym back)
+          (following_misses m m1 devices c2 before after c.control-stop.result c.in-Err.page whole
+          (g.met.S.Keyed.rest_present _ _ c.control-stop.ensures.rest) c.in-Err.ensures.followed);
+      rest = g.met.S.Keyed.rest_on _ _ _ c.control-stop.ensures.rest
+          (g.met.S.Keyed.rest_kept _ _ c.follow.ensures.rest);
     }

@@ -18,8 +18,13 @@ returns-in-Err-clause-instruction g c =
     let stop = c.step-stop.result in
     let spare = c.save.new.spare in
     let same : spare ≡ c.args.cpu.now = elim c.save.ensures [
-      | inl here ↦ saved (configuration_of m1 devices) c2 after stop c.in-Err.page c.args.cpu.now spare (subst (λ (p : ℕ → Bool). p 0 ≡ true) (sym (g.met.S.Storage.keeps_present _ _ c.step-stop.ensures.rest)) here) (not_asked before m m1 stop c.args.cpu.now spare c.in_default.not-Privileged c.step-stop.ensures.unit) c.in-Err.ensures.followed
+      | inl here ↦ saved (configuration_of m1 devices) c2 after stop c.in-Err.page c.args.cpu.now spare
+          (subst (λ (p : ℕ → Bool). p 0 ≡ true) (sym (g.met.S.Storage.keeps_present _ _ c.step-stop.ensures.rest)) here)
+          (not_asked before m m1 stop c.args.cpu.now spare c.in_default.not-Privileged c.step-stop.ensures.unit)
+          c.in-Err.ensures.followed
       | inr copied ↦ copied
     ] in
-    let whole : MeetsUnit (unit m) before m stop m1 = stepped before m m1 stop c.in_default.not-Privileged c.step-stop.ensures.unit in
-    rw same (following_misses m m1 devices c2 before after stop c.in-Err.page whole (g.met.S.Storage.keeps_present _ _ c.step-stop.ensures.rest) c.in-Err.ensures.followed)
+    let whole : MeetsUnit (unit m) before m stop m1 = stepped before m m1 stop c.in_default.not-Privileged
+    c.step-stop.ensures.unit in
+    rw same (following_misses m m1 devices c2 before after stop c.in-Err.page whole
+    (g.met.S.Storage.keeps_present _ _ c.step-stop.ensures.rest) c.in-Err.ensures.followed)

@@ -13,6 +13,9 @@ pub returns-in_err-extend_from_slice-clause-err : goal.returns-in_err-extend_fro
 returns-in_err-extend_from_slice-clause-err g c =
     let left = g.R.HostReader.remaining in
     let got = take c.in_ok-count.count c.read.new.buf in
-    let read : ReadsFront (left c.args.reader.now) (left c.read.new.self) =
-    (c.reads.all.items ++ got, Consumes-trans (left c.args.reader.now) (left c.reads.reader) (left c.read.new.self) c.reads.all.items got c.reads.invariant.read c.in_ok-count.ensures.bytes.0) in
+    let read : ReadsFront (left c.args.reader.now) (left c.read.new.self) = (
+      c.reads.all.items ++ got,
+      Consumes-trans (left c.args.reader.now) (left c.reads.reader)
+          (left c.read.new.self) c.reads.all.items got c.reads.invariant.read c.in_ok-count.ensures.bytes.0,
+    ) in
     on_err _ _ read

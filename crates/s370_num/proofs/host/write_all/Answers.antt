@@ -16,6 +16,8 @@ loop-done-preserved g c =
       within = omega (arith, length-drop done bytes);
       written =
           let taken = rw rest at c.in_ok-done.ensures.bytes in
-          rw (take-add done count bytes) (Appends-trans (contents c.args.writer.now) (contents c.loop-done.writer) (contents c.write.new.self) (take done bytes) (take count (drop done bytes)) c.loop-done.invariant.written taken);
+          rw (take-add done count bytes) (Appends-trans (contents c.args.writer.now) (contents c.loop-done.writer)
+          (contents c.write.new.self) (take done bytes) (take count (drop done bytes)) c.loop-done.invariant.written
+          taken);
       same = c.in_ok-done.ensures.counts ∙ c.loop-done.invariant.same;
     }

@@ -10,6 +10,11 @@ pub returns-clause-row : goal.returns-clause-row
 returns-clause-row g c =
     let m = state_of c.args.cpu.now (g.S.Storage.memory c.args.storage.now) in
     let m' = state_of c.perform_held.new.cpu (g.S.Storage.memory c.perform_held.new.storage) in
-    let steady : is_steady (opcode_at c.args.i.opcode) ≡ true = ap (λ (code : ℕ). is_steady (opcode_at code)) c.requires.same ∙ sym c.is_steady.ensures.steady ∙ c.if-not-is_steady.false in
-    let none : may_overflow (opcode_at c.args.i.opcode) ≡ true → nat_le 8 m.cpu.psw.program_mask ≡ false = λ h. c.overflow_interrupts.ensures c.if-overflow_interrupts.false (ap (λ (code : ℕ). may_overflow (opcode_at code)) (sym c.requires.same) ∙ h) in
-    steady_of m c.args.place c.args.i (g.S.Storage.present c.args.storage.now) c.perform_held.result m' steady none c.perform_held.ensures.row
+    let steady : is_steady (opcode_at c.args.i.opcode) ≡ true = ap
+    (λ (code : ℕ). is_steady (opcode_at code)) c.requires.same ∙ sym c.is_steady.ensures.steady
+    ∙ c.if-not-is_steady.false in
+    let none : may_overflow (opcode_at c.args.i.opcode) ≡ true
+    → nat_le 8 m.cpu.psw.program_mask ≡ false = λ h. c.overflow_interrupts.ensures c.if-overflow_interrupts.false
+    (ap (λ (code : ℕ). may_overflow (opcode_at code)) (sym c.requires.same) ∙ h) in
+    steady_of m c.args.place c.args.i (g.S.Storage.present c.args.storage.now) c.perform_held.result m' steady none
+    c.perform_held.ensures.row

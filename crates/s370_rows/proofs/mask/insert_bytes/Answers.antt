@@ -1,6 +1,7 @@
 use Rattle.std.proofs.Common.{arith, ◌≡◌, ◌<◌, true, false, ◌≤◌, length, length-set, get_or, below_more, sym, ◌∙◌}
 use Rattle.s370_rows.specs.Mask.{selects, inserted_byte, byte_at}
-use Rattle.s370_rows.proofs.Masks.{is_counted, count_selected, count_passed, inserted_selected, inserted_passed, one_more_done, others_kept}
+use Rattle.s370_rows.proofs.Masks.{is_counted, count_selected, count_passed, inserted_selected, inserted_passed}
+use Rattle.s370_rows.proofs.Masks.{one_more_done, others_kept}
 use Rattle.s370_rows.proofs.mask.insert_bytes.Goals as goal
 use Rattle.s370_rows.proofs.mask.insert_bytes.Goals.{then-selects, else-selects}
 
@@ -34,7 +35,9 @@ loop-place-preserved c =
           record {
             counted = cc;
             size = rw w.all-is c.loop-place.invariant.size;
-            done = λ k h. rw w.all-is (below_more (λ j. get_or c.loop-place.all j 0 ≡ taken j) _ c.loop-place.invariant.done (here ∙ sym v) k h);
-            kept = λ k h. let after : c.loop-place.place ≤ k = omega arith in rw w.all-is (c.loop-place.invariant.kept k after);
+            done = λ k h. rw w.all-is (below_more (λ j. get_or c.loop-place.all j 0 ≡ taken j) _
+                c.loop-place.invariant.done (here ∙ sym v) k h);
+            kept = λ k h. let after : c.loop-place.place ≤ k = omega arith in
+                rw w.all-is (c.loop-place.invariant.kept k after);
           }
     ]

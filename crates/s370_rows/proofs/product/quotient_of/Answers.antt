@@ -1,4 +1,5 @@
-use Rattle.std.proofs.Common.{rules, arith, ◌≡◌, zero, suc, ◌<◌, Bool, true, false, Some, None, ℤ, pos, negsuc, int_div, int_rem, FitsSigned, w32, refl, sym, ap, ◌∙◌, unsigned_abs, if◌then◌else◌}
+use Rattle.std.proofs.Common.{rules, arith, ◌≡◌, zero, suc, ◌<◌, Bool, true, false, Some, None, ℤ, pos, negsuc, int_div}
+use Rattle.std.proofs.Common.{int_rem, FitsSigned, w32, refl, sym, ap, ◌∙◌, unsigned_abs, if◌then◌else◌}
 use Rattle.std.specs.Int.{w64}
 use Rattle.std.proofs.lemmas.Int.{to_z-of_z, ints, rem_below, fits_signed_from_abs}
 use Rattle.std.proofs.lemmas.Bool.Decides.{nat_tests}
@@ -14,7 +15,8 @@ fits_true (negsuc n) g h = grind (arith, nat_tests)
 chosen : (t : Bool) (d : Division) → t ≡ true → (if t then Some d else None) ≡ Some d
 chosen t d h = rw h refl
 
-division : (a b q : ℤ) → 0 < unsigned_abs b → q ≡ int_div a b → lt_z q (negsuc 2147483647) ≡ false → lt_z (pos 2147483647) q ≡ false → divided a b ≡ Some (record { quotient = q; remainder = int_rem a b })
+division : (a b q : ℤ) → 0 < unsigned_abs b → q ≡ int_div a b → lt_z q (negsuc 2147483647) ≡ false
+    → lt_z (pos 2147483647) q ≡ false → divided a b ≡ Some (record { quotient = q; remainder = int_rem a b })
 division a (pos zero) q n e g h = absurd (omega arith)
 division a (pos (suc b)) q n e g h = rw e (chosen _ _ (ap fits_word (sym e) ∙ fits_true q g h))
 division a (negsuc b) q n e g h = rw e (chosen _ _ (ap fits_word (sym e) ∙ fits_true q g h))

@@ -9,4 +9,5 @@ returns-then-get-eq0 g c =
 
 pub returns : goal.returns
 returns g c =
-    sym (permitted_is _ _ _ _ _ _ (block_permits _ _ _ _ _ _ c.requires.some c.requires.one_block (sym c.block_passes.ensures)))
+    sym (permitted_is _ _ _ _ _ _ (block_permits _ _ _ _ _ _ c.requires.some c.requires.one_block
+    (sym c.block_passes.ensures)))

@@ -6,4 +6,9 @@ use Rattle.s370_subchannels.proofs.saved.put_subchannels.Goals as goal
 
 pub loop-subchannel-preserved : goal.loop-subchannel-preserved
 loop-subchannel-preserved c =
-    grind (arith, common_steps, each_on subchannel_bytes c.loop-subchannel.out.items c.args.list.now c.loop-subchannel.subchannel-index c.subchannel-item.result c.loop-subchannel-test.true)
+    grind (
+      arith,
+      common_steps,
+      each_on subchannel_bytes c.loop-subchannel.out.items c.args.list.now
+          c.loop-subchannel.subchannel-index c.subchannel-item.result c.loop-subchannel-test.true,
+    )

@@ -14,5 +14,6 @@ overflow_add-number c =
 
 pub returns-clause-below : goal.returns-clause-below
 returns-clause-below c =
-    let most : 16 ^ c.loop-digit.digit-index ≤ 16 ^ c.args.most = pow-le-pow_right {n = 16} (omega arith) {j = c.args.most} (omega arith) in
+    let most : 16 ^ c.loop-digit.digit-index ≤ 16 ^ c.args.most = pow-le-pow_right {n = 16}
+    (omega arith) {j = c.args.most} (omega arith) in
     omega (arith, most, c.loop-digit.invariant.small)

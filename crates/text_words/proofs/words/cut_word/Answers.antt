@@ -7,7 +7,8 @@ pub returns-in-Some-clause-word : goal.returns-in-Some-clause-word
 returns-in-Some-clause-word c = sym (word_at c.args.line.now c.in-Some.at (sym c.in-Some.ensures))
 
 pub returns-in-Some-clause-rest : goal.returns-in-Some-clause-rest
-returns-in-Some-clause-rest c = rw (take_rest c.args.line.now (c.in-Some.at + 1)) (sym (after_at c.args.line.now c.in-Some.at (sym c.in-Some.ensures)))
+returns-in-Some-clause-rest c = rw (take_rest c.args.line.now (c.in-Some.at + 1))
+    (sym (after_at c.args.line.now c.in-Some.at (sym c.in-Some.ensures)))
 
 pub returns-in-None-clause-word : goal.returns-in-None-clause-word
 returns-in-None-clause-word c = sym (word_alone c.args.line.now (nowhere 32 c.args.line.now (sym c.in-None.ensures)))

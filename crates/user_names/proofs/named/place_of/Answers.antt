@@ -7,5 +7,6 @@ use Rattle.user_names.proofs.named.place_of.Goals as goal
 
 pub returns-clause-value : goal.returns-clause-value
 returns-clause-value g c =
-    position_from_yields_List (λ v. bytes_eq c.args.name.now (g.N.Named.name v)) _ _ c.position.result c.position.ensures.ran (YieldsList-from_slice c.args.users.now cc) (λ x b q k. search (rules, tests))
+    position_from_yields_List (λ v. bytes_eq c.args.name.now (g.N.Named.name v)) _ _ c.position.result
+    c.position.ensures.ran (YieldsList-from_slice c.args.users.now cc) (λ x b q k. search (rules, tests))
     ∙ position_map (bytes_eq c.args.name.now) g.N.Named.name c.args.users.now

@@ -4,4 +4,5 @@ use Rattle.ckd_volume.proofs.cylinder.Cylinder.blank.Given as goal
 
 abbrev pub invariant-loop-head : goal.invariant-loop-head
 invariant-loop-head l =
-    (l.tracks.items ++ blank_tracks l.fn.number l.head (19 - l.head) ≡ blank_tracks l.fn.number 0 19) × (length l.tracks.items ≡ l.head)
+    (l.tracks.items ++ blank_tracks l.fn.number l.head (19 - l.head) ≡ blank_tracks l.fn.number 0 19)
+    × (length l.tracks.items ≡ l.head)

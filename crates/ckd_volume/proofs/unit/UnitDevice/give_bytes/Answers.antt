@@ -7,6 +7,9 @@ pub bytes-preserved : goal.bytes-preserved
 bytes-preserved c =
     let i = c.bytes.slot-index in
     record {
-      given = one_given disk_machine c.args.self.now c.bytes.self c.bytes.into i c.give.result (omega (arith, c.bytes.auto.into, c.bytes-test.true)) c.bytes.invariant.given c.bytes.invariant.after c.give.ensures.byte;
-      after = c.give.ensures.after ∙ ap (λ x. disk_machine.gave x) c.bytes.invariant.after ∙ sym (after_giving-one disk_machine c.args.self.now i);
+      given = one_given disk_machine c.args.self.now c.bytes.self c.bytes.into i c.give.result
+          (omega (arith, c.bytes.auto.into, c.bytes-test.true)) c.bytes.invariant.given c.bytes.invariant.after
+          c.give.ensures.byte;
+      after = c.give.ensures.after ∙ ap (λ x. disk_machine.gave x) c.bytes.invariant.after
+          ∙ sym (after_giving-one disk_machine c.args.self.now i);
     }

@@ -11,7 +11,11 @@ invariant_of-self c =
     let new = c.add_minidisk.new.self in
     let same : users ≡ c.args.self.now = c.self.view_is in
     let some : 0 < length users = subst (λ (us : List DirectoryUser). 0 < length us) (sym same) c.requires.some in
-    let none : first_conflict c.args.disk.extent (minidisks_of users) ≡ None = ap (λ (us : List DirectoryUser). first_conflict c.args.disk.extent (minidisks_of us)) same ∙ c.requires.free in
+    let none : first_conflict c.args.disk.extent (minidisks_of users) ≡ None = ap
+    (λ (us : List DirectoryUser). first_conflict c.args.disk.extent (minidisks_of us)) same ∙ c.requires.free in
     let count : c.len-last.result ≡ length users = omega (arith, c.len-last.ensures, c.self.inside.users.ok.0) in
-    let here : user ≡ get_or users (length users - 1) user = c.index_mut.ensures.value ∙ ap (λ (n : ℕ). get_or users (n - 1) user) count in
-    subst (λ (n : ℕ). (length (set users (n - 1) new) ≤ 64) × AreApart (set users (n - 1) new)) (sym count) (disk_more c.args.disk users user new c.add_minidisk.result c.self.invariant some none here c.add_minidisk.ensures.ok c.add_minidisk.ensures.err)
+    let here : user ≡ get_or users (length users - 1) user = c.index_mut.ensures.value
+    ∙ ap (λ (n : ℕ). get_or users (n - 1) user) count in
+    subst (λ (n : ℕ). (length (set users (n - 1) new) ≤ 64) × AreApart (set users (n - 1) new)) (sym count)
+    (disk_more c.args.disk users user new c.add_minidisk.result c.self.invariant some none here
+    c.add_minidisk.ensures.ok c.add_minidisk.ensures.err)

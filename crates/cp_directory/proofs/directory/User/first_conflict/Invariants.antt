@@ -4,4 +4,5 @@ use Rattle.cp_directory.proofs.directory.User.first_conflict.Given as goal
 
 -- none before this one conflicts
 abbrev pub invariant-loop-disk : goal.invariant-loop-disk
-invariant-loop-disk l = first_conflict l.extent l.self.minidisks ≡ first_conflict l.extent (drop l.disk-index l.self.minidisks)
+invariant-loop-disk l = first_conflict l.extent l.self.minidisks ≡ first_conflict l.extent
+    (drop l.disk-index l.self.minidisks)

@@ -47,5 +47,9 @@ returns-in-Some-free_slot-clause-put c =
     let free : get_or s.slots slot None ≡ None = c.in-Some-free_slot.ensures.free in
     let within : slot < length s.slots = c.in-Some-free_slot.ensures.within in
     let nowhere : frame_of s.slots user page ≡ None = sym c.in-None.ensures.slot in
-    rw (c.fill-in-Some-free_slot.ensures.supply, c.exchange-in-Some-free_slot.ensures.supply, c.free_slot.ensures.unchanged)
+    rw (
+      c.fill-in-Some-free_slot.ensures.supply,
+      c.exchange-in-Some-free_slot.ensures.supply,
+      c.free_slot.ensures.unchanged,
+    )
     (put_filled s user page frame slot nowhere within free)

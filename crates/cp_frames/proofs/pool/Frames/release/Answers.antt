@@ -37,7 +37,8 @@ returns-clause-storages c =
     (released-storages f c.args.user ∙ storages-cleared (places_in f) (owners_in f) f.sizes.items c.args.user)
 
 pub returns-clause-unmapped : goal.returns-clause-unmapped
-returns-clause-unmapped c page = rw c.leave.ensures.owners (frame_of-cleared c.self.inside.owners.items c.args.user page)
+returns-clause-unmapped c page = rw c.leave.ensures.owners (frame_of-cleared c.self.inside.owners.items c.args.user
+    page)
 
 pub returns-clause-gone_slots : goal.returns-clause-gone_slots
 returns-clause-gone_slots c page =

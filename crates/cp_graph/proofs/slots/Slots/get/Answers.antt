@@ -7,8 +7,12 @@ use Rattle.cp_graph.proofs.slots.Slots.get.Goals as goal
 
 pub returns-in-Some : goal.returns-in-Some
 returns-in-Some c =
-    sym (ap (λ o. or_zero (option_copied o)) c.in-Some.is) ∙ read_of c.self.inside.count c.args.slot (get nat_eq c.self.inside.held) (option_copied c.get.result) c.args.self.now c.self.view_is c.requires c.get.ensures.value
+    sym (ap (λ o. or_zero (option_copied o)) c.in-Some.is) ∙ read_of c.self.inside.count c.args.slot
+    (get nat_eq c.self.inside.held) (option_copied c.get.result) c.args.self.now c.self.view_is c.requires
+    c.get.ensures.value
 
 pub returns-in-None : goal.returns-in-None
 returns-in-None c =
-    sym (ap (λ o. or_zero (option_copied o)) c.in-None.is) ∙ read_of c.self.inside.count c.args.slot (get nat_eq c.self.inside.held) (option_copied c.get.result) c.args.self.now c.self.view_is c.requires c.get.ensures.value
+    sym (ap (λ o. or_zero (option_copied o)) c.in-None.is) ∙ read_of c.self.inside.count c.args.slot
+    (get nat_eq c.self.inside.held) (option_copied c.get.result) c.args.self.now c.self.view_is c.requires
+    c.get.ensures.value

@@ -9,13 +9,15 @@ invariant_of-self c =
     let e = c.self.inside.extent in
     let u = c.self.inside.unit in
     let P : Disk → Type 0 = λ x. Serves x e in
-    subst P (sym (begun_ok c.command.result _ _ c.command.ensures.ready c.command.ensures.after)) (starts_serving e u c.self.invariant c.args.order)
+    subst P (sym (begun_ok c.command.result _ _ c.command.ensures.ready c.command.ensures.after))
+    (starts_serving e u c.self.invariant c.args.order)
 
 pub returns-clause-answer : goal.returns-clause-answer
 returns-clause-answer c =
     let e = c.self.inside.extent in
     let u = c.self.inside.unit in
-    answer_ok c.command.result _ _ (answers e u c.self.invariant c.args.order ∙ ap (λ p. part_machine.answer p c.args.order) c.self.view_is) c.command.ensures.answer
+    answer_ok c.command.result _ _ (answers e u c.self.invariant c.args.order
+    ∙ ap (λ p. part_machine.answer p c.args.order) c.self.view_is) c.command.ensures.answer
 
 pub returns-clause-after : goal.returns-clause-after
 returns-clause-after c =

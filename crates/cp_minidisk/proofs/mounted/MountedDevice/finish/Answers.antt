@@ -8,13 +8,15 @@ pub invariant_of-self : goal.invariant_of-self
 invariant_of-self c =
     let e = c.self.inside.extent in
     let P : Disk → Type 0 = λ x. Serves x e in
-    subst P (sym (c.finish.ensures.after ∙ ap (λ x. disk_machine.finished x) c.relocate_seek.ensures)) (finishes_serving e c.self.inside.unit c.self.invariant)
+    subst P (sym (c.finish.ensures.after ∙ ap (λ x. disk_machine.finished x) c.relocate_seek.ensures))
+    (finishes_serving e c.self.inside.unit c.self.invariant)
 
 pub returns-clause-status : goal.returns-clause-status
 returns-clause-status c =
     c.finish.ensures.status
     ∙ (ap (λ x. disk_machine.status x) c.relocate_seek.ensures
-    ∙ (ends_alike c.self.inside.extent c.self.inside.unit c.self.invariant ∙ ap (λ p. part_machine.status p) c.self.view_is))
+    ∙ (ends_alike c.self.inside.extent c.self.inside.unit c.self.invariant
+    ∙ ap (λ p. part_machine.status p) c.self.view_is))
 
 pub returns-clause-after : goal.returns-clause-after
 returns-clause-after c =

@@ -15,4 +15,5 @@ pub returns : goal.returns
 returns c =
     let e = c.self.inside.extent in
     let bytes = c.args.from.now in
-    ap (part_of e) c.take_bytes.ensures ∙ (after_taking_alike e c.self.inside.unit bytes ∙ ap (λ p. after_taking part_machine p bytes) c.self.view_is)
+    ap (part_of e) c.take_bytes.ensures ∙ (after_taking_alike e c.self.inside.unit bytes
+    ∙ ap (λ p. after_taking part_machine p bytes) c.self.view_is)

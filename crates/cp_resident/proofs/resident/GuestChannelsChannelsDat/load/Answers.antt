@@ -28,7 +28,8 @@ returns-clause-whole g c = λ is.
     subst (λ (r : Result Ending ChannelError). IfErr r (WhereOut (length (lent_bytes old)) Needs (no_room new Needs) P))
     (sym c.reported.ensures)
     (tried_whole c.load_open.result old new Needs Needs P (λ page it. it)
-    c.load_open.ensures.paged_in.paged_in.kept.same_size c.load_open.ensures.lacking c.load_open.ensures.unchanged_without_frames))
+    c.load_open.ensures.paged_in.paged_in.kept.same_size c.load_open.ensures.lacking
+    c.load_open.ensures.unchanged_without_frames))
 
 pub returns-clause-there : goal.returns-clause-there
 returns-clause-there g c = λ is.

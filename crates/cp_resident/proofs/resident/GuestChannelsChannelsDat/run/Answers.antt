@@ -135,7 +135,8 @@ returns-in-Ok-SelfModifying-clause-whole g c = λ is.
     → LacksSuch (IsTouched guest_written (limited g.D.Device.machine start)
     (begun start (lent_memory d) c.args.device.now)) new) same c.run_open.ensures.lacking in
     let kept = subst (λ (d : Dat). c.run_open.result ≡ Err tries.FramesOut
-    → (lent_memory new ≡ lent_memory d) × (c.run_open.new.device ≡ c.args.device.now)) same c.run_open.ensures.unchanged_without_frames
+    → (lent_memory new ≡ lent_memory d) × (c.run_open.new.device ≡ c.args.device.now)) same
+    c.run_open.ensures.unchanged_without_frames
     in
     subst (λ (r : Result Ending ChannelError).
     IfErr r (WhereOut (length (lent_bytes old)) Needs (no_room new Needs)

@@ -24,7 +24,8 @@ returns-in-Some-Punch-clause-ok c = λ m disks. (
     let kind : part_at before.devices c.args.device ≡ Some kinds.Punch =
     ap (place_at c.args.self.now.places) (sym c.get.ensures) ∙
     (sym c.part_at.ensures ∙ (c.in-Some-Punch.is ∙ ap Some c.in-Some-Punch.field-0-is)) in
-    subst (λ (k : Option AttachedDevice). IfOk c.close_punched.result (λ reported. outcome after reported ≡ closed_at k before))
+    subst (λ (k : Option AttachedDevice). IfOk c.close_punched.result
+    (λ reported. outcome after reported ≡ closed_at k before))
     (sym kind)
     (subst (λ (place : Option ℕ).
     IfOk c.close_punched.result (λ reported. outcome after reported ≡ punch_answered place before))

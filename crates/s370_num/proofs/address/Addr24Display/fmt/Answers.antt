@@ -15,6 +15,7 @@ returns-clause-writes g c =
     let bytes = c.to_be_bytes.ensures in
     rw (
       address_shown first second third n small (rw (c.laid_out.ensures, c.in_radix.ensures, bytes, high) refl)
-          (rw (c.laid_out-2.ensures, c.in_radix-2.ensures, bytes) refl) (rw (c.laid_out-3.ensures, c.in_radix-3.ensures, bytes) refl),
+          (rw (c.laid_out-2.ensures, c.in_radix-2.ensures, bytes) refl)
+          (rw (c.laid_out-3.ensures, c.in_radix-3.ensures, bytes) refl),
       c.self.view_is,
     ) at c.write.ensures.writes

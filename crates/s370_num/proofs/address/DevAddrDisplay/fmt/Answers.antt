@@ -11,4 +11,8 @@ returns-clause-writes g c =
     let high : n / 256 % 256 ≡ n / 256 = omega arith in
     let channel = digits_output c.in_radix.result in
     let unit = styled_digits_output c.in_radix-2.result c.laid_out.result in
-    rw (device_shown channel unit n small (rw (c.in_radix.ensures, c.to_be_bytes.ensures, high) refl) (rw (c.laid_out.ensures, c.in_radix-2.ensures, c.to_be_bytes.ensures) refl), c.self.view_is) at c.write.ensures.writes
+    rw (
+      device_shown channel unit n small (rw (c.in_radix.ensures, c.to_be_bytes.ensures, high) refl)
+          (rw (c.laid_out.ensures, c.in_radix-2.ensures, c.to_be_bytes.ensures) refl),
+      c.self.view_is,
+    ) at c.write.ensures.writes

@@ -16,5 +16,14 @@ pub returns : goal.returns
 returns c =
     let first_here : is_present c.args.self.now (c.args.range.start / 4096) ≡ true = cc in
     let last_here : is_present c.args.self.now ((c.args.range.start + (c.args.range.count - 1)) / 4096) ≡ true = cc in
-    let g = c.in_ok-test_range.ensures.1.0 (omega arith) in
-    (search rules, (λ some. record { inside = omega arith; here = ends_here (is_present c.args.self.now) _ _ _ (omega arith) (omega arith) first_here last_here }, tt))
+    let g = c.in_ok-test_range.ensures.1.0 (omega arith) in (
+      search rules,
+      (
+        λ some. record {
+          inside = omega arith;
+          here = ends_here (is_present c.args.self.now) _ _ _
+              (omega arith) (omega arith) first_here last_here;
+        },
+        tt,
+      ),
+    )

@@ -10,10 +10,12 @@ invariant_of-self c =
     let old = c.self.inside.list.items in
     let x = c.index_mut.result.now in
     let e : old ≡ c.args.self.now = c.self.view_is in
-    let at : position (is_at c.args.device) old ≡ Some c.in-Some.place = ap (position (is_at c.args.device)) e ∙ (sym c.place_of.ensures ∙ c.in-Some.is) in
+    let at : position (is_at c.args.device) old ≡ Some c.in-Some.place = ap (position (is_at c.args.device)) e
+    ∙ (sym c.place_of.ensures ∙ c.in-Some.is) in
     let p = a_place c.args.device (last_started c.args.number) old c.in-Some.place x at c.index_mut.ensures.value in (
       c.pending_masks-self-inside.ensures ∙ ap pending_masks c.as_slice.ensures.value,
-      ascending_set old c.in-Some.place (last_started c.args.number x) x c.self.invariant.1 p.2 (ap (λ (y : Subchannel). y.address) c.index_mut.ensures.value),
+      ascending_set old c.in-Some.place (last_started c.args.number x) x c.self.invariant.1 p.2
+          (ap (λ (y : Subchannel). y.address) c.index_mut.ensures.value),
       omega (arith, c.self.invariant.2, length-set old c.in-Some.place (last_started c.args.number x)),
     )
 
@@ -21,8 +23,11 @@ pub returns-in-Some : goal.returns-in-Some
 returns-in-Some c =
     let old = c.self.inside.list.items in
     let e : old ≡ c.args.self.now = c.self.view_is in
-    let at : position (is_at c.args.device) old ≡ Some c.in-Some.place = ap (position (is_at c.args.device)) e ∙ (sym c.place_of.ensures ∙ c.in-Some.is) in
-    (a_place c.args.device (last_started c.args.number) old c.in-Some.place c.index_mut.result.now at c.index_mut.ensures.value).1 ∙ ap (λ (ss : List Subchannel). with_last_start c.args.device c.args.number ss) e
+    let at : position (is_at c.args.device) old ≡ Some c.in-Some.place = ap (position (is_at c.args.device)) e
+    ∙ (sym c.place_of.ensures ∙ c.in-Some.is) in
+    (a_place c.args.device (last_started c.args.number) old c.in-Some.place c.index_mut.result.now at
+    c.index_mut.ensures.value).1 ∙ ap (λ (ss : List Subchannel). with_last_start c.args.device c.args.number ss) e
 
 pub returns-in-None : goal.returns-in-None
-returns-in-None c = sym (no_place c.args.device (last_started c.args.number) c.args.self.now (sym c.place_of.ensures ∙ c.in-None.is)).1
+returns-in-None c = sym (no_place c.args.device (last_started c.args.number) c.args.self.now (sym c.place_of.ensures
+    ∙ c.in-None.is)).1
