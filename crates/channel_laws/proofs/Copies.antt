@@ -16,6 +16,7 @@ use Rattle.channel_laws.specs.Mapped.{Program, Named, IsPaged, IsMapped, copied_
 use Rattle.channel_laws.proofs.Mapping.{real_end}
 use Rattle.channel_laws.specs.Copy.{guest_of, IsPlace, IsCopyOf, MeetsFrozen}
 
+-- A frozen run that ends over a copy is a run of the guest's own program with the same end.
 pub frozen_end : {D : Type 0} (real : ℕ → Option ℕ) (c : Program) (places : List CcwLocation) (form : Form)
     (m0 : Memory) (h : Setting D) (spot : NextCcw) (m n : Memory) (d e : D) (end : Ending) (n' : Memory)
     → IsCopyOf places c form m0 → IsPlace places (form.text m0) spot.at → IsPaged real → IsMapped real (Named c) m n

@@ -29,6 +29,7 @@ use Rattle.channel_laws.proofs.Simulation.{walk_related}
 use Rattle.channel_laws.specs.Mapped.{IsMapped, IsKept, real_place, Program, copied_form, real_form, Named, IsPaged}
 use Rattle.channel_laws.specs.Mapped.{IsBefore, IsKnown, Stands, mapped_pair, MeetsEnd}
 
+-- Memory keeps itself.
 pub kept_same : (real : ℕ → Option ℕ) (m : Memory) → IsKept real m m
 kept_same real m = record { bytes = λ a e. refl; size = refl; keys = refl }
 
@@ -48,6 +49,7 @@ get_same bytes a b lt =
     get_or-append_right (take a bytes) ((b ∷ []) ++ drop 1 (drop a bytes)) a a 0 long (omega arith)
     ∙ ap (λ k. get_or ((b ∷ []) ++ drop 1 (drop a bytes)) k 0) zero_is
 
+-- A byte that is put at one address leaves every other address as it is.
 pub get_other : (bytes : List ℕ) (a b c : ℕ) → a < length bytes → c ≢ a
     → get_or (put bytes a (b ∷ [])) c 0 ≡ get_or bytes c 0
 unfolding put
@@ -248,11 +250,13 @@ ended : {D : Type 0} (real : ℕ → Option ℕ) (c : Program) (old : Memory) (s
     × Stands real c old m' n'
 ended real c old _ _ _ _ (over end m' n' d e s i) = (m', ap (Over end m') i, s)
 
+-- A device is in the same role as itself.
 pub in_role : {D : Type 0} (real : ℕ → Option ℕ) (c : Program) (old : Memory) (role : Option Transfer) (d : D)
     → InRole (mapped_pair real c old) role d d
 in_role real c old None d = refl
 in_role real c old (Some t) d = refl
 
+-- A run over real storage that ends is a run over the guest's storage with the same end.
 pub real_end : {D : Type 0} (real : ℕ → Option ℕ) (c : Program) (h : Setting D) (spot : NextCcw) (m n : Memory)
     (d e : D) (end : Ending) (n' : Memory)
     → IsPaged real → IsMapped real (Named c) m n → Reaches (real_form real c) h (Fetching spot n d) (Over end n' e)

@@ -29,6 +29,7 @@ twelve (a ∷ b ∷ c ∷ d ∷ e ∷ f ∷ g ∷ h ∷ i ∷ j ∷ k ∷ m ∷ 
 abbrev pub volser_in : List ℕ → List ℕ
 volser_in l = get_or l 4 0 ∷ get_or l 5 0 ∷ get_or l 6 0 ∷ get_or l 7 0 ∷ get_or l 8 0 ∷ get_or l 9 0 ∷ []
 
+-- The serial number of a volume is six bytes of the header from its fourth.
 pub volser_bytes : (l : List ℕ) → 12 ≤ length l → take 6 (drop 4 l) ≡ volser_in l
 volser_bytes l le = ap (λ x. take 6 (drop 4 x)) (twelve l le)
 

@@ -13,6 +13,7 @@ use Rattle.ckd_image.specs.declared.faults.ImageError.TheVariants.{Memory, BadMa
 use Rattle.ckd_image.specs.declared.faults.ImageError.TheVariants.{Device, BadTotal}
 use Rattle.ckd_image.proofs.Volumes.{all_length, all_total}
 
+-- A fault of an image is what reading it returns.
 pub fault_read : (bytes : List ℕ) (f : ImageError) → IsFault bytes f → IsReadingOrMemory bytes (Err f)
 fault_read bytes Memory h = absurd h
 fault_read bytes BadMagic h = h
@@ -35,6 +36,7 @@ begun bytes version volser n tracks rest h good e =
           ∙ ap (λ x. take 12 bytes ++ x) e;
     }
 
+-- A fault of the tracks is one of the image whose header is good.
 pub tracks_fault : (bytes : List ℕ) (version : Version) (volser : List ℕ) (n : ℕ)
     → IsHeader (take 12 bytes) version volser n
     → (f : ImageError) → IsTracksFault n (drop 12 bytes) f → IsFault bytes f
@@ -78,6 +80,7 @@ pub record AreRead (bytes : List ℕ) (version : Version) (v : VolumeFormat) (re
   pub count : length (all_tracks v.cylinders) ≡ 19 * length v.cylinders
   pub heads : All (λ cylinder. length cylinder ≡ 19) v.cylinders
 
+-- A header and all tracks that are read make a volume that is read.
 pub all_read : (bytes : List ℕ) (version : Version) (volser : List ℕ) (n : ℕ) (old new : VolumeFormat) (rest : List ℕ)
     → IsHeader (take 12 bytes) version volser n
     → old.volser ≡ volser → length old.cylinders ≡ n → ReadTracks old new (19 * length old.cylinders)
@@ -98,6 +101,7 @@ all_read bytes version volser n old new rest h same long r =
       heads = r.heads;
     }
 
+-- A volume that is read, with the right end after it, makes an image of it.
 pub image_read : (bytes : List ℕ) (version : Version) (v : VolumeFormat) (rest : List ℕ) → AreRead bytes version v rest
     → rest ≡ end_of version (cylinders_total v.cylinders) → IsImage bytes v
 image_read bytes version v rest r e =
@@ -108,6 +112,7 @@ image_read bytes version v rest r e =
           (Begins bytes version v.volser (length v.cylinders) (all_tracks v.cylinders)) e r.begins;
     }
 
+-- A wrong end after all tracks is a fault of the image.
 pub end_fault : (bytes : List ℕ) (version : Version) (v : VolumeFormat) (rest : List ℕ) (total : ℕ)
     → AreRead bytes version v rest → total ≡ cylinders_total v.cylinders
     → (f : ImageError) → IsEndFault version total rest f → IsFault bytes f

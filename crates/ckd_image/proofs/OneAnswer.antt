@@ -349,5 +349,6 @@ judged_once bytes a b (inr (inl x)) (inr (inr y)) = absurd (not_both_places byte
 judged_once bytes a b (inr (inr x)) (inr (inl y)) = absurd (not_both_places bytes b a y x)
 judged_once bytes a b (inr (inr x)) (inr (inr y)) = at_end_once bytes a b x y
 
+-- An image is read to one answer alone.
 pub one_answer : (bytes : List ℕ) (a b : Answer) → IsReading bytes a → IsReading bytes b → a ≡ b
 one_answer bytes a b x y = judged_once bytes a b (judged_so bytes a x) (judged_so bytes b y)

@@ -10,10 +10,12 @@ use Rattle.ckd_volume.specs.Front.{Cylinder, no_track}
 use Rattle.ckd_image.specs.Image.{record_bytes, records_bytes, track_bytes, tracks_bytes, cylinders_bytes, tracks_total}
 use Rattle.ckd_image.specs.Image.{cylinders_total}
 
+-- Four parts that are appended one after another are appended at once.
 pub append_four : (o a b k d : List ℕ) → (((o ++ a) ++ b) ++ k) ++ d ≡ o ++ ((a ++ b) ++ (k ++ d))
 append_four o a b k d =
     append_assoc ((o ++ a) ++ b) k d ∙ ap (λ l. l ++ (k ++ d)) (append_assoc o a b) ∙ append_assoc o (a ++ b) (k ++ d)
 
+-- Two parts that are appended one after another are appended at once.
 pub append_two : (o a : List ℕ) (n : ℕ) (b : List ℕ) → ((o ++ a) ++ n ∷ []) ++ b ≡ o ++ (a ++ (n ∷ b))
 append_two o a n b = append_assoc (o ++ a) (n ∷ []) b ∙ append_assoc o a (n ∷ b)
 
@@ -48,18 +50,21 @@ pub records_on : (out : List ℕ) (rs : List Record) (i : ℕ) → i < length rs
 records_on out rs i lt = append_assoc out (record_bytes (slice_index_or rs i no_record))
     (records_bytes (drop (i + 1) rs)) ∙ ap (λ l. out ++ l) (sym (records_drop rs i lt))
 
+-- The bytes of tracks from one on begin with that track's.
 pub tracks_on : (out : List ℕ) (ts : Cylinder) (i : ℕ) → i < length ts
     → (out ++ track_bytes (slice_index_or ts i no_track)) ++ tracks_bytes (drop (i + 1) ts) ≡ out ++ tracks_bytes
     (drop i ts)
 tracks_on out ts i lt = append_assoc out (track_bytes (slice_index_or ts i no_track)) (tracks_bytes (drop (i + 1) ts))
     ∙ ap (λ l. out ++ l) (sym (tracks_drop ts i lt))
 
+-- The bytes of cylinders from one on begin with that cylinder's.
 pub cylinders_on : (out : List ℕ) (cs : List Cylinder) (i : ℕ) → i < length cs
     → (out ++ tracks_bytes (slice_index_or cs i [])) ++ cylinders_bytes (drop (i + 1) cs) ≡ out ++ cylinders_bytes
     (drop i cs)
 cylinders_on out cs i lt = append_assoc out (tracks_bytes (slice_index_or cs i [])) (cylinders_bytes (drop (i + 1) cs))
     ∙ ap (λ l. out ++ l) (sym (cylinders_drop cs i lt))
 
+-- The records of tracks from one on are that track's and those of the rest.
 pub tracks_total_on : (ts : Cylinder) (i : ℕ) → i < length ts
     → tracks_total (drop i ts) ≡ length (slice_index_or ts i no_track).records + tracks_total (drop (i + 1) ts)
 tracks_total_on [] i lt = absurd (omega arith)
@@ -68,6 +73,7 @@ tracks_total_on (t ∷ ts) (suc i) lt = let less : i < length ts = omega arith i
     let e : suc i + 1 ≡ suc (i + 1) = omega arith in tracks_total_on ts i less
     ∙ ap (λ n. length (slice_index_or ts i no_track).records + tracks_total (drop n (t ∷ ts))) (sym e)
 
+-- The records of cylinders from one on are that cylinder's and those of the rest.
 pub cylinders_total_on : (cs : List Cylinder) (i : ℕ) → i < length cs
     → cylinders_total (drop i cs) ≡ tracks_total (slice_index_or cs i []) + cylinders_total (drop (i + 1) cs)
 cylinders_total_on [] i lt = absurd (omega arith)
@@ -76,6 +82,7 @@ cylinders_total_on (c ∷ cs) (suc i) lt = let less : i < length cs = omega arit
     let e : suc i + 1 ≡ suc (i + 1) = omega arith in cylinders_total_on cs i less
     ∙ ap (λ n. tracks_total (slice_index_or cs i []) + cylinders_total (drop n (c ∷ cs))) (sym e)
 
+-- The parts of an image are joined in either order.
 pub image_parts : (a b c d e : List ℕ) → (((a ++ b) ++ c) ++ d) ++ e ≡ (a ++ (b ++ c)) ++ (d ++ e)
 image_parts a b c d e = append_assoc ((a ++ b) ++ c) d e ∙ ap (λ l. l ++ (d ++ e)) (append_assoc a b c)
 

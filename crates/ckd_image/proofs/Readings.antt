@@ -15,6 +15,7 @@ use Rattle.ckd_image.specs.declared.header.Version.TheVariants.{One, Two}
 use Rattle.ckd_image.proofs.Volumes.{all_bytes}
 use Rattle.ckd_image.proofs.Unique.{Same, same_front, same_back, one_track}
 
+-- What a readable volume is written as is an image of it.
 pub image_written : (v : VolumeFormat) → IsReadable v → IsImage (image_of v) v
 image_written v r =
     record {
@@ -32,6 +33,7 @@ few_cylinders : (version : Version) (n : ℕ) → n ≤ Reading.most_cylinders v
 few_cylinders One n le = omega (arith, le)
 few_cylinders Two n le = le
 
+-- An image is of a readable volume.
 pub image_readable : (bytes : List ℕ) (v : VolumeFormat) → IsImage bytes v → IsReadable v
 image_readable bytes v i =
     record {
@@ -47,6 +49,7 @@ four_long : (version : Version) → length (magic version) ≡ 4
 four_long One = refl
 four_long Two = refl
 
+-- A header has twelve bytes.
 pub header_long : (header : List ℕ) (version : Version) (volser : List ℕ) (n : ℕ) → IsHeader header version volser n
     → length header ≡ 12
 header_long header version volser n h =
@@ -108,6 +111,7 @@ same_version One Two e = absurd (omega (arith, ap (λ x. get_or x 3 0) e))
 same_version Two One e = absurd (omega (arith, ap (λ x. get_or x 3 0) e))
 same_version Two Two e = refl
 
+-- Two ways in which bytes are an image agree.
 pub alike : (bytes : List ℕ) (f g : Found bytes) → Alike f g
 alike bytes f g =
     let whole = sym f.begins.whole ∙ g.begins.whole in

@@ -11,10 +11,12 @@ pub same_front : (p q x y : List ℕ) → length p ≡ length q → p ++ x ≡ q
 same_front p q x y long e = sym (take_at p x (length q) long) ∙ ap (λ l. take (length q) l) e
     ∙ take_at q y (length q) refl
 
+-- Equal texts that begin with equally long parts go on alike.
 pub same_back : (p q x y : List ℕ) → length p ≡ length q → p ++ x ≡ q ++ y → x ≡ y
 same_back p q x y long e = sym (drop_at p x (length q) long) ∙ ap (λ l. drop (length q) l) e
     ∙ drop_at q y (length q) refl
 
+-- Two things are equal, and so is what follows them.
 pub record Same {A : Type 0} (a b : A) (x y : List ℕ) : Type 0 where
   pub this : a ≡ b
   pub rest : x ≡ y
@@ -66,6 +68,7 @@ one_list (r ∷ rs) (s ∷ ss) x y hr hs long e =
     (omega (arith, long)) first.rest in
     record { this = ap (λ t. t ∷ rs) first.this ∙ ap (λ t. s ∷ t) others.this; rest = others.rest }
 
+-- Equal bytes begin with the same track, and go on alike.
 pub one_track : (t u : TrackFormat) (x y : List ℕ) → IsSpelled t → IsSpelled u → track_bytes t ++ x ≡ track_bytes u ++ y
     → Same t u x y
 one_track t u x y ht hu e =

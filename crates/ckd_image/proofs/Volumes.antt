@@ -22,6 +22,7 @@ tracks_append [] us = refl
 tracks_append (t ∷ ts) us = ap (λ l. track_bytes t ++ l) (tracks_append ts us)
     ∙ sym (append_assoc (track_bytes t) (tracks_bytes ts) (tracks_bytes us))
 
+-- The bytes of cylinders are those of all their tracks.
 pub all_bytes : (cs : List Cylinder) → cylinders_bytes cs ≡ tracks_bytes (all_tracks cs)
 all_bytes [] = refl
 all_bytes (c ∷ cs) = ap (λ l. tracks_bytes c ++ l) (all_bytes cs) ∙ sym (tracks_append c (all_tracks cs))
@@ -30,10 +31,12 @@ total_append : (ts us : List TrackFormat) → tracks_total (ts ++ us) ≡ tracks
 total_append [] us = omega arith
 total_append (t ∷ ts) us = omega (arith, total_append ts us)
 
+-- The records of cylinders are those of all their tracks.
 pub all_total : (cs : List Cylinder) → cylinders_total cs ≡ tracks_total (all_tracks cs)
 all_total [] = refl
 all_total (c ∷ cs) = omega (arith, all_total cs, total_append c (all_tracks cs))
 
+-- A volume has nineteen tracks for each of its cylinders.
 pub all_length : (cs : List Cylinder) → HaveHeads cs → length (all_tracks cs) ≡ 19 * length cs
 all_length [] h = refl
 all_length (c ∷ cs) h = omega (
@@ -147,6 +150,7 @@ blank_heads c zero = All-nil (λ cylinder. length cylinder ≡ 19)
 blank_heads c (suc n) = All-cons (λ cylinder. length cylinder ≡ 19) (blank_tracks c 0 19)
     (blank_cylinders (c + 1) n) refl (blank_heads (c + 1) n)
 
+-- As many blank cylinders are made as were asked for.
 pub blank_count : (c n : ℕ) → length (blank_cylinders c n) ≡ n
 blank_count c zero = refl
 blank_count c (suc n) = ap suc (blank_count (c + 1) n)

@@ -21,6 +21,7 @@ track_code =
 pub cylinder_code : IsCode cylinder_bytes
 cylinder_code = each_code track_bytes track_code
 
+-- The bytes of a volume are a code: it is read back, whatever follows it.
 pub volume_code : IsCode volume_bytes
 volume_code =
     let cylinders = each_code cylinder_bytes cylinder_code in
@@ -30,5 +31,6 @@ volume_code =
     (λ (v : VolumeFormat). (v.volser, (length v.cylinders, v.cylinders)))
     (λ p. record { volser = p.0; cylinders = p.1.1 }) (λ v. refl)
 
+-- A restored volume is the saved one.
 pub one_volume : IsOneBySaved
 one_volume = one_value volume_bytes volume_code

@@ -308,6 +308,7 @@ wrong_found : (lines : List (List ℕ)) (number : ℕ) → stated_volume lines �
 wrong_found [] number h = let same : 1 ≡ number = cc in inl (sym same, tt)
 wrong_found (first ∷ lines) number h = wrong_on first lines number (first_of first) refl h
 
+-- The words of each tool are read exactly as its grammar says.
 pub reads : ReadsGrammar
 reads text = (
   λ v h. text_found (lines_of text) v h,

@@ -22,12 +22,14 @@ records_drop (r ∷ rs) (suc i) lt = let less : i < length rs = omega arith in
     let e : suc i + 1 ≡ suc (i + 1) = omega arith in records_drop rs i less
     ∙ ap (λ n. record_line (slice_index_or rs i no_record) ++ record_lines (drop n (r ∷ rs))) (sym e)
 
+-- The lines of records from one on begin with that record's.
 pub records_on : (out : List ℕ) (rs : List Record) (i : ℕ) → i < length rs
     → (out ++ record_line (slice_index_or rs i no_record)) ++ record_lines (drop (i + 1) rs) ≡ out ++ record_lines
     (drop i rs)
 records_on out rs i lt = append_assoc out (record_line (slice_index_or rs i no_record)) (record_lines (drop (i + 1) rs))
     ∙ ap (λ l. out ++ l) (sym (records_drop rs i lt))
 
+-- The cost of records from one on is that record's and that of the rest.
 pub cost_on : (rs : List Record) (i : ℕ) → i < length rs → cost (drop i rs) ≡ cost_of
     (slice_index_or rs i no_record) + cost (drop (i + 1) rs)
 cost_on [] i lt = absurd (omega arith)
@@ -55,6 +57,7 @@ tracks_drop c h (t ∷ ts) (suc i) lt =
     ∙ ap (λ n. track_lines c (h + suc i) (slice_index_or ts i no_track) ++ cylinder_lines c (h + (suc i + 1))
     (drop n (t ∷ ts))) (sym s)
 
+-- The lines of tracks from one on begin with that track's.
 pub tracks_on : (out : List ℕ) (c : ℕ) (ts : Cylinder) (i : ℕ) → i < length ts
     → (out ++ track_lines c i (slice_index_or ts i no_track)) ++ cylinder_lines c (i + 1)
     (drop (i + 1) ts) ≡ out ++ cylinder_lines c i (drop i ts)
@@ -82,6 +85,7 @@ cylinders_drop c (t ∷ ts) (suc i) lt =
     ∙ ap (λ n. cylinder_lines (c + suc i) 0 (slice_index_or ts i []) ++ volume_lines (c + (suc i + 1))
     (drop n (t ∷ ts))) (sym s)
 
+-- The lines of cylinders from one on begin with that cylinder's.
 pub cylinders_on : (out : List ℕ) (cs : List Cylinder) (i : ℕ) → i < length cs
     → (out ++ cylinder_lines i 0 (slice_index_or cs i [])) ++ volume_lines (i + 1)
     (drop (i + 1) cs) ≡ out ++ volume_lines i (drop i cs)
@@ -110,6 +114,7 @@ heads_drop c h (t ∷ ts) (suc i) lt =
     ∙ ap (λ n. (if is_blank c (h + suc i) (slice_index_or ts i no_track) then 1 else 0) + blank_heads c
     (h + (suc i + 1)) (drop n (t ∷ ts))) (sym s)
 
+-- The blank heads of a cylinder from one on are that head and those of the rest.
 pub heads_on : (c : ℕ) (ts : Cylinder) (i : ℕ) → i < length ts
     → blank_heads c i (drop i ts) ≡ (if is_blank c i (slice_index_or ts i no_track) then 1 else 0) + blank_heads c
     (i + 1) (drop (i + 1) ts)
@@ -135,10 +140,12 @@ count_drop c (t ∷ ts) (suc i) lt =
     ∙ ap (λ n. blank_heads (c + suc i) 0 (slice_index_or ts i []) + blank_count (c + (suc i + 1)) (drop n (t ∷ ts)))
     (sym s)
 
+-- The blank tracks of cylinders from one on are those of that cylinder and of the rest.
 pub count_on : (cs : List Cylinder) (i : ℕ) → i < length cs → blank_count i (drop i cs) ≡ blank_heads i 0
     (slice_index_or cs i []) + blank_count (i + 1) (drop (i + 1) cs)
 count_on cs i lt = at_zero (λ n m. blank_count n (drop i cs) ≡ blank_heads n 0 (slice_index_or cs i []) + blank_count m
     (drop (i + 1) cs)) i (count_drop 0 cs i lt)
 
+-- Three parts that are appended one after another are appended at once.
 pub append_three : (o a b c : List ℕ) → ((o ++ a) ++ b) ++ c ≡ o ++ (a ++ (b ++ c))
 append_three o a b c = append_assoc (o ++ a) b c ∙ append_assoc o a (b ++ c)

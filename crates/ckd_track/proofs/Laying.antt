@@ -15,15 +15,18 @@ use Rattle.ckd_track.specs.Laid.{total, total_cost, record_of, records_of, IsLai
 pub cost_holds : (key content : ℕ) → 135 + key + content ≤ record_cost key content + 0
 cost_holds key content = grind arith
 
+-- Each record costs 135 bytes more than it has, at least.
 pub total_fits : (es : List CountArea) → total es + 135 * length es ≤ total_cost es
 total_fits [] = omega arith
 total_fits (e ∷ es) = omega (arith, total_fits es, cost_holds e.key e.content)
 
+-- The first records have no more bytes than all.
 pub total_take : (es : List CountArea) (i : ℕ) → total (take i es) ≤ total es
 total_take es zero = omega arith
 total_take [] (suc i) = omega arith
 total_take (e ∷ es) (suc i) = omega (arith, total_take es i)
 
+-- The first records cost no more than all.
 pub cost_take : (es : List CountArea) (i : ℕ) → total_cost (take i es) ≤ total_cost es
 cost_take es zero = omega arith
 cost_take [] (suc i) = omega arith
@@ -45,6 +48,7 @@ pub cost_append : (es : List CountArea) (e : CountArea) → total_cost
 cost_append [] e = omega arith
 cost_append (f ∷ es) e = omega (arith, cost_append es e)
 
+-- There are as many records as count areas.
 pub length_records : (es : List CountArea) (area : List ℕ) → length (records_of es area) ≡ length es
 length_records [] area = refl
 length_records (e ∷ es) area = ap (λ n. suc n) (length_records es (drop (e.key + e.content) area))
@@ -129,6 +133,7 @@ record_here (e ∷ es) area (suc i) d lt =
     record_here es (drop (e.key + e.content) area) i d (omega arith)
     ∙ ap (record_of (slice_index_or es i d)) (drop-drop (total (take i es)) (e.key + e.content) area)
 
+-- The key of a record lies from its start to its middle.
 pub key_here : (es : List CountArea) (area : List ℕ) (i start middle : ℕ) → i < length es → start ≡ total (take i es)
     → middle ≡ start + (entry_at es i).key
     → take (middle - start) (drop start area) ≡ (slice_index_or (records_of es area) i no_record).key
@@ -137,6 +142,7 @@ key_here es area i start middle lt first second =
     ap (λ n. take n (drop start area)) long ∙ ap (λ n. take (entry_at es i).key (drop n area)) first
     ∙ ap (λ (r : Record). r.key) (sym (record_here es area i no_entry lt))
 
+-- The data of a record lies from its middle to its end.
 pub content_here : (es : List CountArea) (area : List ℕ) (i start middle end : ℕ) → i < length es
     → start ≡ total (take i es) → middle ≡ start + (entry_at es i).key → end ≡ middle + (entry_at es i).content
     → take (end - middle) (drop middle area) ≡ (slice_index_or (records_of es area) i no_record).content
@@ -147,6 +153,7 @@ content_here es area i start middle end lt first second third =
     ∙ ap (take (entry_at es i).content) (sym (drop-drop (entry_at es i).key (total (take i es)) area))
     ∙ ap (λ (r : Record). r.content) (sym (record_here es area i no_entry lt))
 
+-- The id of a record is that of its count area.
 pub id_here : (es : List CountArea) (area : List ℕ) (i : ℕ) → i < length es
     → (entry_at es i).id ≡ (slice_index_or (records_of es area) i no_record).id
 id_here es area i lt = ap (λ (r : Record). r.id) (sym (record_here es area i no_entry lt))
@@ -182,6 +189,7 @@ record_after e key content one two =
     ap (λ k. record { id = e.id; key = k; content = take e.content (drop e.key (key ++ content)) }) first
     ∙ ap (λ d. record { id = e.id; key = key; content = d }) second
 
+-- A record that is written after others follows them, with all later ones gone.
 pub after_records : (es : List CountArea) (area : List ℕ) (i : ℕ) (e : CountArea) (key content : List ℕ)
     → IsLaid es area → length key ≡ e.key → length content ≡ e.content
     → records_of (take i es ++ e ∷ []) (take (total (take i es)) area ++ (key ++ content)) ≡ take i
@@ -212,6 +220,7 @@ room_for_entry es i key content room le =
     let short : length (take i es) ≡ i = length-take-le i es le in
     omega (arith, total_fits (take i es), cost_holds key content, short, room)
 
+-- A record that fits on the track has room in the area.
 pub room_for_text : (es : List CountArea) (i key content : ℕ)
     → total_cost (take i es) + record_cost key content ≤ capacity → total (take i es) + (key + content) ≤ 13030
 room_for_text es i key content room = omega (arith, total_fits (take i es), cost_holds key content, room)
@@ -403,6 +412,7 @@ cost_at (e ∷ es) (suc i) lt = let less : i < length es = omega arith in omega 
 pub few_entries : (es : List CountArea) → total_cost es ≤ capacity → length es ≤ 97
 few_entries es fits = omega (arith, total_fits es, fits)
 
+-- A record on a track has at most 13,030 bytes of key and data.
 pub short_content : (es : List CountArea) (i : ℕ) → total_cost es ≤ capacity → i < length es
     → (entry_at es i).key + (entry_at es i).content ≤ 13030
 short_content es i fits lt = omega (

@@ -21,6 +21,7 @@ set_own [] i d = refl
 set_own (x ∷ xs) zero d = refl
 set_own (x ∷ xs) (suc i) d = ap (λ ys. x ∷ ys) (set_own xs i d)
 
+-- What is padded to a length has that length.
 pub padded_long : (n : ℕ) (xs : List ℕ) → length (padded n xs) ≡ n
 padded_long n xs =
     omega (

@@ -34,10 +34,12 @@ pub switched_barred : (w : Record → Bool) (c : Cylinder) (mask head more : ℕ
 switched_barred w c mask head zero e = rw e refl
 switched_barred w c mask head (suc more) e = rw e refl
 
+-- A search past the last head, without leave to switch heads, ends with end of cylinder.
 pub switched_last : (w : Record → Bool) (c : Cylinder) (mask head : ℕ) → bars_switch mask ≡ false
     → switched w c mask head 0 ≡ Lost head 32
 switched_last w c mask head e = rw e refl
 
+-- A search goes on at the next head while there is one.
 pub switched_on : (w : Record → Bool) (c : Cylinder) (mask head more : ℕ) → bars_switch mask ≡ false → 0 < more
     → switched w c mask head more ≡ or_else (first_from w (records_at c (head + 1)) 0) (head + 1)
     (switched w c mask (head + 1) (more - 1))

@@ -38,6 +38,7 @@ slice_more bytes i n lt =
 slice_none : (bytes : List ℕ) (i : ℕ) → [] ≡ slice_range bytes i (i + 0)
 slice_none bytes i = let none : 0 ≡ i + 0 - i = omega arith in ap (λ k. take k (drop i bytes)) none
 
+-- What the disk gives is a slice of its buffer.
 pub given_slice : (d : Disk) (n : ℕ) → d.front.given + n ≤ length d.front.bytes
     → given disk_machine d n ≡ slice_range d.front.bytes d.front.given (d.front.given + n)
 given_slice d zero le = slice_none d.front.bytes d.front.given
@@ -48,6 +49,7 @@ given_slice d (suc n) le =
     ∙ ap (λ bs. slice_index d.front.bytes d.front.given ∷ bs) (given_slice (keeps d (gave_slice d.front 1)) n rest)
     ∙ sym (slice_more d.front.bytes d.front.given n more)
 
+-- After giving so many bytes the disk is as many bytes further in its buffer.
 pub after_giving_slice : (d : Disk) (n : ℕ) → d.front.given + n ≤ length d.front.bytes
     → after_giving disk_machine d n ≡ keeps d (gave_slice d.front n)
 after_giving_slice d zero le =
@@ -84,6 +86,7 @@ room_more xs bs b lt =
 room_none : (xs bs : List ℕ) → longest ≤ length xs → xs ++ take (longest - length xs) bs ≡ xs
 room_none xs bs le = let none : longest - length xs ≡ 0 = omega arith in ap (λ k. xs ++ take k bs) none ∙ append-nil xs
 
+-- After taking bytes the disk has them in its buffer.
 pub after_taking_slice : (d : Disk) (bytes : List ℕ) → after_taking disk_machine d bytes ≡ keeps d
     (took_slice d.front bytes)
 after_taking_slice d [] =
@@ -129,6 +132,7 @@ same_done f k (jobs.WriteRecord i) = refl
 gave_none : (f : Front) → length f.bytes ≤ f.given → gave f ≡ f
 gave_none f le = rw (not_below f.given (length f.bytes) le) refl
 
+-- A command that is not done is not done by giving bytes.
 pub done_giving : (d : Disk) (n : ℕ) → is_done d.front d.front.job ≡ false
     → disk_machine.done (after_giving disk_machine d n) ≡ false
 done_giving d zero going = going
@@ -167,6 +171,7 @@ not_whole xs ys few =
           rw (long, more) refl)
     ]
 
+-- A command that is not done is not done before its last byte is taken.
 pub done_taking : (d : Disk) (bytes : List ℕ) → is_done d.front d.front.job ≡ false
     → length bytes < ready d.front d.front.job → disk_machine.done (after_taking disk_machine d bytes) ≡ false
 done_taking d bytes going few =

@@ -18,6 +18,7 @@ overlaid_copy (c ∷ cylinders) (None ∷ copies) (suc index) copy inside is = o
 overlaid_copy (c ∷ cylinders) (Some d ∷ copies) (suc index) copy inside is = overlaid_copy cylinders copies index copy
     (omega (arith, inside)) is
 
+-- A cylinder without a copy is read from the volume itself.
 pub overlaid_own : (cylinders : List Cylinder) (copies : List (Option Cylinder)) (index : ℕ)
     → slice_index_or copies index None ≡ None → slice_index_or
     (overlaid cylinders copies) index [] ≡ slice_index_or cylinders index []
@@ -54,15 +55,18 @@ copied_same (c ∷ cylinders) (None ∷ copies) (suc index) copy away is = ap (�
 copied_same (c ∷ cylinders) (Some d ∷ copies) (suc index) copy away is = ap (λ cs. d ∷ cs)
     (copied_same cylinders copies index copy away is)
 
+-- Without copies the cylinders are the volume's own.
 pub overlaid_none : (cylinders : List Cylinder) (n : ℕ) → overlaid cylinders (replicate n None) ≡ cylinders
 overlaid_none [] n = refl
 overlaid_none (c ∷ cylinders) zero = refl
 overlaid_none (c ∷ cylinders) (suc n) = ap (λ cs. c ∷ cs) (overlaid_none cylinders n)
 
+-- Setting a cylinder to itself changes nothing.
 pub same_set : (cylinders : List Cylinder) (index : ℕ) → slice_set cylinders index
     (slice_index_or cylinders index []) ≡ cylinders
 same_set cylinders index = set-get_or cylinders index []
 
+-- Copies change no number of cylinders.
 pub overlaid_long : (cylinders : List Cylinder) (copies : List (Option Cylinder))
     → length (overlaid cylinders copies) ≡ length cylinders
 overlaid_long [] copies = refl
@@ -70,6 +74,7 @@ overlaid_long (c ∷ cylinders) [] = refl
 overlaid_long (c ∷ cylinders) (None ∷ copies) = ap suc (overlaid_long cylinders copies)
 overlaid_long (c ∷ cylinders) (Some d ∷ copies) = ap suc (overlaid_long cylinders copies)
 
+-- Of two values that are set at one index the second stays.
 pub set_again : {X : Type 0} (xs : List X) (i : ℕ) (y z : X) → slice_set (slice_set xs i y) i z ≡ slice_set xs i z
 set_again [] i y z = refl
 set_again (x ∷ xs) zero y z = refl
@@ -81,6 +86,7 @@ default_free [] i d e inside = absurd (omega (arith, inside))
 default_free (x ∷ xs) zero d e inside = refl
 default_free (x ∷ xs) (suc i) d e inside = default_free xs i d e (omega (arith, inside))
 
+-- A copy that is found is the one at its index.
 pub copy_there : (copies : List (Option Cylinder)) (index : ℕ) (found : Option Cylinder) (copy : Cylinder)
     → index < length copies → found ≡ slice_index_or copies index found → found ≡ Some copy
     → slice_index_or copies index None ≡ Some copy

@@ -84,6 +84,7 @@ lawful_one_more user more address m l room new low =
 
 -- ---- a device more
 
+-- What is not there is None.
 pub none_there : (o : Option ℕ) → is_some o ≡ false → o ≡ None
 none_there None h = refl
 none_there (Some a) h = cc
@@ -146,6 +147,7 @@ disk_more disk user = record {
       (disk.address ∷ []));
 }
 
+-- A user to whom a new device is added at a free address has lawful devices.
 pub lawful_device : (kind : DeviceKind) (address : ℕ) (user : DirectoryUser) → HasLawfulDevices user
     → place_of user.devices kind ≡ None → length (addresses_of user) < 32 → has_device address user ≡ false
     → address ≤ 0x5FF
@@ -153,6 +155,7 @@ pub lawful_device : (kind : DeviceKind) (address : ℕ) (user : DirectoryUser) �
 lawful_device kind address user l none room new low = lawful_one_more user (with_device kind address user) address
     (device_more kind address user none) l room new low
 
+-- A user to whom a minidisk is added at a free address has lawful devices.
 pub lawful_disk : (disk : MinidiskStatement) (user : DirectoryUser) → HasLawfulDevices user
     → length (addresses_of user) < 32 → has_device disk.address user ≡ false → disk.address ≤ 0x5FF
     → HasLawfulDevices (with_minidisk disk user)
@@ -171,6 +174,7 @@ kept f change same (u ∷ us) zero (suc k) e d = refl
 kept f change same (u ∷ us) (suc n) zero e d = refl
 kept f change same (u ∷ us) (suc n) (suc k) e d = kept f change same us n k e d
 
+-- A change of a user that leaves his minidisks leaves those of all.
 pub kept_disks : (change : DirectoryUser → DirectoryUser) → ((u : DirectoryUser) → (change u).minidisks ≡ u.minidisks)
     → (users : List DirectoryUser) (n : ℕ) (e : DirectoryUser)
     → minidisks_of (set users n (change (get_or users n e))) ≡ minidisks_of users

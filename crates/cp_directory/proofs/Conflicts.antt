@@ -14,6 +14,7 @@ use Rattle.cp_directory.specs.declared.extent.DiskMode.{DiskMode}
 use Rattle.cp_directory.specs.declared.extent.DiskMode.TheVariants.{ReadOnly, Writable}
 use Rattle.cp_directory.specs.declared.minidisk.MinidiskStatement.{MinidiskStatement}
 
+-- Three conditions that hold together hold each.
 pub all_three : (a b c : Bool) → (a && b && c) ≡ true → (a ≡ true) × (b ≡ true) × (c ≡ true)
 all_three true true true h = (refl, refl, refl)
 all_three true true false h = cc
@@ -64,6 +65,7 @@ conflict_again one other h =
     h.in_one.0 h.in_one.1 h.in_other.0 h.in_other.1 in
     rw (same, cylinder, not_both one.mode other.mode h.written) refl
 
+-- If one extent conflicts with another, the other conflicts with it.
 pub conflict_turned : (one other : Extent) → Conflicts one other → Conflicts other one
 conflict_turned one other h = record {
   same = sym h.same;
@@ -77,6 +79,7 @@ conflict_turned one other h = record {
 free : (one other : Extent) → conflicts one other ≡ false → Conflicts one other → ⊥
 free one other e h = let found = conflict_again one other h in cc
 
+-- Extents that do not conflict are tested to be apart.
 pub taken : (one other : Extent) → (Conflicts one other → ⊥) → (b : Bool) → conflicts one other ≡ b → b ≡ false
 taken one other h true e = absurd (h (conflict_found one other e))
 taken one other h false e = refl
@@ -142,6 +145,7 @@ none_on extent disk disks true e hyp h = cc
 none_on extent disk disks false e hyp h = All-cons (λ (d : MinidiskStatement). Conflicts extent d.extent → ⊥) disk disks
     (free extent disk.extent e) (hyp h)
 
+-- An extent for which no conflict is found conflicts with no minidisk.
 pub none_found : (extent : Extent) (disks : List MinidiskStatement) → first_conflict extent disks ≡ None
     → All (λ (d : MinidiskStatement). Conflicts extent d.extent → ⊥) disks
 none_found extent [] h = All-nil (λ (d : MinidiskStatement). Conflicts extent d.extent → ⊥)

@@ -269,6 +269,7 @@ first_again lines number fault h =
     (continue_again 1 [] h.at.before h.users h.accepted) (omega (arith, h.at.numbered))
     (first_again_on number h.users h.at.line fault (line_placed number h.users h.at.line) refl h.counted h.has h.first)
 
+-- A directory is read exactly as its grammar says.
 pub reads : ReadsGrammar
 reads text = (
   λ users h. continue_found 1 [] (lines_of text) users h,

@@ -258,6 +258,7 @@ no_disk = record {
   earlier = All-nil (λ (d : MinidiskStatement). d.line < 1);
 }
 
+-- A directory that is read is lawful.
 pub lawful : (text : List ℕ) (users : List DirectoryUser) → directory_of text ≡ Ok users → IsLawful users
 lawful text users h = lawful_on 1 [] (lines_of text) users (record { users_so_far = nobody; disks = no_disk })
     ((reads text).0 users h)

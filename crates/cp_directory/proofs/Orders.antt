@@ -21,18 +21,21 @@ abbrev pub Ascends : List (Option LineFault) → Type 0
 Ascends [] = Unit {0}
 Ascends (o ∷ os) = ((fault : LineFault) → o ≡ Some fault → AtLeast (order fault) os) × Ascends os
 
+-- The first fault of a line is one that the line has.
 pub first_told : (faults : List (Option LineFault)) (fault : LineFault) → first_fault faults ≡ Some fault
     → Tells faults fault
 first_told [] fault h = cc
 first_told (Some f ∷ fs) fault h = inl h
 first_told (None ∷ fs) fault h = inr (first_told fs fault h)
 
+-- A line in which no fault is found has none.
 pub none_told : (faults : List (Option LineFault)) → first_fault faults ≡ None → (fault : LineFault)
     → Tells faults fault → ⊥
 none_told [] h fault t = t
 none_told (Some f ∷ fs) h fault t = cc
 none_told (None ∷ fs) h fault t = elim t [ inl e ↦ cc | inr k ↦ none_told fs h fault k ]
 
+-- A line that has no fault has no first fault.
 pub nothing_told : (faults : List (Option LineFault)) → ((fault : LineFault) → Tells faults fault → ⊥)
     → first_fault faults ≡ None
 nothing_told [] h = refl
@@ -54,10 +57,12 @@ least (Some f ∷ fs) fault other a h t = let same : f ≡ fault = cc in
     subst (λ (g : LineFault). order g ≤ order other) same (least_on f fs other (a.0 f refl) t)
 least (None ∷ fs) fault other a h t = elim t [ inl e ↦ cc | inr k ↦ least fs fault other a.1 h k ]
 
+-- A fault that is reported on a condition is that fault, and the condition holds.
 pub told_if : (b : Bool) (f fault : LineFault) → fault_if b f ≡ Some fault → (b ≡ true) × (f ≡ fault)
 told_if true f fault h = (refl, cc)
 told_if false f fault h = cc
 
+-- A fault is reported if its condition holds.
 pub if_told : (b : Bool) (f : LineFault) → b ≡ true → fault_if b f ≡ Some f
 if_told b f e = rw e refl
 
@@ -66,6 +71,7 @@ pub record From (n : ℕ) (faults : List (Option LineFault)) : Type 0 where
   pub at_least : AtLeast n faults
   pub ascends : Ascends faults
 
+-- No faults are in order from any number on.
 pub from_nil : (n : ℕ) → From n []
 from_nil n = record { at_least = λ fault t. absurd t; ascends = tt }
 
@@ -81,6 +87,7 @@ from_one o n m faults less place rest = record {
   ascends = (λ fault e. subst (λ k. AtLeast k faults) (place fault e) rest.at_least, rest.ascends);
 }
 
+-- A fault before later ones keeps the order.
 pub from_if : (b : Bool) (f : LineFault) (n : ℕ) (faults : List (Option LineFault)) → n ≤ order f
     → From (order f) faults → From n (fault_if b f ∷ faults)
 from_if b f n faults less rest = from_one (fault_if b f) n (order f) faults less
@@ -92,6 +99,7 @@ pub told_overlap : (o : Option ℕ) (fault : LineFault) → option_map Overlap o
 told_overlap None fault h = cc
 told_overlap (Some line) fault h = (line, refl, cc)
 
+-- An overlap before later faults keeps the order.
 pub from_overlap : (o : Option ℕ) (n : ℕ) (faults : List (Option LineFault)) → n ≤ 6 → From 6 faults
     → From n (option_map Overlap o ∷ faults)
 from_overlap o n faults less rest = from_one (option_map Overlap o) n 6 faults less

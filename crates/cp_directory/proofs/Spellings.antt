@@ -401,6 +401,7 @@ spool_again words word kind address e h =
       stated = ap well_formed (kind_again h.place word kind address h.placed e);
     }
 
+-- Words that say a statement are read as it.
 pub again : (words : List (List ℕ)) (s : Stated) → Says words s → Read words s
 again words (User name kilobytes) h =
     record {
@@ -482,6 +483,7 @@ unread_on false false true d w x y z fault h = Misspelled refl (misformed y faul
 unread_on false false false true w x y z fault h = Misspelled refl (misformed z fault h)
 unread_on false false false false w x y z fault h = Unnamed refl cc
 
+-- Words that are refused are said by no statement of their verb.
 pub unread : (verb : List ℕ) (operands : List (List ℕ)) (fault : LineFault) → stated_by verb operands ≡ Err fault
     → Unread (is_verb verb) fault
 unread verb operands fault h =

@@ -11,6 +11,7 @@ program_code =
     of_parts (both number number) (both_code number number number_code number_code)
     (λ (p : Program). (p.user, p.device)) (λ p. record { user = p.0; device = p.1 }) (λ p. refl)
 
+-- The bytes of the lines of users are a code: they are read back, whatever follows them.
 pub lines_code : IsCode lines_bytes
 lines_code =
     of_parts (both (each number) (both (each program_bytes) number))
@@ -22,5 +23,6 @@ lines_code =
       most_users = p.1.1;
     }) (λ l. refl)
 
+-- A restored dispatcher is the saved one.
 pub one_policy : IsOneBySaved
 one_policy = one_value lines_bytes lines_code

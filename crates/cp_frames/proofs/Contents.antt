@@ -30,6 +30,7 @@ content_at f user page place content there is full inside =
     sym (take_all 4096 content (omega (arith, full))) ∙ ap (λ n. take (n + 4096 - n) (drop n content)) (sym none) ∙ read
     ∙ ap (λ n. take n (drop start bytes)) count
 
+-- The content of the frame that has a page is that page of the user's storage.
 pub content_in_frame : (f : Inside) (user page frame : ℕ) (content : List ℕ) → IsKept f
     → frame_of f.owners.items user page ≡ Some frame →
     content ≡ get_or f.frames.items frame [] → length content ≡ 4096 → page * 4096 < length (bytes_in f user) →
@@ -41,6 +42,7 @@ content_in_frame f user page frame content kept there is full inside =
     content_at f user page frame content all (is ∙ sym (get_or_append_left f.frames.items f.slots.items [] frame room))
     full inside
 
+-- The content of the slot that has a page is that page of the user's storage.
 pub content_in_slot : (f : Inside) (user page slot : ℕ) (content : List ℕ) → IsKept f
     → frame_of f.slot_owners.items user page ≡ Some slot →
     content ≡ get_or f.slots.items slot [] → length content ≡ 4096 → page * 4096 < length (bytes_in f user) →
@@ -53,11 +55,13 @@ content_in_slot f user page slot content kept there is full inside =
     kept.frame_room in
     content_at f user page (length f.owners.items + slot) content all (is ∙ place) full inside
 
+-- The frame that has a page is one of the pool.
 pub frame_within : (f : Inside) (user page frame : ℕ) → IsKept f → frame_of f.owners.items user page ≡ Some frame
     → frame < length f.frames.items
 frame_within f user page frame kept there =
     omega (arith, (frame_found f.owners.items user page frame there).within, kept.frame_room)
 
+-- The slot that has a page is one of the pool.
 pub slot_within : (f : Inside) (user page slot : ℕ) → IsKept f → frame_of f.slot_owners.items user page ≡ Some slot
     → slot < length f.slots.items
 slot_within f user page slot kept there =

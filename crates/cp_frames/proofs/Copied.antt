@@ -27,10 +27,12 @@ set_low frames m i frame h l =
     sym (set-append_left (take m frames) (drop m frames) i frame (omega (arith, long)))
     ∙ ap (λ (xs : List (List ℕ)). set xs i frame) (take-append-drop m frames)
 
+-- Frames below the cut are those of the lower half.
 pub frame_low : (frames low : List (List ℕ)) (m i : ℕ) → low ≡ take m frames → i < m
     → get_or low i [] ≡ get_or frames i []
 frame_low frames low m i e h = ap (λ (xs : List (List ℕ)). get_or xs i []) e ∙ get_or-take m frames i [] h
 
+-- The first frame after the cut is that of the upper half.
 pub frame_high : (frames high : List (List ℕ)) (m : ℕ) → high ≡ drop m frames → get_or high 0 [] ≡ get_or frames m []
 frame_high frames high m e =
     ap (λ (xs : List (List ℕ)). get_or xs 0 []) e ∙

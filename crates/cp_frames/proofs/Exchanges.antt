@@ -59,6 +59,7 @@ new_slot f frame kept lt q h =
       no_slot_of_frame f.owners.items f.slot_owners.items q.user q.page.0 frame kept.whole.once there lt,
     )
 
+-- The pool stays sound when a frame and a slot change their pages.
 pub exchange-kept : (f : Inside) (frame slot end low : ℕ) → IsKept f → frame < length f.owners.items
     → slot < length f.slot_owners.items → get_or f.pins.items frame false ≡ false → end ≡ length f.order.items
     → All IsSome (take low (set f.slot_owners.items slot (get_or f.owners.items frame None))) →
@@ -98,6 +99,7 @@ exchange-kept f frame slot end low kept lt less unpinned all before = record {
   };
 }
 
+-- No storage changes when a frame and a slot change their pages.
 pub exchange-storages : (f : Inside) (frame slot : ℕ) → IsKept f → frame < length f.owners.items
     → slot < length f.slot_owners.items →
     storages_of (set f.frames.items frame (get_or f.slots.items slot [])
@@ -121,6 +123,7 @@ tables_filled f user page frame kept small absent within free =
     rw free at (mapped-set f.owners.items f.sizes.items f.tables.items frame (Some wanted)
     (once_left f.owners.items f.slot_owners.items kept.whole.once) (small_left f kept) kept.mapped within new)
 
+-- The lookup table has the frame that a page was given.
 pub looks_filled : (f : Inside) (user page frame : ℕ) → IsKept f → page < 1024
     → frame_of f.owners.items user page ≡ None → frame < length f.owners.items
     → get_or f.owners.items frame None ≡ None →
@@ -148,6 +151,7 @@ given_up : (given : Option UserPage) (slots : List (Option UserPage)) (slot : �
 given_up None slots slot lt free = ap (λ o. set slots slot o) (sym free) ∙ set-get_or slots slot None
 given_up (Some page) slots slot lt free = (slot, lt, free, refl)
 
+-- A page that is given a free frame and a free slot's bytes is put there.
 pub put_filled : (s : FrameSupply) (user page frame slot : ℕ) → frame_of s.slots user page ≡ None
     → slot < length s.slots → get_or s.slots slot None ≡ None →
     IsPut s (filled (exchanged s frame slot) frame user page) user page frame

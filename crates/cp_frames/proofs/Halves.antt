@@ -12,14 +12,17 @@ use Rattle.cp_frames.proofs.Layouts.{dec_eq}
 use Rattle.cp_frames.proofs.Tables.{page_is}
 use Rattle.cp_frames.proofs.Moves.{IsMoved, stands_alone, stands_nowhere, held_place, crossed}
 
+-- A page in the frames is in the frames and slots together.
 pub hold_left : (owners slots : List (Option UserPage)) (i : ℕ) (page : UserPage) → Holds owners i page
     → Holds (owners ++ slots) i page
 hold_left owners slots i page h = get_or_append_left owners slots None i (held_place owners i page h) ∙ h
 
+-- The elements after a list are those of the list that follows it.
 pub at_right : {X : Type 0} (xs ys : List X) (i : ℕ) (d : X) → get_or (xs ++ ys) (length xs + i) d ≡ get_or ys i d
 at_right xs ys i d = get_or-append_right xs ys (length xs) (length xs + i) d refl (omega arith) ∙ ap
     (λ k. get_or ys k d) (omega arith)
 
+-- A page in the slots is in the frames and slots together.
 pub hold_right : (owners slots : List (Option UserPage)) (i : ℕ) (page : UserPage) → Holds slots i page
     → Holds (owners ++ slots) (length owners + i) page
 hold_right owners slots i page h = at_right owners slots i None ∙ h
@@ -28,6 +31,7 @@ hold_right owners slots i page h = at_right owners slots i None ∙ h
 abbrev pub IsOnce : List (Option UserPage) → Type 0
 IsOnce all = (place : ℕ) (page : UserPage) → Holds all place page → frame_of all page.user page.page.0 ≡ Some place
 
+-- A page whose place is below the number of frames is in that frame.
 pub in_frame : (owners slots : List (Option UserPage)) (user page k : ℕ) → IsOnce (owners ++ slots)
     → frame_of (owners ++ slots) user page ≡ Some k → k < length owners → frame_of owners user page ≡ Some k
 in_frame owners slots user page k once e lt =
@@ -57,32 +61,38 @@ no_slot_of_none owners slots user page once e =
     stands_nowhere slots user page
     (λ i h. let at = once (length owners + i) (owned user page) (hold_right owners slots i (owned user page) h) in cc)
 
+-- A page whose place is a slot is in no frame.
 pub no_frame_of_slot : (owners slots : List (Option UserPage)) (user page k : ℕ) → IsOnce (owners ++ slots)
     → frame_of (owners ++ slots) user page ≡ Some k → length owners ≤ k → frame_of owners user page ≡ None
 no_frame_of_slot owners slots user page k once e le = stands_nowhere owners user page
     (λ i h. let at = once i (owned user page) (hold_left owners slots i (owned user page) h) in let same : i
     ≡ k = cc in let lt = held_place owners i (owned user page) h in absurd (omega arith))
 
+-- A page whose place is a frame is in no slot.
 pub no_slot_of_frame : (owners slots : List (Option UserPage)) (user page k : ℕ) → IsOnce (owners ++ slots)
     → frame_of (owners ++ slots) user page ≡ Some k → k < length owners → frame_of slots user page ≡ None
 no_slot_of_frame owners slots user page k once e lt = stands_nowhere slots user page
     (λ i h. let at = once (length owners + i) (owned user page) (hold_right owners slots i (owned user page) h) in let
     same : length owners + i ≡ k = cc in absurd (omega arith))
 
+-- If no page has two places, none has two frames.
 pub once_left : (owners slots : List (Option UserPage)) → IsOnce (owners ++ slots) → IsOnce owners
 once_left owners slots once k p h =
     in_frame owners slots p.user p.page.0 k once (once k p (hold_left owners slots k p h)) (held_place owners k p h)
 
+-- If no page has two places, none has two slots.
 pub once_right : (owners slots : List (Option UserPage)) → IsOnce (owners ++ slots) → IsOnce slots
 once_right owners slots once k p h =
     in_slot owners slots p.user p.page.0 (length owners + k) once
     (once (length owners + k) p (hold_right owners slots k p h)) (omega arith) ∙ ap Some (omega arith)
 
+-- A page in a frame has that frame as its place.
 pub from_frame : (owners slots : List (Option UserPage)) (user page k : ℕ) → IsOnce (owners ++ slots)
     → frame_of owners user page ≡ Some k → frame_of (owners ++ slots) user page ≡ Some k
 from_frame owners slots user page k once e =
     once k (owned user page) (hold_left owners slots k (owned user page) (page_is owners user page k e))
 
+-- A page in no frame and no slot has no place.
 pub from_none : (owners slots : List (Option UserPage)) (user page : ℕ) → IsOnce (owners ++ slots)
     → frame_of owners user page ≡ None → frame_of slots user page ≡ None → frame_of (owners ++ slots) user page ≡ None
 from_none owners slots user page once no_frame no_slot =
@@ -102,6 +112,7 @@ frame_apart owners slots user page k once e =
     no_slot_of_frame owners slots user page k once (from_frame owners slots user page k once e)
     (held_place owners k (owned user page) (page_is owners user page k e))
 
+-- A page in a slot is in no frame.
 pub slot_apart : (owners slots : List (Option UserPage)) (user page k : ℕ) → IsOnce (owners ++ slots)
     → frame_of slots user page ≡ Some k → frame_of owners user page ≡ None
 slot_apart owners slots user page k once e =

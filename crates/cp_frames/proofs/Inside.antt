@@ -30,6 +30,7 @@ look_place f user start kept lt =
     place frame_entry (places_in f) (owners_in f) f.owners.items f.sizes.items f.lookup.items user (start / 4096) start
     kept.whole kept.looked lt refl
 
+-- The entry that is looked up tells the frame of the page.
 pub looked_at : (f : Inside) (user start entry : ℕ) → IsKept f → start < length (bytes_in f user)
     → entry ≡ get_or f.lookup.items (user * 1024 + start / 4096) 0
     → entry ≡ frame_entry (frame_of f.owners.items user (start / 4096)) (start / 4096)
@@ -43,6 +44,7 @@ look_place_of_page f user page kept lt =
     place frame_entry (places_in f) (owners_in f) f.owners.items f.sizes.items f.lookup.items user page (page * 4096)
     kept.whole kept.looked lt (omega arith)
 
+-- A page of a user's storage has its place in the slot table.
 pub slot_place_of_page : (f : Inside) (user page : ℕ) → IsKept f → page * 4096 < length (bytes_in f user)
     → IsPlace f.sizes.items f.slot_table.items user page
 slot_place_of_page f user page kept lt =
@@ -59,6 +61,7 @@ pub record IsSlot (f : Inside) (user page slot : ℕ) : Type 0 where
   pub there : frame_of (owners_in f) user page ≡ Some slot
   pub room : slot < length f.frames.items
 
+-- A page in a frame has a slot entry that says so.
 pub slot_in : (f : Inside) (user page slot : ℕ) → IsKept f → frame_of f.owners.items user page ≡ Some slot
     → IsSlot f user page slot
 slot_in f user page slot kept there = record {
@@ -71,9 +74,11 @@ pub users_in : (f : Inside) → length (storages_of (places_in f) (owners_in f) 
 users_in f = length-map-range_with_len
     (λ user. storage_of (places_in f) (owners_in f) user (get_or f.sizes.items user 0)) 0 (length f.sizes.items)
 
+-- A user has as many pages as his size says.
 pub pages_in : (f : Inside) (user : ℕ) → length (bytes_in f user) / 4096 ≡ get_or f.sizes.items user 0
 pages_in f user = let long = length-bytes_of (places_in f) (owners_in f) f.sizes.items user in omega arith
 
+-- A page in a frame is within its user's size.
 pub page_within : (f : Inside) (user : ℕ) → IsKept f → (k : ℕ) (p : UserPage) → Holds f.owners.items k p → p.user ≡ user
     → p.page.0 < get_or f.sizes.items user 0
 page_within f user kept k p h e = let inside =

@@ -15,6 +15,7 @@ use Rattle.cp_frames.specs.Layout.{owned, is_page, frame_of, byte_in, byte_at, s
 use Rattle.cp_frames.specs.Layout.{without, cleared_of, Pool, FrameSupply, IsZeroPage, put_page, written_page}
 use Rattle.cp_frames.specs.Layout.{written_frame}
 
+-- Two numbers are equal or they are not.
 pub dec_eq : (m n : ℕ) → Dec (m ≡ n)
 dec_eq m n = elim (dec_lt m n) [
   | yes below ↦ no (λ e. omega arith)
@@ -103,6 +104,7 @@ pub record IsFrame (owners : List (Option UserPage)) (user page frame : ℕ) : T
   pub within : frame < length owners
   pub passes : is_page user page (get_or owners frame None) ≡ true
 
+-- A frame that is found has the page.
 pub frame_found : (owners : List (Option UserPage)) (user page frame : ℕ) → frame_of owners user page ≡ Some frame
     → IsFrame owners user page frame
 frame_found owners user page frame e =
@@ -110,6 +112,7 @@ frame_found owners user page frame e =
     let here : frame - 0 ≡ frame =
     omega arith in record { within = omega (arith, f.high); passes = rw here at (f.passes None) }
 
+-- One frame has one page of one user alone.
 pub same_frame : (owners : List (Option UserPage)) (user page other_user other frame : ℕ)
     → frame_of owners user page ≡ Some frame → frame_of owners other_user other ≡ Some frame
     → (user ≡ other_user) × (page ≡ other)
@@ -125,6 +128,7 @@ bytes_of-storages bytes owners sizes user within =
     get_or-map-range_with_len (λ h. storage_of bytes owners h (get_or sizes h 0)) 0 (length sizes) user user [] within
     (zero-add user)
 
+-- A storage has 4,096 bytes for each of its pages.
 pub length-storage_of : (bytes : List (List ℕ)) (owners : List (Option UserPage)) (user pages : ℕ)
     → length (storage_of bytes owners user pages) ≡ pages * 4096
 length-storage_of bytes owners user pages = length-map-range_with_len (byte_at bytes owners user) 0 (pages * 4096)
@@ -140,6 +144,7 @@ pub record IsCleared (old new : List (List ℕ)) (frame : ℕ) : Type 0 where
   pub zeros : (offset : ℕ) → get_or (get_or new frame []) offset 0 ≡ 0
   pub others : (k : ℕ) → k ≢ frame → get_or new k [] ≡ get_or old k []
 
+-- A frame that is set to a page of zeros is cleared.
 pub cleared_by : (old : List (List ℕ)) (frame : ℕ) (page : List ℕ) → frame < length old
     → ((k : ℕ) → get_or page k 0 ≡ 0) → IsCleared old (set old frame page) frame
 cleared_by old frame page lt zeros =
@@ -149,6 +154,7 @@ not_page : (user page other_user other : ℕ) → ((user ≡ other_user) → pag
     → is_page other_user other (Some (owned user page)) ≡ false
 not_page user page other_user other differ = grind (arith, nat_tests, common_steps)
 
+-- The owner of a page is recognized as its owner.
 pub is_this_page : (user page : ℕ) → is_page user page (Some (owned user page)) ≡ true
 is_this_page user page = grind (arith, nat_tests, common_steps)
 
@@ -167,6 +173,7 @@ brought_in old new owners frame other_user other (Some there) e free cleared =
     ap (λ f. is_page other_user (other / 4096) (get_or owners f None)) same in cc in
     ap (λ page. get_or page (other % 4096) 0) (cleared.others there ne)
 
+-- A page that was brought into a frame is found there.
 pub frame_of-brought : (owners : List (Option UserPage)) (user page frame : ℕ) → frame_of owners user page ≡ None
     → frame < length owners →
     frame_of (set owners frame (Some (owned user page))) user page ≡ Some frame
@@ -237,11 +244,13 @@ position-map_none : {X : Type 0} (p : X → Bool) (f : X → X) → ((x : X) →
 position-map_none p f none k [] = refl
 position-map_none p f none k (x ∷ xs) = rw (none x, position-map_none p f none (k + 1) xs) refl
 
+-- No page of a user is in a frame after his frames were cleared.
 pub frame_of-cleared : (owners : List (Option UserPage)) (user page : ℕ)
     → frame_of (cleared_of user owners) user page ≡ None
 frame_of-cleared owners user page =
     position-map_none (is_page user page) (without user) (is_page_own-without user page) 0 owners
 
+-- Clearing one user's frames leaves another's where they are.
 pub frame_of_other-cleared : (owners : List (Option UserPage)) (user other_user page : ℕ) → user ≢ other_user
     → frame_of (cleared_of user owners) other_user page ≡ frame_of owners other_user page
 frame_of_other-cleared owners user other_user page ne =
@@ -267,6 +276,7 @@ storages-cleared bytes owners sizes user =
     ∙ map_range_const (byte_at bytes after user) 0 (get_or sizes user 0 * 4096)
     (λ k. ap (λ o. byte_in bytes o (k % 4096)) (frame_of-cleared owners user (k / 4096))))
 
+-- A user's storage has 4,096 bytes for each page of his size.
 pub length-bytes_of : (bytes : List (List ℕ)) (owners : List (Option UserPage)) (sizes : List ℕ) (user : ℕ) →
     length (get_or (storages_of bytes owners sizes) user []) ≡ get_or sizes user 0 * 4096
 length-bytes_of bytes owners sizes user = elim (dec_lt user (length sizes)) [
@@ -344,6 +354,7 @@ storages-unwritten bytes owners sizes frame written free =
     (get_or sizes h 0 * 4096)
     (λ k _ _. unwritten_in bytes owners frame h k written (frame_of owners h (k / 4096)) refl free))
 
+-- Writing the bytes of a frame writes the page that is in it, and nothing else.
 pub storages-written : (bytes : List (List ℕ)) (owners : List (Option UserPage)) (sizes : List ℕ) (frame : ℕ)
     (page : UserPage) (written : List ℕ) → IsWhole bytes owners sizes → frame < length bytes
     → get_or owners frame None ≡ Some page →
@@ -449,6 +460,7 @@ frame_of-none user page frames = none_from frames 0 where
   none_from zero k = refl
   none_from (suc n) k = none_from n (k + 1)
 
+-- While no page has a place, all storages are zeros.
 pub storages-none : (bytes : List (List ℕ)) (frames : ℕ) (sizes : List ℕ)
     → storages_of bytes (replicate frames None) sizes ≡ map (λ pages. replicate (pages * 4096) 0) sizes
 storages-none bytes frames sizes =

@@ -57,6 +57,7 @@ same_without : (user page : ℕ) (o : Option UserPage) → o ≢ Some (owned use
     → without_under user (page + 1) o ≡ without_under user page o
 same_without user page o ne = ap (λ (b : Bool). cond b None o) (same_under user page o ne)
 
+-- Leaving no page leaves the owners as they are.
 pub left_none : (user : ℕ) (owners : List (Option UserPage)) → left_by user 0 owners ≡ owners
 left_none user [] = refl
 left_none user (None ∷ owners) = ap (λ (os : List (Option UserPage)). None ∷ os) (left_none user owners)
@@ -143,6 +144,7 @@ mapped_more user page frame owners sizes tables pages mapped there =
     let e : left_by user (page + 1) owners ≡ set now frame None = left_more user page frame owners pages.once there in
     rw e (rw (page_is now user page frame there) at after)
 
+-- One more page that leaves is unmapped in the lookup table.
 pub looked_more : (user page frame : ℕ) (owners : List (Option UserPage)) (sizes lookup : List ℕ)
     → ArePages owners sizes → IsTabled frame_entry (left_by user page owners) sizes lookup
     → frame_of (left_by user page owners) user page ≡ Some frame →
@@ -171,6 +173,7 @@ next_entry user page owners now sizes lookup pages looked lt =
       room = omega (arith, looked.entries);
     }
 
+-- The next page is in the frame that its entry tells.
 pub next_there : (user page entry : ℕ) (now : List (Option UserPage)) (sizes lookup : List ℕ)
     → IsTabled frame_entry now sizes lookup → IsPlace sizes lookup user page
     → entry ≡ get_or lookup (user * 1024 + page) 0 → entry ≢ 1 → TellsFrame now user page entry
@@ -178,6 +181,7 @@ next_there user page entry now sizes lookup looked at read ne =
     tells now user page entry (frame_of now user page) refl looked.few
     (read ∙ looked.agrees user page at.of_user at.of_page) ne
 
+-- The next page is in no frame if its entry says that it is absent.
 pub next_none : (user page entry : ℕ) (now : List (Option UserPage)) (sizes lookup : List ℕ)
     → IsTabled frame_entry now sizes lookup → IsPlace sizes lookup user page
     → entry ≡ get_or lookup (user * 1024 + page) 0 → entry ≡ 1 → frame_of now user page ≡ None

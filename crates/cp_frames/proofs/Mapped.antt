@@ -54,6 +54,7 @@ pub length-put_half : (tables : List ℕ) (place half : ℕ) → length (put_hal
 length-put_half tables place half =
     length-set (set tables place (half / 256)) (place + 1) (half % 256) ∙ length-set tables place (half / 256)
 
+-- Noting an owner keeps the length of the tables.
 pub length-noted : (o : Option UserPage) (entry : ℕ) (tables : List ℕ) → length (noted o entry tables) ≡ length tables
 length-noted None entry tables = refl
 length-noted (Some q) entry tables = length-put_half tables (page_place q.user q.page.0) entry
@@ -232,6 +233,7 @@ first_segment sizes tables user segment in_user low halves =
     → word_at tables (segment_place user segment) ≡ e = λ e a b. omega (arith, a, b) in
     both entry one two
 
+-- Tables without any page are those of empty frames.
 pub mapped-first : (sizes tables : List ℕ) (frames : ℕ) → frames ≤ 4096 → length sizes ≤ 64
     → length tables ≡ 2304 * length sizes →
     ((half : ℕ) → half < 1152 * length sizes
@@ -309,6 +311,7 @@ segment_is user pages segment low_user low = elim (dec_lt (segment * 16) pages) 
   ]
 ]
 
+-- A user without pages has an invalid segment.
 pub no_segment : (user pages segment : ℕ) → pages ≡ 0 → 1 ≡ segment_entry user pages segment
 no_segment user pages segment e = let past : segment_entry user pages segment ≡ 1 =
     grind (arith, nat_tests, common_steps) in sym past
@@ -327,6 +330,7 @@ pub past_none : (owners : List (Option UserPage)) (user page pages : ℕ)
 past_none owners user page pages inside past =
     stands_nowhere owners user page (λ k h. let lt = inside k (owned user page) h refl in absurd (omega arith))
 
+-- A walk over the tables finds the frame that has the page.
 pub walk_is : (owners : List (Option UserPage)) (sizes tables : List ℕ) (user page : ℕ) → IsMapped owners sizes tables
     → user < length sizes → page < 1024 →
     ((k : ℕ) (p : UserPage) → Holds owners k p → p.user ≡ user → p.page.0 < get_or sizes user 0)

@@ -50,6 +50,7 @@ stands_alone owners user page j holds alone =
     ] in
     at (frame_of owners user page) refl
 
+-- A page that has no place is in no frame.
 pub stands_nowhere : (owners : List (Option UserPage)) (user page : ℕ)
     → ((i : ℕ) → Holds owners i (owned user page) → ⊥) → frame_of owners user page ≡ None
 stands_nowhere owners user page never =
@@ -87,6 +88,7 @@ byte_in-moved to old new owners after None offset moved = refl
 byte_in-moved to old new owners after (Some k) offset moved =
     ap (λ (b : List ℕ). get_or b offset 0) (moved.bytes (to k) ∙ ap (λ j. get_or old j []) (moved.back k))
 
+-- Storages stay when all pages move with their bytes.
 pub storages-moved : (to : ℕ → ℕ) (old new : List (List ℕ)) (owners after : List (Option UserPage)) (sizes : List ℕ)
     → IsWhole old owners sizes → IsMoved to old new owners after →
     storages_of new after sizes ≡ storages_of old owners sizes
@@ -97,6 +99,7 @@ storages-moved to old new owners after sizes whole moved =
     (λ k _ _. ap (λ o. byte_in new o (k % 4096)) (frame_of-moved to old new owners after sizes h (k / 4096) whole moved)
     ∙ byte_in-moved to old new owners after (frame_of owners h (k / 4096)) (k % 4096) moved))
 
+-- Each page has a place still when all move with their bytes.
 pub whole-moved : (to : ℕ → ℕ) (old new : List (List ℕ)) (owners after : List (Option UserPage)) (sizes : List ℕ)
     → IsWhole old owners sizes → IsMoved to old new owners after → IsWhole new after sizes
 whole-moved to old new owners after sizes whole moved = record {

@@ -20,6 +20,7 @@ use Rattle.cp_frames.proofs.Moves.{held_place, stands_nowhere, none_found}
 use Rattle.cp_frames.proofs.Halves.{in_frame, hold_left}
 use Rattle.cp_frames.proofs.Inside.{IsKept, places_in, owners_in}
 
+-- A range that grows by one ends with the next number.
 pub range_push : (a n : ℕ) → range_with_len a (suc n) ≡ range_with_len a n ++ (a + n) ∷ []
 range_push a zero = ap (λ k. k ∷ []) (omega arith)
 range_push a (suc n) = ap (λ xs. a ∷ xs)
@@ -56,12 +57,14 @@ all_frames_of owners pins order P ordered all k lt =
     get_or-range_with_len 0 (length owners) k 0 lt ∙ zero-add k in
     rw is at here
 
+-- If each frame in the order has an owner, each frame has one.
 pub all_owned : (owners : List (Option UserPage)) (pins : List Bool) (order : List ℕ) → IsOrdered owners pins order
     → All (λ frame. IsSome (get_or owners frame None)) order → All IsSome owners
 all_owned owners pins order ordered all k d lt =
     let here = all_frames_of owners pins order (λ frame. IsSome (get_or owners frame None)) ordered all k lt in
     rw (get_or_default owners k d None lt) here
 
+-- If each frame in the order is pinned, all frames are.
 pub all_pinned : (owners : List (Option UserPage)) (pins : List Bool) (order : List ℕ) → IsOrdered owners pins order
     → All (λ frame. get_or pins frame false ≡ true) order → All (λ pinned. pinned ≡ true) pins
 all_pinned owners pins order ordered all k d lt =
@@ -92,6 +95,7 @@ free_unpinned owners pins order frame ordered free =
     ] in
     at (get_or pins frame false) refl
 
+-- The order stays one when a frame goes to its end.
 pub ordered-last : (owners : List (Option UserPage)) (pins : List Bool) (order : List ℕ) (turn : ℕ)
     → IsOrdered owners pins order → turn < length order
     → IsOrdered owners pins (remove order turn ++ get_or order turn 0 ∷ [])
@@ -119,10 +123,12 @@ written_back {X} xs ys n e f = back_from xs ys n e f where
   back_from (u ∷ us) (v ∷ vs) zero e f = absurd (omega arith)
   back_from (u ∷ us) (v ∷ vs) (suc m) e f = ap (λ zs. u ∷ zs) (back_from us vs m (omega arith) (omega arith))
 
+-- What follows from a value holds of a value that is there.
 pub if_some : {X : Type 0} (o : Option X) (P Q : X → Type 0) → ((x : X) → P x → Q x) → IfSome o P → IfSome o Q
 if_some None P Q f h = tt
 if_some (Some x) P Q f h = f x h
 
+-- What follows holds where no value is there.
 pub if_none : {X : Type 0} (o : Option X) (A B : Type 0) → (A → B) → IfNone o A → IfNone o B
 if_none None A B f h = f h
 if_none (Some x) A B f h = tt
@@ -137,6 +143,7 @@ not_held owners user page i nowhere holds =
     ap (is_page user page) holds ∙ is_this_page user page in
     cc
 
+-- A page that is in no frame is in none after another one was set.
 pub absent_set : (owners : List (Option UserPage)) (user page frame : ℕ) (o : Option UserPage)
     → frame_of owners user page ≡ None → o ≢ Some (owned user page) → frame_of (set owners frame o) user page ≡ None
 absent_set owners user page frame o nowhere ne =
@@ -162,6 +169,7 @@ frame_inverse f frame o kept e p = (
   λ h. e ∙ page_is f.owners.items p.user p.page.0 frame h,
 )
 
+-- The page in a frame lies in its user's storage.
 pub frame_inside : (f : Inside) (frame : ℕ) (o : Option UserPage) → IsKept f → o ≡ get_or f.owners.items frame None →
     IfSome o (λ p. p.page.0 * 4096 < length (get_or (storages_of (places_in f) (owners_in f) f.sizes.items) p.user []))
 frame_inside f frame None kept e = tt

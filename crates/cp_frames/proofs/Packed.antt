@@ -68,6 +68,7 @@ pages_same (suc pages) a b x y long e =
       rest = others.rest;
     }
 
+-- The bytes of a storage are a code: it is read back, whatever follows it.
 pub storage_code : IsCode storage_bytes
 storage_code a b x y e =
     let long = first number number_code (length a) (length b) (pages_bytes (length a / 4096) a)
@@ -76,6 +77,7 @@ storage_code a b x y e =
 
 -- ---- a storage that is written page by page
 
+-- One more page is appended to the bytes of a storage.
 pub pages_on : (out storage : List ℕ) (pages page : ℕ) → page < pages →
     (out ++ packed (take 4096 (drop (page * 4096) storage)))
     ++ pages_bytes (pages - (page + 1)) (drop ((page + 1) * 4096) storage)
@@ -90,6 +92,7 @@ pages_on out storage pages page lt =
     ∙ ap (λ l. out ++ l) (ap (λ l. one ++ pages_bytes (pages - (page + 1)) l) (sym next) ∙ ap
     (λ n. pages_bytes n (drop (page * 4096) storage)) (sym left))
 
+-- After the last page the bytes of a storage are all there.
 pub pages_done : (storage : List ℕ) (pages page : ℕ) → length storage / 4096 ≡ pages → length storage % 4096 ≡ 0
     → pages ≤ page →
     pages_bytes (pages - page) (drop (page * 4096) storage) ≡ []
@@ -98,6 +101,7 @@ pages_done storage pages page count whole le =
     ap (λ n. pages_bytes n (drop (page * 4096) storage)) none ∙ drop_all (page * 4096) storage
     (omega (arith, count, whole))
 
+-- A page of zeros is packed as one flag.
 pub zero_packed : (storage : List ℕ) (page : ℕ) → IsZeroPage storage page
     → packed (take 4096 (drop (page * 4096) storage)) ≡ 0 ∷ []
 zero_packed storage page zeros =

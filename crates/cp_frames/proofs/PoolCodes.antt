@@ -25,11 +25,13 @@ supply_code =
     (λ p. record { owners = p.0; slots = p.1.0; pins = p.1.1.0; order = p.1.1.1.0; page_ins = p.1.1.1.1 })
     (λ s. refl)
 
+-- The bytes of a pool are a code: it is read back, whatever follows it.
 pub pool_code : IsCode pool_bytes
 pool_code =
     of_parts (both supply_bytes (each storage_bytes))
     (both_code supply_bytes (each storage_bytes) supply_code (each_code storage_bytes storage_code))
     (λ (p : Pool). (p.supply, p.storages)) (λ p. record { storages = p.1; supply = p.0 }) (λ p. refl)
 
+-- A restored pool is the saved one.
 pub one_pool : IsOneBySaved
 one_pool = one_value pool_bytes pool_code

@@ -29,6 +29,7 @@ pub both_cleared : (user : ℕ) (owners slots : List (Option UserPage))
     → cleared_of user (owners ++ slots) ≡ cleared_of user owners ++ cleared_of user slots
 both_cleared user owners slots = map-append (without user) owners slots
 
+-- The pool stays sound when a user's pages are released.
 pub released-kept : (f : Inside) (user : ℕ) (tables lookup slot_table : List ℕ) (end : ℕ) → IsKept f
     → f.pins.items ≡ replicate (length f.pins.items) false →
     IsMapped (cleared_of user f.owners.items) f.sizes.items tables
@@ -68,6 +69,7 @@ frame_pages f kept = record {
   inside = λ k p h. kept.whole.inside k p (hold_left f.owners.items f.slot_owners.items k p h);
 }
 
+-- The storages after a release are those of the cleared places.
 pub released-storages : (f : Inside) (user : ℕ) →
     storages_of (places_in f) (cleared_of user f.owners.items ++ cleared_of user f.slot_owners.items) f.sizes.items
     ≡ storages_of (places_in f) (cleared_of user (owners_in f)) f.sizes.items
@@ -92,6 +94,7 @@ long_order n = let e = order_is n in omega arith
 order_long : (n : ℕ) → length (reverse (range_with_len 0 n)) ≤ n
 order_long n = let e = order_is n in omega arith
 
+-- A pool without pages is sound.
 pub sound-first : (frames slots : List (List ℕ)) (owners slot_owners : List (Option UserPage))
     (sizes tables lookup slot_table : List ℕ) (pins : List Bool) (order : List ℕ) (n m : ℕ) →
     length frames ≡ n → length slots ≡ m → owners ≡ replicate n None → slot_owners ≡ replicate m None
@@ -127,6 +130,7 @@ sound-first frames slots owners slot_owners sizes tables lookup slot_table pins 
       };
     })
 
+-- A pool without pages has storages of zeros.
 pub storages-first : (places : List (List ℕ)) (owners slot_owners : List (Option UserPage)) (sizes : List ℕ) (n m : ℕ)
     → owners ≡ replicate n None → slot_owners ≡ replicate m None →
     storages_of places (owners ++ slot_owners) sizes ≡ map (λ pages. replicate (pages * 4096) 0) sizes

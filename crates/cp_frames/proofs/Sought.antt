@@ -30,6 +30,7 @@ stays_taken owners frame page lt k some = elim (dec_eq k frame) [
       ≡ get_or owners k None = get_or-set_other owners frame k (Some page) None n in ap is_some kept ∙ some)
 ]
 
+-- Frames that are taken stay taken when one more is.
 pub taken-set : (owners : List (Option UserPage)) (frames : List ℕ) (frame : ℕ) (page : UserPage)
     → frame < length owners → AreTaken owners frames → AreTaken (set owners frame (Some page)) frames
 taken-set owners frames frame page lt taken =
@@ -52,11 +53,13 @@ pub all_taken : (owners : List (Option UserPage)) (order : List ℕ) → All (λ
     → All IsSome owners → AreTaken owners order
 all_taken owners order within all k d lt = all (get_or order k d) None (within k d lt)
 
+-- If each frame of the order has an owner, all are taken.
 pub taken_all : (owners : List (Option UserPage)) (order : List ℕ) (frame : ℕ) (page : UserPage) → frame < length owners
     → All (λ k. k < length owners) order → All IsSome owners → AreTaken (set owners frame (Some page)) order
 taken_all owners order frame page lt within all =
     taken-set owners order frame page lt (all_taken owners order within all)
 
+-- What is None is no value.
 pub not_some : (o : Option UserPage) → o ≡ None → IsSome o → ⊥
 not_some None e some = cc
 not_some (Some page) e some = cc
@@ -88,11 +91,13 @@ low-set (x ∷ owners) (suc low) (suc slot) o some all =
       | suc n ↦ λ lt. low-set owners low slot o some (λ i e less. all (suc i) e (omega arith)) n d (omega arith)
     ])
 
+-- The slots below the lowest free one stay taken when a higher one is set.
 pub low_past : (owners : List (Option UserPage)) (low slot : ℕ) (o : Option UserPage) → low ≤ slot
     → All IsSome (take low owners) → All IsSome (take low (set owners slot o))
 low_past owners low slot o le all = let same : take low (set owners slot o) ≡ take low owners =
     take-set-le low owners slot o le in rw same all
 
+-- The slots below a freed one stay taken.
 pub low_under : (owners : List (Option UserPage)) (low slot : ℕ) (o : Option UserPage) → slot ≤ low
     → All IsSome (take low owners) → All IsSome (take slot (set owners slot o))
 low_under owners low slot o le all =

@@ -20,6 +20,7 @@ pub record IsPlace (sizes table : List ℕ) (user page : ℕ) : Type 0 where
   pub low : user < 64
   pub room : user * 1024 + page < length table
 
+-- An address of a user's storage has its place in the table.
 pub place : (entry : Option ℕ → ℕ → ℕ) (bytes : List (List ℕ)) (all owners : List (Option UserPage))
     (sizes table : List ℕ) (user page address : ℕ) → IsWhole bytes all sizes → IsTabled entry owners sizes table →
     address < length (get_or (storages_of bytes all sizes) user []) → page ≡ address / 4096
@@ -77,6 +78,7 @@ pub slot_none : (o : Option ℕ) (entry page : ℕ) → entry ≡ slot_entry o p
 slot_none None entry page e low is = refl
 slot_none (Some slot) entry page e low is = absurd (omega (arith, low))
 
+-- A slot that an entry names is there.
 pub slot_some : (o : Option ℕ) (entry page : ℕ) → entry ≡ slot_entry o page → entry ≢ 4294967295 → o ≡ Some entry
 slot_some None entry page e ne = absurd (ne e)
 slot_some (Some slot) entry page e ne = ap Some (sym e)
@@ -104,12 +106,14 @@ pub record TellsFrame (owners : List (Option UserPage)) (user page entry : ℕ) 
   pub low : frame < 65536
   pub reported : entry ≡ frame_entry (Some frame) page
 
+-- An entry that is not absent tells the frame of the page.
 pub tells : (owners : List (Option UserPage)) (user page entry : ℕ) (o : Option ℕ) → frame_of owners user page ≡ o
     → length owners ≤ 65536 → entry ≡ frame_entry o page → entry ≢ 1 → TellsFrame owners user page entry
 tells owners user page entry None e few is ne = absurd (ne is)
 tells owners user page entry (Some frame) e few is ne =
     record { frame = frame; there = e; low = low_place owners user page (Some frame) few e; reported = is }
 
+-- A page with a frame has an entry that tells it.
 pub has_frame : (owners : List (Option UserPage)) (user page : ℕ) (o : Option ℕ) → frame_of owners user page ≡ o
     → IsSome o → length owners ≤ 65536 → (entry : ℕ) → entry ≡ frame_entry o page → TellsFrame owners user page entry
 has_frame owners user page None e some few entry is = cc
@@ -129,6 +133,7 @@ page_is_at user page (Some there) e =
     let same : there ≡ wanted = first ∙ second in
     ap Some same
 
+-- A frame that is found has this page as its owner.
 pub page_is : (owners : List (Option UserPage)) (user page frame : ℕ) → frame_of owners user page ≡ Some frame
     → get_or owners frame None ≡ Some (owned user page)
 page_is owners user page frame there =
@@ -145,6 +150,7 @@ small_at sizes user all =
     elim (dec_lt user (length sizes))
     [ yes h ↦ all user 0 h | no past ↦ (let none = get_or_past sizes user 0 (omega arith) in omega arith) ]
 
+-- While no page has a place, each that is placed has one place.
 pub whole-none : (bytes : List (List ℕ)) (sizes : List ℕ) (places : ℕ) → length bytes ≡ places
     → All (λ pages. pages ≤ 1024) sizes → IsWhole bytes (replicate places None) sizes
 whole-none bytes sizes places room small = record {

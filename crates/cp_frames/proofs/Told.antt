@@ -17,6 +17,7 @@ told_own entry o user page place table lt e =
     ap (λ (x : Option UserPage). get_or (reported entry x place table) (user * 1024 + page) 0) e ∙ get_or-set_same table
     (user * 1024 + page) (entry place page) 0 lt
 
+-- An owner with this user and this page is this owner.
 pub is_owned : (there : UserPage) (user page : ℕ) → there.user ≡ user → there.page.0 ≡ page → there ≡ owned user page
 is_owned there user page g p =
     let middle : UserPage = owned user there.page.0 in
@@ -34,6 +35,7 @@ told_other entry (Some q) user page place table small own ne =
     λ e. ne (ap Some (is_owned q user page (omega arith) (omega arith))) in
     rw get_or-set_other refl
 
+-- Reporting an entry keeps the length of the table.
 pub length-reported : (entry : Option ℕ → ℕ → ℕ) (o : Option UserPage) (place : Option ℕ) (table : List ℕ)
     → length (reported entry o place table) ≡ length table
 length-reported entry None place table = refl

@@ -64,6 +64,7 @@ later_page m w list start page j has some part begun first long at last touched 
     same_start : (r s : ℕ) → Some r ≡ Some s → r ≡ s
     same_start r s e = cc
 
+-- Entries that were begun stay begun when one more is appended.
 pub begun_on : (list new : List (Option ℕ)) (o : Option ℕ) → new ≡ list ++ o ∷ []
     → ((i : ℕ) → i < length list → is_some (slice_index_or list i None) ≡ true) → is_some o ≡ true → (i : ℕ)
     → i < length new → is_some (slice_index_or new i None) ≡ true
@@ -109,11 +110,13 @@ followed_reached m start leads place old new (inl same) there all = rw same all
 followed_reached m start leads place old new (inr (on, is)) there all = rw is
     (All-push (IsReachedPlace m start) old place all (there on))
 
+-- The first place is reached from the start of the program.
 pub first_reached : (m : Memory) (start : ℕ) (old new : List CcwLocation) → old ≡ []
     → IsFollowed true (record { address = start; continues = false }) old new → All (IsReachedPlace m start) new
 first_reached m start old new none followed = followed_reached m start true _ old new followed (λ e. starts)
     (rw none (All-nil (IsReachedPlace m start)))
 
+-- A page that is absent at a place that was reached is one that the program needs.
 pub absent_served : (m : Memory) (size : ℕ) (present : ℕ → Bool) (start : ℕ) (place : CcwLocation) (e : CopyError)
     → IsReachedPlace m start place → IfAbsent (λ page. IsAbsent size present page × IsWordPage m place.address page) e
     → IfAbsent (λ page. IsAbsent size present page × IsServed m start page) e

@@ -19,6 +19,7 @@ not_free v some = by_test (v == 0) refl
     by_test true e = (let no : v ≡ 0 = grind (arith, nat_tests) in absurd (some no))
     by_test false e = refl
 
+-- Marking a slot makes one fewer unmarked.
 pub marked : (index : List ℕ) (i v : ℕ) → i < length index → slice_index index i ≡ 0 → v ≢ 0
     → unmarked (slice_set index i v) + 1 ≡ unmarked index
 unfolding unmarked
@@ -113,6 +114,7 @@ indexed_none n = record {
     get_or-replicate_same (suc n) zero = refl
     get_or-replicate_same (suc n) (suc slot) = get_or-replicate_same n slot
 
+-- There are no more unmarked slots than slots.
 pub unmarked_few : (index : List ℕ) → unmarked index ≤ length index
 unfolding unmarked
 unmarked_few [] = omega arith

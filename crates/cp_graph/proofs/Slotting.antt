@@ -6,6 +6,7 @@ use Rattle.std.proofs.Common.{◌∙◌, ap, arith, sym}
 use Rattle.std.proofs.lemmas.Bool.Decides.{nat_tests}
 use Rattle.cp_graph.specs.Slots.{numbers, or_zero}
 
+-- As many numbers are read as were asked for.
 pub as_many : (first count : ℕ) (held : ℕ → Option ℕ) → length (numbers first count held) ≡ count
 as_many first zero held = refl
 as_many first (suc count) held = (let rest = as_many (first + 1) count held in omega (arith, rest))
@@ -51,9 +52,11 @@ set_at first (suc count) (suc slot) number held held' lt here others =
 differs_eq : (m n : ℕ) → (m ≡ n → ⊥) → nat_eq m n ≡ false
 differs_eq m n differs = grind (arith, nat_tests)
 
+-- An empty map has no number for a slot.
 pub none_held : {S : Type 0} (m : HashMap ℕ ℕ S) → m.entries ≡ [] → (slot : ℕ) → get nat_eq m slot ≡ None
 none_held m none slot = rw none refl
 
+-- A slot's number is the one that was read for it.
 pub read_of : (count slot : ℕ) (held : ℕ → Option ℕ) (found : Option ℕ) (seen : List ℕ) → numbers 0 count held ≡ seen
     → slot < length seen → found ≡ held slot → or_zero found ≡ slice_index seen slot
 read_of count slot held found seen is lt there =
@@ -62,6 +65,7 @@ read_of count slot held found seen is lt there =
     ap or_zero there ∙ ap (λ (n : ℕ). or_zero (held n)) (sym same)
     ∙ sym (read_at 0 count slot held (omega (arith, lt, many))) ∙ ap (λ (l : List ℕ). slice_index l slot) is
 
+-- Setting a slot's number in the map sets it in the list.
 pub set_in : {S : Type 0} (count slot number : ℕ) (m n : HashMap ℕ ℕ S) (seen : List ℕ)
     → numbers 0 count (get nat_eq m) ≡ seen → slot < length seen → Updates nat_eq m n slot (Some number)
     → numbers 0 count (get nat_eq n) ≡ slice_set seen slot number

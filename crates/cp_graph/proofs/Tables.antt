@@ -98,14 +98,17 @@ pub guest_grown : (old new : List CcwLocation) (i : ℕ) → Grows old new → i
 guest_grown old new i grown lt = rw grown.is (ap (λ (p : CcwLocation). p.address)
     (get_or_append_left old grown.rest (past i) i lt))
 
+-- A list that grows does not become shorter.
 pub grown_length : (old new : List CcwLocation) → Grows old new → length old ≤ length new
 grown_length old new grown = rw grown.is (omega (arith, length-append old grown.rest))
 
+-- Following a place makes the list of places grow.
 pub followed_grows : (leads : Bool) (place : CcwLocation) (old new : List CcwLocation) → IsFollowed leads place old new
     → Grows old new
 followed_grows leads place old new (inl same) = record { rest = []; is = same ∙ sym (append-nil old) }
 followed_grows leads place old new (inr (on, is)) = record { rest = place ∷ []; is = is }
 
+-- Growing twice is growing.
 pub grown_on : (a b c : List CcwLocation) → Grows a b → Grows b c → Grows a c
 grown_on a b c one two = record {
   rest = one.rest ++ two.rest;
@@ -123,6 +126,7 @@ word_plain a c = by_jump (is_jump (bare_word c)) refl
       commands = λ h. (let f : true ≡ false = sym h ∙ e in cc);
     }
 
+-- A word of a guest's text jumps plainly.
 pub text_plain : (m : Memory) (a : ℕ) (w : Ccw) → guest_text m a ≡ Some w → IsJumpPlain w
 text_plain m a w = by_in (is_in m a 8)
   where
@@ -314,6 +318,7 @@ copy_of places nodes m room whole all =
 pub none_here : (size : ℕ) (present : ℕ → Bool) → AllPresent size present []
 none_here size present j a e = cc
 
+-- What is below a successor is below or equal.
 pub at_or_before : (i n : ℕ) → i < n + 1 → (i < n) ⊎ (i ≡ n)
 at_or_before i n h = grind arith
 
@@ -390,6 +395,7 @@ list_of_part m w list count part stop =
       ];
     }
 
+-- A list that reaches the last block of the area is the whole list.
 pub list_whole : (m : Memory) (w : Ccw) (list : List (Option ℕ)) (start : ℕ) → IsPart list (area_block m w)
     → slice_index_or list 0 None ≡ Some start → (start % 2048 + (w.count - 1)) / 2048 < length list
     → IsListOf (λ j. slice_index_or list j None) (area_block m w) w.count
@@ -454,6 +460,7 @@ text_even m a w e even = by_in (is_in m a 8) e
         subst (λ v. leads_next v ≡ true → v.next % 8 ≡ 0) same (of_word (ccw_of (slice_range m.bytes a (a + 8))))
     by_in false e = cc
 
+-- A word at a doubleword boundary skips whole doublewords.
 pub skipped_even : (m : Memory) (a : ℕ) (w : Ccw) → guest_text m a ≡ Some w → a % 8 ≡ 0 → w.skipped % 8 ≡ 0
 skipped_even m a w e even = by_in (is_in m a 8) e
   where
@@ -491,6 +498,7 @@ linked_place places m leads place number lt found = record {
   good = λ e. inl lt;
 }
 
+-- An address in storage raises no addressing exception.
 pub in_storage : (size : ℕ) (keys : List ℕ) (key a : ℕ) → first_fault size keys key
     (area Fetch a 1 ∷ []) ≡ Some Addressing → a < size → ⊥
 unfolding is_addressable
@@ -513,14 +521,17 @@ pub part_on : (list new : List (Option ℕ)) (f : ℕ → Option ℕ) (o : Optio
     → o ≡ f (length list) → IsPart new f
 part_on list new f o is part said = rw is (part_push list f o part said)
 
+-- Pages stay present when one more that is present is appended.
 pub here_on : (size : ℕ) (present : ℕ → Bool) (list new : List (Option ℕ)) (o : Option ℕ) → new ≡ list ++ o ∷ []
     → AllPresent size present list → IsPresent size present o → AllPresent size present new
 here_on size present list new o is here one = rw is (here_push size present list o here one)
 
+-- The first element of a list stays when one is appended.
 pub first_on : (list new : List (Option ℕ)) (o : Option ℕ) (start : ℕ) → new ≡ list ++ o ∷ [] → 0 < length list
     → slice_index_or list 0 None ≡ Some start → slice_index_or new 0 None ≡ Some start
 first_on list new o start is some first = rw is (get_or_append_left list (o ∷ []) None 0 some ∙ first)
 
+-- A list that ends at a fault is the list of its area.
 pub failed_on : (m : Memory) (w : Ccw) (list new : List (Option ℕ)) (o : Option ℕ) → new ≡ list ++ o ∷ []
     → IsPart list (area_block m w) → o ≡ area_block m w (length list) → o ≡ None
     → IsListOf (λ j. slice_index_or new j None) (area_block m w) w.count
@@ -542,16 +553,20 @@ linked_grown old new m leads address number grown room l =
       good = λ e. good_more old grown.rest fits (guest_text m) number (l.good e);
     }) room
 
+-- A linked place is a place of the program.
 pub linked_is_place : (places : List CcwLocation) (m : Memory) (address number : ℕ) → length places ≤ 2147483648
     → IsLinked places (guest_text m) true address number → IsPlace places (guest_text m) number
 linked_is_place places m address number room l = good_place places (guest_text m) number room (l.good refl)
 
+-- No rows are held by no nodes.
 pub held_none : (size : ℕ) (present : ℕ → Bool) → AreHeldRows [] size present
 held_none size present = record { held = λ i node e. cc }
 
+-- No nodes are the rows of no places.
 pub rows_none : (places : List CcwLocation) (m : Memory) → AreRows places [] m
 rows_none places m = λ i node e. cc
 
+-- One more node whose pages are present keeps all pages present.
 pub held_push : (nodes new : List Node) (node : Node) (size : ℕ) (present : ℕ → Bool) → new ≡ nodes ++ node ∷ []
     → AreHeldRows nodes size present → AllPresent size present node.list.items → AreHeldRows new size present
 held_push nodes new node size present is all one = rw is (record { held = by_list nodes all.held })
@@ -571,15 +586,18 @@ held_named nodes size present all a (at, j, e) lt = by_node (slice_get nodes at)
     by_node None is e = cc
     by_node (Some node) is e = all.held at node is j a e lt
 
+-- One more node with its row keeps the nodes the rows of their places.
 pub rows_on : (old new : List CcwLocation) (nodes after : List Node) (m : Memory) (address : ℕ) (node : Node)
     → after ≡ nodes ++ node ∷ [] → Grows old new → length new ≤ 2147483648 → length nodes < length old
     → address ≡ guest_of old (length nodes) → AreRows old nodes m → IsRow new m address node → AreRows new after m
 rows_on old new nodes after m address node is grown room behind at all one = rw is
     (rows_push old new nodes m node grown room behind all (rw at at one))
 
+-- What is found absent by the flag is None.
 pub none_is : (o : Option ℕ) (r : Bool) → is_some o ≡ not r → r ≡ true → o ≡ None
 none_is None r e is = refl
 none_is (Some x) r e is = (let f : true ≡ not true = e ∙ ap not is in cc)
 
+-- What is found present by the flag is there.
 pub some_is : (o : Option ℕ) (r : Bool) → is_some o ≡ not r → r ≡ false → is_some o ≡ true
 some_is o r e is = e ∙ ap not is

@@ -170,6 +170,7 @@ few_step d (Keeps user line) c = λ few. few c
 few_step d (Turns user is_on is_running) c = λ few. few c
 few_step d (Finishes user) c = λ few. few c
 
+-- Few bytes of a connection wait, whatever was sent.
 pub few : (users : List (List ℕ)) (size : ℕ) (events : List Event) (c : ℕ)
     → IsFew (connection_at (after (new_desk users size) events) c)
 few users size [] c = subst IsFew (sym (vacant size c)) (omega arith)
@@ -223,6 +224,7 @@ short_from : (bytes : List ℕ) (r : Reading) → length r.typed.line ≤ 130
 short_from [] r h = h
 short_from (byte ∷ rest) r h = short_from rest (read_byte r byte) (short_expected r.typed r.typed.expects byte h)
 
+-- A line that is being typed has at most 130 bytes.
 pub short : (bytes : List ℕ) → length (reading_of bytes).typed.line ≤ 130
 short bytes = short_from bytes _ (omega arith)
 
@@ -255,6 +257,7 @@ kept_few_by user (Turns other is_on is_running) kept h = few_both _ _ is_on h
     (few_both _ _ (eqb other user) (omega arith) h)
 kept_few_by user (Finishes other) kept h = h
 
+-- At most 24 lines are kept of a user.
 pub kept_few : (user : ℕ) (events : List Event) → length (kept_of user events) ≤ 24
 kept_few user [] = omega arith
 kept_few user (event ∷ earlier) = kept_few_by user event (kept_of user earlier) (kept_few user earlier)

@@ -19,6 +19,7 @@ abbrev IsFewer : List Connection → ℕ → ℕ → Type 0
 IsFewer connections most k = is_stranger (get_or connections k gone) ≡ true
     → strangers_from connections (get_or connections k gone).address ≤ most
 
+-- The search for the busiest address takes a stranger whose address has more of them.
 pub found_more : (connections : List Connection) (place : ℕ) (found : Option ℕ) (most latest count deadline : ℕ)
     → SoFar connections place found most latest → place < length connections
     → is_stranger (get_or connections place gone) ≡ true
@@ -40,6 +41,7 @@ kept_none : (connections : List Connection) (place : ℕ) (found : Option ℕ) (
 kept_none connections place None most latest zero h = absurd (omega arith)
 kept_none connections place (Some c) most latest zero h = tt
 
+-- The search for the busiest address keeps what it has if the next has no more.
 pub kept_more : (connections : List Connection) (place : ℕ) (found : Option ℕ) (most latest count : ℕ)
     → SoFar connections place found most latest
     → count ≡ strangers_from connections (get_or connections place gone).address → count ≤ most → 0 < most + latest
@@ -64,6 +66,7 @@ passed_none connections place (Some c) is none = tt
 not_both : (b : Bool) → b ≡ false → b ≡ true → ⊥
 not_both b f t = cc
 
+-- The search for the busiest address passes a connection that is no stranger.
 pub passed_more : (connections : List Connection) (place : ℕ) (found : Option ℕ) (most latest : ℕ)
     → SoFar connections place found most latest → is_stranger (get_or connections place gone) ≡ false
     → SoFar connections (place + 1) found most latest
@@ -77,6 +80,7 @@ passed_more connections place found most latest so is = record {
       (λ t. absurd (not_both (is_stranger (get_or connections place gone)) is t));
 }
 
+-- The search goes on alike with equal values.
 pub renamed : (connections : List Connection) (place : ℕ) (found other : Option ℕ) (most count latest later : ℕ)
     → other ≡ found → count ≡ most → later ≡ latest
     → SoFar connections place found most latest → SoFar connections place other count later

@@ -31,6 +31,7 @@ use Rattle.terminal_lines.specs.declared.words.Said.TheVariants.{Both, Name, Wor
 use Rattle.logon_desk.proofs.Reading.{IsHeard, IsSaid, at_both, at_one, heard_byte, heard_more, heard_opened, heard_to}
 use Rattle.logon_desk.proofs.Reading.{vacant_heard}
 
+-- Nothing is both true and false.
 pub not_both : (b : Bool) → b ≡ true → b ≡ false → ⊥
 not_both b t f = cc
 
@@ -214,6 +215,7 @@ wait_cases false false false false false = omega arith
 pub wait_bound : (owed : ℕ) → wait_of owed ≤ 4000
 wait_bound owed = wait_cases (ltb owed 5000) (ltb owed 15000) (ltb owed 25000) (ltb owed 35000) (ltb owed 45000)
 
+-- A connection comes to each stage by its own events.
 pub arrives : (d : Desk) (c : ℕ) (x : Connection) (stage : Stage) (now : ℕ) → Arrives d c x stage now
 arrives d c x Gone now = record {
   there = record x { stage = Gone };
@@ -388,6 +390,7 @@ first_by d k c came now (byte ∷ rest) waits takes is_open was =
     decoded_by d k c came byte rest now (after_byte (connection_at d k).decoder byte).decoded refl takes is_open waits
     (get_or-set_same d.connections k (rest_of (connection_at d k) byte rest) gone (within d k is_open)) was
 
+-- A connection that is being read is open.
 pub taking_open : (d : Desk) (k : ℕ) (stage : Stage) → is_taking d k stage ≡ true → is_gone stage ≡ false
 taking_open d k Gone takes = absurd (not_both false takes refl)
 taking_open d k Naming takes = refl
@@ -430,6 +433,7 @@ vacant_by size c (inl w) = get_or_past (replicate size gone) c gone
     (omega (arith, w.1, length-replicate {A = Connection} size gone))
 vacant_by size c (inr w) = get_or-replicate size c gone gone w.1
 
+-- A desk without connections has none at any place.
 pub vacant : (size c : ℕ) → get_or (replicate size gone) c gone ≡ gone
 vacant size c = vacant_by size c (leb_tells size c)
 

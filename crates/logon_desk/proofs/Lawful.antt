@@ -587,20 +587,26 @@ keeps users size (event ∷ earlier) user there =
 short_shown : (line : List ℕ) → length (shown line) ≤ 1024
 short_shown line = omega (arith, length-map (take 1024 line) printable, length-take 1024 line)
 
+-- A line for a user comes only from a connection that gave his name and password.
 pub authority : HasAuthority
 authority = record { on = on_by }
 
+-- A connection is given the desk's own texts and the lines of its user alone.
 pub isolation : IsIsolated
 isolation = record { does = does }
 
+-- Each line of a user reaches the connection that is on, once and in order.
 pub completeness : IsComplete
 completeness = record { shows = shows; types = types; reads = reads; keeps = keeps; again = again }
 
+-- No byte of a password reaches the journal, a script or another connection.
 pub secrets : HasSecrets
 secrets = record { alike = alike }
 
+-- Whoever gives the right password is on within a time that others' guesses do not change.
 pub waiting : WaitsBriefly
 waiting = record { waits = waits; asks = asks; lets_on = lets_on }
 
+-- What is kept of connections and users has a constant bound.
 pub bounds : HasBounds
 bounds = record { few_wait = few; short = short; few_kept = kept_few; short_shown = short_shown }

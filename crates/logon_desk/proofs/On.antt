@@ -220,11 +220,13 @@ judged_was d k c user guess other (Some who) true now stage same found =
     }))
     (λ differs e. inl (e, tt))
 
+-- Two conditions that hold together hold each.
 pub both_true : (a b : Bool) → (a && b) ≡ true → (a ≡ true) × (b ≡ true)
 both_true true true h = (refl, refl)
 both_true true false h = absurd cc
 both_true false b h = absurd cc
 
+-- Guesses that are compared as the same are equal.
 pub guesses_same : (one other : Guess) → same_guess one other ≡ true → one ≡ other
 guesses_same one other h =
     let both = both_true (bytes_eq one.name other.name) (bytes_eq one.password other.password) h in
@@ -307,6 +309,7 @@ either_accounts : (d : Desk) (s t : Step) (b : Bool) → s.desk.accounts ≡ d.a
 either_accounts d s t true h k = h
 either_accounts d s t false h k = k
 
+-- Waking a connection changes no account.
 pub wakes_accounts : (d : Desk) (k now : ℕ) (stage : Stage) →
     (wake_by d k (connection_at d k) stage now).desk.accounts ≡ d.accounts
 wakes_accounts d k now Gone = refl
@@ -367,6 +370,7 @@ first_accounts d c (byte ∷ rest) now =
     decoded_accounts (with_connection d c (rest_of (connection_at d c) byte rest)) c
     (after_byte (connection_at d c).decoder byte).decoded now
 
+-- Taking the next bytes of a connection changes accounts only as one that is busy.
 pub takes_accounts : (d : Desk) (c now : ℕ) (takes : Bool) → Busy d.accounts
     (cond takes (after_first d c (connection_at d c).waiting now) (quietly d)).desk.accounts
 takes_accounts d c now true = first_accounts d c (connection_at d c).waiting now
@@ -408,6 +412,7 @@ same_accounts d k guess other is_right now true same stage = judged_accounts d k
     (user_of (names d) guess.name) is_right now stage (guesses_same other guess same) refl
 same_accounts d k guess other is_right now false same stage = inl refl
 
+-- An answer to a guess changes accounts only by logging its user on.
 pub answers_accounts : (d : Desk) (k : ℕ) (guess : Guess) (is_right : Bool) (now : ℕ) (stage : Stage)
     → (connection_at d k).stage ≡ stage → Logged d (Answers k guess is_right now)
     (answer_by d k stage guess is_right now).desk.accounts
@@ -420,6 +425,7 @@ answers_accounts d k guess is_right now (Judged other) e = same_accounts d k gue
 answers_accounts d k guess is_right now Refused e = inl refl
 answers_accounts d k guess is_right now (On other) e = inl refl
 
+-- Bytes that come for a connection change no account.
 pub comes_accounts : (d : Desk) (k : ℕ) (bytes : List ℕ) (fits : Bool)
     → (cond fits (quietly (with_connection d k (record (connection_at d k) {
       waiting =
@@ -463,6 +469,7 @@ names_step d (Keeps user line) = same_names d.accounts user _ refl
 names_step d (Turns user is_on is_running) = same_names d.accounts user _ refl
 names_step d (Finishes user) = same_names d.accounts user _ refl
 
+-- The names of users stay, whatever happens.
 pub names_stay : (first : Desk) (events : List Event) → names (after first events) ≡ names first
 names_stay first [] = refl
 names_stay first (event ∷ earlier) = names_step (after first earlier) event ∙ names_stay first earlier
@@ -517,6 +524,7 @@ had_busy d c user event new off (inr e) =
     (had_set d c user e.0 (record (account_of d e.0) { is_busy = true }) event (λ _. off)
     (λ same h. had_who d c user e.0 event off same h))
 
+-- Numbers that are compared as equal are equal.
 pub eqb_is : (a b : ℕ) → eqb a b ≡ true → a ≡ b
 eqb_is a b h = elim (eqb_tells a b) [ inl w ↦ w.1 | inr w ↦ absurd (not_both (eqb a b) h w.0) ]
 
@@ -583,6 +591,7 @@ stays_both c user (Turns other true is_running) r o = tt
 stays_both c user (Turns other false is_running) r o = o
 stays_both c user (Finishes other) r o = tt
 
+-- A stage of this user's is that of being logged on.
 pub is_user_on : (stage : Stage) (user : ℕ) → is_user stage user ≡ true → stage ≡ On user
 is_user_on Gone user h = absurd (not_both false h refl)
 is_user_on Naming user h = absurd (not_both false h refl)
@@ -596,6 +605,7 @@ eqb_self_by : (n : ℕ) → ((eqb n n ≡ true) × (n ≡ n)) ⊎ ((eqb n n ≡ 
 eqb_self_by n (inl w) = w.0
 eqb_self_by n (inr w) = absurd (w.1 refl)
 
+-- A number is compared as equal to itself.
 pub eqb_self : (n : ℕ) → eqb n n ≡ true
 eqb_self n = eqb_self_by n (eqb_tells n n)
 

@@ -54,6 +54,7 @@ at_one_by P xs k c x vacant here there (inl w) (inr near) =
 at_one_by P xs k c x vacant here there (inr w) far =
     let differs : c ≢ k = λ e. w.1 (sym e) in subst P (sym (get_or-set_other xs k c x gone differs)) (there w.1)
 
+-- What holds of a connection that was set and of all others holds of each.
 pub at_one : (P : Connection → Type 0) (xs : List Connection) (k c : ℕ) (x : Connection) → P gone → (k ≡ c → P x)
     → (k ≢ c → P (get_or xs c gone)) → P (get_or (set xs k x) c gone)
 at_one P xs k c x vacant here there = at_one_by P xs k c x vacant here there (eqb_tells k c) (leb_tells (length xs) k)
@@ -69,17 +70,21 @@ at_both_by P xs k c x came other vacant here there (inr w) =
     subst (λ (b : Bool). P (get_or (set xs k x) c gone) (cond b other came)) (sym w.0)
     (at_one (λ y. P y came) xs k c x (vacant came) (λ same. absurd (w.1 same)) (λ _. there))
 
+-- What holds of a connection with its own bytes holds of each with its own.
 pub at_both : (P : Connection → List ℕ → Type 0) (xs : List Connection) (k c : ℕ) (x : Connection) (came other : List ℕ)
     → ((l : List ℕ) → P gone l) → (k ≡ c → P x other) → P (get_or xs c gone) came
     → P (get_or (set xs k x) c gone) (cond (eqb k c) other came)
 at_both P xs k c x came other vacant here there = at_both_by P xs k c x came other vacant here there (eqb_tells k c)
 
+-- Nothing has come from a place without a connection.
 pub vacant_heard : (came : List ℕ) → IsHeard gone came
 vacant_heard came is_open = absurd cc
 
+-- Nothing has come from a connection that was just opened.
 pub heard_opened : (address now : ℕ) → IsHeard (opened address now) []
 heard_opened address now is_open = record { taken = []; split = refl; typed = refl; said = tt }
 
+-- Bytes that come are appended to what has come.
 pub heard_more : (x : Connection) (came bytes : List ℕ) → IsHeard x came
     → IsHeard (record x { waiting = x.waiting ++ bytes }) (came ++ bytes)
 heard_more x came bytes h is_open =
@@ -109,6 +114,7 @@ heard_to x y came was_open decoder waiting said h is_open =
 reading_more : (taken : List ℕ) (byte : ℕ) → reading_of (taken ++ byte ∷ []) ≡ read_byte (reading_of taken) byte
 reading_more taken byte = fold-append read_byte nothing_read taken (byte ∷ [])
 
+-- A byte that is taken is decoded, and what has come stays the same.
 pub heard_byte : (x y : Connection) (came : List ℕ) (byte : ℕ) (rest : List ℕ) → is_gone x.stage ≡ false
     → x.waiting ≡ byte ∷ rest → y.waiting ≡ rest → y.decoder ≡ (after_byte x.decoder byte).typed
     → ((lines : List (List ℕ)) → IsSaid x.stage lines → IsSaid y.stage

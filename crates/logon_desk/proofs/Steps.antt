@@ -59,6 +59,7 @@ pub read_there : (connections : List Connection) (c : ℕ) (at : Connection) →
     → at ≡ get_or connections c at → get_or connections c gone ≡ at
 read_there connections c at h is = get_or_default connections c gone at h ∙ sym is
 
+-- The first byte that waits is taken by the connection's own decoder.
 pub takes_first : (connections : List Connection) (accounts : List Account) (guesses : List ℕ) (old : Desk) (c : ℕ)
     (at : Connection) (byte : ℕ) (rest : List ℕ) (typed : Typed) (decoded : Decoded) (now : ℕ)
     → record { connections = connections; accounts = accounts; guesses = guesses } ≡ old → c < length old.connections
@@ -79,6 +80,7 @@ takes_first connections accounts guesses old c at byte rest typed decoded now se
     let changed = ap (λ (x : Connection). F x (after_byte x.decoder byte)) same ∙ ap (F at) came in
     sym (first ∙ changed) ∙ ap (λ (e : Desk). after_first e c (connection_at e c).waiting now) seen
 
+-- A line that a connection ends is answered at its stage.
 pub says_line : (connections : List Connection) (accounts : List Account) (guesses : List ℕ) (old : Desk) (c : ℕ)
     (at : Connection) (moved stage : Stage) (said : Said) (answer : LogonStep) (line capitals : List ℕ) (now : ℕ)
     → record { connections = connections; accounts = accounts; guesses = guesses } ≡ old → c < length old.connections

@@ -8,6 +8,7 @@ hex-append [] second = refl
 hex-append (byte ∷ bytes) second =
     ap (λ (rest : List ℕ). hex_digit (byte / 16) ∷ hex_digit (byte % 16) ∷ rest) (hex-append bytes second)
 
+-- One more byte has two more digits.
 pub hex-take : (bytes : List ℕ) (i : ℕ) → i < length bytes
     → hex (take (i + 1) bytes) ≡ hex (take i bytes) ++ hex_digit (get_or bytes i 0 / 16)
     ∷ hex_digit (get_or bytes i 0 % 16) ∷ []

@@ -15,6 +15,7 @@ pair-first bytes byte (Some more) = ap (λ (all : List ℕ). Some all) (sym (app
 after-two : (high low : ℕ) (more : List ℕ) → take (length (high ∷ low ∷ more) - 2) (drop 2 (high ∷ low ∷ more)) ≡ more
 after-two high low more = take_rest (high ∷ low ∷ more) 2
 
+-- A pair of digits that is read is one more byte.
 pub pairs-more : (digits rest bytes pushed : List ℕ) (byte : ℕ) → 2 ≤ length rest
     → byte_of (get_or rest 0 0) (get_or rest 1 0) ≡ Some byte → pushed ≡ bytes ++ byte ∷ []
     → pairs_of digits ≡ option_map (λ (more : List ℕ). bytes ++ more) (pairs_of rest)

@@ -42,6 +42,7 @@ does-then d first second before between after e new one two =
     ) in
     (desk-is, outputs-are)
 
+-- An event that the desk does is a history of one event.
 pub does-one : (d : Desk) (event : Event) (before after : List DeskAction) (new : Desk)
     → IsStep d event before new after → Does (run d (event ∷ [])) before new after
 does-one d event before after new is =
@@ -92,6 +93,7 @@ takes-none : (d : Desk) (c now : ℕ) → takes zero d c now ≡ []
 unfolding takes
 takes-none d c now = refl
 
+-- A byte that is taken, and the rest of the turn, are the whole turn.
 pub taken-more : (whole : Step) (before out after : List DeskAction) (d new : Desk) (most i c now : ℕ) → i < most
     → takes_next d c ≡ true
     → Leads whole before d out (takes (most - i) d c now) → IsStep d (Takes c now) out new after
@@ -107,12 +109,14 @@ taken-more whole before out after d new most i c now inside takes-one leads is =
     (does-one d (Takes c now) out after new is) in
     subst (λ (e : Desk). Leads whole before new after (takes (most - (i + 1)) e c now)) (sym is.0) on
 
+-- A turn ends where nothing more may be taken.
 pub taken-stop : (whole : Step) (before out : List DeskAction) (d : Desk) (most c now : ℕ) → takes_next d c ≡ false
     → Leads whole before d out (takes most d c now) → Does whole before d out
 taken-stop whole before out d most c now stops leads =
     leads-end whole before out d
     (subst (λ (events : List Event). Leads whole before d out events) (takes-no most d c now stops) leads)
 
+-- A turn ends after its most bytes.
 pub taken-end : (whole : Step) (before out : List DeskAction) (d : Desk) (left c now : ℕ) → left ≡ 0
     → Leads whole before d out (takes left d c now) → Does whole before d out
 taken-end whole before out d left c now none leads =
@@ -140,6 +144,7 @@ served-none : (d : Desk) (c now : ℕ) → served_from zero d c now ≡ []
 unfolding served_from
 served-none d c now = refl
 
+-- A place that is served, and the rest of the places, are the whole round.
 pub served-more : (whole : Step) (before out after : List DeskAction) (d new : Desk) (places c now : ℕ) → c < places
     → Leads whole before d out (served_from (places - c) d c now) → Does (run d (served d c now)) out new after
     → Leads whole before new after (served_from (places - (c + 1)) new (c + 1) now)
@@ -153,6 +158,7 @@ served-more whole before out after d new places c now inside leads does =
     (subst (λ (events : List Event). Leads whole before d out events) same leads) does in
     subst (λ (e : Desk). Leads whole before new after (served_from (places - (c + 1)) e (c + 1) now)) (sym does.0) on
 
+-- A round ends after its last place.
 pub served-end : (whole : Step) (before out : List DeskAction) (d : Desk) (left c now : ℕ) → left ≡ 0
     → Leads whole before d out (served_from left d c now) → Does whole before d out
 served-end whole before out d left c now none leads =
@@ -184,6 +190,7 @@ events-of d roomy given-to new now frame before first between after made gives s
           serves-there,
     )
 
+-- The events of a line are appended to the history before it.
 pub is-history : (d : Desk) (earlier events : List Event)
     → (run (after d earlier) events).desk ≡ after d (onto events earlier)
 is-history d earlier [] = refl

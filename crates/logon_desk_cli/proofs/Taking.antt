@@ -6,6 +6,7 @@ use Rattle.logon_desk_cli.specs.Answered.{AnswersFrame, Begins, IsAnswered, Prog
 use Rattle.logon_desk_cli.specs.Events.{is_for}
 use Rattle.logon_desk_cli.specs.declared.frame.Frame.{Frame}
 
+-- A frame that is answered leaves the program as its answer says.
 pub answers-frame : (old new : Program) (d after : Desk) (now : ℕ) (frame : Frame) → old.desk ≡ Some d → is_for d frame
     ≡ true
     → IsAnswered d now frame old.reading old.text after new.reading new.text → new.names ≡ old.names → new.desk

@@ -20,6 +20,7 @@ printed-more (first ∷ outputs) output =
     ap (λ (more : List ℕ). output_line first ++ more) (printed-more outputs output)
     ∙ sym (append_assoc (output_line first) (printed outputs) (output_line output))
 
+-- One more action is printed as its line.
 pub printed-take : (outputs : List DeskAction) (i : ℕ) (d : DeskAction) → i < length outputs
     → printed (take (i + 1) outputs) ≡ printed (take i outputs) ++ output_line (get_or outputs i d)
 printed-take outputs i d inside = ap printed (take_more outputs i d inside) ∙ printed-more (take i outputs)
@@ -41,12 +42,14 @@ read-take : (d : Desk) (places : List ℕ) (i : ℕ) → i < length places
 read-take d places i inside = ap (read_lines d) (take_more places i 0 inside) ∙ read-more d (take i places)
     (get_or places i 0)
 
+-- A connection that is read is printed as such.
 pub read-yes : (d : Desk) (places : List ℕ) (i : ℕ) → i < length places → is_read d (get_or places i 0) ≡ true
     → read_lines d (take (i + 1) places) ≡ read_lines d (take i places) ++ line (codes "READ") (get_or places i 0) []
 read-yes d places i inside is =
     read-take d places i inside
     ∙ ap (λ (b : Bool). read_lines d (take i places) ++ cond b (line (codes "READ") (get_or places i 0) []) []) is
 
+-- A connection that is not read is printed as nothing.
 pub read-no : (d : Desk) (places : List ℕ) (i : ℕ) → i < length places → is_read d (get_or places i 0) ≡ false
     → read_lines d (take (i + 1) places) ≡ read_lines d (take i places)
 read-no d places i inside is =
@@ -57,6 +60,7 @@ read-no d places i inside is =
 none-by : (b : Bool) → b ≡ false → cond b 1 0 ≤ 0
 none-by b is = subst (λ (v : Bool). cond v 1 0 ≤ 0) (sym is) (omega arith)
 
+-- Where no connection is a stranger none is counted.
 pub no-strangers : (connections : List Connection) → All (λ (x : Connection). is_stranger x ≡ false) connections
     → count_by is_stranger connections ≤ 0
 no-strangers connections none =

@@ -150,6 +150,7 @@ at_most ts us pages a b d among =
     let few = few_of pages (pages_of ts ++ pages_of us) d all in
     omega (arith, few, length-append (pages_of ts) (pages_of us), length-pages ts, length-pages us, a.few, b.few)
 
+-- At most nine pages are asked for in one step of a program.
 pub nine_asked : {D : Type 0} (machine : Machine D) (state : State D) (pages : List ℕ) → AreDistinct pages
     → AllSuch (IsAsked guest_written machine state) pages → length pages ≤ 9
 nine_asked machine (Fetching spot m d) pages distinct all =

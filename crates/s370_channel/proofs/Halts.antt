@@ -56,6 +56,7 @@ halts_later {w = w} {h = h} {s = s} {m = m} {d = d} {page = page} {place = place
     let c = subst P e b in
     record { comes = reach_on (live w) h a c.comes; lacks = c.lacks; ready = c.ready }
 
+-- A run that stops from a later state stops alike from an earlier one.
 pub match_halts_later : {D : Type 0} (w : Written) (h : Setting D) (needs : D → Order → Bool) {present later : ℕ
     → Bool} {r s : State D} (m : Memory) (d : D) (halt : RunStop) → Reaches (live w) h r s → later ≡ present
     → MatchHalt w h needs later s m d halt → MatchHalt w h needs present r m d halt
@@ -155,6 +156,7 @@ gone_still limit old m d new n e place m' d' (inr lighter) (inl still) = inr
     subst (λ (x : Place). place_weight limit x < place_weight limit (Next old)) (sym still.0) o)
 gone_still limit old m d new n e place m' d' (inr lighter) (inr less) = inr (omega (arith, lighter, less))
 
+-- A program that goes on no heavier stops where it would have stopped before.
 pub on_still : {D : Type 0} (limit : ℕ) (old : NextCcw) (m : Memory) (d : D) (new : NextCcw) (n : Memory) (e : D)
     (m' : Memory) (d' : D) (halt : RunStop) → IsSameOrLighter limit old m d new n e
     → HaltsOn limit (Next new) n e m' d' halt → HaltsOn limit (Next old) m d m' d' halt
@@ -173,6 +175,7 @@ on_after limit old m d new n e m' d' (halts.Absent page place) less (inr lighter
     inr (let o : place_weight limit (Next new) < place_weight limit (Within old) = omega (arith, less) in
     omega (arith, lighter, o))
 
+-- What a run that stopped matches from a later state it matches from an earlier one.
 pub then_halts : {D : Type 0} (w : Written) (h : Setting D) (needs : D → Order → Bool) {present later : ℕ
     → Bool} {r s : State D} (m : Memory) (d : D) (result : Result Ending RunStop) → Reaches (live w) h r s
     → later ≡ present → IfErr result (MatchHalt w h needs later s m d)
@@ -182,6 +185,7 @@ then_halts w h needs m d (Err halt) a e b = match_halts_later w h needs m d halt
 
 -- ---- a loading
 
+-- A loading that stops from a later state stops alike from its beginning.
 pub loading_halts : {D : Type 0} (w : Written) (machine : Machine D) (needs : D → Order → Bool) {present later : ℕ
     → Bool} (m : Memory) (d : D) {s : State D} (m' : Memory) (d' : D) (result : Result Ending RunStop)
     → Reaches (live w) (setting machine loading_limits) (loading machine m d) s → later ≡ present
@@ -191,6 +195,7 @@ loading_halts w machine needs m d m' d' (Ok ending) a e b = tt
 loading_halts w machine needs m d m' d' (Err halts.Memory) a e b = inr (short_on a b)
 loading_halts w machine needs m d m' d' (Err (halts.Absent page place)) a e b = halts_later a e b
 
+-- A loading that stops reports the error that the stop stands for.
 pub loading_told : {D : Type 0} (w : Written) (machine : Machine D) (needs : D → Order → Bool) (present : ℕ → Bool)
     (m : Memory) (d : D) (m' : Memory) (d' : D) (halt : RunStop)
     → MatchHaltLoading w machine needs present m d m' d' halt → MatchLoading w machine needs present m d (error_of halt)

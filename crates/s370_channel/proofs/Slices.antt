@@ -217,6 +217,7 @@ gives_piece w h {n = n} {a = a} {last = last} {p = p} {m = m} {d = d} some count
     (λ _. at) inside low granted.inside fine)
     (rw (last_is p.before a n last some e, stored, moved_on) refl)
 
+-- Bytes that are taken in one piece are taken as if one by one.
 pub takes_piece : {D : Type 0} (w : Written) (h : Setting D) {present : ℕ
     → Bool} {n a last : ℕ} {p : Position} {m : Memory} {d d' : D} → 0 < n → n ≤ p.count → n ≤ p.transfer.left
     → p.transfer.kind ≢ Gives
@@ -235,6 +236,7 @@ takes_piece w h {n = n} {a = a} {last = last} {p = p} {m = m} {d = d} some count
 pub further_done : {old new : Position} {r : Moved} → r ≡ Done new → IsFurther old r → HasMoved old new
 further_done {old = old} e a = subst (λ x. IsFurther old x) e a
 
+-- A move that is done comes to the state from which the program goes on.
 pub reach_done : {D : Type 0} (form : Form) (h : Setting D) (s : State D) (m : Memory)
     (d : D) {new : Position} {r : Moved} → r ≡ Done new → Reaches form h s (moved_state r m d)
     → Reaches form h s (Moving new m d)

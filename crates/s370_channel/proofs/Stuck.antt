@@ -61,6 +61,7 @@ pub lacks_giving_place : {D : Type 0} {w : Written} {machine : Machine D} {prese
     → Lacks w machine present (Moving p m d) page
 lacks_giving_place {p = p} some left gives all away asked = lacks_place some left (gives_all p _ gives all) away asked
 
+-- A byte that the device gives needs the page that it is stored in.
 pub lacks_giving_byte : {D : Type 0} {w : Written} {machine : Machine D} {present : ℕ
     → Bool} {p : Position} {m : Memory} {d : D} {page : ℕ} (a : ℕ) (access : Access) → 0 < p.count
     → 0 < rest machine p d → p.transfer.kind ≡ Gives → has_bits p.word.flags.bits 16 ≡ false
@@ -69,6 +70,7 @@ pub lacks_giving_byte : {D : Type 0} {w : Written} {machine : Machine D} {presen
 lacks_giving_byte {p = p} a access some left gives all at away asked = lacks_byte a access some left
     (gives_all p _ gives all) at away asked
 
+-- A byte that the device takes needs the page of the list that places it.
 pub lacks_taking_place : {D : Type 0} {w : Written} {machine : Machine D} {present : ℕ
     → Bool} {p : Position} {m : Memory} {d : D} {page : ℕ} → 0 < p.count → 0 < rest machine p d
     → p.transfer.kind ≢ Gives
@@ -76,6 +78,7 @@ pub lacks_taking_place : {D : Type 0} {w : Written} {machine : Machine D} {prese
     → Lacks w machine present (Moving p m d) page
 lacks_taking_place {p = p} some left takes away asked = lacks_place some left (takes_all p _ takes) away asked
 
+-- A byte that the device takes needs the page that it is fetched from.
 pub lacks_taking_byte : {D : Type 0} {w : Written} {machine : Machine D} {present : ℕ
     → Bool} {p : Position} {m : Memory} {d : D} {page : ℕ} (a : ℕ) (access : Access) → 0 < p.count
     → 0 < rest machine p d → p.transfer.kind ≢ Gives
@@ -93,6 +96,7 @@ absent_verdict size keys present key t r f page e is v =
     let both = subst P (e ∙ ap Err is) v in
     (both.1, both.2)
 
+-- A move that is done and one step more come to the state after both.
 pub reach_moved : {D : Type 0} {form : Form} {h : Setting D} {s t : State D} {moved : Moved} {p : Position} (m : Memory)
     (d : D) → moved ≡ Done p → Reaches form h s (moved_state moved m d) → next form h (Moving p m d) ≡ t
     → Reaches form h s t

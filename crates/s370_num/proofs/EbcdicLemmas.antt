@@ -98,10 +98,12 @@ pub byte_of-not_zero : (character : ℕ) → byte_of character ≡ Some 0 → �
 unfolding alphabet
 byte_of-not_zero character gives = let read = character_of-byte_of character 0 gives in cc
 
+-- A byte that no character has is zero in the table.
 pub byte_of_zero : (known : Option ℕ) → (known ≡ Some 0 → ⊥) → unwrap_or known 0 ≡ 0 → None ≡ known
 byte_of_zero None never is = refl
 byte_of_zero (Some byte) never is = absurd (never (ap Some is))
 
+-- A byte other than zero in the table is the character's.
 pub byte_of_other : (known : Option ℕ) (byte : ℕ) → byte ≡ unwrap_or known 0 → (byte ≡ 0 → ⊥) → Some byte ≡ known
 byte_of_other None byte is other = absurd (other is)
 byte_of_other (Some there) byte is other = ap Some is

@@ -24,12 +24,14 @@ channel_shown n small =
           rw (hex_two_digits true (n / 256) two byte) (grind (arith, nat_tests))
     ]
 
+-- The text of a device address is its channel and its unit.
 pub device_shown : (channel unit : Option (List ℕ)) (n : ℕ) → n < 2 ^ 16 → channel ≡ Some (digits 16 true (n / 256))
     → unit ≡ Some (byte_hole (n % 256)) → (channel ++? unit) ≡ Some (device_text n)
 device_shown channel unit n small c u =
     let byte : n % 256 < 256 = omega arith in
     rw (c, u, channel_shown n small, byte_shown (n % 256) byte) refl
 
+-- The text of an address is its three bytes.
 pub address_shown : (first second third : Option (List ℕ)) (n : ℕ) → n < 2 ^ 24 → first ≡ Some (byte_hole (n / 65536))
     → second ≡ Some (byte_hole (n / 256 % 256)) → third ≡ Some (byte_hole (n % 256))
     → (first ++? (second ++? third)) ≡ Some (address_text n)
@@ -39,6 +41,7 @@ address_shown first second third n small f s t =
     let low : n % 256 < 256 = omega arith in
     rw (f, s, t, byte_shown (n / 65536) high, byte_shown (n / 256 % 256) middle, byte_shown (n % 256) low) refl
 
+-- The text of a word is its four bytes.
 pub word_shown : (first second third fourth : Option (List ℕ)) (n : ℕ) → n < 2 ^ 32
     → first ≡ Some (byte_hole (n / 16777216))
     → second ≡ Some (byte_hole (n / 65536 % 256)) → third ≡ Some (byte_hole (n / 256 % 256))

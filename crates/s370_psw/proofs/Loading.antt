@@ -16,6 +16,7 @@ word_fits f code length_code range c l =
 reads_back : ReadsBack
 reads_back f code length_code range c l = search rules
 
+-- A PSW that is stored and loaded again is the same.
 pub loads_back : LoadsBack
 loads_back f code length_code range c l =
     ap fields_of (from_be_bytes-to_be_bytes_8 (word_of f code length_code) (word_fits f code length_code range c l))

@@ -12,9 +12,11 @@ selected_bit mask k s = eqb-true (mask_bit mask k) 1 s
 passed_bit : (mask k : ℕ) → selects mask k ≡ false → mask_bit mask k ≡ 0
 passed_bit mask k s = grind (arith, nat_tests)
 
+-- A byte that the mask selects is counted.
 pub count_selected : (mask k : ℕ) → selects mask k ≡ true → selected_before mask (k + 1) ≡ selected_before mask k + 1
 count_selected mask k s = let one = selected_bit mask k s in rw add-one (omega arith)
 
+-- A byte that the mask does not select is not counted.
 pub count_passed : (mask k : ℕ) → selects mask k ≡ false → selected_before mask (k + 1) ≡ selected_before mask k
 count_passed mask k s = let z = passed_bit mask k s in rw add-one (omega arith)
 
@@ -26,18 +28,22 @@ is_counted mask (suc (suc zero)) l s = let b = selected_bit mask 2 s in omega ar
 is_counted mask (suc (suc (suc zero))) l s = let b = selected_bit mask 3 s in omega arith
 is_counted mask (suc (suc (suc (suc k)))) l s = absurd (omega arith)
 
+-- A byte that the mask selects is appended to those selected before.
 pub front_selected : (word mask k : ℕ) → selects mask k ≡ true
     → selected_front word mask (k + 1) ≡ selected_front word mask k ++ (byte_at word k ∷ [])
 front_selected word mask k s = rw (add-one, s) refl
 
+-- A byte that the mask does not select is not appended.
 pub front_passed : (word mask k : ℕ) → selects mask k ≡ false
     → selected_front word mask (k + 1) ≡ selected_front word mask k
 front_passed word mask k s = rw (add-one, s) (append-nil (selected_front word mask k))
 
+-- A byte that the mask selects is replaced by the next one from storage.
 pub inserted_selected : (word mask : ℕ) (bytes : List ℕ) (k : ℕ) → selects mask k ≡ true
     → inserted_byte word mask bytes k ≡ get_or bytes (selected_before mask k) 0
 inserted_selected word mask bytes k s = rw s refl
 
+-- A byte that the mask does not select stays.
 pub inserted_passed : (word mask : ℕ) (bytes : List ℕ) (k : ℕ) → selects mask k ≡ false
     → inserted_byte word mask bytes k ≡ byte_at word k
 inserted_passed word mask bytes k s = rw s refl

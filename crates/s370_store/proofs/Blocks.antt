@@ -7,6 +7,7 @@ use Rattle.s370_store.specs.declared.Access.{Access}
 use Rattle.s370_store.specs.Blocks.{MayAccess}
 use Rattle.s370_store.proofs.Verdicts.{inside, one_fine, permits, permitted_is}
 
+-- A range in a block that may be accessed raises no exception.
 pub block_passes : {access : Access} (size : ℕ) (keys : List ℕ) (present : ℕ → Bool) (key first start n : ℕ)
     → MayAccess access size keys present key first → first ≤ start → start + n ≤ first + 2048
     → first_fault size keys key (record { access = access; start = start; count = n } ∷ []) ≡ None
@@ -17,6 +18,7 @@ block_passes {access} size keys present key first start n m low high =
     one_fine size keys key _ (inside size access start n room)
     (permitted_is keys key access start n true (permits keys key access start n passed))
 
+-- A range in a block that may be accessed is granted.
 pub block_granted : {access : Access} (size : ℕ) (keys : List ℕ) (present : ℕ → Bool) (key first start n : ℕ)
     → MayAccess access size keys present key first → first ≤ start → start + n ≤ first + 2048
     → IsGranted size present start n

@@ -15,10 +15,12 @@ range_first bytes m a n h =
     ap (λ i. take n (drop a (take i bytes))) whole ∙ ap (take n) (drop-take a (m - a) bytes)
     ∙ take-take n (m - a) (drop a bytes) (omega arith)
 
+-- A range below the cut is the same range of all bytes.
 pub range_low : (bytes : List ℕ) (m a n : ℕ) → a + n ≤ m → slice_range (take m bytes) a (a + n) ≡ slice_range bytes a
     (a + n)
 range_low bytes m a n h = let e : a + n - a ≡ n = omega arith in rw e (range_first bytes m a n h)
 
+-- What is taken after a cut is a range of all bytes.
 pub range_high : (bytes : List ℕ) (m n : ℕ) → take n (drop m bytes) ≡ slice_range bytes m (m + n)
 range_high bytes m n = let e : m + n - m ≡ n = omega arith in rw e refl
 

@@ -7,15 +7,18 @@ use Rattle.std.proofs.lemmas.List.{take-append-drop}
 use Rattle.std.proofs.lemmas.Grind.{common_steps}
 use Rattle.s370_store.specs.Access.{put}
 
+-- Putting bytes inside storage changes no size.
 pub length-put : (bytes xs : List ℕ) (start : ℕ) → start + length xs ≤ length bytes
     → length (put bytes start xs) ≡ length bytes
 unfolding put
 length-put bytes xs start h = grind (arith, common_steps)
 
+-- Putting no bytes changes nothing.
 pub put-nothing : (bytes : List ℕ) (start : ℕ) → put bytes start [] ≡ bytes
 unfolding put
 put-nothing bytes start = take-append-drop start bytes
 
+-- Bytes before those that are put stay.
 pub put_before : (bytes xs : List ℕ) (start a : ℕ) → start + length xs ≤ length bytes → a < start
     → get_or (put bytes start xs) a 0 ≡ get_or bytes a 0
 unfolding put
@@ -24,6 +27,7 @@ put_before bytes xs start a h lt =
     get_or_append_left (take start bytes) (xs ++ drop (length xs) (drop start bytes)) 0 a (omega arith)
     ∙ get_or-take start bytes a 0 lt
 
+-- Bytes after those that are put stay.
 pub put_after : (bytes xs : List ℕ) (start a : ℕ) → start + length xs ≤ length bytes → start + length xs ≤ a
     → get_or (put bytes start xs) a 0 ≡ get_or bytes a 0
 unfolding put

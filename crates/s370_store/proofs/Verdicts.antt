@@ -18,11 +18,13 @@ unfolding is_passed
 key_zero_passes Fetch block = refl
 key_zero_passes Store block = refl
 
+-- Key zero is permitted everything.
 pub key_zero_permits : (keys : List ℕ) (access : Access) (start n : ℕ) → is_permitted_from keys 0 access start n ≡ true
 key_zero_permits keys access start zero = refl
 key_zero_permits keys access start (suc n) =
     rw (key_zero_passes access (get_or keys ((start + n) / 2048) 0)) (key_zero_permits keys access start n)
 
+-- A range is permitted if each of its bytes is.
 pub permits : (keys : List ℕ) (key : ℕ) (access : Access) (start n : ℕ)
     → ((k : ℕ) → k < n → is_passed access key (get_or keys ((start + k) / 2048) 0) ≡ true)
     → is_permitted_from keys key access start n ≡ true
@@ -30,6 +32,7 @@ permits keys key access start zero each = refl
 permits keys key access start (suc n) each =
     rw (each n (omega arith)) (permits keys key access start n (λ k h. each k (omega arith)))
 
+-- A range is forbidden if one of its bytes is.
 pub forbids : (keys : List ℕ) (key : ℕ) (access : Access) (start n k : ℕ) → k < n
     → is_passed access key (get_or keys ((start + k) / 2048) 0) ≡ false
     → is_permitted_from keys key access start n ≡ false
@@ -75,33 +78,40 @@ block_permits keys key access start n false some room p =
     let first : is_passed access key (get_or keys ((start + 0) / 2048) 0) ≡ false = rw add-zero p in
     forbids keys key access start n 0 some first
 
+-- A test of an addressable and permitted range finds no exception.
 pub one_fine : (size : ℕ) (keys : List ℕ) (key : ℕ) (t : Test) → is_addressable size t ≡ true
     → is_permitted keys key t ≡ true → first_fault size keys key (t ∷ []) ≡ None
 one_fine size keys key t a p = rw (a, p)
 
+-- A test of a range past the end of storage finds an addressing exception.
 pub one_beyond : (size : ℕ) (keys : List ℕ) (key : ℕ) (t : Test) → is_addressable size t ≡ false
     → first_fault size keys key (t ∷ []) ≡ Some Addressing
 one_beyond size keys key t a = rw a
 
+-- A test of an addressable and forbidden range finds a protection exception.
 pub one_forbidden : (size : ℕ) (keys : List ℕ) (key : ℕ) (t : Test) → is_addressable size t ≡ true
     → is_permitted keys key t ≡ false → first_fault size keys key (t ∷ []) ≡ Some Protection
 one_forbidden size keys key t a p = rw (a, p)
 
+-- A range that ends inside storage is addressable.
 pub inside : (size : ℕ) (access : Access) (start n : ℕ) → start + n ≤ size
     → is_addressable size (record { access = access; start = start; count = n }) ≡ true
 unfolding is_addressable
 inside size access start n h = grind (arith, common_steps)
 
+-- An empty range is addressable.
 pub empty_inside : (size : ℕ) (access : Access) (start n : ℕ) → n ≡ 0
     → is_addressable size (record { access = access; start = start; count = n }) ≡ true
 unfolding is_addressable
 empty_inside size access start n h = rw h
 
+-- A range that ends past storage is not addressable, unless it is empty.
 pub beyond : (size : ℕ) (access : Access) (start n : ℕ) → n ≢ 0 → size < start + n
     → is_addressable size (record { access = access; start = start; count = n }) ≡ false
 unfolding is_addressable
 beyond size access start n ne h = grind (arith, common_steps)
 
+-- A range is permitted by its test if it is from its first byte on.
 pub permitted_is : (keys : List ℕ) (key : ℕ) (access : Access) (start n : ℕ) (b : Bool)
     → is_permitted_from keys key access start n ≡ b → is_permitted keys key
     (record { access = access; start = start; count = n }) ≡ b

@@ -34,6 +34,7 @@ one_given machine d e into i byte lt so_far at gives =
     take_more_set into i byte lt ∙ ap (λ bs. bs ++ byte ∷ []) so_far
     ∙ ap (λ b. given machine d i ++ b ∷ []) (gives ∙ ap (λ x. machine.gives x) at) ∙ sym (given-one machine d i)
 
+-- A byte that is taken after others makes one more that are taken.
 pub one_taken : {D : Type 0} (machine : Machine D) (d e f : D) (from : List ℕ) (i : ℕ) → i < length from
     → e ≡ after_taking machine d (take i from) → f ≡ machine.took e (slice_index from i)
     → f ≡ after_taking machine d (take (i + 1) from)

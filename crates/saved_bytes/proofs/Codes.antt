@@ -15,6 +15,7 @@ same_back p q x y long e = sym (drop_at p x (length q) long) ∙ ap (λ l. drop 
 
 -- ---- parts
 
+-- The bytes of a number are a code: it is read back, whatever follows it.
 pub number_code : IsCode number
 unfolding number
 number_code a b x y e =
@@ -28,12 +29,14 @@ number_code a b x y e =
     let k = ap (λ l. get_or l 7 0) e in
     record { this = omega (arith, c, d, f, g, h, i, j, k); rest = ap (λ l. drop 8 l) e }
 
+-- The byte of a flag is a code.
 pub flag_code : IsCode flag
 flag_code false false x y e = record { this = refl; rest = ap (λ l. drop 1 l) e }
 flag_code false true x y e = absurd (omega (arith, ap (λ l. get_or l 0 0) e))
 flag_code true false x y e = absurd (omega (arith, ap (λ l. get_or l 0 0) e))
 flag_code true true x y e = record { this = refl; rest = ap (λ l. drop 1 l) e }
 
+-- The bytes of a text with its length are a code.
 pub bytes_code : IsCode bytes
 unfolding number
 bytes_code a b x y e =
@@ -47,6 +50,7 @@ pub first : {A : Type 0} (code : A → List ℕ) → IsCode code → (a b : A) (
     → (code a ++ p) ++ x ≡ (code b ++ q) ++ y → Same a b (p ++ x) (q ++ y)
 first code is a b p q x y e = is a b (p ++ x) (q ++ y) (sym (append_assoc (code a) p x) ∙ e ∙ append_assoc (code b) q y)
 
+-- What may be absent has a code if it has one when it is there.
 pub optional_code : {A : Type 0} (code : A → List ℕ) → IsCode code → IsCode (optional code)
 optional_code code is None None x y e = record { this = refl; rest = ap (λ l. drop 1 l) e }
 optional_code code is None (Some b) x y e = absurd (omega (arith, ap (λ l. get_or l 0 0) e))
@@ -55,6 +59,7 @@ optional_code code is (Some a) (Some b) x y e =
     let same = is a b x y (ap (λ l. drop 1 l) e) in
     record { this = ap Some same.this; rest = same.rest }
 
+-- A list has a code if each of its elements has one.
 pub each_code : {A : Type 0} (code : A → List ℕ) → IsCode code → IsCode (each code)
 each_code code is [] [] x y e = record { this = refl; rest = ap (λ l. drop 1 l) e }
 each_code code is [] (b ∷ others) x y e = absurd (omega (arith, ap (λ l. get_or l 0 0) e))
@@ -64,6 +69,7 @@ each_code code is (a ∷ more) (b ∷ others) x y e =
     let back = each_code code is more others x y one.rest in
     record { this = ap (λ t. t ∷ more) one.this ∙ ap (λ t. b ∷ t) back.this; rest = back.rest }
 
+-- A pair has a code if both of its parts have one.
 pub both_code : {A B : Type 0} (one : A → List ℕ) (other : B → List ℕ) → IsCode one → IsCode other
     → IsCode (both one other)
 both_code one other is are (a, c) (b, d) x y e =

@@ -38,6 +38,7 @@ punch_one xs card b n i d h k so_far =
     ap (λ (l : List ℕ). set l i v) card_is ∙ (seam ∙ (sym (append_assoc (take i xs) (v ∷ []) rest)
     ∙ ap (λ (l : List ℕ). l ++ rest) (sym (take_more xs i d h))))
 
+-- One more column of a card is punched with the next byte of the line.
 pub punch_more : (line card : List ℕ) (n i d v : ℕ) → i < length line → i < n
     → card ≡ take i (map punched line) ++ replicate (n - i) blank → v ≡ punched (get_or line i d)
     → set card i v ≡ take (i + 1) (map punched line) ++ replicate (n - (i + 1)) blank
@@ -50,6 +51,7 @@ punch_more line card n i d v h k so_far is =
 lesser : (a b i : ℕ) → i ≡ min a b → (i ≡ b) ⊎ (i ≡ a)
 lesser a b i h = grind arith
 
+-- A card that is filled has the line's bytes, and blanks after them.
 pub filled : (xs : List ℕ) (b n i : ℕ) → i ≡ min (length xs) n
     → take i xs ++ replicate (n - i) b ≡ take n (xs ++ replicate n b)
 filled xs b n i h = elim (lesser (length xs) n i h) [

@@ -476,6 +476,7 @@ bad_found users (line ∷ lines) n number (suc left) front h = bad_card users li
 bad_found users (line ∷ lines) n number zero front h = bad_entry users line lines n number front (is_ignored line)
     (said_of users line lines) refl refl (λ before cards. bad_found users lines (n + 1) number cards before) h
 
+-- A script is read exactly as its grammar says.
 pub reads : ReadsGrammar
 reads users text = (
   λ events h. let r = read_found users (lines_of text) 1 0 [] events (omega arith) h in

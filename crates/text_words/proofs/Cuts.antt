@@ -31,6 +31,7 @@ lines_cut (c ∷ cs) zero h = rw h.here refl
 lines_cut (c ∷ cs) (suc at) h = rw (h.before zero (omega arith))
     (ap (onto_first c) (lines_cut cs at (later 10 c cs at h)))
 
+-- The first of the lines ends at the first line feed.
 pub lines_at : (xs : List ℕ) (at : ℕ) → position (λ c. eqb c 10) xs ≡ Some at
     → lines_of xs ≡ take at xs ∷ lines_of (drop (at + 1) xs)
 lines_at xs at e = rw add-one (lines_cut xs at (first 10 xs at e))
@@ -41,6 +42,7 @@ word_cut (c ∷ cs) zero h = rw h.here refl
 word_cut (c ∷ cs) (suc at) h = rw (h.before zero (omega arith))
     (ap (λ (l : List ℕ). c ∷ l) (word_cut cs at (later 32 c cs at h)))
 
+-- The first word ends at the first blank.
 pub word_at : (xs : List ℕ) (at : ℕ) → position (λ c. eqb c 32) xs ≡ Some at → word_of xs ≡ take at xs
 word_at xs at e = word_cut xs at (first 32 xs at e)
 
@@ -49,9 +51,11 @@ after_cut [] at h = absurd (omega (arith, h.within))
 after_cut (c ∷ cs) zero h = rw h.here refl
 after_cut (c ∷ cs) (suc at) h = rw (h.before zero (omega arith)) (after_cut cs at (later 32 c cs at h))
 
+-- What follows the first word begins after the first blank.
 pub after_at : (xs : List ℕ) (at : ℕ) → position (λ c. eqb c 32) xs ≡ Some at → after_word xs ≡ Some (drop (at + 1) xs)
 after_at xs at e = rw add-one (after_cut xs at (first 32 xs at e))
 
+-- A text without a line feed is one line.
 pub line_alone : (xs : List ℕ) → 0 < length xs → ((k : ℕ) → k < length xs → eqb (get_or xs k 0) 10 ≡ false)
     → lines_of xs ≡ xs ∷ []
 line_alone [] some h = absurd (omega arith)
@@ -59,11 +63,13 @@ line_alone (c ∷ []) some h = rw (h zero (omega arith)) refl
 line_alone (c ∷ d ∷ ds) some h = rw (h zero (omega arith)) (ap (onto_first c)
     (line_alone (d ∷ ds) (omega arith) (λ k less. h (suc k) (omega arith))))
 
+-- A text without a blank is one word.
 pub word_alone : (xs : List ℕ) → ((k : ℕ) → k < length xs → eqb (get_or xs k 0) 32 ≡ false) → word_of xs ≡ xs
 word_alone [] h = refl
 word_alone (c ∷ cs) h = rw (h zero (omega arith)) (ap (λ (l : List ℕ). c ∷ l)
     (word_alone cs (λ k less. h (suc k) (omega arith))))
 
+-- Nothing follows the first word of a text without a blank.
 pub after_none : (xs : List ℕ) → ((k : ℕ) → k < length xs → eqb (get_or xs k 0) 32 ≡ false) → after_word xs ≡ None
 after_none [] h = refl
 after_none (c ∷ cs) h = rw (h zero (omega arith)) (after_none cs (λ k less. h (suc k) (omega arith)))

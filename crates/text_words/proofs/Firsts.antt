@@ -42,6 +42,7 @@ first_on step n s line lines fault (Ok t) e hyp h =
       refused = subst (λ k. step k r.so_far r.bad ≡ Err fault) count r.refused;
     }
 
+-- Reading that fails fails at the first line that is wrong.
 pub first_fault_of : {S F : Type 0} (step : ℕ → S → List ℕ → Result S F) (n : ℕ) (s : S) (lines : List (List ℕ))
     (fault : F) → read_lines step n s lines ≡ Err fault → FirstFault step n s lines fault
 first_fault_of step n s [] fault h = cc

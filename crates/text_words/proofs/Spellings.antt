@@ -13,6 +13,7 @@ whole_on : (c : ℕ) (b : Bool) (w : List ℕ) → eqb c 32 ≡ b → NoBlank w 
 whole_on c true w e h = tt
 whole_on c false w e h = (e, h)
 
+-- The first word of a line has no blank.
 pub word_whole : (line : List ℕ) → NoBlank (word_of line)
 word_whole [] = tt
 word_whole (c ∷ cs) = whole_on c (eqb c 32) (word_of cs) refl (word_whole cs)
@@ -40,18 +41,22 @@ pub alone : (line : List ℕ) → after_word line ≡ None → word_of line ≡ 
 alone [] h = refl
 alone (c ∷ cs) h = alone_on c cs (word_of cs) (eqb c 32) (alone cs) h
 
+-- A word with a blank after it is read back as the first word.
 pub word_again : (word rest : List ℕ) → NoBlank word → word_of (word ++ 32 ∷ rest) ≡ word
 word_again [] rest h = refl
 word_again (c ∷ cs) rest h = rw h.0 (ap (λ (l : List ℕ). c ∷ l) (word_again cs rest h.1))
 
+-- What follows a word and a blank is read back.
 pub after_again : (word rest : List ℕ) → NoBlank word → after_word (word ++ 32 ∷ rest) ≡ Some rest
 after_again [] rest h = refl
 after_again (c ∷ cs) rest h = rw h.0 (after_again cs rest h.1)
 
+-- A word alone is read back as itself.
 pub word_again_alone : (word : List ℕ) → NoBlank word → word_of word ≡ word
 word_again_alone [] h = refl
 word_again_alone (c ∷ cs) h = rw h.0 (ap (λ (l : List ℕ). c ∷ l) (word_again_alone cs h.1))
 
+-- Nothing follows a word alone.
 pub after_again_alone : (word : List ℕ) → NoBlank word → after_word word ≡ None
 after_again_alone [] h = refl
 after_again_alone (c ∷ cs) h = rw h.0 (after_again_alone cs h.1)
