@@ -41,6 +41,7 @@ with_output a lines =
 abbrev output_of : Alone → List (List ℕ)
 output_of a = a.machine.equipped.machine.output
 
+-- A machine whose printed lines are forgotten goes on as the machine with them.
 pub forgets : (one : Alone) → GoesOnAs one (record one { machine = forgotten one.machine })
 forgets one = record {
   lines = output_of one;

@@ -111,6 +111,7 @@ module _ (gone : List (List ℕ)) where
   done_so happenings.Tick old new reply h = tick_so old new reply reply.ended h
   done_so (happenings.Deck cards) old new reply h = given_so cards.now old new reply reply.ended h
 
+-- Lines that a console has printed before do not matter to what an event leaves.
 pub applied_so : PrintedLinesDoNotMatter
 applied_so gone old new event reply h =
     let before = length-append gone old.equipped.machine.output in

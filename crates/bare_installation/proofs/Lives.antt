@@ -131,6 +131,7 @@ once old new (happenings.Serve device) reply h = serve_once device old new reply
 once old new happenings.Tick reply h = tick_once old new reply reply.ended h
 once old new (happenings.Deck cards) reply h = deck_once cards.now old new reply reply.ended h
 
+-- Each event is a step of the machine's life.
 pub each : EachIsLife
 each first last [] h = ap (λ (i : Bare). i.equipped) h
 each first last (step ∷ steps) h =

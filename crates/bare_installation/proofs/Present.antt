@@ -56,6 +56,7 @@ of_program reads None start e page h = h
 of_program reads (Some kind) None e page h = h
 of_program reads (Some kind) (Some start) e page h = of_kind reads kind start e page h
 
+-- A machine that has all its storage never stops for an absent page.
 pub never_away : (reads : Reading) (device : ℕ) (e : Equipped) (error : ChannelError) (page : Page)
     → error ≡ errors.Absent page → StopsAt reads all_there device e error → ⊥
 never_away reads device e error page is h =

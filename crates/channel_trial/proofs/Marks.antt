@@ -3,6 +3,7 @@ use Rattle.std.proofs.Common.{◌≡◌, ℕ, ◌<◌, List, [], ◌∷◌, Bool
 use Rattle.std.proofs.Common.{slice_set, arith}
 use Rattle.channel_trial.specs.Trial.{untouched_count}
 
+-- Marking one more page as touched leaves fewer that are not.
 pub marked_fewer : (flags : List Bool) (page : ℕ) → page < length flags → slice_index_or flags page false ≡ false
     → untouched_count (slice_set flags page true) < untouched_count flags
 marked_fewer [] page inside away = absurd (omega (arith, inside))

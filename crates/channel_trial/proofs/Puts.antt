@@ -23,6 +23,7 @@ put_there touched bytes xs start h there a away =
       ])
     ]
 
+-- Bytes that are put into touched pages leave the others as they are.
 pub put_granted : (touched : ℕ → Bool) (bytes xs : List ℕ) (start : ℕ)
     → IsGranted (length bytes) touched start (length xs) → KeepsUntouched touched bytes (put bytes start xs)
 put_granted touched bytes xs start granted =
@@ -31,6 +32,7 @@ put_granted touched bytes xs start granted =
     ≡ a = omega arith in let there =
     granted.here (a - start) (omega arith) in ap (λ k. touched (k / 4096)) (sym e) ∙ there))
 
+-- Bytes that are put into a touched block leave the other pages as they are.
 pub put_in_block : (touched : ℕ → Bool) (bytes xs : List ℕ) (first start : ℕ) → first % 2048 ≡ 0
     → first + 2048 ≤ length bytes → touched (first / 4096) ≡ true → first ≤ start → start + length xs ≤ first + 2048
     → KeepsUntouched touched bytes (put bytes start xs)
@@ -38,6 +40,7 @@ put_in_block touched bytes xs first start whole inside there begins ends =
     put_there touched bytes xs start (omega arith)
     (λ a low high. (let e : a / 4096 ≡ first / 4096 = omega arith in ap touched e ∙ there))
 
+-- A store of a dry run leaves pages that it did not touch as they are.
 pub kept_where : (s t : TrialStorage) (start : ℕ) (xs : List ℕ) → length (trial_bytes t) ≡ length (trial_bytes s)
     → trial_flags t ≡ trial_flags s → trial_memory t ≡ with_stored (trial_memory s) start xs
     → KeepsUntouched (is_touched s) (trial_bytes s) (put (trial_bytes s) start xs) → TrialKeeps s t

@@ -34,6 +34,7 @@ in_units P [] page each here = absurd here
 in_units P (pages ∷ units) page each (inl (k, low, is)) = such_in P pages page k each.0 low is
 in_units P (pages ∷ units) page each (inr there) = in_units P units page each.1 there
 
+-- A dry run that ends tells which pages its program touches.
 pub tried_for : {T : Type 0} (h : Setting T) (from : State T) (t' : T) (ending : Ending) (old new : TrialStorage)
     (units : List (List ℕ)) → ((page : ℕ) → is_touched old page ≡ false)
     → Reaches (live guest_written) h from (Over ending (trial_memory new) t')
@@ -94,12 +95,14 @@ back_for h small view from m bytes touched same tried =
       size = tried.size;
     }
 
+-- A dry run of the small machine is one of the whole machine.
 pub tried_back : {D E : Type 0} (machine : Machine D) (small : Machine E) (view : D → E) (start : Caw) (m : Memory)
     (d : D) (bytes : List ℕ) (touched : List Bool) → IsViewed machine small view
     → IsProgramTried small start m (view d) bytes touched → IsProgramTried machine start m d bytes touched
 tried_back machine small view start m d bytes touched same tried =
     back_for (limited machine start) small view (begun start m d) m bytes touched same tried
 
+-- A dry run of a loading on the small machine is one on the whole machine.
 pub loaded_back : {D E : Type 0} (machine : Machine D) (small : Machine E) (view : D → E) (m : Memory) (d : D)
     (bytes : List ℕ) (touched : List Bool) → IsViewed machine small view
     → IsLoadingTried small m (view d) bytes touched → IsLoadingTried machine m d bytes touched

@@ -45,6 +45,7 @@ pub noted_on : (d : Dat) (old new : List PageInFrame) (o : Option ℕ) → Grows
 noted_on d old new None grows noted = tt
 noted_on d old new (Some a) grows noted = λ frame inside there. grows _ (noted frame inside there)
 
+-- Pages that are noted stay noted when more are.
 pub all_noted_on : (d : Dat) (old new : List PageInFrame) (list : List (Option ℕ)) → Grows old new
     → All (IsNoted d old) list → All (IsNoted d new) list
 all_noted_on d old new list grows noted =
@@ -106,12 +107,14 @@ of_entry list i other h lt of = by_said (slice_index_or list i other) (get_or_de
     by_said None is none = absurd none
     by_said (Some a) is at = (i, a, is, at)
 
+-- A page noted for one more element of a list is one of that list.
 pub list_only : (list : List (Option ℕ)) (i : ℕ) (other : Option ℕ) (h : PageInFrame) {Old Mid : Type 0}
     → i < length list → (Mid → Old ⊎ IsOfList list h) → Mid ⊎ IsOf (slice_index_or list i other) h
     → Old ⊎ IsOfList list h
 list_only list i other h lt before (inl earlier) = before earlier
 list_only list i other h lt before (inr one) = inr (of_entry list i other h lt one)
 
+-- A page noted for a node is one that the node's list names.
 pub node_only : (nodes : List Node) (i : ℕ) (node : Node) (h : PageInFrame) {Mid : Type 0}
     → slice_get nodes i ≡ Some node → (Mid → IsNamedOn nodes h) → Mid ⊎ IsOfList node.list.items h → IsNamedOn nodes h
 node_only nodes i node h is before (inl earlier) = before earlier
@@ -121,6 +124,7 @@ node_only nodes i node h is before (inr (j, a, said, at)) =
 pub none_named : (nodes : List Node) → AreNotedOnly [] (program_of nodes)
 none_named nodes h (k, lt, e) = absurd (omega (arith, lt))
 
+-- A page that was pushed last is the page of its address.
 pub push_only : (old : List PageInFrame) (one : PageInFrame) (new : List PageInFrame) (a : ℕ) → new ≡ old ++ one ∷ []
     → one.page.0 ≡ a / 4096 → (h : PageInFrame) → Contains new h → Contains old h ⊎ (h.page.0 ≡ a / 4096)
 push_only old one new a is at h there = elim (Contains-append_cases old (one ∷ []) h (rw is at there)) [

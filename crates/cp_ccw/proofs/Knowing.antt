@@ -39,6 +39,7 @@ last_page old one h there = elim (Contains-append_cases old (one ∷ []) h there
       ≡ 0 = omega (arith, lt) in inr (ap (λ (x : PageInFrame). x.page) (sym (rw first at e))))
 ]
 
+-- A page that was pushed with its frame is placed.
 pub one_placed : (d : Dat) (page : Page) (old new : List PageInFrame) (one : PageInFrame) → new ≡ old ++ one ∷ []
     → one.page ≡ page → IsFrame d one → IsPlacedOne d page old new
 one_placed d page old new one is at frame = record {
@@ -75,12 +76,14 @@ only_on d pages page old new before one h there = by_case (one.only h there)
     by_case (inl earlier) = Contains-append_left pages (page ∷ []) h.page (before h earlier)
     by_case (inr same) = rw same (Contains-append_right pages (page ∷ []) page (0, omega arith, refl))
 
+-- One more page that is placed places one more of the pages.
 pub placed_more : (d : Dat) (pages : List Page) (i : ℕ) (other : Page) (old new : List PageInFrame) → i < length pages
     → ArePlaced (length (lent_bytes d)) (take i pages) old → IsPlacedOne d (slice_index_or pages i other) old new
     → ArePlaced (length (lent_bytes d)) (take (i + 1) pages) new
 placed_more d pages i other old new lt before one =
     rw (take_more pages i other lt) (one_on d (take i pages) (slice_index_or pages i other) old new before one)
 
+-- Nothing but the pages that were placed is noted when one more is.
 pub only_more : (d : Dat) (pages : List Page) (i : ℕ) (other : Page) (old new : List PageInFrame) → i < length pages
     → ArePlacedOnly (take i pages) old → IsPlacedOne d (slice_index_or pages i other) old new
     → ArePlacedOnly (take (i + 1) pages) new

@@ -11,6 +11,7 @@ use Rattle.cp_graph.specs.declared.program.Node.{Node}
 use Rattle.cp_graph.specs.Table.{program_of, word_in, entry_in}
 use Rattle.cp_ccw.specs.Moved.{AreReal, AreRealBelow, AreRealNodes}
 
+-- One more element of a list gets its real address.
 pub entry_on : (real : ℕ → Option ℕ) (n : ℕ) (old new : List (Option ℕ)) (v : Option ℕ) → AreReal real n old new
     → n < length new → v ≡ real_place real (slice_index_or new n None) → AreReal real (n + 1) old (slice_set new n v)
 entry_on real n old new v are lt is = record {
@@ -46,6 +47,7 @@ all_entries real old new are k = elim (dec_lt k (length old)) [
       (ap (real_place real) none))
 ]
 
+-- One more node gets its real addresses.
 pub node_on : (real : ℕ → Option ℕ) (n : ℕ) (old new : List Node) (was now : Node) → AreRealBelow real n old new
     → slice_get new n ≡ Some was → now.word ≡ was.word
     → AreReal real (length was.list.items) was.list.items now.list.items
@@ -70,6 +72,7 @@ node_on real n old new was now are at word list =
           are.left a j (omega arith));
     }
 
+-- When the last node has its real addresses, all have.
 pub all_nodes : (real : ℕ → Option ℕ) (n : ℕ) (old new : List Node) → AreRealBelow real n old new → length new ≤ n
     → AreRealNodes real old new
 all_nodes real n old new are all = record {

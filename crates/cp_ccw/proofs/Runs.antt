@@ -51,6 +51,7 @@ few_frames r = let counted = r.counted in let few = r.few in omega (arith, count
 pub whole_in : (r : Real) → length (lent_bytes r.dat.now) % 4096 ≡ 0
 whole_in r = let sized = r.dat.now.sized in let whole = r.dat.now.whole in omega (arith, sized, whole)
 
+-- A storage of a user has fewer than 2^32 bytes.
 pub short_in : (r : Real) → length (lent_bytes r.dat.now) ≤ 4294967295
 short_in r = r.short
 

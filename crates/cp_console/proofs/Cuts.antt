@@ -6,6 +6,7 @@ use Rattle.std.proofs.Math.Seq.{drop-append_seam}
 use Rattle.std.proofs.lemmas.List.{append-nil, drop-append-le, length-drop, take-append-le, take_all}
 use Rattle.cp_console.specs.Output.{IsCut, lines_from}
 
+-- There are as many lines as ends of lines.
 pub lines_count : (start : ℕ) (text ends : List ℕ) → length (lines_from start text ends) ≡ length ends
 lines_count start text [] = refl
 lines_count start text (end ∷ ends) = ap suc (lines_count end text ends)
@@ -34,6 +35,7 @@ range_added text line start end is ends =
     ∙ (ap (λ n. take n line) (let many : end - length text ≡ length line = omega (arith, ends) in many) ∙ take_all
     (length line) line (omega arith)))
 
+-- A line that is added is the last of the lines.
 pub lines_added : (start : ℕ) (text ends line : List ℕ) (end : ℕ) → end ≡ length text + length line
     → IsCut start ends (length text)
     → lines_from start (text ++ line) (ends ++ end ∷ []) ≡ lines_from start text ends ++ line ∷ []
@@ -51,12 +53,14 @@ line_at start text [] i d inside = absurd (omega (arith, inside))
 line_at start text (end ∷ ends) zero d inside = refl
 line_at start text (end ∷ ends) (suc i) d inside = line_at end text ends i d (omega (arith, inside))
 
+-- Past the last end there is no line.
 pub no_line_at : (start : ℕ) (text ends : List ℕ) (i : ℕ) → length ends ≤ i
     → slice_get (lines_from start text ends) i ≡ None
 no_line_at start text [] i past = refl
 no_line_at start text (end ∷ ends) zero past = absurd (omega (arith, past))
 no_line_at start text (end ∷ ends) (suc i) past = no_line_at end text ends i (omega (arith, past))
 
+-- Each line lies between its end and the one before it.
 pub cut_at : (start : ℕ) (ends : List ℕ) (size i d : ℕ) → i < length ends → IsCut start ends size
     → (slice_index_or (start ∷ ends) i 0 ≤ slice_index_or ends i d) × (slice_index_or ends i d ≤ size)
 cut_at start [] size i d inside cut = absurd (omega (arith, inside))

@@ -6,6 +6,7 @@ use Rattle.std.specs.Option.{option_and_then}
 use Rattle.text_words.specs.Numbers.{is_digit, number_from}
 use Rattle.cp_console.specs.Operands.{in_64_bits}
 
+-- A file number has 64 bits.
 pub fits : (n : ℕ) → n < 2 ^ 64 → in_64_bits n ≡ Some n
 fits n h = rw (lt-ltb n (2 ^ 64) h) refl
 

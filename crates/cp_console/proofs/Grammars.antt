@@ -481,5 +481,6 @@ tells following (name ∷ operands) =
     (bytes_eq name (codes "BEGIN")) (bytes_eq name (codes "SYSTEM")) (bytes_eq name (codes "EXTERNAL"))
     (bytes_eq name (codes "DISPLAY")) (bytes_eq name (codes "STORE")) refl refl refl refl refl refl refl
 
+-- A line is read as a command exactly as the grammar says.
 pub reads : ReadsGrammar
 reads text = (tells (following_of text) (words_of text), again (words_of text) (following_of text))

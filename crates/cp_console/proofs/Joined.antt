@@ -3,9 +3,11 @@ use Rattle.std.specs.Prelude.{ℕ, zero, suc, ◌-◌, ◌≤◌, ◌≡◌, ref
 use Rattle.std.proofs.Common.{◌∙◌, ap, arith}
 use Rattle.std.proofs.lemmas.List.{append_assoc}
 
+-- Three parts that are appended one after another are appended at once.
 pub three : (t a b c : List ℕ) → t ++ a ++ b ++ c ≡ t ++ (a ++ b ++ c)
 three t a b c = ap (λ l. l ++ c) (append_assoc t a b) ∙ append_assoc t (a ++ b) c
 
+-- Four parts that are appended one after another are appended at once.
 pub four : (t a b c d : List ℕ) → t ++ a ++ b ++ c ++ d ≡ t ++ (a ++ b ++ c ++ d)
 four t a b c d = ap (λ l. l ++ d) (three t a b c) ∙ append_assoc t (a ++ b ++ c) d
 
@@ -14,6 +16,7 @@ pub counted : (t a b c d : List ℕ) → t ++ (a ++ b) ++ c ++ d ≡ t ++ (a ++ 
 counted t a b c d =
     append_assoc (t ++ (a ++ b)) c d ∙ (append_assoc t (a ++ b) (c ++ d) ∙ ap (λ l. t ++ l) (append_assoc a b (c ++ d)))
 
+-- Four parts are appended to a text in either grouping.
 pub closed : (t a b c d : List ℕ) → t ++ a ++ b ++ c ++ d ≡ t ++ (a ++ ((b ++ c) ++ d))
 closed t a b c d =
     four t a b c d ∙ ap (λ l. t ++ l) (ap (λ l. l ++ d) (append_assoc a b c) ∙ append_assoc a (b ++ c) d)

@@ -10,6 +10,7 @@ use Rattle.cp_console.specs.declared.device_commands.DeviceCommand.TheVariants.{
 use Rattle.cp_console.specs.declared.device_commands.DeviceCommand.TheVariants.{Purge, Message}
 use Rattle.cp_console.specs.declared.commands.CommandError.{CommandError}
 
+-- Words that spell a command are read as it.
 pub again : (words : List (List ℕ)) (following : List ℕ) (command : Command) → Spells words following command
     → command_by words following ≡ Ok command
 again words following Nothing h = rw h refl

@@ -25,6 +25,7 @@ there_at owners user page there =
     let at = passing (is_page user page) None 0 owners there in
     (at.0, page_is_at user page (get_or owners at.0 None) at.1)
 
+-- A page that has a frame is found to be in one.
 pub at_there : (owners : List (Option UserPage)) (user page k : ℕ) → Holds owners k (owned user page)
     → is_there owners user page ≡ true
 at_there owners user page k holds =
@@ -249,6 +250,7 @@ step_of user page frame old middle new away brought spare there is =
       there = ap (λ (s : FrameSupply). frame_of s.owners user page) is ∙ there;
     }
 
+-- A page that was brought and pinned is one more page-in.
 pub brought_one : (user page frame : ℕ) (old middle new : FrameSupply) → is_there old.owners user page ≡ false
     → IsBrought old middle user page frame → IsOpen old.pins frame → frame_of middle.owners user page ≡ Some frame →
     new ≡ record middle { pins = set middle.pins frame (is_some (get_or middle.owners frame None)) }
@@ -256,6 +258,7 @@ pub brought_one : (user page frame : ℕ) (old middle new : FrameSupply) → is_
 brought_one user page frame old middle new away brought spare there is =
     one_for user page old new (step_of user page frame old middle new away brought spare there is)
 
+-- A page that was brought leaves one frame fewer for others.
 pub fewer_left : (user page frame : ℕ) (old middle new : FrameSupply) → is_there old.owners user page ≡ false
     → IsBrought old middle user page frame → IsOpen old.pins frame → frame_of middle.owners user page ≡ Some frame →
     new ≡ record middle { pins = set middle.pins frame (is_some (get_or middle.owners frame None)) }

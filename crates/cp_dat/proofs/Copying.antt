@@ -31,6 +31,7 @@ put_within bytes xs start a h low high =
     get_or-append_right (take start bytes) (xs ++ drop (length xs) (drop start bytes)) start a 0 long low ∙
     get_or_append_left xs (drop (length xs) (drop start bytes)) 0 (a - start) (omega arith)
 
+-- A chunk of 256 bytes has 256 bytes.
 pub length-chunk : (xs : List ℕ) (start : ℕ) → start + 256 ≤ length xs
     → length (slice_range xs start (start + 256)) ≡ 256
 length-chunk xs start inside = grind (arith, common_steps)
@@ -101,6 +102,7 @@ put_same start from old new before same = record {
   above = λ a high. before.above a (omega (arith, high));
 }
 
+-- When all bytes were put, the new bytes are those that were put.
 pub put_all : (start : ℕ) (from old new : List ℕ) → length from ≡ length old → IsPutTo start from old new
     → length old ≤ start → new ≡ from
 put_all start from old new long before all =
@@ -134,6 +136,7 @@ module _ (s t u : Dat) (page : ℕ) where
   came_told (Err e) brought refused let_go keys =
       record { units = [] ∷ []; paged_in = let_go_came s t u [] refused let_go; only = (tt, tt); keys = keys }
 
+-- If storage stays, no page came.
 pub came_nothing : (s t : Dat) (is_such : ℕ → Type 0) → IsBetweenUnits (lent_pool s).supply → KeepsStored s t
     → CameOnly s is_such t
 came_nothing s t is_such between kept =
@@ -153,6 +156,7 @@ each_on : (P : ℕ → Type 0) (before after : List (List ℕ)) → EachAre P be
 each_on P [] after a b = b
 each_on P (pages ∷ before) after a b = (a.0, each_on P before after a.1 b)
 
+-- Pages that come after others are all such pages.
 pub came_more : (s t u : Dat) (P Q : ℕ → Type 0) → ((page : ℕ) → P page → Q page) → CameOnly s Q t → CameOnly t P u
     → CameOnly s Q u
 came_more s t u P Q more a b = record {
@@ -199,6 +203,7 @@ pub record IsPlacedTo (old : Dat) (wanted : List Bool) (page : ℕ) (new : Dat) 
   pub between : IsBetweenUnits (lent_pool new).supply
   pub memory : lent_memory new ≡ lent_memory old
 
+-- Before the first page none is placed.
 pub placed_none : (old : Dat) (wanted : List Bool) → IsBetweenUnits (lent_pool old).supply → IsPlacedTo old wanted 0 old
 placed_none old wanted between = record {
   few = omega arith;
@@ -208,6 +213,7 @@ placed_none old wanted between = record {
   memory = refl;
 }
 
+-- One more wanted page that was brought is placed.
 pub placed_page : (old : Dat) (wanted : List Bool) (page : ℕ) (middle new : Dat) → page < length wanted
     → slice_index_or wanted page false ≡ true → IsPlacedTo old wanted page middle
     → is_lent_page new page ≡ true → CameOnly middle (λ other. other ≡ page) new → IsBetweenUnits (lent_pool new).supply
@@ -224,6 +230,7 @@ placed_page old wanted page middle new low it before there paged_in between memo
 differ : {b : Bool} → b ≡ false → b ≡ true → ⊥
 differ away there = cc
 
+-- A page that is not wanted is passed.
 pub placed_by : (old : Dat) (wanted : List Bool) (page : ℕ) (new : Dat) → page < length wanted
     → slice_index_or wanted page false ≡ false → IsPlacedTo old wanted page new → IsPlacedTo old wanted (page + 1) new
 placed_by old wanted page new low away before = record {
@@ -247,6 +254,7 @@ pub record IsBackTo (old : Dat) (from : List ℕ) (wanted : List Bool) (start : 
   pub paged_in : CameOnly old (is_wanted wanted) new
   pub between : IsBetweenUnits (lent_pool new).supply
 
+-- Before the first page none is copied back.
 pub back_none : (old : Dat) (from : List ℕ) (wanted : List Bool) → StandAll old wanted
     → IsBetweenUnits (lent_pool old).supply → IsBackTo old from wanted 0 old
 back_none old from wanted stand between = record {

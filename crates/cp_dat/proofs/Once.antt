@@ -30,6 +30,7 @@ not_again user other (page ∷ pages) old held at (next, step, rest) (zero, less
 not_again user other (page ∷ pages) old held at (next, step, rest) (suc k, less, same) =
     not_again user other pages next held (stays_held user page other old next step at) rest (k, omega arith, same)
 
+-- No page comes twice while others are pinned.
 pub comes_once : (user : ℕ) (pages : List ℕ) (old held : FrameSupply) → ArePageIns user old pages held
     → AreDistinct pages
 comes_once user [] old held chain = tt
@@ -45,6 +46,7 @@ held_on user other [] old held at same = subst (λ (s : FrameSupply). IsHeld s u
 held_on user other (page ∷ pages) old held at (next, step, rest) =
     held_on user other pages next held (stays_held user page other old next step at) rest
 
+-- A page that came is there until the unit ends.
 pub stays_to_the_end : (user : ℕ) (pages : List ℕ) (old held : FrameSupply) (page : ℕ) → ArePageIns user old pages held
     → Contains pages page → is_there held.owners user page ≡ true
 stays_to_the_end user [] old held page chain (k, less, same) = absurd (omega (arith, less))

@@ -5,6 +5,7 @@ use Rattle.cp_dat.specs.declared.dat.Dat.{Dat}
 use Rattle.cp_dat.specs.Lent.{lent_frame}
 use Rattle.cp_dat.specs.Blocks.{IsInFrame}
 
+-- A range in a block that is in a frame is in that frame.
 pub there : (d : Dat) (block : Block) (start n : ℕ) → IsInFrame d block → 0 < n → block.first ≤ start
     → start + n ≤ block.first + 2048
     → lent_frame d (start / 4096) ≡ Some ((block.place + start) % 18446744073709551616 / 4096)

@@ -11,16 +11,19 @@ use Rattle.cp_needs.specs.Needs.{IsFixed, IsHeld}
 use Rattle.cp_needs.specs.declared.kept.WordAt.{WordAt}
 use Rattle.cp_hold.specs.Holding.{IsFixedProgram}
 
+-- If pages of both lists are such, those of the lists together are.
 pub such_on : (P : ℕ → Type 0) (first second : List ℕ) → AllSuch P first → AllSuch P second
     → AllSuch P (first ++ second)
 such_on P [] second a b = b
 such_on P (page ∷ first) second a b = (a.0, such_on P first second a.1 b)
 
+-- What follows of each page follows of all.
 pub such_for : (P Q : ℕ → Type 0) → ((page : ℕ) → P page → Q page) → (pages : List ℕ) → AllSuch P pages
     → AllSuch Q pages
 such_for P Q more [] all = tt
 such_for P Q more (page ∷ pages) all = (more page all.0, such_for P Q more pages all.1)
 
+-- A fixed program that was locked has all its pages and words where they stood.
 pub fixed_at : (old new : Dat) (start : ℕ) (words : List WordAt) (pages : List Page) → lent_memory new ≡ lent_memory old
     → start % 8 ≡ 0
     → IsFixed (lent_memory new) start → IsHeld (lent_memory new) start (is_lent_page new)

@@ -22,6 +22,7 @@ sense_code =
     of_parts (both number number) (both_code number number number_code number_code)
     (λ (s : Sense). (s.first, s.second)) (λ p. record { first = p.0; second = p.1 }) (λ s. refl)
 
+-- The bytes of a minidisk are a code: it is read back, whatever follows it.
 pub minidisk_code : IsCode minidisk_bytes
 minidisk_code =
     let head = both_code number sense_bytes number_code sense_code in

@@ -245,33 +245,40 @@ took_serving e u byte s = record {
     by_room true = s.mode
     by_room false = s.mode
 
+-- A minidisk gives the bytes that its disk gives.
 pub given_alike : (e : ExtentValue) (u : Disk) (n : ℕ) → given disk_machine u n ≡ given part_machine (part_of e u) n
 given_alike e u zero = refl
 given_alike e u (suc n) = ap (λ l. disk_machine.gives u ∷ l) (given_alike e (disk_machine.gave u) n)
 
+-- After giving bytes a minidisk is that of its disk after them.
 pub after_giving_alike : (e : ExtentValue) (u : Disk) (n : ℕ)
     → part_of e (after_giving disk_machine u n) ≡ after_giving part_machine (part_of e u) n
 after_giving_alike e u zero = refl
 after_giving_alike e u (suc n) = after_giving_alike e (disk_machine.gave u) n
 
+-- A disk serves its minidisk still after giving bytes.
 pub after_giving_serving : (e : ExtentValue) (u : Disk) (n : ℕ) → Serves u e → Serves (after_giving disk_machine u n) e
 after_giving_serving e u zero s = s
 after_giving_serving e u (suc n) s = after_giving_serving e (disk_machine.gave u) n (gave_serving e u s)
 
+-- After taking bytes a minidisk is that of its disk after them.
 pub after_taking_alike : (e : ExtentValue) (u : Disk) (bytes : List ℕ)
     → part_of e (after_taking disk_machine u bytes) ≡ after_taking part_machine (part_of e u) bytes
 after_taking_alike e u [] = refl
 after_taking_alike e u (b ∷ bs) = after_taking_alike e (disk_machine.took u b) bs
 
+-- A disk serves its minidisk still after taking bytes.
 pub after_taking_serving : (e : ExtentValue) (u : Disk) (bytes : List ℕ) → Serves u e
     → Serves (after_taking disk_machine u bytes) e
 after_taking_serving e u [] s = s
 after_taking_serving e u (b ∷ bs) s = after_taking_serving e (disk_machine.took u b) bs (took_serving e u b s)
 
+-- A minidisk is done giving exactly when its disk is.
 pub done_giving : (e : ExtentValue) (u : Disk) (n : ℕ) → disk_machine.done
     (after_giving disk_machine u n) ≡ part_machine.done (after_giving part_machine (part_of e u) n)
 done_giving e u n = ap (λ p. part_machine.done p) (after_giving_alike e u n)
 
+-- A minidisk is done taking exactly when its disk is.
 pub done_taking : (e : ExtentValue) (u : Disk) (bytes : List ℕ)
     → disk_machine.done (after_taking disk_machine u bytes) ≡ part_machine.done
     (after_taking part_machine (part_of e u) bytes)
@@ -279,14 +286,17 @@ done_taking e u bytes = ap (λ p. part_machine.done p) (after_taking_alike e u b
 
 -- ---- A command that begins, which is never refused memory
 
+-- What holds on an answer holds if there is one.
 pub begun_ok : {E : Type 0} (r : Result Answer E) (x y : Disk) → IsOk r → OnOk r (x ≡ y) → x ≡ y
 begun_ok (Ok a) x y is e = e
 begun_ok (Err error) x y is e = absurd (cc)
 
+-- Equal minidisks stay equal on an answer.
 pub onward_ok : {E : Type 0} (r : Result Answer E) (x y : Part) → x ≡ y → OnOk r (x ≡ y)
 onward_ok (Ok a) x y e = e
 onward_ok (Err error) x y e = tt
 
+-- An answer that is one value is each that equals it.
 pub answer_ok : {E : Type 0} (r : Result Answer E) (x y : Answer) → x ≡ y → IfOk r (λ a. a ≡ x) → IfOk r (λ a. a ≡ y)
 answer_ok (Ok a) x y e is = is ∙ e
 answer_ok (Err error) x y e is = tt

@@ -18,6 +18,7 @@ use Rattle.cp_minidisk.proofs.ReadOnly.{disk_read_only}
 use Rattle.cp_minidisk.proofs.Sizes.{started_size, finished_size}
 use Rattle.cp_minidisk.proofs.Walked.{reaches_seen}
 
+-- A minidisk follows its disk in each step.
 pub follows : IsPartOf (λ p. p.disk) part_machine disk_machine
 follows =
     record {
@@ -34,6 +35,7 @@ follows =
 pub follows_for : (machine : Machine Part) → machine ≡ part_machine → IsPartOf (λ p. p.disk) machine disk_machine
 follows_for machine e = rw e follows
 
+-- A walk of a minidisk is a walk of its disk.
 pub walks_as_its_disk : (form : Form) (h : Setting Part) (s t : State Part) → h.machine ≡ part_machine
     → Reaches form h s t → Reaches form (on_device h disk_machine) (seen (λ p. p.disk) s) (seen (λ p. p.disk) t)
 walks_as_its_disk form h s t e to = reaches_seen (λ p. p.disk) h disk_machine (follows_for h.machine e) form s t to
@@ -62,6 +64,7 @@ finished_volser d = by_job (is_seeking d.front.job)
     by_job true = moved_volser d (seek_of d)
     by_job false = refl
 
+-- Each step leaves the other disks of the volume as they are.
 pub neighbours_kept : (q : Part) → Keeps part_machine (HasSameOtherDisks q)
 neighbours_kept q =
     record {
@@ -76,6 +79,7 @@ neighbours_kept q =
       finished = λ p i. record { volser = finished_volser p.disk ∙ i.volser; below = i.below; above = i.above };
     }
 
+-- A walk of a minidisk leaves the other disks of the volume as they are.
 pub leaves_its_neighbours : (form : Form) (h : Setting Part) (s t : State Part) → h.machine ≡ part_machine
     → Reaches form h s t → HasSameOtherDisks (device_in s) (device_in t)
 leaves_its_neighbours form h s t e to =
@@ -88,6 +92,7 @@ pub record HasExtentOf (x : ExtentValue) (p : Part) : Type 0 where
   pub count : length p.disk.cylinders ≡ x.count
   pub mode : p.disk.front.writable ≡ x.writable
 
+-- Each step keeps the extent of the minidisk.
 pub extent_kept : (x : ExtentValue) → Keeps part_machine (HasExtentOf x)
 extent_kept x =
     record {
@@ -111,9 +116,11 @@ extent_kept x =
       };
     }
 
+-- A minidisk with an extent has that extent.
 pub extent_same : (x : ExtentValue) (p : Part) → HasExtentOf x p → extent_of p ≡ x
 extent_same x p i = rw (i.start, i.count, i.mode) refl
 
+-- A walk keeps the extent of the minidisk.
 pub keeps_its_extent : (form : Form) (h : Setting Part) (s t : State Part) → h.machine ≡ part_machine
     → Reaches form h s t → extent_of (device_in t) ≡ extent_of (device_in s)
 keeps_its_extent form h s t e to =
@@ -121,6 +128,7 @@ keeps_its_extent form h s t e to =
     extent_same x (device_in t) (along (HasExtentOf x) (extent_kept x) form h s t e to
     (record { start = refl; count = refl; mode = refl }))
 
+-- Each step of a read-only minidisk leaves its cylinders as they are.
 pub read_only_kept : (cylinders : List Cylinder) → Keeps part_machine (λ p. IsReadOnly cylinders p.disk)
 read_only_kept cylinders =
     record {
@@ -130,6 +138,7 @@ read_only_kept cylinders =
       finished = λ p i. (disk_read_only cylinders).finished p.disk i;
     }
 
+-- A read-only minidisk is never written.
 pub never_writes : (form : Form) (h : Setting Part) (s t : State Part) → h.machine ≡ part_machine
     → IsReadOnly (device_in s).disk.cylinders (device_in s).disk → Reaches form h s t
     → (unit_of (device_in t)).cylinders ≡ (unit_of (device_in s)).cylinders

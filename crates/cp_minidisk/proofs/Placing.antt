@@ -38,6 +38,7 @@ pub aimed_placed : (before behind : List Cylinder) (d : Disk) (ipl : Bool)
 aimed_placed before behind d true = refl
 aimed_placed before behind d false = refl
 
+-- A disk that is aimed anew is still on its cylinders.
 pub aimed_inside : (d : Disk) (ipl : Bool) → IsOnDisk d → IsOnDisk (aimed d ipl)
 aimed_inside d true on = record { cylinder = on.home; home = on.home }
 aimed_inside d false on = on
@@ -73,6 +74,7 @@ started_placed before behind d order on =
           (aimed_inside d (is_ipl order) on),
     ) refl
 
+-- A disk in the midst of others answers as it does alone.
 pub answer_placed : (before behind : List Cylinder) (d : Disk) (order : Order) → IsOnDisk d
     → disk_machine.answer (placed before behind d) order ≡ disk_machine.answer d order
 answer_placed before behind d order on =
@@ -88,6 +90,7 @@ pub finished_placed : (before behind : List Cylinder) (d : Disk) → IsOnDisk d 
 finished_placed before behind d on other =
     rw (other, ending_placed before behind d on, after_placed before behind d (ending d) on) refl
 
+-- A disk in the midst of others has the status that it has alone.
 pub status_placed : (before behind : List Cylinder) (d : Disk) → IsOnDisk d → is_seeking d.front.job ≡ false
     → disk_machine.status (placed before behind d) ≡ disk_machine.status d
 status_placed before behind d on other = rw (other, ending_placed before behind d on) refl

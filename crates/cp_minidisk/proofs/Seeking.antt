@@ -81,10 +81,12 @@ status_by : (start : ℕ) (s : Option Seek) → seek_status (option_map (shifted
 status_by start None = refl
 status_by start (Some s) = refl
 
+-- The parts of a volume have no more cylinders than the volume.
 pub room : (before behind cylinders : List Cylinder) → length before + length cylinders ≤ length
     (before ++ (cylinders ++ behind))
 room before behind cylinders = omega (arith, length-append before (cylinders ++ behind), length-append cylinders behind)
 
+-- A seek with a relocated argument ends in the midst of others as it does alone.
 pub seek_finished : (before behind : List Cylinder) (d : Disk) → d.front.job ≡ jobs.Seek → length d.front.bytes ≡ 6
     → disk_machine.finished (holding (placed before behind d)
     (relocated_argument (extent_behind before d) d.front.bytes)) ≡ placed before behind (disk_machine.finished d)
@@ -98,6 +100,7 @@ seek_finished before behind d job six =
     = moved_by before behind d (relocated_argument (extent_behind before d) d.front.bytes) (seek_of d) in
     rw (job, same) there
 
+-- A seek with a relocated argument has the status that it has alone.
 pub seek_ends : (before behind : List Cylinder) (d : Disk) → d.front.job ≡ jobs.Seek → length d.front.bytes ≡ 6
     → disk_machine.status (holding (placed before behind d) (relocated_argument (extent_behind before d) d.front.bytes))
     ≡ disk_machine.status d
@@ -116,6 +119,7 @@ short_finished before behind d bytes job long short =
     let few : nat_le 6 (length d.front.bytes) ≡ false = grind arith in
     rw (job, long, few) refl
 
+-- A seek with too short an argument has the status that it has alone.
 pub short_ends : (before behind : List Cylinder) (d : Disk) (bytes : List ℕ) → d.front.job ≡ jobs.Seek
     → length bytes ≡ length d.front.bytes → length bytes < 6
     → disk_machine.status (holding (placed before behind d) bytes) ≡ disk_machine.status d
@@ -125,6 +129,7 @@ short_ends before behind d bytes job long short =
 
 -- ---- The arm stays on the minidisk.
 
+-- A disk that starts a command is still on its cylinders.
 pub started_on_disk : (order : Order) (d : Disk) → IsOnDisk d → IsOnDisk (disk_machine.started d order)
 started_on_disk order d on =
     let aimed : IsOnDisk (aimed d (is_ipl order)) = aimed_inside d (is_ipl order) on in
@@ -150,5 +155,6 @@ finished_by : (d : Disk) (b : Bool) → is_seeking d.front.job ≡ b → IsOnDis
 finished_by d true e on = let there : IsOnDisk (moved d (seek_of d)) = moved_on_disk d (seek_of d) refl on in rw e there
 finished_by d false e on = let there : IsOnDisk (after d (ending d)) = after_on_disk d (ending d) on in rw e there
 
+-- A disk that finishes a command is still on its cylinders.
 pub finished_on_disk : (d : Disk) → IsOnDisk d → IsOnDisk (disk_machine.finished d)
 finished_on_disk d on = finished_by d (is_seeking d.front.job) refl on

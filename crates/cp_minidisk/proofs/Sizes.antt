@@ -10,6 +10,7 @@ aimed_size : (d : Disk) (b : Bool) → length (aimed d b).cylinders ≡ length d
 aimed_size d true = refl
 aimed_size d false = refl
 
+-- Starting a command changes no number of cylinders.
 pub started_size : (d : Disk) (order : Order) → length (disk_machine.started d order).cylinders ≡ length d.cylinders
 started_size d order = aimed_size d (is_ipl order)
 
@@ -17,6 +18,7 @@ moved_size : (d : Disk) (s : Option Seek) → length (moved d s).cylinders ≡ l
 moved_size d None = refl
 moved_size d (Some s) = refl
 
+-- Finishing a command changes no number of cylinders.
 pub finished_size : (d : Disk) → length (disk_machine.finished d).cylinders ≡ length d.cylinders
 finished_size d = by_job (is_seeking d.front.job)
   where

@@ -10,6 +10,7 @@ use Rattle.cp_minidisk.specs.Extent.{ExtentValue, IsWithin}
 use Rattle.cp_minidisk.specs.Placed.{placed, IsOnDisk}
 use Rattle.cp_minidisk.specs.Minidisk.{HasExtent, slice, before, behind}
 
+-- A volume is what is before an extent, the extent and what is after it.
 pub in_parts : (v : VolumeFormat) (e : ExtentValue) → HasExtent v.cylinders e
     → before v e ++ ((slice v e).cylinders ++ behind v e) ≡ v.cylinders
 in_parts v e inside =
@@ -22,9 +23,11 @@ has_slice : (before behind cylinders : List Cylinder) → slice_of (before ++ (c
 has_slice before behind cylinders =
     ap (take (length cylinders)) (drop-append_seam before (cylinders ++ behind)) ∙ take-append_seam cylinders behind
 
+-- As many cylinders are before an extent as its start says.
 pub before_size : (v : VolumeFormat) (e : ExtentValue) → HasExtent v.cylinders e → length (before v e) ≡ e.start
 before_size v e inside = length-take-le e.start v.cylinders (omega (arith, inside))
 
+-- An extent has as many cylinders as its count says.
 pub slice_size : (v : VolumeFormat) (e : ExtentValue) → HasExtent v.cylinders e → length (slice v e).cylinders ≡ e.count
 slice_size v e inside =
     let rest : length (drop e.start v.cylinders) ≡ length v.cylinders - e.start = length-drop e.start v.cylinders in

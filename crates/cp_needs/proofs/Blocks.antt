@@ -72,12 +72,15 @@ done_first m w present =
       listed = λ k lt begun e. (let no : ⊥ = omega (arith, lt) in absurd no);
     }
 
+-- Before its first byte the list of an area has begun.
 pub begun_first : (list : ℕ → Option ℕ) → IsBegun list 0
 begun_first list = record { before = None; is = refl; begins = refl }
 
+-- Equal values that are there are equal.
 pub some_same : (r s : ℕ) → Some r ≡ Some s → r ≡ s
 some_same r s e = cc
 
+-- What is None is no value.
 pub none_some : (r : ℕ) (o : Option ℕ) → o ≡ None → o ≡ Some r → ⊥
 none_some r None e f = cc
 none_some r (Some x) e f = cc
@@ -106,6 +109,7 @@ past_list list k i at begun = by_before begun.before begun.is begun.begins
         let same : j ≡ k + i = omega (arith, next) in
         none_some b (byte_place list (k + i)) (none_on list k i at) (ap (byte_place list) (sym same) ∙ is)
 
+-- A number is below another one, or that one plus some more.
 pub place_after : (k n : ℕ) → (k < n) ⊎ ((i : ℕ) × (k ≡ n + i))
 place_after k n = elim (low_or k n) [ inl lt ↦ inl lt | inr le ↦ inr (k - n, omega (arith, le)) ]
   where
@@ -189,6 +193,7 @@ done_past m w present n most done begun said listed =
 
 -- ---- Pages
 
+-- A list of addresses begins at a fullword boundary.
 pub on_word : (w : Ccw) → has_area w ≡ true → is_indirect w ≡ true → w.address % 4 ≡ 0
 on_word w has listed = by_test (is_jump w) (w.address % 4 == 0) refl (rw listed at has)
   where

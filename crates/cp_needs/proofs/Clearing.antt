@@ -16,6 +16,7 @@ pub even_at : (m : Memory) (start : ℕ) (words : List ℕ) → start % 8 ≡ 0 
 even_at m start words even all i lt =
     (let there = all.reached i lt in reached_even m start even (slice_index words i) there.0 there.1)
 
+-- A page that a word of a locked program names is present.
 pub here_at : (m : Memory) (start : ℕ) (words : List ℕ) (present : ℕ → Bool) → AreWords m start words
     → IsHeld m start present → (i page : ℕ) → i < length words → IsPageAt m (slice_index words i) page
     → IsPresent (length m.bytes) present page
@@ -84,6 +85,7 @@ module _ (m : Memory) (start : ℕ) (words : List ℕ) (even : start % 8 ≡ 0) 
           (rw marked.is (marked.marked clash.byte byte)) in
           apart clash.byte clash.inside (rw stored.is (stored.stored clash.byte filled)) in_text
 
+-- What holds of a result holds of its value.
 pub ok_of : {A B : Type 0} (P : A → Type 0) (r : Result A B) (a : A) → r ≡ Ok a → IfOk r P → P a
 ok_of P (Ok b) a e p = (let same : b ≡ a = cc in subst P same p)
 ok_of P (Err x) a e p = cc

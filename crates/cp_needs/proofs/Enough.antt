@@ -24,6 +24,7 @@ never_away h needs present spot m d errors.Memory enough s = refl
 never_away h needs present spot m d (errors.Absent page) enough s =
     absurd (not_stuck h present spot m d page.0 enough s)
 
+-- A fixed program whose pages are present never stops for one.
 pub never_stops : {A D : Type 0} (r : Result A ChannelError) (h : Setting D) (needs : D → Order → Bool)
     (present : ℕ → Bool) (spot : NextCcw) (m : Memory) (d : D) → IsFixedStill m present spot.at
     → IfErr r (MatchStuck guest_written h needs present (Fetching spot m d)) → IfErr r (λ error. error ≡ errors.Memory)

@@ -18,6 +18,7 @@ use Rattle.cp_needs.specs.Words.{AreSteps, IsAmong, IsAreaPage, IsFollowed, IsPr
 
 -- ---- What is found stays found
 
+-- A word that was found stays found when more are.
 pub among_more : (old rest : List ℕ) (a : ℕ) → IsAmong old a → IsAmong (old ++ rest) a
 among_more old rest a (i, lt, is) =
     (i, (let long = length-append old rest in omega (arith, lt, long)), get_or_append_left old rest 0 i lt ∙ is)
@@ -27,6 +28,7 @@ among_on : (leads : Bool) (address a : ℕ) (old new : List ℕ) → IsFollowed 
 among_on leads address a old new (inl same) among = rw same among
 among_on leads address a old new (inr (leads_on, is)) among = rw is (among_more old (address ∷ []) a among)
 
+-- A word that was visited stays visited when more are.
 pub visited_more : (m : Memory) (present : ℕ → Bool) (most : ℕ) (old rest : List ℕ) (a : ℕ)
     → IsVisited m present most old a → IsVisited m present most (old ++ rest) a
 visited_more m present most old rest a v =
@@ -40,11 +42,13 @@ pub area_at : (m : Memory) (address : ℕ) (w : Ccw) (page : ℕ) → guest_text
 area_at m address w page text (a, inl byte, at) = (a, inl (inr (w, text, byte)), at)
 area_at m address w page text (a, inr byte, at) = (a, inr (w, text, byte), at)
 
+-- A page of a word's area is a page of the word.
 pub asked_at : (m : Memory) (address : ℕ) (w : Ccw) (o : Option Page) → guest_text m address ≡ Some w
     → IfSome o (λ page. IsAreaPage m w page.0) → IfSome o (λ page. IsPageAt m address page.0)
 asked_at m address w None text asked = tt
 asked_at m address w (Some page) text asked = area_at m address w page.0 text asked
 
+-- The words that follow one are those that it leads to.
 pub steps_of : (m : Memory) (address : ℕ) (w : Ccw) (o : Option Page) (old mid new : List ℕ)
     → guest_text m address ≡ Some w → IsFollowed (leads_next w) w.next old mid
     → IsFollowed (leads_skipped w) w.skipped mid new
@@ -90,6 +94,7 @@ steps_of m address w None old mid new text first second = by_first first second
           steps = two w.next w.skipped (next_step leads) (skipped_step over);
         }
 
+-- A word that is read is one word alone.
 pub word_same : (o : Option Ccw) (v w : Ccw) → o ≡ Some v → o ≡ Some w → v ≡ w
 word_same o v w e f = cc
 
@@ -102,6 +107,7 @@ word_page : (size : ℕ) (present : ℕ → Bool) (address k page : ℕ) → add
 word_page size present address k page even lt at here =
     (let same : page ≡ address / 4096 = omega (arith, even, lt, at) in rw same here)
 
+-- A word whose pages are present, and after which its successors are found, is visited.
 pub visited_word : (m : Memory) (present : ℕ → Bool) (most address : ℕ) (w : Ccw) (o : Option Page) (mid new : List ℕ)
     → address % 8 ≡ 0 → guest_text m address ≡ Some w → IsPresent (length m.bytes) present (address / 4096)
     → IfNone o ((page : ℕ) → IsAreaPage m w page → IsPresent (length m.bytes) present page)

@@ -21,6 +21,7 @@ use Rattle.s370_store.specs.Access.{is_passed, is_permitted, is_permitted_from}
 use Rattle.cp_needs.specs.Kept.{IsKept}
 use Rattle.cp_needs.specs.Needs.{IsReached, IsTextByte}
 
+-- Memory keeps itself as it began.
 pub kept_first : (m0 : Memory) (start : ℕ) → IsKept m0 start m0
 kept_first m0 start = record { size = refl; text = λ address a reached byte. refl }
 
@@ -61,6 +62,7 @@ in_same : (m0 : Memory) (start : ℕ) (m : Memory) (a n : ℕ) → IsKept m0 sta
 unfolding is_permitted
 in_same m0 start m a n kept = rw (kept.size, permitted_zero m.keys a n, permitted_zero m0.keys a n) refl
 
+-- A range in storage ends within it.
 pub in_fits : (m : Memory) (a n : ℕ) → 0 < n → is_in m a n ≡ true → a + n ≤ length m.bytes
 in_fits m a n some e = fits (length m.bytes) m.keys 0 Fetch a n (none_is (fault_of m 0 (area Fetch a n)) e) some
   where

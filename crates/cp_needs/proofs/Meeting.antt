@@ -52,6 +52,7 @@ late numbers from i other parts (k, lt, is) le = by_place (at_or_past k i)
     by_place (inl before) = (let less = parts.0 k before in omega (arith, less, value, le))
     by_place (inr after) = after
 
+-- A search that finds no equal number is at the first one from there.
 pub first_there : (numbers : List ℕ) (from i n : ℕ) (r : Result ℕ ℕ) → IsNonDecreasing numbers → r ≡ Err i
     → IsBinarySearchResult (λ y. nat_cmp y from) numbers r → i < length numbers → n ≡ slice_index_or numbers i 0
     → IsFirstFrom numbers from n
@@ -94,11 +95,13 @@ touched text piece end past n to_end to_piece some (there, from, least) before =
         let same : piece.start / 4 ≡ n = omega (arith, from, at) in
         (piece.start, omega (arith, some, to_end), (omega arith, omega (arith, some, to_piece)), rw same there)
 
+-- A store before the first word of the text touches no word of it.
 pub untouched : (text : List ℕ) (piece : Range) (past n a : ℕ) → IsFirstFrom text (piece.start / 4) n → past ≤ n * 4
     → a < past → IsInPiece piece a → Contains text (a / 4) → ⊥
 untouched text piece past n a (there, from, least) after lt (low, high) in_text =
     (let le = least (a / 4) in_text (omega (arith, low)) in omega (arith, le, after, lt))
 
+-- A first number that is found is the first.
 pub some_first : (text : List ℕ) (from : ℕ) (o : Option ℕ) (n : ℕ) → o ≡ Some n → IfSome o (IsFirstFrom text from)
     → IsFirstFrom text from n
 some_first text from o n is first = at (rw is at first)
@@ -106,6 +109,7 @@ some_first text from o n is first = at (rw is at first)
     at : IsFirstFrom text from n → IsFirstFrom text from n
     at first = first
 
+-- A store after the last word of the text touches no word of it.
 pub none_first : (text : List ℕ) (piece : Range) (o : Option ℕ) (a : ℕ) → o ≡ None
     → IfNone o ((other : ℕ) → Contains text other → piece.start / 4 ≤ other → ⊥) → IsInPiece piece a
     → Contains text (a / 4) → ⊥
@@ -113,6 +117,7 @@ none_first text piece o a is none (low, high) in_text =
     (let none_at : (other : ℕ) → Contains text other → piece.start / 4 ≤ other
     → ⊥ = rw is at none in none_at (a / 4) in_text (omega (arith, low)))
 
+-- An element of a list does not depend on what is taken past its end.
 pub get_or-same : {X : Type 0} (xs : List X) (i : ℕ) (d e : X) → i < length xs
     → slice_index_or xs i d ≡ slice_index_or xs i e
 get_or-same xs i d e lt = some_same (sym (slice_get-get_or xs i d lt) ∙ slice_get-get_or xs i e lt)
@@ -125,6 +130,7 @@ abbrev pub MissAll : List ℕ → List Range → ℕ → ℕ → Type 0
 MissAll text pieces end n = (i : ℕ) (piece : Range) (a : ℕ) → i < n → slice_index_or pieces i piece ≡ piece → a < end
     → IsInPiece piece a → Contains text (a / 4) → ⊥
 
+-- One more store that touches no word of the text makes all such.
 pub miss_more : (text : List ℕ) (pieces : List Range) (end n : ℕ) (piece : Range)
     → slice_index_or pieces n piece ≡ piece → n < length pieces → MissAll text pieces end n
     → ((a : ℕ) → a < end → IsInPiece piece a → Contains text (a / 4) → ⊥) → MissAll text pieces end (n + 1)

@@ -134,6 +134,7 @@ stores_same P R xs ys p there back =
 not_both : (b : Bool) → b ≡ true → b ≡ false → ⊥
 not_both b on off = cc
 
+-- The bytes of one more list entry are marked.
 pub marks_entry : (w : Ccw) (number at : ℕ) (xs ys : List ℕ) → is_indirect w ≡ true → has_area w ≡ true
     → at ≡ later w.address (4 * number) → ys ≡ xs ++ at / 4 ∷ [] → AreMarked (IsEntryByte w number) xs ys
 marks_entry w number at xs ys listed has is push =
@@ -242,6 +243,7 @@ list_done m w n xs ys all old =
     marks_same (IsListBelow m w n) (IsListByte m w) xs ys old
     (λ a b. (b, (let counted = b.counted in omega (arith, counted, all)))) (λ a below. below.0)
 
+-- One more part of an area is noted as stored.
 pub filled_on : (m : Memory) (w : Ccw) (n : ℕ) (piece : Range) (xs ys zs : List Range) → has_area w ≡ true
     → n + piece.count ≤ w.count → IsBegun (area_block m w) n → area_block m w (block_number n) ≡ Some piece.start
     → piece.start < 2 ^ 32 → piece.start % 2048 + piece.count ≤ 2048
@@ -281,6 +283,7 @@ filled_on m w n piece xs ys zs has counted begun said low short old new =
           omega (arith, to, from),
         )
 
+-- An area that ends at a fault is noted up to it.
 pub filled_past : (m : Memory) (w : Ccw) (n : ℕ) (xs ys : List Range) → IsBegun (area_block m w) n
     → area_block m w (block_number n) ≡ None → AreStored (IsFilledBelow m w n) xs ys → AreStored (IsFilled m w) xs ys
 filled_past m w n xs ys begun said old =
@@ -298,6 +301,7 @@ filled_past m w n xs ys begun said old =
     by_place a (s, b) (inr (i, is)) =
         absurd (none_some a (byte_place list (n + i)) (none_on list n i none) (ap (byte_place list) (sym is) ∙ b.at))
 
+-- An area is noted as a whole after its last byte.
 pub filled_done : (m : Memory) (w : Ccw) (n : ℕ) (xs ys : List Range) → w.count ≤ n
     → AreStored (IsFilledBelow m w n) xs ys → AreStored (IsFilled m w) xs ys
 filled_done m w n xs ys all old =
@@ -351,6 +355,7 @@ text_marked m address w xs ys zs text own list =
 none_word : (o : Option Ccw) (w : Ccw) → o ≡ None → o ≡ Some w → ⊥
 none_word o w e f = cc
 
+-- Where no word is, its own bytes alone are marked.
 pub text_alone : (m : Memory) (address : ℕ) (xs ys : List ℕ) → guest_text m address ≡ None
     → AreMarked (IsOwnByte address) xs ys → AreMarked (IsTextByte m address) xs ys
 text_alone m address xs ys none own =
@@ -360,6 +365,7 @@ text_alone m address xs ys none own =
     by_side a (inl byte) = byte
     by_side a (inr (v, found, byte)) = absurd (none_word (guest_text m address) v none found)
 
+-- The areas of a word that reads are noted at its address.
 pub filled_word : (m : Memory) (address : ℕ) (w : Ccw) (xs ys : List Range) → guest_text m address ≡ Some w
     → AreStored (IsFilled m w) xs ys → AreStored (IsFilledAt m address) xs ys
 filled_word m address w xs ys text old =
@@ -377,6 +383,7 @@ filled_nowhere m address xs none =
 before_last : (i n : ℕ) → i < n + 1 → (i < n) ⊎ (i ≡ n)
 before_last i n lt = grind arith
 
+-- The bytes of one more word are marked.
 pub text_on : (m : Memory) (words : List ℕ) (n address : ℕ) (xs ys zs : List ℕ) → address ≡ slice_index words n
     → AreMarked (IsTextOf m words n) xs ys → AreMarked (IsTextByte m address) ys zs
     → AreMarked (IsTextOf m words (n + 1)) xs zs
@@ -390,6 +397,7 @@ text_on m words n address xs ys zs at old new =
     by_place a (i, lt, byte) (inl before) = inl (i, before, byte)
     by_place a (i, lt, byte) (inr same) = inr (rw (at, ← same) byte)
 
+-- The areas of one more word are noted.
 pub filled_by_on : (m : Memory) (words : List ℕ) (n address : ℕ) (xs ys zs : List Range) → address ≡ slice_index words n
     → AreStored (IsFilledBy m words n) xs ys → AreStored (IsFilledAt m address) ys zs
     → AreStored (IsFilledBy m words (n + 1)) xs zs
@@ -405,11 +413,13 @@ filled_by_on m words n address xs ys zs at old new =
 
 -- ---- pages that are present
 
+-- A page is not both present and absent.
 pub not_away : (size : ℕ) (present : ℕ → Bool) (page : ℕ) → IsPresent size present page → IsAbsent size present page → ⊥
 not_away size present page here away = true≢false (sym (here away.inside) ∙ away.away)
 
 -- ---- what a call leaves
 
+-- What follows on an answer holds on it.
 pub on_ok : {A E P Q : Type 0} (r : Result A E) → OnOk r P → (P → Q) → OnOk r Q
 on_ok (Ok a) p f = f p
 on_ok (Err e) p f = tt

@@ -96,6 +96,7 @@ same_page start count a short (from, to) = omega (arith, short, from, to)
 page_same : (a b : ℕ) → a / 4096 ≡ b / 4096 → page_at a ≡ page_at b
 page_same a b same = rw same refl
 
+-- The pages of one more part of an area are noted.
 pub area_on : (m : Memory) (w : Ccw) (n start count : ℕ) (page : Page) (xs ys zs : List Page) → has_area w ≡ true
     → n + count ≤ w.count → 0 < count → IsBegun (area_block m w) n → area_block m w (block_number n) ≡ Some start
     → start < 2 ^ 32 → start % 2048 + count ≤ 2048
@@ -136,6 +137,7 @@ area_on m w n start count page xs ys zs has counted some begun said low short at
           omega (arith, to, from),
         )
 
+-- An area that ends at a fault has its pages noted up to it.
 pub area_past : (m : Memory) (w : Ccw) (n : ℕ) (xs ys : List Page) → IsBegun (area_block m w) n
     → area_block m w (block_number n) ≡ None → ArePaged (IsAreaBelow m w n) xs ys → ArePaged (IsAreaByte m w) xs ys
 area_past m w n xs ys begun said old =
@@ -153,6 +155,7 @@ area_past m w n xs ys begun said old =
     by_place a b (inr (i, is)) =
         absurd (none_some a (byte_place list (n + i)) (none_on list n i none) (ap (byte_place list) (sym is) ∙ b.at))
 
+-- An area has all its pages noted after its last byte.
 pub area_done : (m : Memory) (w : Ccw) (n : ℕ) (xs ys : List Page) → w.count ≤ n → ArePaged (IsAreaBelow m w n) xs ys
     → ArePaged (IsAreaByte m w) xs ys
 area_done m w n xs ys all old =
@@ -170,6 +173,7 @@ area_none m w xs off = pages_none (IsAreaByte m w) xs (λ a b. not_both (has_are
 none_word : (o : Option Ccw) (w : Ccw) → o ≡ None → o ≡ Some w → ⊥
 none_word o w e f = cc
 
+-- The pages of a word's area are noted at its address.
 pub data_word : (m : Memory) (address : ℕ) (w : Ccw) (xs ys : List Page) → guest_text m address ≡ Some w
     → ArePaged (IsAreaByte m w) xs ys → ArePaged (IsDataByte m address) xs ys
 data_word m address w xs ys text old =
@@ -177,6 +181,7 @@ data_word m address w xs ys text old =
     (λ a r. subst (λ x. IsAreaByte m x a) (word_same (guest_text m address) r.0 w r.1 text) r.2)
     (λ a one. (w, text, one))
 
+-- Where no word is, there are no pages of data.
 pub data_nowhere : (m : Memory) (address : ℕ) (xs : List Page) → guest_text m address ≡ None
     → ArePaged (IsDataByte m address) xs xs
 data_nowhere m address xs none =
@@ -190,6 +195,7 @@ before_last i n lt = grind arith
 pub no_data : (m : Memory) (words : List ℕ) → ArePaged (IsDataOf m words 0) [] []
 no_data m words = pages_none (IsDataOf m words 0) [] (λ a r. (let lt = r.1 in omega (arith, lt)))
 
+-- The pages of one more word's data are noted.
 pub data_on : (m : Memory) (words : List ℕ) (n address : ℕ) (xs ys zs : List Page) → address ≡ slice_index words n
     → ArePaged (IsDataOf m words n) xs ys → ArePaged (IsDataByte m address) ys zs
     → ArePaged (IsDataOf m words (n + 1)) xs zs

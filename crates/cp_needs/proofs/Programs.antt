@@ -50,6 +50,7 @@ reached_steps m start address old new s from reached = rw s.is (λ i lt. by_plac
         (reached_on m start address (slice_index s.rest (i - length old)) from
         (s.steps (i - length old) (omega (arith, lt, after, long))))
 
+-- One more word that was visited makes one more of all.
 pub visited_steps : (m : Memory) (present : ℕ → Bool) (most address done : ℕ) (old new : List ℕ)
     → AreSteps m address old new → done < length old → slice_index old done ≡ address
     → AreVisited m present most old done → IsVisited m present most new address
@@ -80,6 +81,7 @@ pub needed_page : (m : Memory) (start address page : ℕ) (present : ℕ → Boo
 needed_page m start address page present reached (a, needed, at) away =
     record { address = address; reached = reached; byte = a; needed = needed; at = at; inside = away.inside }
 
+-- A word that is read lies in storage.
 pub word_fits : (m : Memory) (a : ℕ) (w : Ccw) → guest_text m a ≡ Some w → a + 8 ≤ length m.bytes
 word_fits m a w text = by_in (is_in m a 8) refl text
   where
@@ -155,11 +157,13 @@ module _ (m : Memory) (start : ℕ) (present : ℕ → Bool) (most : ℕ) (words
       at_word : IsAmong words p.address → present page ≡ true
       at_word (i, lt, is) = (let v = visited i lt in v.held page (rw is (p.byte, p.needed, p.at)) p.inside)
 
+-- The list of words never becomes shorter.
 pub steps_length : (m : Memory) (address : ℕ) (old new : List ℕ) → AreSteps m address old new → length old ≤ length new
 steps_length m address old new s = (let long = length-append old s.rest in rw s.is (omega (arith, long)))
 
 -- ---- What a call says
 
+-- What holds if no page is absent holds when none is.
 pub none_of : {P : Type 0} (o : Option Page) → o ≡ None → IfNone o P → P
 none_of None e p = p
 none_of (Some page) e p = cc
@@ -168,15 +172,18 @@ pub some_of : (P : Page → Type 0) (o : Option Page) (page : Page) → o ≡ So
 some_of P None page e p = cc
 some_of P (Some other) page e p = (let same : other ≡ page = cc in subst P same p)
 
+-- Words that were visited stay so under an equal bound.
 pub visited_size : (m : Memory) (present : ℕ → Bool) (old new : ℕ) (words : List ℕ) (done : ℕ) → new ≡ old
     → AreVisited m present old words done → AreVisited m present new words done
 visited_size m present old new words done e visited = rw e visited
 
+-- The first word is among those that were found.
 pub first_size : (m : Memory) (old new start address : ℕ) (words more : List ℕ) → new ≡ old
     → AreSteps m address words more → (start / 8 < old → IsAmong words start) → start / 8 < new → IsAmong more start
 first_size m old new start address words more e steps first low =
     among_steps m address start words more steps (first (rw e at low))
 
+-- A page that a reached word needs is one that the program needs.
 pub needed_at : (m : Memory) (start : ℕ) (words : List ℕ) (i address : ℕ) (present : ℕ → Bool) (o : Option Page)
     (page : Page) → o ≡ Some page → AreReached m start words → i < length words → address ≡ slice_index words i
     → IfSome o (λ page. IsPageAt m address page.0) → IfSome o (λ page. IsAbsent (length m.bytes) present page.0)
@@ -186,6 +193,7 @@ needed_at m start words i address present o page is reached lt at asked away =
     (some_of (λ x. IsPageAt m address x.0) o page is asked)
     (some_of (λ x. IsAbsent (length m.bytes) present x.0) o page is away)
 
+-- Words that a reached word leads to are reached.
 pub reached_at : (m : Memory) (start : ℕ) (words : List ℕ) (i address : ℕ) (new : List ℕ) → i < length words
     → address ≡ slice_index words i → AreSteps m address words new → AreReached m start words → AreReached m start new
 reached_at m start words i address new lt at steps reached =

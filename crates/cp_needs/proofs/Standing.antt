@@ -169,6 +169,7 @@ one_added bytes present number old new w is at granted = record {
   stand = λ all. rw is (All-push (IsAsItStood bytes present) old w all (rw at (granted, refl)));
 }
 
+-- One more fullword that was added is found among the rest.
 pub one_more : (bytes : List ℕ) (present : ℕ → Bool) (numbers : List ℕ) (i : ℕ) (old new : List WordAt)
     → ((k : ℕ) → k < i → slice_index numbers k * 4 + 4 ≤ length bytes
     → Contains old (fullword_at bytes (slice_index numbers k * 4)))
@@ -182,6 +183,7 @@ one_more bytes present numbers i old new before added k lt inside = elim (dec_lt
       subst P is added.here inside)
 ]
 
+-- After the last number each fullword is found.
 pub all_found : (bytes : List ℕ) (numbers : List ℕ) (i : ℕ) (text : List WordAt) → length numbers ≤ i
     → ((k : ℕ) → k < i → slice_index numbers k * 4 + 4 ≤ length bytes
     → Contains text (fullword_at bytes (slice_index numbers k * 4)))
@@ -195,6 +197,7 @@ pub none_told : (bytes numbers : List ℕ) (text : List WordAt) → text ≡ [] 
     → (k : ℕ) × (k < 0) × (w ≡ fullword_at bytes (slice_index numbers k * 4))
 none_told bytes numbers text none w there = let (k, lt, e) = rw none at there in absurd (omega (arith, lt))
 
+-- Nothing but the fullwords of these numbers is added.
 pub only_more : (bytes : List ℕ) (present : ℕ → Bool) (numbers : List ℕ) (i : ℕ) (old new : List WordAt)
     → ((w : WordAt) → Contains old w → (k : ℕ) × (k < i) × (w ≡ fullword_at bytes (slice_index numbers k * 4)))
     → IsAdded bytes present (slice_index numbers i) old new → (w : WordAt) → Contains new w
@@ -206,6 +209,7 @@ only_more bytes present numbers i old new before added w there = by_case (added.
     by_case (inl earlier) = (let was = before w earlier in let low = was.1 in (was.0, omega (arith, low), was.2))
     by_case (inr is) = (i, omega arith, is)
 
+-- Each fullword that is found has one of these numbers.
 pub only_found : (bytes numbers : List ℕ) (i : ℕ) (text : List WordAt) → i ≤ length numbers
     → ((w : WordAt) → Contains text w → (k : ℕ) × (k < i) × (w ≡ fullword_at bytes (slice_index numbers k * 4)))
     → (w : WordAt) → Contains text w → (n : ℕ) × Contains numbers n × (w ≡ fullword_at bytes (n * 4))

@@ -42,10 +42,12 @@ use Rattle.cp_needs.proofs.Keeping.{kept_block, kept_first, kept_put, kept_word}
 
 -- ---- Where the next byte lies
 
+-- A byte after the first is placed by the byte before it.
 pub place_next : (list : ℕ → Option ℕ) (k j b : ℕ) → k ≡ suc j → byte_place list j ≡ Some b
     → byte_place list k ≡ served list k (Some b)
 place_next list k j b after is = rw (after, is) refl
 
+-- The first byte of a block is placed by its list entry.
 pub place_first : (list : ℕ → Option ℕ) (k : ℕ) → k ≡ 0 → list (block_number k) ≡ byte_place list k
 place_first list k none = rw none refl
 
@@ -447,6 +449,7 @@ kept_never_stuck {D = D} h present spot m0 m d page fixed held kept stuck =
     let yes = held page (asked_page m0 spot.at h stuck.state page on stuck.away.inside stuck.asked) in
     absurd (true≢false (sym yes ∙ stuck.away.away))
 
+-- A fixed program whose pages are present is never stuck.
 pub never_stuck : {D : Type 0} (h : Setting D) (present : ℕ → Bool) (spot : NextCcw) (m : Memory) (d : D) (page : ℕ)
     → IsFixed m spot.at → IsHeld m spot.at present → IsStuck guest_written h present (Fetching spot m d) page → ⊥
 never_stuck h present spot m d page fixed held stuck =
@@ -472,6 +475,7 @@ stays_as_kept {D = D} h spot m0 m d fixed kept =
         walk_on m0 spot.at h n (Fetching spot m d) fixed begun in
         rw (← e) walked
 
+-- A fixed program keeps its words as they were at its beginning.
 pub stays_as_begun : {D : Type 0} (h : Setting D) (spot : NextCcw) (m : Memory) (d : D) → IsFixed m spot.at
     → IsSteadyInWords h m (Fetching spot m d)
 stays_as_begun h spot m d fixed = stays_as_kept h spot m m d fixed (kept_first m spot.at)

@@ -125,6 +125,7 @@ module _ (owners : List (Option UserPage)) (user size frame : ℕ) where
   pub page_at_none : ((p : Page) → frame_of owners user p.0 ≡ Some frame → ⊥) → page_at owners user size frame ≡ None
   page_at_none not = none_of (get_or owners frame None) not
 
+-- Real storage has two keys for each frame, and some for the area of copies.
 pub length-keys : (storage keys : List ℕ) (owners : List (Option UserPage)) (user area : ℕ)
     → length (real_keys storage keys owners user area) ≡ 2 * length owners + (area + 2047) / 2048
 unfolding real_keys
@@ -134,6 +135,7 @@ length-keys storage keys owners user area =
     (length-map-range_with_len _ 0 (2 * length owners)) ∙ ap (λ k. 2 * length owners + k)
     (length-replicate ((area + 2047) / 2048) 0)
 
+-- A byte of real storage is that of the page which is in its frame.
 pub get_framed : (storage : List ℕ) (owners : List (Option UserPage)) (user a : ℕ) → a < 4096 * length owners
     → get_or (framed_bytes storage owners user) a 0
     ≡ byte_of storage (page_at owners user (length storage) (a / 4096)) (a % 4096)
@@ -277,6 +279,7 @@ put_first first second xs start fits =
           ∙ sym (get_or-append_right (put first start xs) second (length first) a 0 size (omega arith))
     ])
 
+-- Bytes that are put past a first part are put into the second.
 pub put_second : (first second xs : List ℕ) (base start : ℕ) → length first ≡ base → base ≤ start
     → start + length xs ≤ base + length second → put (first ++ second) start xs ≡ first ++ put second (start - base) xs
 put_second first second xs base start long low high =
@@ -328,6 +331,7 @@ zeros zero k = refl
 zeros (suc n) zero = refl
 zeros (suc n) (suc k) = zeros n k
 
+-- The blocks of the area of copies have key zero.
 pub key_area : (storage keys : List ℕ) (owners : List (Option UserPage)) (user area block : ℕ)
     → 2 * length owners ≤ block → get_or (real_keys storage keys owners user area) block 0 ≡ 0
 unfolding real_keys

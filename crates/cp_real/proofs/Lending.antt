@@ -95,6 +95,7 @@ one_test : (size : ℕ) (keys : List ℕ) (key : ℕ) (access : Access) (a : ℕ
 unfolding is_addressable is_permitted
 one_test size keys key access a lt = let fits : nat_le (a + 1) size ≡ true = grind (arith, nat_tests) in rw fits refl
 
+-- A user's storage is lent as the frames have it.
 pub lent : (storage keys own : List ℕ) (owners : List (Option UserPage)) (user : ℕ) → length storage ≤ 4294967295
     → length owners ≤ 4096 → IsLent storage keys own owners user
 lent storage keys own owners user small few =

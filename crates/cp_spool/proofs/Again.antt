@@ -9,6 +9,7 @@ set_again [] (suc i) d x g = refl
 set_again (y ∷ ys) zero d x g = refl
 set_again (y ∷ ys) (suc i) d x g = ap (λ zs. y ∷ zs) (set_again ys i d x g)
 
+-- Of two changes of a user's files the second is made on the first.
 pub changed_again : (users : List UserFiles) (user : ℕ) (f : UserFiles) (g : UserFiles → UserFiles)
     → with_files user (g (files_of (with_files user f users) user)) (with_files user f users)
     ≡ with_files user (g f) users
@@ -20,5 +21,6 @@ drop_suc (suc n) [] = refl
 drop_suc zero (x ∷ xs) = refl
 drop_suc (suc n) (x ∷ xs) = drop_suc n xs
 
+-- One more is dropped after the first ones.
 pub drop_one_more : {X : Type 0} (n : ℕ) (xs : List X) → drop 1 (drop n xs) ≡ drop (n + 1) xs
 drop_one_more n xs = drop_suc n xs ∙ ap (λ (m : ℕ). drop m xs) (let e : suc n ≡ n + 1 = omega arith in e)

@@ -16,6 +16,7 @@ use Rattle.cp_spool.proofs.Feeds.{feeds_as_reader, keeps_its_queue, seen, seen_i
 use Rattle.cp_spool.proofs.Walks.{entered_alike, entered_kept, kept_in, state_seen, stuck_alike, touched_alike}
 use Rattle.cp_spool.proofs.Walks.{walk_alike, walk_kept}
 
+-- A reader that feeds from the queue walks as a reader that has its decks.
 pub fed_walks : AFedReaderIsAReader
 fed_walks reads start m files part e n f walks =
     let kept : f.decks ≡ files.decks =
@@ -30,6 +31,7 @@ fed_walks reads start m files part e n f walks =
           ∙ ap (λ (r : ReaderState). Over e n r) (seen_is files f kept);
     }
 
+-- A reader that feeds from the queue is loaded from as one that has its decks.
 pub fed_loads : AFedReaderIsLoadedFrom
 fed_loads m files part e n f walks =
     let h = setting feed_machine loading_limits in
@@ -50,17 +52,20 @@ fed_loads m files part e n f walks =
           ∙ ap (λ (r : ReaderState). Over e n r) (seen_is files f kept);
     }
 
+-- A reader that feeds from the queue stops as one that has its decks.
 pub fed_stops : AFedReaderStops
 fed_stops present start m files part errors.Memory short = absurd (cc short.needed)
 fed_stops present start m files part (errors.Absent page) stuck =
     stuck_alike feed_machine reader_machine seen feeds_as_reader start.key most_commands 0 guest_written present
     (begun start m (fed_by files part)) page.0 stuck
 
+-- A reader that feeds from the queue touches the pages that one with its decks touches.
 pub fed_touches : AFedReaderTouches
 fed_touches start m files part page touched =
     touched_alike feed_machine reader_machine seen feeds_as_reader start.key most_commands 0 guest_written
     (begun start m (fed_by files part)) page touched
 
+-- A loading from the queue touches the pages that one from its decks touches.
 pub fed_touches_loading : AFedReaderTouchesLoading
 fed_touches_loading m files part page touched =
     let g = setting reader_machine loading_limits in

@@ -46,6 +46,7 @@ started_by false true sense f = refl
 started_by false false true f = refl
 started_by false false false f = refl
 
+-- Each step of a feeding reader is one of a reader with its decks.
 pub feeds_as_reader : IsSeen feed_machine reader_machine seen
 feeds_as_reader = record {
   answer = λ f order. refl;
@@ -69,6 +70,7 @@ keeps_by false true sense f n = refl
 keeps_by false false true f n = refl
 keeps_by false false false f n = refl
 
+-- No step of a feeding reader changes the queue itself.
 pub keeps_its_queue : IsKept feed_machine (λ (f : FeedState). f.decks)
 keeps_its_queue = record {
   started = λ f order. keeps_by (order.command.code == 0x02) (order.command.code == 0x03) (is_sense order) f

@@ -10,6 +10,7 @@ use Rattle.cp_spool.specs.Queues.{UserFiles}
 use Rattle.cp_spool.specs.Reader.{ReaderPart}
 use Rattle.cp_spool.specs.Saved.{reader_bytes, deck_bytes, file_bytes, files_bytes}
 
+-- The bytes of a reader are a code: it is read back, whatever follows it.
 pub reader_code : IsCode reader_bytes
 reader_code =
     of_parts (both number bytes) (both_code number bytes number_code bytes_code)
@@ -28,6 +29,7 @@ file_code =
     of_parts (both target_bytes entries_bytes) (both_code target_bytes entries_bytes target_code entries_code)
     (λ (f : FileValue). (f.target, f.entries)) (λ p. record { target = p.0; entries = p.1 }) (λ f. refl)
 
+-- The bytes of all spool files are a code: they are read back, whatever follows them.
 pub files_code : IsCode files_bytes
 files_code =
     let decks = each_code deck_bytes deck_code in

@@ -269,6 +269,7 @@ module _ (files files' : Slab SpoolFileValue) (queues : List QueueKeys) (user in
 
 -- ---- a place, and room
 
+-- The queues stay sound when a reader moves to another card.
 pub placed_sound : (files : Slab SpoolFileValue) (queues : List QueueKeys) (user : ℕ) (place : Option ℕ)
     → user < length queues → IsSound files queues
     → IsSound files (with_queue user (record (queue_of queues user) { place = place }) queues)
@@ -282,6 +283,7 @@ pub users_placed : (files : Slab SpoolFileValue) (queues : List QueueKeys) (user
 users_placed files queues user place =
     users_changed files queues user (record (queue_of queues user) { place = place }) (with_place place) refl
 
+-- The queues stay sound when there is more room for closed files.
 pub roomier_sound : (files : Slab SpoolFileValue) (queues : List QueueKeys) (user m n : ℕ) → user < length queues
     → IsSound files queues → IsSound files
     (with_queue user (record (queue_of queues user) { punch_room = m; print_room = n }) queues)
@@ -319,6 +321,7 @@ print_inside [] user h = absurd (omega arith)
 print_inside (q ∷ qs) zero h = omega arith
 print_inside (q ∷ qs) (suc user) h = let l = print_inside qs user h in omega arith
 
+-- A user with a deck in his queue is one of the users.
 pub deck_inside : (queues : List QueueKeys) (user index : ℕ) → index < length (queue_of queues user).decks
     → user < length queues
 deck_inside [] user index h = absurd (omega arith)
@@ -331,12 +334,14 @@ punched_inside [] user index h = absurd (omega arith)
 punched_inside (q ∷ qs) zero index h = omega arith
 punched_inside (q ∷ qs) (suc user) index h = let l = punched_inside qs user index h in omega arith
 
+-- A user with room for a punch file is one of the users.
 pub punch_there : (queues : List QueueKeys) (rooms : List ℕ) (user : ℕ)
     → map (λ (q : QueueKeys). q.punch_room) queues ≡ rooms → 1 ≤ get_or rooms user 0 → user < length queues
 punch_there queues rooms user seen room =
     let there = subst (λ (rs : List ℕ). 1 ≤ get_or rs user 0) (sym seen) room in
     punch_inside queues user (omega (arith, punch_room_there queues user, there))
 
+-- A user with room for a printer file is one of the users.
 pub print_there : (queues : List QueueKeys) (rooms : List ℕ) (user : ℕ)
     → map (λ (q : QueueKeys). q.print_room) queues ≡ rooms → 1 ≤ get_or rooms user 0 → user < length queues
 print_there queues rooms user seen room =
@@ -353,6 +358,7 @@ print_room_now queues user room = omega (arith, print_room_there queues user, ro
 
 -- ---- as the code comes to it
 
+-- A deck that is seen is one of the queue.
 pub decks_seen : (files : Slab SpoolFileValue) (queues : List QueueKeys) (users : List UserFiles) (user index : ℕ)
     → map (user_files files) queues ≡ users → index < length ((files_of users user).decks)
     → index < length (queue_of queues user).decks
@@ -362,6 +368,7 @@ decks_seen files queues users user index seen h =
     (ap (λ (us : List UserFiles). files_of us user) (sym seen) ∙ files_there files queues user) h in
     simp length-map at there
 
+-- A punch file that is seen is one of the queue.
 pub punched_seen : (files : Slab SpoolFileValue) (queues : List QueueKeys) (users : List UserFiles) (user index : ℕ)
     → map (user_files files) queues ≡ users → index < length ((files_of users user).punched)
     → index < length (queue_of queues user).punched
@@ -371,6 +378,7 @@ punched_seen files queues users user index seen h =
     (ap (λ (us : List UserFiles). files_of us user) (sym seen) ∙ files_there files queues user) h in
     simp length-map at there
 
+-- The key of a deck is one of the queue's keys.
 pub keys_seen : (q : QueueKeys) (index : ℕ) → index < length q.decks → index < length (keys_in q)
 keys_seen q index h = simp length-map h
 
@@ -420,6 +428,7 @@ module _ (files : Slab SpoolFileValue) (queues : List QueueKeys) (user index key
       ∙ slice_get-map (closed_at files) (queue_of queues user).printed index
       ∙ ap (λ (o : Option ℕ). option_map (closed_at files) o) found)
 
+-- A punch file that the queue has not is not seen.
 pub punched_none : (files : Slab SpoolFileValue) (queues : List QueueKeys) (user index : ℕ)
     → slice_get (queue_of queues user).punched index ≡ None
     → None ≡ slice_get ((files_of (map (user_files files) queues) user).punched) index
@@ -428,6 +437,7 @@ punched_none files queues user index none =
     ∙ slice_get-map (closed_at files) (queue_of queues user).punched index
     ∙ ap (λ (o : Option ℕ). option_map (closed_at files) o) none)
 
+-- A printer file that the queue has not is not seen.
 pub printed_none : (files : Slab SpoolFileValue) (queues : List QueueKeys) (user index : ℕ)
     → slice_get (queue_of queues user).printed index ≡ None
     → None ≡ slice_get ((files_of (map (user_files files) queues) user).printed) index
@@ -436,6 +446,7 @@ printed_none files queues user index none =
     ∙ slice_get-map (closed_at files) (queue_of queues user).printed index
     ∙ ap (λ (o : Option ℕ). option_map (closed_at files) o) none)
 
+-- Within a list there is an element at each index.
 pub none_inside : (xs : List ℕ) (index : ℕ) → index < length xs → slice_get xs index ≡ None → ⊥
 none_inside [] index h e = absurd (omega arith)
 none_inside (x ∷ xs) zero h e = absurd (cc)

@@ -22,8 +22,10 @@ module _ {X : Type 0} (p : X → Bool) (xs : List X) (i : ℕ) (x : X) (found : 
       ∙ ap (λ (b : Bool). if b then Some i else position_from p (i + 1) (drop (suc i) xs)) h
       ∙ ap (λ (n : ℕ). position_from p (i + 1) (drop n xs)) (let e : suc i ≡ i + 1 = omega arith in e)
 
+-- Equal numbers are compared as equal.
 pub equal : (a b : ℕ) → a ≡ b → (a == b) ≡ true
 equal a b h = grind (arith, nat_tests)
 
+-- Different numbers are compared as different.
 pub unequal : (a b : ℕ) → a ≢ b → (a == b) ≡ false
 unequal a b h = grind (arith, nat_tests)

@@ -14,6 +14,7 @@ use Rattle.cp_spool.specs.Keys.{AllAt, IsMade, IsSound, IsSoundOf, Lacks, Once, 
 use Rattle.cp_spool.specs.Keys.{closed_at, file_at, is_given, keys_in, no_file, no_keys, queue_of, user_files}
 use Rattle.cp_spool.specs.Keys.{with_printed_key, with_punched_key, with_waiting, without_waiting}
 
+-- Removing an element and mapping the rest is mapping and then removing.
 pub map-remove : {X Y : Type 0} (f : X → Y) (xs : List X) (index : ℕ)
     → map f (remove xs index) ≡ remove (map f xs) index
 map-remove f [] zero = refl
@@ -130,6 +131,7 @@ each_set P queues user q inside now before other =
           (before other)
     ]
 
+-- The queues stay sound when one user's queue is set to a sound one.
 pub sound_set : (files : Slab SpoolFileValue) (queues : List QueueKeys) (user : ℕ) (q : QueueKeys)
     → user < length queues → IsSoundOf files user q → IsSound files queues → IsSound files (set queues user q)
 sound_set files queues user q inside now before = each_set (λ u x. IsSoundOf files u x) queues user q inside now before
@@ -171,6 +173,7 @@ once_more files key keys once apart i j li lj e given =
       ]
     ]
 
+-- A queue stays sound when a file that is there joins it.
 pub sound_waiting : (files : Slab SpoolFileValue) (user : ℕ) (w : Waiting) (q : QueueKeys) → IsSoundOf files user q
     → IsSomeAnd (get files w.key) (StandsWith user) → (is_given (get files w.key) ≡ true → Lacks (keys_in q) w.key)
     → IsSoundOf files user (with_waiting w q)
@@ -183,6 +186,7 @@ sound_waiting files user w q sound here apart = record {
   printed = sound.printed;
 }
 
+-- A queue stays sound when a punch file that is there joins it.
 pub sound_punched : (files : Slab SpoolFileValue) (user key : ℕ) (q : QueueKeys) → IsSoundOf files user q
     → IsSomeAnd (get files key) IsMade → IsSoundOf files user (with_punched_key key q)
 sound_punched files user key q sound here = record {
@@ -192,6 +196,7 @@ sound_punched files user key q sound here = record {
   printed = sound.printed;
 }
 
+-- A queue stays sound when a printer file that is there joins it.
 pub sound_printed : (files : Slab SpoolFileValue) (user key : ℕ) (q : QueueKeys) → IsSoundOf files user q
     → IsSomeAnd (get files key) IsMade → IsSoundOf files user (with_printed_key key q)
 sound_printed files user key q sound here = record {
@@ -201,11 +206,13 @@ sound_printed files user key q sound here = record {
   printed = all_more files IsMade key q.printed sound.printed here;
 }
 
+-- A queue stays sound with other room.
 pub sound_roomier : (files : Slab SpoolFileValue) (user m n : ℕ) (q : QueueKeys) → IsSoundOf files user q
     → IsSoundOf files user (record q { punch_room = m; print_room = n })
 sound_roomier files user m n q sound =
     record { waiting = sound.waiting; once = sound.once; punched = sound.punched; printed = sound.printed }
 
+-- A queue stays sound with its reader at another card.
 pub sound_placed : (files : Slab SpoolFileValue) (user : ℕ) (place : Option ℕ) (q : QueueKeys) → IsSoundOf files user q
     → IsSoundOf files user (record q { place = place })
 sound_placed files user place q sound =
@@ -275,6 +282,7 @@ once_less files index keys inside once i j li lj e given =
     same_place index a.before b.before i j (once a.before b.before a.inside b.inside (sym a.same ∙ e ∙ b.same) its)
     a.apart a.below a.above b.below b.above
 
+-- A queue stays sound when a deck leaves it.
 pub sound_less : (files : Slab SpoolFileValue) (user index : ℕ) (q : QueueKeys) → index < length (keys_in q)
     → IsSoundOf files user q → IsSoundOf files user (without_waiting index q)
 sound_less files user index q there sound = record {

@@ -206,6 +206,7 @@ module _ {D E : Type 0} (m : Machine D) (n : Machine E) (seen : D → E) (is : I
 
 -- ---- what no step of a device changes stays
 
+-- A part of a device that no step changes.
 pub record IsKept {D X : Type 0} (m : Machine D) (p : D → X) : Type 0 where
   pub started : (d : D) (order : Order) → p (m.started d order) ≡ p d
   pub gave : (d : D) → p (m.gave d) ≡ p d

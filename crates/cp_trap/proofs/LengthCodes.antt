@@ -23,6 +23,7 @@ refused_length : (other code : ProgramCode) (place : Place) (ilc : ℕ) → Prog
     → ilc ≡ place.ilc
 refused_length other code place ilc e = cc
 
+-- The length code of an instruction that raised an exception is its own.
 pub length_is : (m m' : State) (place : Place) (r : Result Outcome ProgramCode) (code : ProgramCode) (ilc : ℕ)
     → concluded m place r ≡ record { stop = Program code ilc; state = m' } → ilc ≡ place.ilc
 length_is m m' place (Err other) code ilc e = refused_length other code place ilc (ap (λ (r : Ran). r.stop) e)

@@ -17,6 +17,7 @@ use Rattle.cp_dat.specs.Copies.{StandAll, is_wanted}
 use Rattle.cp_dat.specs.Lent.{lent_memory}
 use Rattle.cp_trial.specs.DryRun.{IsPlaced, LoadTouches}
 
+-- A dry run of a loading flags the pages that the loading touches.
 pub loads_flagged : {D : Type 0} (machine : Machine D) (old between : Dat) (d : D) (tried : TrialStorage)
     → lent_memory between ≡ lent_memory old
     → IsLoadingTried machine (lent_memory between) d (trial_bytes tried) (trial_flags tried)
@@ -25,6 +26,7 @@ loads_flagged machine old between d tried same is page it =
     inr (subst (λ (m : Memory). IsTouched guest_written (setting machine loading_limits) (loading machine m d) page)
     same (is.touches page it))
 
+-- The pages of a loading are placed before it runs.
 pub placed_before : {D : Type 0} (machine : Machine D) (old between new : Dat) (d : D) (tried : TrialStorage)
     → lent_memory between ≡ lent_memory old
     → IsLoadingTried machine (lent_memory between) d (trial_bytes tried) (trial_flags tried)

@@ -18,6 +18,7 @@ memory_in (Fetching spot m d) other = m
 memory_in (Moving p m d) other = m
 memory_in (Over e m d) other = m
 
+-- What a dry run ends with the real run ends with.
 pub walk_for : {D : Type 0} (h : Setting D) (from : Memory → State D) (d' : D) (old run new : Memory)
     (tried_bytes : List ℕ) (touched : List Bool) (ending : Ending)
     → IsTried h (from old) old tried_bytes touched → run ≡ old → EndsSomehow h (from run) ending d'

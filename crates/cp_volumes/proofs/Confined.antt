@@ -159,6 +159,7 @@ set_twice [] i v w = refl
 set_twice (x ∷ xs) zero v w = refl
 set_twice (x ∷ xs) (suc i) v w = ap (λ (ys : List VolumeFormat). x ∷ ys) (set_twice xs i v w)
 
+-- A walk of one minidisk leaves all other extents of the volume as they are.
 pub confined_by : (volumes away new : List VolumeFormat) (d : SharedMinidisk) (mounted q : Part)
     → IsSeated volumes (placement_of d) → d.volume < length volumes
     → mounted ≡ part_on (volume_at volumes d.volume) d.minidisk → KeepsVolume mounted q

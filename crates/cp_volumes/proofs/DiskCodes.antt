@@ -7,6 +7,7 @@ use Rattle.cp_minidisk.proofs.MinidiskCodes.{minidisk_code}
 use Rattle.cp_volumes.specs.Shared.{SharedMinidisk}
 use Rattle.cp_volumes.specs.Saved.{disk_bytes}
 
+-- The bytes of a shared disk are a code: it is read back, whatever follows it.
 pub disk_code : IsCode disk_bytes
 disk_code =
     let there = both_code number minidisk_bytes number_code minidisk_code in

@@ -79,11 +79,13 @@ kept_volume p q i = record {
 abbrev on_part : Caw → Setting Part
 on_part start = limited part_machine start
 
+-- A program's walk on a minidisk is one on its disk.
 pub program_walks : (start : Caw) (m n : Memory) (p q : Part) (end : Ending)
     → Walks as_reached part_machine start m p end n q → Walks as_reached disk_machine start m p.disk end n q.disk
 program_walks start m n p q end to =
     walked.reaches_seen (λ (x : Part). x.disk) (on_part start) disk_machine follows (as_reached m) _ _ to
 
+-- A program's walk on a minidisk leaves the rest of the volume as it is.
 pub program_keeps : (start : Caw) (m n : Memory) (p q : Part) (end : Ending)
     → Walks as_reached part_machine start m p end n q → KeepsVolume p q
 program_keeps start m n p q end to =
@@ -116,6 +118,7 @@ kept_same p = kept_volume p p (at_first p)
 
 -- ---- a program that was tried
 
+-- A minidisk is seen as its disk.
 pub part_viewed : IsViewed part_machine disk_machine disk_seen
 part_viewed = record {
   answer = λ p order. refl;
@@ -128,12 +131,14 @@ part_viewed = record {
   finished = λ p. refl;
 }
 
+-- A dry run that ends on a minidisk ends on its disk.
 pub walks_ok : (start : Caw) (m n : Memory) (p q : Part) (r : Result Ending DryRunError)
     → IfOk r (λ end. Walks as_reached part_machine start m p end n q)
     → IfOk r (λ end. Walks as_reached disk_machine start m p.disk end n q.disk)
 walks_ok start m n p q (Ok end) walk = program_walks start m n p q end walk
 walks_ok start m n p q (Err error) walk = tt
 
+-- A dry run leaves the rest of the volume as it is, however it ends.
 pub keeps_ok : (start : Caw) (m n : Memory) (p q : Part) (r : Result Ending DryRunError)
     → IfOk r (λ end. Walks as_reached part_machine start m p end n q) → (r ≡ Err tries.Memory → q ≡ p)
     → (r ≡ Err tries.FramesOut → q ≡ p) → KeepsVolume p q
@@ -143,12 +148,14 @@ keeps_ok start m n p q (Err tries.Memory) walk memory out =
 keeps_ok start m n p q (Err tries.FramesOut) walk memory out =
     subst (λ (x : Part). KeepsVolume p x) (sym (out refl)) (kept_same p)
 
+-- A loading that ends on a minidisk ends on its disk.
 pub loads_ok : (m n : Memory) (p q : Part) (r : Result Ending DryRunError)
     → IfOk r (λ end. WalksLoading part_machine m p end n q)
     → IfOk r (λ end. WalksLoading disk_machine m p.disk end n q.disk)
 loads_ok m n p q (Ok end) walk = loading_walks m n p q end walk
 loads_ok m n p q (Err error) walk = tt
 
+-- A loading leaves the rest of the volume as it is, however it ends.
 pub load_keeps_ok : (m n : Memory) (p q : Part) (r : Result Ending DryRunError)
     → IfOk r (λ end. WalksLoading part_machine m p end n q) → (r ≡ Err tries.Memory → q ≡ p)
     → (r ≡ Err tries.FramesOut → q ≡ p) → KeepsVolume p q

@@ -34,6 +34,7 @@ found : (device : ℕ) (volumes : List VolumeFormat) (ds : List SharedMinidisk)
     → position (λ (d : SharedMinidisk). d.address == device) ds ≡ position (is_disk_at device) (disks_on volumes ds)
 found device volumes ds = rw (place-map device volumes ds, length-map ds (disk_on volumes)) refl
 
+-- A minidisk is found by its address where the user sees it.
 pub found_at : (device : ℕ) (d : DisksValue)
     → position (λ (m : SharedMinidisk). m.address == device) d.minidisks ≡ position (is_disk_at device) (seen d)
 found_at device d = found device d.volumes d.minidisks
@@ -50,6 +51,7 @@ found_where : (device : ℕ) (volumes : List VolumeFormat) (d : SharedMinidisk) 
 found_where device volumes d ds true rest = refl
 found_where device volumes d ds false rest = rest
 
+-- The unit at an address is that of the minidisk there.
 pub unit_found : (device : ℕ) (volumes : List VolumeFormat) (ds : List SharedMinidisk)
     → option_map (λ (x : DiskAt). x.unit) (find (is_disk_at device) (disks_on volumes ds))
     ≡ option_map (λ (m : SharedMinidisk). (disk_on volumes m).unit)
@@ -58,36 +60,43 @@ unit_found device volumes [] = refl
 unit_found device volumes (d ∷ ds) =
     found_where device volumes d ds (d.address == device) (unit_found device volumes ds)
 
+-- A user sees as many disks as he has minidisks.
 pub as_many : (d : DisksValue) → length (seen d) ≡ length d.minidisks
 as_many d = length-map d.minidisks (disk_on d.volumes)
 
 -- ---- nothing changes but arms and senses
 
+-- Resetting minidisks resets the disks that the user sees.
 pub reset_seen : (volumes : List VolumeFormat) (ds : List SharedMinidisk)
     → disks_on volumes (map reset_minidisk ds) ≡ map reset_disk (disks_on volumes ds)
 reset_seen volumes [] = refl
 reset_seen volumes (d ∷ ds) = ap (λ (xs : List DiskAt). reset_disk (disk_on volumes d) ∷ xs) (reset_seen volumes ds)
 
+-- Clearing minidisks clears the disks that the user sees.
 pub cleared_seen : (volumes : List VolumeFormat) (ds : List SharedMinidisk)
     → disks_on volumes (map cleared_minidisk ds) ≡ map cleared_disk (disks_on volumes ds)
 cleared_seen volumes [] = refl
 cleared_seen volumes (d ∷ ds) =
     ap (λ (xs : List DiskAt). cleared_disk (disk_on volumes d) ∷ xs) (cleared_seen volumes ds)
 
+-- Resetting minidisks leaves them where they are.
 pub reset_placements : (ds : List SharedMinidisk) → placements_of (map reset_minidisk ds) ≡ placements_of ds
 reset_placements [] = refl
 reset_placements (d ∷ ds) = ap (λ (xs : List Placement). placement_of d ∷ xs) (reset_placements ds)
 
+-- Clearing minidisks leaves them where they are.
 pub cleared_placements : (ds : List SharedMinidisk) → placements_of (map cleared_minidisk ds) ≡ placements_of ds
 cleared_placements [] = refl
 cleared_placements (d ∷ ds) = ap (λ (xs : List Placement). placement_of d ∷ xs) (cleared_placements ds)
 
+-- Minidisks at the same places keep the other disks as they are.
 pub neighbours_still : (volumes : List VolumeFormat) (ds es : List SharedMinidisk) → placements_of es ≡ placements_of ds
     → KeepsOtherDisks (record { volumes = volumes; minidisks = ds }) (record { volumes = volumes; minidisks = es })
 neighbours_still volumes ds es same = record { placements = same; confined = confined_same (placements_of ds) volumes }
 
 -- ---- many stay
 
+-- The place of a minidisk is found at its index.
 pub placement_at : (ds : List SharedMinidisk) (j : ℕ) (e : SharedMinidisk) → slice_get ds j ≡ Some e
     → slice_get (placements_of ds) j ≡ Some (placement_of e)
 placement_at ds j e at = slice_get-map placement_of ds j ∙ ap (option_map placement_of) at
@@ -98,6 +107,7 @@ pub disk_stays : (volumes volumes' : List VolumeFormat) (e : SharedMinidisk)
 disk_stays volumes volumes' e same =
     ap (λ (v : VolumeFormat). record { address = e.address; unit = idle v (own_arm e.minidisk) }) same
 
+-- Disks whose cylinders stay are seen as before.
 pub disks_stay : (volumes volumes' : List VolumeFormat) (xs : List SharedMinidisk)
     → ((j : ℕ) (e : SharedMinidisk) → slice_get xs j ≡ Some e
     → slice (volume_at volumes' e.volume) e.minidisk.extent ≡ slice (volume_at volumes e.volume) e.minidisk.extent)
@@ -118,6 +128,7 @@ users_on volumes volumes' placements sizes users = record {
   apart = users.apart;
 }
 
+-- A minidisk of users is in its place on its volume.
 pub seated_at : (volumes : List VolumeFormat) (ds : List SharedMinidisk) (index : ℕ) (d : SharedMinidisk)
     → IsUsers volumes (placements_of ds) → slice_get ds index ≡ Some d → IsSeated volumes (placement_of d)
 seated_at volumes ds index d users is = users.seated index (placement_of d) (placement_at ds index d is)
@@ -129,10 +140,12 @@ seen_at volumes ds index d is = slice_get-map (disk_on volumes) ds index ∙ ap 
 
 -- ---- all are reset
 
+-- A minidisk that was reset is found at its index.
 pub reset_at : (ds : List SharedMinidisk) (index : ℕ) (d : SharedMinidisk) → slice_get ds index ≡ Some d
     → slice_get (map reset_minidisk ds) index ≡ Some (reset_minidisk d)
 reset_at ds index d is = slice_get-map reset_minidisk ds index ∙ ap (option_map reset_minidisk) is
 
+-- A disk that was reset is seen at its index.
 pub reset_seen_at : (volumes : List VolumeFormat) (ds : List SharedMinidisk) (index : ℕ) (d : SharedMinidisk)
     → slice_get ds index ≡ Some d
     → slice_get (map reset_disk (disks_on volumes ds)) index ≡ Some (disk_on volumes (reset_minidisk d))
@@ -143,6 +156,7 @@ pub users_reset : (volumes : List VolumeFormat) (ds : List SharedMinidisk) → I
     → IsUsers volumes (placements_of (map reset_minidisk ds))
 users_reset volumes ds users = subst (λ (s : List Placement). IsUsers volumes s) (sym (reset_placements ds)) users
 
+-- What keeps other disks after a reset keeps them before it.
 pub kept_reset : (volumes : List VolumeFormat) (ds : List SharedMinidisk) (new : DisksValue)
     → KeepsOtherDisks (record { volumes = volumes; minidisks = map reset_minidisk ds }) new
     → KeepsOtherDisks (record { volumes = volumes; minidisks = ds }) new
@@ -240,6 +254,7 @@ module _ (volumes volumes' : List VolumeFormat) (ds : List SharedMinidisk) (inde
 
 -- ---- all of them are there
 
+-- One more volume with cylinders makes all volumes there.
 pub there_more : (volumes : List VolumeFormat) (v : VolumeFormat) → AreThere volumes → 0 < length v.cylinders
     → AreThere (volumes ++ v ∷ [])
 there_more [] v there some zero lt = some

@@ -99,6 +99,7 @@ module _ (gone : List (List ℕ)) where
       → TellsRun n (having_printed gone old) (run_having_printed gone reported) is_short
   tells_run n old reported is_short h = tells_for reported.reason n old reported is_short h
 
+-- Lines that a console has printed before do not matter to what the machine does.
 pub do_not_matter : PrintedLinesDoNotMatter
 do_not_matter gone m = record {
   runs = λ n. runs gone n m;

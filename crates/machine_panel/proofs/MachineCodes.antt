@@ -74,6 +74,7 @@ mode_again Running = refl
 pub mode_code : IsCode mode_bytes
 mode_code = of_parts number number_code mode_number mode_of_number mode_again
 
+-- The bytes of a machine's parts are a code: they are read back, whatever follows them.
 pub saved_parts_code : IsCode saved_parts_bytes
 saved_parts_code =
     let last = both_code mode_bytes printed_bytes mode_code printed_code in

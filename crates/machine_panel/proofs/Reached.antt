@@ -11,6 +11,7 @@ key_zero_is_fine size keys access start n h =
     one_fine size keys 0 _ (inside size access start n h)
     (permitted_is keys 0 access start n _ (key_zero_permits keys access start n))
 
+-- Key zero is refused no range of storage.
 pub never_refused : (size : ℕ) (keys : List ℕ) (access : Access) (start n : ℕ) (fault : Fault) → start + n ≤ size
     → first_fault size keys 0 (record { access = access; start = start; count = n } ∷ []) ≡ Some fault → ⊥
 never_refused size keys access start n fault h e = let fine = key_zero_is_fine size keys access start n h in cc

@@ -19,6 +19,7 @@ after_look (Accepts taken) c rest h = ap does_something h
 after_look (AcceptsStatus status) c rest h = ap does_something h
 after_look Instructs c rest h = ap does_something h
 
+-- A running machine is ready exactly if it has work.
 pub ready_running : (p : Parts) (l : Next) → p.mode ≡ Running
     → ((memory : Memory) → l ≡ look (core_of (state_of p.cpu memory) p.pending p.subchannels)) → (memory : Memory)
     → has_work l ≡ is_ready (machine_of p memory)

@@ -28,6 +28,7 @@ lag_far a b n h = grind (arith, nat_tests)
 lag_after : (a b n : ℕ) → a ≤ b → lag_of a b n ≡ n
 lag_after a b n h = grind (arith, nat_tests)
 
+-- Up to the lag the source is read as it was.
 pub lagged_source : (source made : List ℕ) (lag k : ℕ) → k < lag → lagged source made lag k ≡ get_or source k 0
 lagged_source source made lag k h = grind (arith, nat_tests)
 

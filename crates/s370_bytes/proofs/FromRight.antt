@@ -2,6 +2,7 @@
 use Rattle.std.proofs.Common.{◌≡◌, ℕ, zero, suc, ◌-◌, ◌<◌, List, [], ◌∷◌, length, get_or, refl, ap, ◌∙◌, arith}
 use Rattle.s370_bytes.specs.Digits.{string_of}
 
+-- A string has its length.
 pub length-string_of : (n : ℕ) (f : ℕ → ℕ) → length (string_of n f) ≡ n
 length-string_of zero f = refl
 length-string_of (suc n) f = ap suc (length-string_of n f)

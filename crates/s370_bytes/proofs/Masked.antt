@@ -29,6 +29,7 @@ before_more mask k (suc n) h =
     (λ (other : k ≡ suc n → ⊥). omega (arith, before_more mask k n (omega (arith, other))))
     (cases_eq k (suc n))
 
+-- A chosen byte is one of those that are chosen.
 pub place_inside : (mask k : ℕ) → k < 4 → is_chosen mask k ≡ true → chosen_before mask k < chosen_count mask
 unfolding chosen_count
 place_inside mask k h e =

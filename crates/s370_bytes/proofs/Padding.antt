@@ -38,10 +38,12 @@ unloaded_is bytes pads made from zero pad n h p f =
     f ∙ p ∙ sym (rw e (padded_none pad n))
 unloaded_is bytes pads made from (suc k) pad n h p f = absurd (omega arith)
 
+-- A list of one value has its length.
 pub length-replicate : (n pad : ℕ) → length (replicate n pad) ≡ n
 length-replicate zero pad = refl
 length-replicate (suc n) pad = ap suc (length-replicate n pad)
 
+-- A list whose bytes are all the same is that byte repeated.
 pub replicate_is : (xs : List ℕ) (pad n : ℕ) → length xs ≡ n → ((j : ℕ) → j < n → get_or xs j 0 ≡ pad)
     → xs ≡ replicate n pad
 replicate_is [] pad zero l h = refl

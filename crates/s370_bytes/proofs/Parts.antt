@@ -396,6 +396,7 @@ abbrev pub InBlocks : ℕ → State → ℕ → ℕ → Type 0
 InBlocks n m r1 r2 = ((operand_of m.cpu r1).address % 2048 + n ≤ 2048)
     × ((operand_of m.cpu r2).address % 2048 + n ≤ 2048)
 
+-- Parts of a long move are done one after another.
 pub parts_are : (n k start : ℕ) (present : ℕ → Bool) (i : Instruction) (m : State) (r1 r2 : ℕ) → k ≡ 256 * (n + 1)
     → r1_of i ≡ r1 → r2_of i ≡ r2 → ArePairs r1 r2 → r1 < 15 → r2 < 15 → length m.cpu.general ≡ 16
     → (0 < n → InBlocks k m r1 r2) → AreWhole start m r1 r2 k → AreParts (suc n) start present i m (moved_by m r1 r2 k)

@@ -14,16 +14,19 @@ use Rattle.s370_rows.specs.Arithmetic.{order_code}
 use Rattle.s370_bytes.specs.Strings.{number}
 use Rattle.s370_bytes.specs.Compare.{equal_pairs}
 
+-- Putting bytes inside storage changes no length.
 pub length-put : (xs ys : List ℕ) (a : ℕ) → a + length ys ≤ length xs → length (put xs a ys) ≡ length xs
 unfolding put
 length-put xs ys a h = grind (arith, common_steps)
 
+-- Bytes below those that are put stay.
 pub put_below : (xs ys : List ℕ) (a j : ℕ) → a + length ys ≤ length xs → j < a
     → get_or (put xs a ys) j 0 ≡ get_or xs j 0
 unfolding put
 put_below xs ys a j h small =
     get_or_append_left (take a xs) _ 0 j (grind (arith, common_steps)) ∙ get_or-take a xs j 0 small
 
+-- Bytes that are put are read back.
 pub put_inside : (xs ys : List ℕ) (a j : ℕ) → a + length ys ≤ length xs → a ≤ j → j < a + length ys
     → get_or (put xs a ys) j 0 ≡ get_or ys (j - a) 0
 unfolding put
@@ -31,6 +34,7 @@ put_inside xs ys a j h low high =
     get_or-append_right (take a xs) _ a j 0 (grind (arith, common_steps)) low
     ∙ get_or_append_left ys _ 0 (j - a) (omega arith)
 
+-- Bytes above those that are put stay.
 pub put_above : (xs ys : List ℕ) (a j : ℕ) → a + length ys ≤ length xs → a + length ys ≤ j
     → get_or (put xs a ys) j 0 ≡ get_or xs j 0
 unfolding put
@@ -41,14 +45,17 @@ put_above xs ys a j h high =
     ∙ get_or-drop a xs (length ys + (j - a - length ys)) 0
     ∙ ap (λ (k : ℕ). get_or xs k 0) (omega arith)
 
+-- A byte of a range is that byte of storage.
 pub range_inside : (xs : List ℕ) (a n k : ℕ) → k < n → get_or (slice_range xs a (a + n)) k 0 ≡ get_or xs (a + k) 0
 range_inside xs a n k h =
     let e : a + n - a ≡ n = omega arith in
     rw e (get_or-take n (drop a xs) k 0 h ∙ get_or-drop a xs k 0)
 
+-- A range of storage has its length.
 pub length-range : (xs : List ℕ) (a n : ℕ) → a + n ≤ length xs → length (slice_range xs a (a + n)) ≡ n
 length-range xs a n h = let e : a + n - a ≡ n = omega arith in rw e (grind (arith, common_steps))
 
+-- A range that is put is read back.
 pub range_put : (xs ys : List ℕ) (a n : ℕ) → a + n ≤ length xs → length ys ≡ n
     → slice_range (put xs a ys) a (a + n) ≡ ys
 range_put xs ys a n h l =
@@ -85,6 +92,7 @@ put_range xs ys a n h l below above =
 
 -- ---- strings that are compared in groups
 
+-- Equal ranges have equal bytes.
 pub range_same : (xs ys : List ℕ) (a n k : ℕ) → slice_range xs a (a + n) ≡ slice_range ys a (a + n) → k < n
     → get_or xs (a + k) 0 ≡ get_or ys (a + k) 0
 range_same xs ys a n k e s = sym (range_inside xs a n k s) ∙ ap (λ (zs : List ℕ). get_or zs k 0) e
@@ -109,6 +117,7 @@ pow_some : (n : ℕ) → 1 ≤ 256 ^ n
 pow_some zero = omega arith
 pow_some (suc n) = rw pow-suc (omega (arith, pow_some n))
 
+-- A number of zero bytes is zero.
 pub number_zero : (xs : List ℕ) → ((k : ℕ) → k < length xs → get_or xs k 0 ≡ 0) → number xs ≡ 0
 number_zero [] h = refl
 number_zero (x ∷ xs) h =
@@ -116,6 +125,7 @@ number_zero (x ∷ xs) h =
     let f : number xs ≡ 0 = number_zero xs (λ k s. h (suc k) (omega arith)) in
     rw (e, f) (omega arith)
 
+-- A number with a byte that is not zero is more than zero.
 pub number_some : (xs : List ℕ) (k : ℕ) → k < length xs → 0 < get_or xs k 0 → 0 < number xs
 number_some [] k s h = absurd (omega arith)
 number_some (x ∷ xs) zero s h = let g : 1 * 1 ≤ x * 256 ^ length xs = mul-le 1 1 x (256 ^ length xs) h
@@ -150,10 +160,12 @@ compared_at (x ∷ xs) (y ∷ ys) (suc k) l p q e s d =
     (λ j t. e (suc j) (omega arith)) (omega arith) d in
     rw (h, m) (omega (arith, f))
 
+-- Ranges with equal bytes are equal.
 pub compared_same : (xs ys : List ℕ) → length xs ≡ length ys → ((j : ℕ) → j < length xs → get_or xs j 0 ≡ get_or ys j 0)
     → xs ≡ ys
 compared_same xs ys l e = same_number_lists xs ys l e
 
+-- The number of equal pairs ends at the first difference.
 pub equal_pairs_is : (xs ys : List ℕ) (k : ℕ) → length xs ≡ length ys → k ≤ length xs
     → ((j : ℕ) → j < k → get_or xs j 0 ≡ get_or ys j 0) → (k < length xs → get_or xs k 0 ≢ get_or ys k 0)
     → k ≡ equal_pairs xs ys

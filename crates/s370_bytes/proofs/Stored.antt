@@ -6,6 +6,7 @@ use Rattle.s370_rows.specs.declared.ending.Completion.TheVariants.{Done}
 use Rattle.s370_rows.specs.State.{state_of}
 use Rattle.s370_rows.specs.Rows.{fault_of, judged, checked, store_test, writes, outcome_of}
 
+-- A store that was tested leaves what the instruction says.
 pub wrote : (cpu : Cpu) (before after : Memory) (xs ys : List ℕ) (a at n : ℕ) → at ≡ a → ys ≡ xs
     → fault_of (state_of cpu before) (store_test at n ∷ []) ≡ None → after ≡ with_stored before at ys
     → outcome_of (state_of cpu before) (judged (state_of cpu before)

@@ -44,6 +44,7 @@ string_within n f = omega (arith, length-string_of n f)
 word_more : (xs : List ℕ) (a b c d n : ℕ) → length xs ≤ 4 * n → length (xs ++ (a ∷ b ∷ c ∷ d ∷ [])) ≤ 4 * suc n
 word_more xs a b c d n h = omega (arith, length-append xs (a ∷ b ∷ c ∷ d ∷ []))
 
+-- Words of registers take at most four bytes each.
 pub words_within : (general : List ℕ) (r n : ℕ) → length (words_from general r n) ≤ 4 * n
 words_within general r zero = omega arith
 words_within general r (suc n) = word_more (words_from general r n) _ _ _ _ n (words_within general r n)
@@ -67,6 +68,7 @@ chosen_length mask xs (suc k) =
 within_tested : (l k : ℕ) → l ≡ k → l ≤ tested_count k
 within_tested l k e = omega arith
 
+-- Chosen bytes take no more than were tested.
 pub chosen_within : (mask : ℕ) (xs : List ℕ) → length (chosen mask xs) ≤ tested_count (chosen_count mask)
 unfolding chosen chosen_count
 chosen_within mask xs = within_tested (length (chosen_from mask xs 4)) (chosen_before mask 4) (chosen_length mask xs 4)

@@ -72,6 +72,7 @@ row_either : (b : Bool) (x y : Row) → LeavesNone x.leaves → LeavesNone y.lea
 row_either true x y h k = h
 row_either false x y h k = k
 
+-- A computation that asks for no device asks for none when it is over.
 pub over_none : (r : Result Ended ProgramCode) → EndsNone r → LeavesNone (over_result r)
 over_none (Ok e) h = h
 over_none (Err code) h = tt
@@ -80,6 +81,7 @@ number_none : (r : Result Ended ProgramCode) → EndsNone r → LeavesNone (over
 number_none (Ok e) h = h
 number_none (Err code) h = tt
 
+-- A division asks for no device.
 pub division_none : (cpu : Cpu) (r : ℕ) (d : Option Division) → EndsNone (division_left cpu r d)
 division_none cpu r None = tt
 division_none cpu r (Some d) = tt
@@ -108,6 +110,7 @@ register_none (BranchRegister b) cpu place i = search (branch_none)
 register_none (BranchTo b) cpu place i = search (branch_none)
 register_none (BranchOnIndex b) cpu place i = search (either_asks)
 
+-- A row that fetches an operand asks for no device.
 pub fetch_none : (row : FetchRow) (m : State) (i : Instruction) → LeavesNone (fetch_row row m i).leaves
 fetch_none (Word op) m i = search (either_asks)
 fetch_none (Halfword op) m i = search (either_asks)

@@ -28,9 +28,11 @@ rest_fine m a n small e = elim (cases_lt 1 n) [
       ap (λ b. fault_of m (if b then fetch_test (a + 2) (2 * (n - 1)) ∷ [] else [])) more)
 ]
 
+-- An instruction has at most three halfwords.
 pub short : (opcode : ℕ) → halfwords_of opcode ≤ 3
 short opcode = grind (arith, nat_tests, common_steps)
 
+-- An instruction that may be fetched is the one in storage.
 pub fetch_finds : (m : State) (a : ℕ) → a % 2 ≡ 0 → first_fault (length m.bytes) m.keys m.cpu.psw.key
     (fetch_test a 6 ∷ []) ≡ None → (fetched m a).result ≡ Ok (instruction_at m.bytes a)
 fetch_finds m a even e =
@@ -80,6 +82,7 @@ made_same : (o o' s s' h h' t t' : ℕ) → o ≡ o' → s ≡ s' → h ≡ h' �
 made_same o o' s s' h h' t t' a b c d = ap (λ x. made x s h t) a ∙ ap (λ x. made o' x h t) b
     ∙ ap (λ x. made o' s' x t) c ∙ ap (λ x. made o' s' h' x) d
 
+-- Six bytes of storage are the parts of the instruction.
 pub six_hold : (bytes six : List ℕ) (a : ℕ) → six ≡ slice_range bytes a (a + 6) → get_or six 1 0 < 256 →
     made (get_or six 0 0) (get_or six 1 0) (from_be_bytes w16 (get_or six 2 0 ∷ get_or six 3 0 ∷ []))
     (from_be_bytes w16 (get_or six 4 0 ∷ get_or six 5 0 ∷ [])) ≡ instruction_at bytes a

@@ -30,16 +30,20 @@ use Rattle.s370_cpu.proofs.FewTests.{most_ranges, row_fits}
 
 -- ---- pages in a list
 
+-- At most so many is at most more.
 pub at_most : (m n : ℕ) (holds : ℕ → Type 0) → m ≤ n → AreAtMost m holds → AreAtMost n holds
 at_most m n holds l a = let few = a.few in record { pages = a.pages; few = omega arith; all = a.all }
 
+-- Fewer pages are at most as many.
 pub at_most_of : (n : ℕ) (holds others : ℕ → Type 0) → ((page : ℕ) → others page → holds page) → AreAtMost n holds
     → AreAtMost n others
 at_most_of n holds others f a = record { pages = a.pages; few = a.few; all = λ page h. a.all page (f page h) }
 
+-- Where there is none there are at most none.
 pub none_at_all : (holds : ℕ → Type 0) → ((page : ℕ) → holds page → ⊥) → AreAtMost 0 holds
 none_at_all holds f = record { pages = []; few = omega arith; all = λ page h. absurd (f page h) }
 
+-- Pages of two kinds are at most as many as both together.
 pub either_at_most : (m n : ℕ) (holds others : ℕ → Type 0) → AreAtMost m holds → AreAtMost n others
     → AreAtMost (m + n) (λ page. holds page ⊎ others page)
 either_at_most m n holds others a b =
@@ -76,6 +80,7 @@ one_touched t few = record {
   all = λ page h. in_ends t.start h.0 256 (t.start + 255) page (omega arith) (omega arith) (omega (arith, h.1)) h.2;
 }
 
+-- A range of at most 256 bytes touches at most two pages.
 pub touched : (ts : List Test) → All (λ t. t.count ≤ 256) ts → AreAtMost (2 * length ts) (Touches ts)
 touched [] few = none_at_all (Touches []) (λ page h. h)
 touched (t ∷ ts) few =
@@ -291,6 +296,7 @@ operands_few (InputOutput operation device) = omega arith
 operands_few (Privileged i ilc) = omega arith
 operands_few (Absent page) = omega arith
 
+-- A unit asks for few pages.
 pub units_ask_for_few_pages : UnitsAskForFewPages
 units_ask_for_few_pages m =
     let u = unit m in at_most (4 + operand_pages u.ran.stop) 8 (Asks m u.stages)

@@ -238,6 +238,7 @@ named_fits (Computes row) m place i h = none_fits _ _
 named_fits (Fetches row) m place i h = fetch_fits row m i h
 named_fits (Stores row) m place i h = store_fits row m i h
 
+-- Each row has few tests, and each of few bytes.
 pub row_fits : (m : State) (place : Place) (i : Instruction) → i.second_byte < 2 ^ 8 → Fits (row_of m place i)
 row_fits m place i h = named_fits (opcode_at i.opcode) m place i h
 
@@ -254,6 +255,7 @@ most_few (Some code) x = omega arith
 most_few None (Err code) = omega arith
 most_few None (Ok l) = ending_few l.ending
 
+-- Each instruction has few tests.
 pub few_tests : FewTests
 few_tests m place i h =
     let r = row_of m place i in let fits = row_fits m place i h in

@@ -74,6 +74,7 @@ abbrev LeavesTested : List Test → Result Left ProgramCode → Type 0
 LeavesTested ts (Err code) = Unit {0}
 LeavesTested ts (Ok l) = AreTested ts l.stores
 
+-- A row stores only what it tested, and leaves its rights as they were.
 pub record IsLawful (m : State) (ts : List Test) (l : Left) : Type 0 where
   pub stores : AreTested ts l.stores
   pub rights : StaysInItsRights m (after m l)
@@ -338,6 +339,7 @@ store_lawful MoveLong m i = search (either_lawful, registers, part_lawful)
 
 -- ---- all rows
 
+-- Each row of the table is lawful.
 pub row_lawful : (op : Opcode) (m : State) (place : Place) (i : Instruction) → RowIsLawful m (row_named op m place i)
 row_lawful Invalid m place i = tt
 row_lawful (Supervised c) m place i = supervised_lawful m (control_named c m i) m.cpu.psw.problem refl

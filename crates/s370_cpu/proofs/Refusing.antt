@@ -110,6 +110,7 @@ unless_undone : (m : State) (o : Option ProgramCode) (r : Result Left ProgramCod
 unless_undone m None r h = h
 unless_undone m (Some code) r h = tt
 
+-- A privileged instruction moves the address on or is refused.
 pub supervised_moves_on : (m : State) (place : Place) (i : Instruction) → is_supervised (opcode_at i.opcode) ≡ true
     → MovesOn m place (carried row_of m place i).ran
 supervised_moves_on m place i e =

@@ -199,5 +199,6 @@ fetched_still : (m : State) (ss : List (List Test)) (r : Result Instruction Prog
 fetched_still m ss (Err code) = (refl, refl)
 fetched_still m ss (Ok i) = let x = executed m i in executed_still m _ (place_at m (halfwords_of i.opcode)) x.result
 
+-- A unit that is refused leaves the state as it was.
 pub unit_still : (m : State) → StaysStill m (unit m).ran
 unit_still m = let f = fetched m m.cpu.psw.address in fetched_still m f.stages f.result

@@ -139,17 +139,21 @@ outcome_lawful m place i o e =
 
 -- ---- the laws over instructions
 
+-- Each byte that an instruction changes was tested.
 pub changed_bytes_were_tested : ChangedBytesWereTested
 changed_bytes_were_tested m place i o a e c = (outcome_lawful m place i o e).keeps.changed a c
 
+-- No instruction changes the size of storage.
 pub storage_keeps_its_size : StorageKeepsItsSize
 storage_keeps_its_size m place i o e = (outcome_lawful m place i o e).keeps.size
 
+-- No instruction changes a byte that its key protects.
 pub protection_holds : ProtectionHolds
 protection_holds m place i o a e some c =
     let lawful = outcome_lawful m place i o e in
     store_matches m.cpu.psw.key (get_or m.keys (a / 2048) 0) (lawful.matches a (lawful.keeps.changed a c)) some
 
+-- A program in the problem state stays in it.
 pub problem_state_holds : ProblemStateHolds
 problem_state_holds m place i o e = (outcome_lawful m place i o e).rights
 
@@ -195,8 +199,10 @@ fetched_lawful m ss (Ok i) = let x = executed m i in executed_lawful m _ (place_
 unit_lawful : (m : State) → IsLawfulState m (unit m).ran.state
 unit_lawful m = let f = fetched m m.cpu.psw.address in fetched_lawful m f.stages f.result
 
+-- Units change no byte that their key protects.
 pub units_are_protected : UnitsAreProtected
 units_are_protected m a = (unit_lawful m).bytes a
 
+-- Units leave their rights as they were.
 pub units_stay_in_their_rights : UnitsStayInTheirRights
 units_stay_in_their_rights m = (unit_lawful m).rights

@@ -76,6 +76,7 @@ few_of (x ∷ xs) ys d among =
     (λ e. d.0 (subst (λ (p : ℕ). Contains xs p) e h)) (among page (later x xs page h)) in
     omega (arith, few_of xs rest d.1 others, length-dropped at.0 ys at.1)
 
+-- Different pages that are needed are at most as many as may be needed.
 pub no_more : (n : ℕ) (needs : ℕ → Type 0) (pages : List ℕ) → AreAtMost n needs → AreDistinct pages
     → AllNeeded needs pages → length pages ≤ n
 no_more n needs pages a d all =
@@ -110,11 +111,13 @@ lacking_for needs size P Q wider l = record {
   short = wider l.page l.short;
 }
 
+-- An error that says which pages lack says it of more pages too.
 pub lacking_on_error : {A E : Type 0} (r : Result A E) (needs : ℕ → Type 0) (size : ℕ) (P Q : ℕ → Type 0)
     → ((page : ℕ) → P page → Q page) → OnErr r (IsLacking needs size P) → OnErr r (IsLacking needs size Q)
 lacking_on_error (Ok answer) needs size P Q wider h = tt
 lacking_on_error (Err error) needs size P Q wider h = lacking_for needs size P Q wider h
 
+-- A unit that was supplied with such pages was supplied with more.
 pub supplied_for : (said : Next) (old new : Core) (r : Result ⊤ Lack) (P Q : ℕ → Type 0)
     → ((page : ℕ) → P page → Q page) → SuppliesUnit said old r new P → SuppliesUnit said old r new Q
 supplied_for said old new (Ok done) P Q wider h = h

@@ -79,6 +79,7 @@ following_misses m m1 devices c2 present present1 (InputOutput operation device)
 following_misses m m1 devices c2 present present1 (Privileged i ilc) page e same h = absurd h.2
 following_misses m m1 devices c2 present present1 (Absent other) page e same h = absurd h.2
 
+-- Page 0 is not absent if it is present.
 pub away_0 : (present : ℕ → Bool) (n : ℕ) → present 0 ≡ true → present n ≡ false → n ≡ 0 → ⊥
 away_0 present n here away is = let there : present n ≡ true = rw is here in cc
 

@@ -34,6 +34,7 @@ use Rattle.s370_intr.specs.Laws.{NinePages, NinePagesEach}
 no_page : AreAtMost 0 (λ page. ⊥)
 no_page = none_at_all (λ page. ⊥) (λ page h. h)
 
+-- Page 0 is one page.
 pub page_0 : AreAtMost 1 (λ page. page ≡ 0)
 page_0 = record { pages = 0 ∷ []; few = omega arith; all = λ page e. (0, omega arith, sym e) }
 
@@ -102,12 +103,14 @@ instruction_needs c =
     (FollowNeeds stop left) (unit_asks c.processor) (follow_needs stop left) in
     at_most ((4 + operand_pages stop) + follow_pages stop) 8 (InstructionNeeds c) (omega (arith, in_place stop)) both
 
+-- A unit needs at most eight pages.
 pub eight_pages : (l : Next) (c : Core) → AreAtMost 8 (NeedsAt l c)
 eight_pages (Stops reason) c = at_most 0 8 (λ page. ⊥) (omega arith) no_page
 eight_pages (Accepts taken) c = at_most 1 8 (λ page. page ≡ 0) (omega arith) page_0
 eight_pages (AcceptsStatus status) c = at_most 1 8 (λ page. page ≡ 0) (omega arith) page_0
 eight_pages Instructs c = instruction_needs (configured c)
 
+-- A unit with its interruption needs at most nine pages.
 pub nine_pages : NinePages
 nine_pages c = at_most 8 9 (Needs c) (omega arith) (eight_pages (look c) c)
 
@@ -148,6 +151,7 @@ needed_whole c units reason other =
     at_most_of (9 * units) (NeededBefore c units) (RunNeeds c units reason)
     (λ page h. needed_by c units page reason other h) (needed_before c units)
 
+-- Each unit of a run needs at most nine pages.
 pub nine_pages_each : NinePagesEach
 nine_pages_each c units Stopped = needed_whole c units Stopped (λ e. cc)
 nine_pages_each c units Count = needed_whole c units Count (λ e. cc)

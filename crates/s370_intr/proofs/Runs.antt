@@ -114,11 +114,13 @@ does_no_more (suc k) (suc n) c c' reason e l h =
 
 -- ---- the pages that a run needs
 
+-- If pages of both lists are needed, those of the lists together are.
 pub all_needed : (needs : ℕ → Type 0) (xs ys : List ℕ) → AllNeeded needs xs → AllNeeded needs ys
     → AllNeeded needs (xs ++ ys)
 all_needed needs [] ys a b = b
 all_needed needs (x ∷ xs) ys a b = (a.0, all_needed needs xs ys a.1 b)
 
+-- Pages that are needed are needed where more is.
 pub more_needs : (needs others : ℕ → Type 0) (xs : List ℕ) → ((page : ℕ) → needs page → others page)
     → AllNeeded needs xs → AllNeeded others xs
 more_needs needs others [] f a = tt
@@ -240,6 +242,7 @@ looks_same m m' pending list e =
     said_same psw.extended psw'.extended (enabled_of m.cpu pending) (enabled_of m'.cpu pending) _ _
     (ap (λ (r : Rights). r.extended) e) (enabled_same m.cpu m'.cpu pending control mask) status
 
+-- A unit that is done is one instruction of the core.
 pub done_unit : (m m' : State) (pending : Pending) (list : List Subchannel)
     → (unit m).ran ≡ record { stop = Done; state = m' } → core_of m' pending list ≡ unit_at Instructs
     (core_of m pending list)
@@ -267,18 +270,22 @@ units_done (suc n) present m m' pending list (next, done, rights, rest) e =
 
 -- ---- an instruction that is carried out whole
 
+-- What is not false is true.
 pub is_so : (b : Bool) → not b ≡ false → b ≡ true
 is_so true e = refl
 is_so false e = cc
 
+-- A run of one instruction is that instruction.
 pub one_instruction : (c c' : Core) → look c ≡ Instructs → c' ≡ unit_at Instructs c → run 1 c ≡ all_done 1 c'
 one_instruction c c' e u = does_more 0 c c c' refl (subst Goes (sym e) tt) (rw e u)
 
+-- The core after an instruction is that of its configuration.
 pub instructed_core : (m m' : State) (pending : Pending) (list list' : List Subchannel)
     → configuration_of m' list' ≡ instructed (configuration_of m list)
     → core_of m' pending list' ≡ unit_at Instructs (core_of m pending list)
 instructed_core m m' pending list list' e = ap (λ (x : Configuration). with_configuration (core_of m pending list) x) e
 
+-- Equal configurations have the same core.
 pub same_core : (m m' : State) (pending : Pending) (list list' : List Subchannel)
     → configuration_of m' list' ≡ configuration_of m list → core_of m' pending list' ≡ core_of m pending list
 same_core m m' pending list list' e = ap (λ (x : Configuration). with_configuration (core_of m pending list) x) e

@@ -52,15 +52,18 @@ quick_done r present m ending m' h e =
     (quiet_outcome m r.refused (fault_of m r.tests) r.leaves h) in
     (e, q.0, q.1)
 
+-- A row that leaves rights and storage as they were is quick.
 pub quick_of : (r : Row) (present : ℕ → Bool) (m : State) (answer : Option Completion) (m' : State)
     → LeavesQuiet m r.leaves → MeetsAtOnce r present m answer m' → MeetsQuick r present m answer m'
 quick_of r present m None m' h e = e
 quick_of r present m (Some ending) m' h e = quick_done r present m ending m' h e
 
+-- A branch goes on in the loop, taken or not.
 pub branches_go_on : (b : Bool) (target : ℕ) → GoesOn (branches b target)
 branches_go_on true target = tt
 branches_go_on false target = tt
 
+-- An overflow whose mask is zero goes on in the loop.
 pub no_overflow : (b c : Bool) (code : ProgramCode) → c ≡ false → GoesOn (if b && c then Interrupted code else Done)
 no_overflow true c code e = rw e tt
 no_overflow false c code e = tt
@@ -73,15 +76,18 @@ part_quiet : (m : State) (b : Bool) (x y : Cpu) (ss : List Stored) → rights_of
 part_quiet m true x y ss h k = record { goes_on = tt; rights = h }
 part_quiet m false x y ss h k = record { goes_on = tt; rights = k }
 
+-- Either of two quiet rows is quiet.
 pub either_quiet : (m : State) (b : Bool) (r s : Row) → LeavesQuiet m r.leaves → LeavesQuiet m s.leaves
     → LeavesQuiet m (if b then r else s).leaves
 either_quiet m true r s h k = h
 either_quiet m false r s h k = k
 
+-- A row that changes registers alone is quiet.
 pub over_quiet : (m : State) (cpu : Cpu) → rights_of (record m { cpu = cpu }) ≡ rights_of m
     → LeavesQuiet m (Ok (over (record { ending = Done; cpu = cpu })))
 over_quiet m cpu h = record { goes_on = tt; rights = h }
 
+-- A long move is quiet.
 pub long_quiet : (m : State) (i : Instruction) → LeavesQuiet m (long_moved m i).leaves
 long_quiet m i = search (either_quiet, over_quiet, part_quiet)
 
@@ -103,6 +109,7 @@ pub quick_rights : (m : State) (place : Place) (r : Row) (present : ℕ → Bool
     → rights_of (record m' { cpu = cpu' }) ≡ rights_of m
 quick_rights m place r present ending cpu' m' q e = went m place ending cpu' m' e q.1 ∙ q.2
 
+-- A quick row is a unit of the machine.
 pub quick_unit : (m : State) (ilc : ℕ) (i : Instruction) (ending : Completion) (cpu' : Cpu) (present : ℕ → Bool)
     (m' : State) → Carries m ilc i → MeetsRow (row_of m (place_at m ilc) i) present m (Ok ending) m'
     → stopped (Ok ending) (place_at m ilc) m'.cpu ≡ record { stop = DoneStop; cpu = cpu' }

@@ -6,6 +6,7 @@ use Rattle.s370_store.proofs.Blocks.{block_granted, block_passes}
 use Rattle.s370_rows.specs.State.{State}
 use Rattle.s370_rows.specs.Rows.{Grants, code_of}
 
+-- A range in a block that may be accessed is granted.
 pub grants_in : {access : Access} (m : State) (present : ℕ → Bool) (first start n : ℕ)
     → MayAccess access (length m.bytes) m.keys present m.cpu.psw.key first → first ≤ start → start + n ≤ first + 2048
     → Grants m present (record { access = access; start = start; count = n } ∷ []) (Ok tt)

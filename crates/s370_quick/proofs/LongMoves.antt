@@ -94,6 +94,7 @@ pub record AreDone (n start second_byte : ℕ) (present : ℕ → Bool) (m m' : 
   pub here : start ≡ m'.cpu.psw.address
   pub stands : IsLongMoveAt m' present start second_byte
 
+-- Parts of a long move that are done are units that are done.
 pub parts_done : (n start second_byte : ℕ) (present : ℕ → Bool) (m m' : State) → second_byte < 256
     → start ≡ m.cpu.psw.address → IsLongMoveAt m present start second_byte
     → AreParts n start present (long_move second_byte) m m' → AreDone n start second_byte present m m'

@@ -22,6 +22,7 @@ use Rattle.s370_quick.proofs.Frequent.{IsQuiet, no_overflow}
 abbrev pub NoOverflow : Bool → State → Type 0
 NoOverflow overflows m = overflows ≡ true → nat_le 8 m.cpu.psw.program_mask ≡ false
 
+-- Arithmetic that cannot interrupt on overflow is quiet.
 pub arithmetic_quiet : (op : Arithmetic) (m : State) (r b : ℕ) → NoOverflow (is_signed op) m
     → IsQuiet m (over (arithmetic op m.cpu r b))
 arithmetic_quiet Load m r b none = record { goes_on = tt; rights = refl }
@@ -39,6 +40,7 @@ arithmetic_quiet And m r b none = record { goes_on = tt; rights = refl }
 arithmetic_quiet Or m r b none = record { goes_on = tt; rights = refl }
 arithmetic_quiet ExclusiveOr m r b none = record { goes_on = tt; rights = refl }
 
+-- A shift of a word that cannot interrupt on overflow is quiet.
 pub word_shift_quiet : (op : Shift) (m : State) (r n : ℕ) → NoOverflow (may_overflow (Computes (ShiftWord op))) m
     → IsQuiet m (over (word_shifted op m.cpu r n))
 word_shift_quiet Right m r n none = record { goes_on = tt; rights = refl }
@@ -46,6 +48,7 @@ word_shift_quiet Left m r n none = record { goes_on = no_overflow _ _ _ (none re
 word_shift_quiet RightLogical m r n none = record { goes_on = tt; rights = refl }
 word_shift_quiet LeftLogical m r n none = record { goes_on = tt; rights = refl }
 
+-- A shift of a pair that cannot interrupt on overflow is quiet.
 pub pair_shift_quiet : (op : Shift) (m : State) (r n : ℕ) → NoOverflow (may_overflow (Computes (ShiftPair op))) m
     → IsQuiet m (over (pair_shifted op m.cpu r n))
 pair_shift_quiet Right m r n none = record { goes_on = tt; rights = refl }

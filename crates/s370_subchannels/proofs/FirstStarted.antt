@@ -45,6 +45,7 @@ earlier number xs x s false c is lt h = (
       (λ yes. never (is_started number x) yes is),
 )
 
+-- One more subchannel is looked at for the first that was started.
 pub looked : (number : ℕ) (xs : List Subchannel) (x : Subchannel) (o : Option Subchannel) → IsFirstStarted number xs o
     → IsFirstStarted number (xs ++ x ∷ []) (first_of number o x)
 looked number xs x None h = alone number xs x (is_started number x) refl h

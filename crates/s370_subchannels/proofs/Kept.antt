@@ -18,14 +18,17 @@ kept : (device : ℕ) (f : Subchannel → Subchannel) (list : List Subchannel)
 kept device f [] e = refl
 kept device f (s ∷ ss) e = one_kept (is_at device s) f s ss (changed device f ss) (e s) (kept device f ss e)
 
+-- A new state of a subchannel leaves the addresses as they are.
 pub state_kept : (device : ℕ) (state : DeviceState) (list : List Subchannel)
     → addresses (with_state device state list) ≡ addresses list
 state_kept device state list = kept device (in_state state) list (λ s. refl)
 
+-- An attention leaves the addresses as they are.
 pub attention_kept : (device : ℕ) (gives : Bool) (list : List Subchannel)
     → addresses (with_attention device gives list) ≡ addresses list
 attention_kept device gives list = kept device (that_gives gives) list (λ s. refl)
 
+-- A start leaves the addresses as they are.
 pub last_start_kept : (device number : ℕ) (list : List Subchannel)
     → addresses (with_last_start device number list) ≡ addresses list
 last_start_kept device number list = kept device (last_started number) list (λ s. refl)

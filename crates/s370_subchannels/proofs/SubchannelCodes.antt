@@ -31,5 +31,6 @@ subchannel_code =
     (λ p. record { address = p.0; state = p.1.0; attention = p.1.1.0; last_start = p.1.1.1 })
     (λ s. refl)
 
+-- The bytes of subchannels are a code: they are read back, whatever follows them.
 pub subchannels_code : IsCode subchannels_bytes
 subchannels_code = each_code subchannel_bytes subchannel_code

@@ -76,6 +76,7 @@ module _ (deck : DeckValue) (decks : List DeckValue) (sense : ℕ) (first : Bool
         (slice_index_or deck.cards k []) e,
   )
 
+-- A reader reads its decks in their order.
 pub reads_decks_in_order : ReadsDecksInOrder
 reads_decks_in_order deck decks sense giving first flags =
     record {

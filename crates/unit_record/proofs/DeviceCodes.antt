@@ -23,6 +23,7 @@ target_again : (target : Target) → target_of_user (user_of_target target) ≡ 
 target_again targets.System = refl
 target_again (targets.User user) = refl
 
+-- The byte of a target is a code.
 pub target_code : IsCode target_bytes
 target_code = of_parts (optional number) (optional_code number number_code) user_of_target target_of_user target_again
 
@@ -34,6 +35,7 @@ sender_again : (sender : Sender) → sender_of_user (user_of_sender sender) ≡ 
 sender_again senders.System = refl
 sender_again (senders.User user) = refl
 
+-- The byte of a sender is a code.
 pub sender_code : IsCode sender_bytes
 sender_code = of_parts (optional number) (optional_code number number_code) user_of_sender sender_of_user sender_again
 
@@ -44,9 +46,11 @@ entry_code =
     of_parts (both number bytes) (both_code number bytes number_code bytes_code)
     (λ (e : EntryValue). (e.code, e.bytes)) (λ p. record { code = p.0; bytes = p.1 }) (λ e. refl)
 
+-- The bytes of entries are a code: they are read back, whatever follows them.
 pub entries_code : IsCode entries_bytes
 entries_code = each_code entry_bytes entry_code
 
+-- The bytes of a console are a code: it is read back, whatever follows it.
 pub console_code : IsCode console_bytes
 console_code =
     let lines = each_code bytes bytes_code in
@@ -69,6 +73,7 @@ console_code =
     })
     (λ c. refl)
 
+-- The bytes of a punch are a code: it is read back, whatever follows it.
 pub punch_code : IsCode punch_bytes
 punch_code =
     let card = both_code flag bytes flag_code bytes_code in
@@ -79,6 +84,7 @@ punch_code =
     (λ p. record { entries = p.0; sense = p.1.0; is_punching = p.1.1.0; card = p.1.1.1 })
     (λ p. refl)
 
+-- The bytes of a printer are a code: it is read back, whatever follows it.
 pub printer_code : IsCode printer_bytes
 printer_code =
     let code = optional_code number number_code in

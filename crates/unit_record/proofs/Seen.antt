@@ -68,6 +68,7 @@ console_ends c = by_end c.ends_line
     by_end true = refl
     by_end false = refl
 
+-- A dry run of the console is one of what it has seen.
 pub views_console : ViewsConsole
 views_console = record {
   answer = λ c order. refl;
@@ -113,6 +114,7 @@ punch_ends p = by_punching p.is_punching
     by_punching true = refl
     by_punching false = refl
 
+-- A dry run of the punch is one of what it has seen.
 pub views_punch : ViewsPunch
 views_punch = record {
   answer = λ p order. refl;
@@ -158,6 +160,7 @@ printer_ends : (p : PrinterState) (printing : Option ℕ) → printer_seen p ≡
 printer_ends p None = refl
 printer_ends p (Some code) = refl
 
+-- A dry run of the printer is one of what it has seen.
 pub views_printer : ViewsPrinter
 views_printer = record {
   answer = λ p order. refl;

@@ -17,6 +17,7 @@ one_more xs x = length-append xs (x ∷ [])
 punch_took_one : (p : PunchState) (b : ℕ) → length p.card < 80 → punch_took p b ≡ record p { card = p.card ++ b ∷ [] }
 punch_took_one p b lt = rw (below (length p.card) 80 lt)
 
+-- A punch that takes at most 80 bytes has them on its card.
 pub punch_took_all : (p : PunchState) (bytes : List ℕ) → length p.card + length bytes ≤ 80
     → after_taking punch_machine p bytes ≡ record p { card = p.card ++ bytes }
 punch_took_all p [] le = let with : List ℕ
@@ -32,6 +33,7 @@ printer_took_one : (p : PrinterState) (b : ℕ) → length p.line < 132
     → printer_took p b ≡ record p { line = p.line ++ b ∷ [] }
 printer_took_one p b lt = rw (below (length p.line) 132 lt)
 
+-- A printer that takes at most 132 bytes has them on its line.
 pub printer_took_all : (p : PrinterState) (bytes : List ℕ) → length p.line + length bytes ≤ 132
     → after_taking printer_machine p bytes ≡ record p { line = p.line ++ bytes }
 printer_took_all p [] le = let with : List ℕ
@@ -50,6 +52,7 @@ console_took_one : (c : ConsoleState) (b : ℕ) → length c.unfinished < 132 �
     → console_took c b ≡ record c { unfinished = c.unfinished ++ printable_of b ∷ []; wanted = c.wanted - 1 }
 console_took_one c b lt wants = rw (below 0 c.wanted wants, unequal (length c.unfinished) 132 lt)
 
+-- A console that takes bytes has them on its unfinished line.
 pub console_took_all : (c : ConsoleState) (bytes : List ℕ) → length c.unfinished + length bytes ≤ 132
     → length bytes ≤ c.wanted
     → after_taking console_machine c bytes

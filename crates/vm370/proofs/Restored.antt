@@ -23,6 +23,7 @@ use Rattle.sessions.specs.Schedule.{user_said}
 use Rattle.sessions.specs.Transcript.{last_lines}
 use Rattle.vm370.specs.Goes.{HasHappened, as_said, seen_in, system_goes}
 
+-- A system keeps the base of its sessions.
 pub base : KeepsBase system_goes
 base = record {
   reflexive = λ one. refl;
@@ -31,6 +32,7 @@ base = record {
   kept = λ old new what reply h. h.step.directory;
 }
 
+-- A restored system is the saved one.
 pub one_system : IsOneSystem → IsOneBySaved system_goes
 one_system law one other bytes directory is are = same_but_kept one other (law one other bytes directory is are)
 

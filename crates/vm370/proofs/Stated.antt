@@ -22,6 +22,7 @@ pub known_count : (directory : List DirectoryUser) → length (known_users direc
 known_count [] = refl
 known_count (one ∷ directory) = ap suc (known_count directory)
 
+-- Users have the names that the directory gives.
 pub known_names : (directory : List DirectoryUser)
     → map (λ user. user.name) (known_users directory) ≡ map (λ user. user.name) directory
 known_names [] = refl
@@ -81,6 +82,7 @@ together : (step : Step SystemView) (steps : List (Step SystemView)) (one : Syst
 together step steps one more e f =
     ap (λ (s : Step SystemView). s ∷ map of_system more) e ∙ ap (λ (l : List (Step SystemView)). step ∷ l) f
 
+-- Events of a system are histories of it.
 pub histories : AreHistories
 histories first last [] h = ([], refl, h)
 histories first last (step ∷ steps) h =
