@@ -49,6 +49,7 @@ different_apart : (xs : List ℕ) → AreDifferent xs → are_apart xs ≡ true
 different_apart [] h = refl
 different_apart (x ∷ xs) h = rw (h.0, different_apart xs h.1) refl
 
+-- A user with lawful devices can have them all attached.
 pub lawful_attach : (user : DirectoryUser) → HasLawfulDevices user → can_attach (addresses_of user) ≡ true
 lawful_attach user h =
     let few : nat_le (length (addresses_of user)) 32 ≡ true = few_true (length (addresses_of user)) h.few in
@@ -57,14 +58,17 @@ lawful_attach user h =
     few_true : (n : ℕ) → n ≤ 32 → nat_le n 32 ≡ true
     few_true n h = grind (arith, nat_tests)
 
+-- The addresses of a user's placed minidisks are those of his statements.
 pub seat_addresses : (volumes : List VolumeFormat) (ms : List MinidiskStatement)
     → map (λ (d : SharedMinidisk). d.address) (seats_of volumes ms) ≡ map (λ (m : MinidiskStatement). m.address) ms
 seat_addresses volumes [] = refl
 seat_addresses volumes (m ∷ ms) = ap (λ (xs : List ℕ). m.address ∷ xs) (seat_addresses volumes ms)
 
+-- A refusal that is reported is the one that was found.
 pub err_same : {A E : Type 0} (x y : E) → (let reported : Result A E = Err x in reported ≡ Err y) → x ≡ y
 err_same x y e = cc
 
+-- A device that is there twice is reported as such.
 pub device_told : (e : AttachError) → boot_error e ≡ errors.DuplicateDevice → e ≡ attaching.Address
 device_told attaching.Memory h = cc
 device_told attaching.Address h = refl
@@ -82,6 +86,7 @@ new_more volumes (s ∷ ss) (u ∷ us) seat user h n = (h.0, new_more volumes ss
 abbrev pub blank : List DirectoryUser → List (List ℕ)
 blank users = map (λ pages. replicate (pages * 4096) 0) (map (λ (user : DirectoryUser). user.pages) users)
 
+-- Users who were just made are as a boot leaves them.
 pub new_users : (volumes : List VolumeFormat) (seats : List UserParts) (users : List DirectoryUser)
     → AreNew volumes seats users → AreNewUsers volumes users (users_of seats volumes (blank users))
 new_users volumes [] [] h = tt
@@ -119,6 +124,7 @@ all_fit volumes (s ∷ ss) [] h k l = absurd h
 all_fit volumes (s ∷ ss) (u ∷ us) h zero l = fits_new volumes s u h.0
 all_fit volumes (s ∷ ss) (u ∷ us) h (suc k) l = all_fit volumes ss us h.1 k (omega arith)
 
+-- A system whose users were just made is whole.
 pub whole_new : (volumes : List VolumeFormat) (seats : List UserParts) (users : List DirectoryUser)
     → AreNew volumes seats users → length users ≤ 64 → IsWhole seats (blank users) users
 whole_new volumes seats users h few =
@@ -141,6 +147,7 @@ pub new_supply : (supply : FrameSupply) (frames slots : ℕ) → supply.owners �
 new_supply supply frames slots owners taken pins order count =
     made supply.owners _ supply.slots _ supply.pins _ supply.order _ supply.page_ins _ owners taken pins order count
 
+-- A pool that is free lies between two units.
 pub between_new : (supply : FrameSupply) (frames slots : ℕ) → supply ≡ free_supply frames slots → 16 ≤ frames
     → IsBetweenUnits supply
 between_new supply frames slots is enough =
@@ -205,6 +212,7 @@ boot_seen us directory volumes ss ks ks' supply supply' b e = rw (b, e) refl
 
 -- ---- where minidisks are
 
+-- The addresses of minidisks are those of the disks that the user sees.
 pub disk_addresses : (volumes : List VolumeFormat) (ds : List SharedMinidisk)
     → map (λ (d : SharedMinidisk). d.address) ds ≡ map (λ (disk : DiskAt). disk.address) (disks_on volumes ds)
 disk_addresses volumes [] = refl
@@ -219,6 +227,7 @@ seat_new volumes (s ∷ ss) [] h k = absurd h
 seat_new volumes (s ∷ ss) (u ∷ us) h zero = h.0.seated
 seat_new volumes (s ∷ ss) (u ∷ us) h (suc k) = seat_new volumes ss us h.1 k
 
+-- The placements of new users are those of their statements.
 pub placements_new : (volumes : List VolumeFormat) (seats : List UserParts) (users : List DirectoryUser)
     → AreNew volumes seats users → (k : ℕ)
     → get_or (placements_among seats) k [] ≡ placements_of (seats_of volumes (minidisks_at users k))
@@ -247,6 +256,7 @@ lawful_on [] user h is (suc k) = All-nil IsLawful
 lawful_on (u ∷ us) user h is zero = h zero
 lawful_on (u ∷ us) user h is (suc k) = lawful_on us user (λ j. h (suc j)) is k
 
+-- New users have their minidisks in place, apart from each other.
 pub seated_new : (volumes : List VolumeFormat) (seats : List UserParts) (users : List DirectoryUser)
     → AreNew volumes seats users → AreApart users → ((j : ℕ) → AreLawful (minidisks_at users j))
     → find (user_lacks volumes) users ≡ None → position (user_is_past volumes) users ≡ None → AreSeated seats volumes

@@ -448,6 +448,7 @@ outputs_again (e ∷ users) =
     ∙ ap (λ (o : List (List ℕ)). first o ∷ users_having_printed (outputs users) (map unprinted users)) (sym
     (append-nil e.machine.output))
 
+-- Systems that agree but for cached programs go on alike.
 pub same_but_kept : (one other : SystemView) → AgreeButKept one other → GoesOnAs one other
 same_but_kept one other agree = record {
   lines = [];
@@ -455,6 +456,7 @@ same_but_kept one other agree = record {
       (sym agree);
 }
 
+-- Each step goes on from a system that has forgotten lines as from the one that has them.
 pub steps_go_on : StepsGoOn
 steps_go_on = record {
   reflexive = λ one. record { lines = []; same = refl };
@@ -477,6 +479,7 @@ steps_go_on = record {
 
 -- ---- a system that has forgotten them
 
+-- Forgetting printed lines keeps the base of each user.
 pub bases_kept : (seats : List SeatParts) → map base_of (map seat_unprinted seats) ≡ map base_of seats
 bases_kept [] = refl
 bases_kept (s ∷ seats) = ap (λ (bases : List SeatBase). base_of s ∷ bases) (bases_kept seats)

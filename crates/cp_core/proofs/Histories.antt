@@ -6,6 +6,7 @@ use Rattle.cp_core.specs.Local.{local}
 use Rattle.cp_core.specs.System.{SystemView, user_at}
 use Rattle.cp_core.proofs.Led.{lives_on}
 
+-- The history of a system is to each user that of his bare machine.
 pub history : EachIsBare
 history first last [] e user = ap (λ (s : SystemView). user_at s user) e
 history first last (step ∷ steps) h user =

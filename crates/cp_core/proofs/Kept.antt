@@ -25,17 +25,20 @@ pub either : (b : Bool) (X : Type 0) → (b ≡ true → X) → (b ≡ false →
 either true X f g = f refl
 either false X f g = g refl
 
+-- As many pins are there after a loan as before it.
 pub marks_left : (old new : Dat) → GivesBack old new
     → length (lent_pool new).supply.pins ≡ length (lent_pool old).supply.pins
 marks_left old new given =
     ap (λ (s : FrameSupply). length s.pins) given.supply ∙ length-replicate (length (lent_pool old).supply.pins) false
 
+-- As many owners are there after a loan as before it.
 pub lengths_left : (old new : Dat) → GivesBack old new
     → length (lent_pool new).supply.owners ≡ length (lent_pool old).supply.owners
 lengths_left old new given =
     ap (λ (s : FrameSupply). length s.owners) given.supply ∙ length-map (lent_pool old).supply.owners
     (without (user_of old))
 
+-- After a loan the pool is given back as it has to be.
 pub given_back : (old new : Dat) → GivesBack old new
     → IsGivenBack (user_of old) (lent_pool old).supply (lent_pool new).supply
 given_back old new given = record {

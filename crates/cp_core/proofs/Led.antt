@@ -53,6 +53,7 @@ stays_where f one old new e h user false t =
     let other : user ≢ one = grind (arith, common_steps) in
     ap f (ap (λ (states : List Equipped). get_or states user nobody) e ∙ (rw get_or-set_other refl))
 
+-- What one user's step leaves of him stays of all users.
 pub stays_each : {A : Type 0} (f : Equipped → A) (one : ℕ) (old new : List Equipped)
     → new ≡ set old one (get_or new one nobody) → f (get_or new one nobody) ≡ f (get_or old one nobody) → (user : ℕ)
     → f (get_or new user nobody) ≡ f (get_or old user nobody)
@@ -67,6 +68,7 @@ others_stay one old new e user t =
 
 -- ---- what is delivered comes to its receiver
 
+-- What a delivery brings a user is an event of his own machine.
 pub come_led : (old : SystemView) (step : Step) (come : Delivery → Local) (delivered : Option Delivered)
     (middle new : SystemView) → HasReceived come delivered middle new
     → ((what : Delivery) → come what ≡ coming old step what) → (user : ℕ)
@@ -103,6 +105,7 @@ printer_kept : (user index : ℕ) (e : Equipped) (what : Delivery) (old new : Eq
 printer_kept user index e (deliveries.Deck number) old new h = ap (λ (x : Equipped). x.devices.printed) h
 printer_kept user index e (deliveries.Message line) old new h = ap (λ (x : Equipped). x.devices.printed) h
 
+-- A delivery leaves the punch files of all users as they are.
 pub punch_stays : (user index : ℕ) (e : Equipped) (delivered : Option Delivered) (middle new : SystemView)
     → HasReceived (comes_by_line user index e) delivered middle new → (u : ℕ)
     → (user_at new u).devices.punched ≡ (user_at middle u).devices.punched
@@ -111,6 +114,7 @@ punch_stays user index e (Some d) middle new h u =
     stays_each (λ (x : Equipped). x.devices.punched) d.to middle.users new.users h.others
     (punch_kept user index e d.what (user_at middle d.to) (user_at new d.to) h.comes) u
 
+-- A delivery leaves the printer files of all users as they are.
 pub printer_stays : (user index : ℕ) (e : Equipped) (delivered : Option Delivered) (middle new : SystemView)
     → HasReceived (comes_by_line user index e) delivered middle new → (u : ℕ)
     → (user_at new u).devices.printed ≡ (user_at middle u).devices.printed

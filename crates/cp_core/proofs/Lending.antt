@@ -46,6 +46,7 @@ abbrev pub IsSeen : QueuesValue → List SeatParts → List VolumeFormat → Poo
 IsSeen q seats volumes pool directory files is_spent old =
     seen (seats_on q seats) volumes pool.storages directory pool.supply files is_spent ≡ old
 
+-- The user at a place is the one whose parts are there.
 pub seat_at : (q : QueuesValue) (seats : List SeatParts) (volumes : List VolumeFormat) (pool : Pool)
     (directory : List DirectoryUser) (us : List Equipped) (user : ℕ) (s seat : SeatParts)
     → IsSystem (seats_on q seats) volumes pool directory × AreOwners seats q

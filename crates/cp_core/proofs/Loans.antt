@@ -124,10 +124,12 @@ chosen : (b : Bool) (o : Option ℕ) (place : ℕ) → (if b then o else None) �
 chosen true o place e = e
 chosen false o place e = cc
 
+-- Inside the range what is there is reported.
 pub told_inside : (b : Bool) (o : Option ℕ) → b ≡ true → (if b then o else None) ≡ o
 told_inside true o e = refl
 told_inside false o e = cc
 
+-- Past the range nothing is reported.
 pub told_past : (b : Bool) (o : Option ℕ) → b ≡ false → (if b then o else None) ≡ None
 told_past true o e = cc
 told_past false o e = refl
@@ -151,6 +153,7 @@ slot_once s user page (Some slot) e =
     λ other other_page there.
     same_frame s.supply.slots other other_page user page slot (chosen _ _ slot there) (chosen _ _ slot (sym e))
 
+-- What follows holds where no value is there.
 pub none_so : {X : Type 0} (o : Option X) (P Q : Type 0) → (P → Q) → IfNone o P → IfNone o Q
 none_so None P Q f h = f h
 none_so (Some x) P Q f h = tt

@@ -29,10 +29,12 @@ use Rattle.cp_core.specs.declared.delivery.Parcel.TheVariants as parcels
 use Rattle.cp_core.proofs.Systems.{get-users, has_seat}
 use Rattle.cp_core.specs.Owners.{AreOwners}
 
+-- The parts of a user with his files are found at his place.
 pub seat_here : (q : QueuesValue) (seats : List SeatParts) (i : ℕ) (s : SeatParts) → s ≡ get_or seats i s
     → seat_on q s ≡ get_or (seats_on q seats) i (seat_on q s)
 seat_here q seats i s same = ap (seat_on q) same ∙ sym (get_or-map (seat_on q) seats i s)
 
+-- There are as many users with their files as users.
 pub length-seats : (q : QueuesValue) (seats : List SeatParts) → length (seats_on q seats) ≡ length seats
 length-seats q [] = refl
 length-seats q (s ∷ ss) = ap suc (length-seats q ss)
@@ -53,6 +55,7 @@ all_same : (q q' : QueuesValue) (seats : List SeatParts) → SeeSame q q' seats 
 all_same q q' [] h = refl
 all_same q q' (s ∷ ss) h = rw (h 0 s refl tt, all_same q q' ss (λ k x at differs. h (suc k) x at tt)) refl
 
+-- Users with their files are set as the users are.
 pub set-seats : (q q' : QueuesValue) (seats : List SeatParts) (i : ℕ) (s' : SeatParts)
     → SeeSame q q' seats (λ k. k ≡ i → ⊥) → seats_on q' (set seats i s') ≡ set (seats_on q seats) i (seat_on q' s')
 set-seats q q' [] i s' h = refl
@@ -87,6 +90,7 @@ seat_files : (s : SeatParts) (f g : UserFiles) → f ≡ g
     })
 seat_files s f g e = rw e refl
 
+-- Queues that agree on other users show these the same files.
 pub see_same : (q q' : QueuesValue) (seats : List SeatParts) (i : ℕ) → AreOwners seats q
     → KeepsOthers i q.users q'.users → SeeSame q q' seats (λ k. k ≡ i → ⊥)
 see_same q q' seats i owners keeps k s at differs =
@@ -104,6 +108,7 @@ got_set (x ∷ xs) (suc i) s' zero s Q now before at = before 0 s at
 got_set (x ∷ xs) (suc i) s' (suc k) s Q now before at =
     got_set xs i s' k s (λ j y. Q (suc j) y) now (λ j y h. before (suc j) y h) at
 
+-- Users own their files still after one has changed his own.
 pub owners_on : (q q' : QueuesValue) (seats : List SeatParts) (i : ℕ) (s' : SeatParts) → AreOwners seats q
     → KeepsOthers i q.users q'.users → s'.devices.user ≡ i → AreOwners (set seats i s') q'
 owners_on q q' seats i s' owners keeps own = record {
@@ -118,6 +123,7 @@ owner_at [] i s h e = absurd (omega arith)
 owner_at (x ∷ xs) zero s h e = ap (λ (y : SeatParts). Some y) (sym e)
 owner_at (x ∷ xs) (suc i) s h e = owner_at xs i s (omega arith) e
 
+-- The owner of the files at a place is the user there.
 pub owner_is : (q : QueuesValue) (seats : List SeatParts) (i : ℕ) (s : SeatParts) → AreOwners seats q → i < length seats
     → s ≡ get_or seats i s → s.devices.user ≡ i
 owner_is q seats i s owners inside same = owners.own i s (owner_at seats i s inside same)
@@ -182,6 +188,7 @@ files_none zero user = refl
 files_none (suc n) zero = refl
 files_none (suc n) (suc user) = files_none n user
 
+-- With empty queues each user has no files.
 pub seats_new : (q : QueuesValue) (seats : List SeatParts) (n : ℕ) → q.users ≡ replicate n no_files
     → seats_on q seats ≡ map unowned seats
 seats_new q [] n e = refl
@@ -191,6 +198,7 @@ seats_new q (s ∷ ss) n e =
     (ap (λ (us : List UserFiles). files_of us s.devices.user) e ∙ files_none n s.devices.user) in
     rw (first, seats_new q ss n e) refl
 
+-- With empty queues each user owns his files.
 pub owners_new : (q : QueuesValue) (seats : List SeatParts)
     → ((k : ℕ) (s : SeatParts) → slice_get seats k ≡ Some s → s.devices.user ≡ k)
     → q.users ≡ replicate (length seats) no_files → AreOwners seats q
@@ -206,6 +214,7 @@ more_at (y ∷ ys) s zero x Q now before at = before 0 x at
 more_at (y ∷ ys) s (suc k) x Q now before at =
     more_at ys s k x (λ j z. Q (suc j) z) now (λ j z h. before (suc j) z h) at
 
+-- One more user owns the files at the next place.
 pub owners_more : (seats : List SeatParts) (s : SeatParts) → s.devices.user ≡ length seats
     → ((k : ℕ) (x : SeatParts) → slice_get seats k ≡ Some x → x.devices.user ≡ k) → (k : ℕ) (x : SeatParts)
     → slice_get (seats ++ s ∷ []) k ≡ Some x → x.devices.user ≡ k

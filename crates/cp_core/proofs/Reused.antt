@@ -24,6 +24,7 @@ UnitReuses r d start unit done s = HasReused (reuse_of r) d start unit done (reu
 abbrev pub DiskReuses : GuestChannels → Dat → Caw → ℕ → Bool → GuestChannels → Type 0
 DiskReuses r d start index done s = HasReusedDisk (reuse_of r) d start index done (reuse_of s)
 
+-- A program that starts reuses the cached one exactly where the machine says so.
 pub starts : (r s : GuestChannels) (d : Dat) (kind : Option AttachedDevice) (start : Option Caw) (done : Bool)
     → StartReuses UnitReuses DiskReuses r d s kind start done → Starts (reuse_of r) d (reuse_of s) kind start done
 starts r s d None start done same = ap reuse_of same
@@ -39,6 +40,7 @@ loads : (r s : GuestChannels) (b : Bool) → LoadForgets Forgets r s b
 loads r s true left = left
 loads r s false left = ap reuse_of left
 
+-- A line forgets cached programs exactly where the machine says so.
 pub forgets : (r s : GuestChannels) (asked : Request) (e : Equipped) → LineForgets Forgets r s asked e
     → LineForgets IsForgotten (reuse_of r) (reuse_of s) asked e
 forgets r s LogsOn e left = left

@@ -115,6 +115,7 @@ run_lives asked user old new before after ran h = (
   refl,
 )
 
+-- A run is a step of the system.
 pub run_step : (old new : SystemView) (user asked : ℕ) (ran : RanUnits) (reported : UserResponse) (lines : ℕ)
     → HasRun asked user (user_at old user) old.supply ran (user_at new user) new.supply → IsLent old user new
     → IsBetweenUnits old.supply → IsBetweenUnits new.supply → reported ≡ saying (notice_of ran.reason)
@@ -155,6 +156,7 @@ ticked_output modes.Running m = refl
 ticked_output modes.Stopped m = refl
 ticked_output modes.Off m = refl
 
+-- A tick that is done is a step of the system.
 pub tick_done : (old new : SystemView) (user : ℕ) (done : Unit {0})
     → HasTicked user (user_at old user) old.supply (Ok done) (user_at new user) new.supply → IsLent old user new
     → IsBetweenUnits old.supply → IsBetweenUnits new.supply
@@ -184,6 +186,7 @@ tick_done old new user done h lent rest between =
       };
     }
 
+-- A tick that is out of frames is a step of the system.
 pub tick_out : (old new : SystemView) (user : ℕ) (out : NoRoom)
     → HasTicked user (user_at old user) old.supply (Err out) (user_at new user) new.supply → IsLent old user new
     → IsBetweenUnits old.supply → IsBetweenUnits new.supply
@@ -239,6 +242,7 @@ noted_same user old e e' r s =
     ∙ ap (λ (x : List FileValue). note_where (nat_lt a (length e'.devices.punched)) user (kinds.Punch a)
     ++ note_where (nat_lt b (length x)) user (kinds.Printer b)) s
 
+-- A line that is done is a step of the system.
 pub line_done : (old middle new : SystemView) (user : ℕ) (typed : Bor (List ℕ)) (reported : LineOutcome)
     (said' : UserResponse) (lines : ℕ) (delivered : Option Delivered)
     → HasTyped (world_of old user) user typed.now (user_at old user) old.supply (Ok reported) (user_at middle user)
@@ -312,6 +316,7 @@ none_since n = grind (arith, nat_tests)
 none_closed : (user : ℕ) (e : Equipped) → closed_by user e e ≡ []
 none_closed user e = rw (none_since (length e.devices.punched), none_since (length e.devices.printed)) refl
 
+-- A line that is out of frames is a step of the system.
 pub line_out : (old new : SystemView) (user : ℕ) (typed : Bor (List ℕ))
     → HasTyped (world_of old user) user typed.now (user_at old user) old.supply (Err errors.FramesOut)
     (user_at new user) new.supply → IsLent old user new → IsBetweenUnits old.supply → IsBetweenUnits new.supply
@@ -400,6 +405,7 @@ line_cut old middle new user typed reported h lent rest between needs users supp
 
 -- ---- a serve
 
+-- A serve that is done is a step of the system.
 pub serve_done : (old new : SystemView) (user device : ℕ) (done : Bool) (lines : ℕ)
     → HasServed device user (user_at old user) old.supply (Ok done) (user_at new user) new.supply → IsLent old user new
     → IsBetweenUnits old.supply → IsBetweenUnits new.supply
@@ -424,6 +430,7 @@ serve_done old new user device done lines h lent rest between l = record {
   };
 }
 
+-- A serve that is out of frames is a step of the system.
 pub serve_out : (old new : SystemView) (user device : ℕ)
     → HasServed device user (user_at old user) old.supply (Err errors.FramesOut) (user_at new user) new.supply
     → IsLent old user new → IsBetweenUnits old.supply → IsBetweenUnits new.supply
@@ -443,6 +450,7 @@ serve_out old new user device h lent rest between = record {
   };
 }
 
+-- A serve that is out of memory cuts the system short.
 pub serve_cut : (old new : SystemView) (user device : ℕ)
     → HasServed device user (user_at old user) old.supply (Err errors.Memory) (user_at new user) new.supply
     → IsLent old user new → IsBetweenUnits old.supply → IsBetweenUnits new.supply
@@ -473,6 +481,7 @@ quiet user old new same = record {
   });
 }
 
+-- A deck of no cards changes nothing.
 pub no_deck : (old : SystemView) (user : ℕ) (cards : Bor (List (List ℕ))) → IsBetweenUnits old.supply → cards.now ≡ []
     → IsReplied old (record { event = Deck user cards; reply = silent Done; seen = old })
 no_deck old user cards rest none = record {
@@ -511,6 +520,7 @@ deck_same : (old seen : SystemView) (user : ℕ) (cards : Bor (List (List ℕ)))
 deck_same old seen user cards reply (deliveries.Deck number) = refl
 deck_same old seen user cards reply (deliveries.Message line) = refl
 
+-- A deck that is given is a step of the system.
 pub deck_given : (old new : SystemView) (user : ℕ) (cards : Bor (List (List ℕ))) (delivered : Delivered)
     → IsBetweenUnits old.supply → (cards.now ≡ [] → ⊥)
     → delivered ≡ record { to = user; what = deliveries.Deck (next_file old.files) }
@@ -552,6 +562,7 @@ deck_given old new user cards delivered rest some is come left =
       };
     }
 
+-- A deck for which there is no memory cuts the system short.
 pub deck_cut : (old new : SystemView) (user : ℕ) (cards : Bor (List (List ℕ))) → IsBetweenUnits old.supply
     → (cards.now ≡ [] → ⊥) → new ≡ record old { files = new.files } → IsCutShort old (Deck user cards) new
 deck_cut old new user cards rest some left =
@@ -567,10 +578,12 @@ deck_cut old new user cards rest some left =
       others = λ u not. ap (λ (x : SystemView). get_or x.users u nobody) left;
     }
 
+-- A list that is counted as empty is empty.
 pub is_nothing : (cards : List (List ℕ)) (b : Bool) → b ≡ (length cards == 0) → b ≡ true → cards ≡ []
 is_nothing [] b e t = refl
 is_nothing (card ∷ cards) b e t = absurd (grind (arith, nat_tests))
 
+-- A list that is not counted as empty is not empty.
 pub is_something : (cards : List (List ℕ)) (b : Bool) → b ≡ (length cards == 0) → b ≡ false → cards ≡ [] → ⊥
 is_something [] b e f none = grind (arith, nat_tests)
 is_something (card ∷ cards) b e f none = cc
@@ -580,6 +593,7 @@ is_something (card ∷ cards) b e f none = cc
 pub error_at : {A E : Type 0} (r : Result A E) (e e' : E) (Q : E → Type 0) → r ≡ Err e → e ≡ e' → IfErr r Q → Q e'
 error_at {A = A} {E = E} r e e' Q is it h = subst Q it (subst (λ (x : Result A E). IfErr x Q) is h)
 
+-- What holds holds on an error.
 pub if_err : {A E : Type 0} (r : Result A E) (P : Type 0) → P → OnErr r P
 if_err (Ok a) P h = tt
 if_err (Err e) P h = h

@@ -21,6 +21,7 @@ no_ipl (Loads device) ipl on = cc
 no_ipl (Asks command) ipl on = cc
 no_ipl (Alone asked) ipl on = cc
 
+-- A line that switches users on or off is no IPL.
 pub switch_no_ipl : (typed : List ℕ) (e : Equipped) → is_ipl (requested typed e) ≡ true
     → switches (requested typed e) ≡ true → ⊥
 switch_no_ipl typed e ipl on = no_ipl (requested typed e) ipl on
@@ -43,6 +44,7 @@ loads_none (Loads device) e page on want = cc
 loads_none (Asks command) e page on want = cc
 loads_none (Alone asked) e page on want = cc
 
+-- A line that switches users on or off needs no page.
 pub switch_wants_none : (typed : List ℕ) (e : Equipped) (page : ℕ) → switches (requested typed e) ≡ true
     → LineWants typed e page → ⊥
 switch_wants_none typed e page on want = elim want [
@@ -52,16 +54,19 @@ switch_wants_none typed e page on want = elim want [
 
 -- ---- what a line needs is wanted
 
+-- A page that a line's command needs is one that the line wants.
 pub wanted : (typed : List ℕ) (e : Equipped) (page : ℕ) → Touches (needs_of (requested typed e)) page
     → LineWants typed e page
 wanted typed e page need = inl need
 
+-- A page that a line's loading needs is one that the line wants.
 pub load_wanted : (typed : List ℕ) (e : Equipped) (page : ℕ) → LoadWants (requested typed e) e page
     → LineWants typed e page
 load_wanted typed e page need = inr need
 
 -- ---- lists of pages
 
+-- Pages that a line's command needs are all wanted by the line.
 pub all_wanted : (typed : List ℕ) (e : Equipped) (pages : List ℕ)
     → AllNeeded (Touches (needs_of (requested typed e))) pages → AllNeeded (LineWants typed e) pages
 all_wanted typed e [] all = tt

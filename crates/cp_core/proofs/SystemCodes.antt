@@ -59,6 +59,7 @@ system_code =
     (λ p. record { volumes = p.0.0; users = p.0.1; pool = p.1.0; files = p.1.1.0; is_spent = p.1.1.1 })
     (λ s. refl)
 
+-- A restored system is the saved one.
 pub one_system : IsOneBySaved
 one_system one other bytes directory is are =
     let same : are.parts ≡ is.parts = one_value system_bytes system_code are.parts is.parts (sym are.code ∙ is.code) in

@@ -19,6 +19,7 @@ use Rattle.cp_volumes.proofs.Seats.{disks_stay, placement_at, users_on}
 use Rattle.cp_core.specs.Whole.{AreSeated, IsWhole, no_user}
 use Rattle.machine_devices.specs.declared.files.FileNote.{FileNote}
 
+-- There are as many users as parts of users.
 pub length-users : (seats : List UserParts) (volumes : List VolumeFormat) (storages : List (List ℕ))
     → length seats ≡ length storages → length (users_of seats volumes storages) ≡ length seats
 length-users [] volumes storages e = refl
@@ -26,6 +27,7 @@ length-users (seat ∷ seats) volumes [] e = absurd (omega arith)
 length-users (seat ∷ seats) volumes (bytes ∷ storages) e =
     let rest = length-users seats volumes storages (omega arith) in omega arith
 
+-- A user is made of his parts, the volumes and his storage.
 pub get-users : (seats : List UserParts) (volumes : List VolumeFormat) (storages : List (List ℕ)) (i : ℕ)
     (s : UserParts) (b : List ℕ) (m : Equipped) → i < length seats → length seats ≡ length storages
     → get_or (users_of seats volumes storages) i m ≡ user_with (get_or seats i s) volumes (get_or storages i b)
@@ -97,6 +99,7 @@ same_placements (seat ∷ seats) zero seat' e (suc k) = refl
 same_placements (seat ∷ seats) (suc user) seat' e zero = refl
 same_placements (seat ∷ seats) (suc user) seat' e (suc k) = same_placements seats user seat' e k
 
+-- Users stay in their places on the volumes after one has worked.
 pub seated_on : (seats : List UserParts) (volumes volumes' : List VolumeFormat) (user : ℕ) (seat' : UserParts)
     → AreSeated seats volumes
     → KeepsOtherDisks (record { volumes = volumes; minidisks = (get_or seats user no_user).minidisks })
@@ -115,6 +118,7 @@ seated_on seats volumes volumes' user seat' seated kept =
 
 -- ---- one seat and its storage change
 
+-- What one user's work changes of the system.
 pub record IsChange (seats : List UserParts) (volumes volumes' : List VolumeFormat) (storages storages' : List (List ℕ))
     (us : List Equipped) (user : ℕ) (seat seat' : UserParts) : Type 0 where
   pub old : get_or us user nobody ≡ user_with seat volumes (get_or storages user [])
@@ -123,6 +127,7 @@ pub record IsChange (seats : List UserParts) (volumes volumes' : List VolumeForm
   pub users : users_of (set seats user seat') volumes' storages'
       ≡ set us user (get_or (users_of (set seats user seat') volumes' storages') user nobody)
 
+-- One user's work changes his machine and leaves all others.
 pub change : (seats : List UserParts) (volumes volumes' : List VolumeFormat) (storages storages' : List (List ℕ))
     (directory : List DirectoryUser) (us : List Equipped) (user : ℕ) (seat seat' : UserParts)
     → IsWhole seats storages directory → users_of seats volumes storages ≡ us → user < length us
@@ -146,6 +151,7 @@ change seats volumes volumes' storages storages' directory us user seat seat' wh
     h in
     record { old = o; new = n; users = all ∙ ap (λ (x : Equipped). set us user x) (sym n) }
 
+-- The placements of a user are those of his minidisks.
 pub get-placements : (seats : List UserParts) (user : ℕ)
     → get_or (placements_among seats) user [] ≡ placements_of (get_or seats user no_user).minidisks
 get-placements [] user = refl
@@ -178,6 +184,7 @@ get-kept [] user s h = absurd (omega arith)
 get-kept (seat ∷ seats) zero s h = refl
 get-kept (seat ∷ seats) (suc user) s h = get-kept seats user s (omega arith)
 
+-- Setting a user sets the programs that are cached for him.
 pub set-kept : (seats : List UserParts) (user : ℕ) (s : UserParts)
     → kept_of (set seats user s) ≡ set (kept_of seats) user s.reuse
 set-kept [] user s = refl
@@ -306,6 +313,7 @@ fits_each (s ∷ ss) (x ∷ xs) (suc user) seat' b n (suc k) all new e f l =
     fits_each ss xs user seat' b (length ss) k (λ j less. all (suc j) (omega arith)) new refl (omega arith)
     (omega arith)
 
+-- The system stays whole after one user's work.
 pub whole_on : (seats : List UserParts) (storages storages' : List (List ℕ)) (directory : List DirectoryUser) (user : ℕ)
     (seat' : UserParts) → IsWhole seats storages directory → storages' ≡ set storages user (get_or storages' user [])
     → Fits seat' (get_or storages' user []) → IsWhole (set seats user seat') storages' directory
@@ -386,10 +394,12 @@ is_few seats volumes storages directory us user whole e h =
 
 -- ---- by an answer
 
+-- What follows on an answer holds on it.
 pub on_ok : {A E : Type 0} (r : Result A E) (P Q : Type 0) → (P → Q) → OnOk r P → OnOk r Q
 on_ok (Ok a) P Q f h = f h
 on_ok (Err e) P Q f h = h
 
+-- What follows on an error holds on it.
 pub on_err : {A E : Type 0} (r : Result A E) (P Q : Type 0) → (P → Q) → OnErr r P → OnErr r Q
 on_err (Ok a) P Q f h = h
 on_err (Err e) P Q f h = f h

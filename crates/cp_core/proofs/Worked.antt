@@ -262,6 +262,7 @@ gives_where : (user : ℕ) (before after : FrameSupply) (r : Result LineOutcome 
 gives_where user before after (Ok reported) given same = given
 gives_where user before after (Err error) given same = same
 
+-- A line that was lent the machine and the frames leaves what a typed line leaves.
 pub typed_work : (world : UserDirectory) (user : ℕ) (typed : List ℕ) (before after : Equipped) (old new : Dat)
     (r : Result LineOutcome LineError)
     → user_of old ≡ user → IsLineLent typed before old new r
@@ -299,6 +300,7 @@ serve_leaves device user before after (Ok done) supply ok same frames memory = o
 serve_leaves device user before after (Err errors.Memory) supply ok same frames memory = memory refl
 serve_leaves device user before after (Err errors.FramesOut) supply ok same frames memory = (same refl, frames refl)
 
+-- A serve that was lent the machine and the frames leaves what a serve leaves.
 pub serve_work : (device user : ℕ) (before after : Equipped) (old new : Dat) (r : Result Bool LineError)
     → user_of old ≡ user → Brings PagedIn old (DeviceNeeds device before) new
     → IfOk r (λ done. IsServedAt as_reached device before done after) → (r ≡ Err errors.FramesOut → after ≡ before)

@@ -9,9 +9,11 @@ use Rattle.cp_needs.specs.Needs.{IsClash}
 use Rattle.cp_resident.specs.Reuse.{HasReused, HasReusedDisk, KeepsCopy, KeepsKnown, KnowsAgain, ReuseValue, RunsAgain}
 use Rattle.cp_resident.specs.Reuse.{with_disk, with_unit}
 
+-- Nothing is both false and true.
 pub not_both : {b : Bool} → b ≡ false → b ≡ true → ⊥
 not_both off on = cc
 
+-- What is None is no value.
 pub not_some : {X : Type 0} (o : Option X) → o ≡ None → IsSome o → ⊥
 not_some o none some = cc
 
@@ -40,6 +42,7 @@ refused old d start unit none = copied old old d d start unit false none refl (i
 
 -- ---- a minidisk's
 
+-- A disk's program that was not known is cached after its run.
 pub known : (old new : ReuseValue) (d held : Dat) (start : Caw) (index : ℕ) (done : Bool)
     → (KnowsAgain old index d start → ⊥) → lent_memory held ≡ lent_memory d → KeepsKnown old held start index done new
     → HasReusedDisk old d start index done new
@@ -48,6 +51,7 @@ known old new d held start index done none same kept = record {
   anew = λ _. inl (held, same, kept);
 }
 
+-- A disk's program that was refused is not cached.
 pub refused_disk : (old : ReuseValue) (d : Dat) (start : Caw) (index : ℕ) → (KnowsAgain old index d start → ⊥)
     → HasReusedDisk old d start index false old
 refused_disk old d start index none = known old old d d start index false none refl (inr (refl, refl))

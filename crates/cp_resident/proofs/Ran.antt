@@ -30,6 +30,7 @@ use Rattle.cp_resident.proofs.Refused.{each_for, no_room, room_of}
 
 -- ---- lack of memory alone
 
+-- A run that is out of memory lacks no page.
 pub memory_whole : {E : Type 0} (r : Result E ChannelError) (size : ℕ) (Needs Out : ℕ → Type 0) (P : Type 0)
     → IfErr r (λ error. error ≡ errors.Memory) → IfErr r (WhereOut size Needs Out P)
 memory_whole (Ok ending) size Needs Out P is = tt
@@ -37,6 +38,7 @@ memory_whole (Err error) size Needs Out P is = subst (λ (e : ChannelError). Whe
 
 -- ---- nothing was brought
 
+-- If storage stays, no page is brought.
 pub still_came : (d0 d1 : Dat) (Needs : ℕ → Type 0) → IsBetweenUnits (lent_pool d0).supply → KeepsStored d0 d1
     → Brings PagedIn d0 Needs d1
 still_came d0 d1 Needs between kept = ([], came_further d0 d0 d1 [] (came_nowhere d0 between) kept, tt)
@@ -51,6 +53,7 @@ such_for : (P Q : ℕ → Type 0) → ((page : ℕ) → P page → Q page) → (
 such_for P Q more [] all = tt
 such_for P Q more (page ∷ pages) all = (more page all.0, such_for P Q more pages all.1)
 
+-- Pages that were locked are pages that the program needs.
 pub held_came : (d0 d1 d2 d3 : Dat) (Holds Needs : ℕ → Type 0) → ((page : ℕ) → Holds page → Needs page)
     → ((pages : List ℕ) × Supplied d0 pages d1 × AllSuch Holds pages) → lent_memory d1 ≡ lent_memory d0
     → KeepsStored d1 d2 → TakesPins d2 d3 → lent_memory d3 ≡ lent_memory d2
@@ -66,6 +69,7 @@ held_came d0 d1 d2 d3 Holds Needs more held first kept taken last =
       (such_on Needs held.0 [] (such_for Holds Needs more held.0 held.2) tt, tt),
     )
 
+-- After pages were locked and taken back the pool lies between two units.
 pub held_between : (d0 d1 d2 d3 : Dat) (Holds : ℕ → Type 0)
     → ((pages : List ℕ) × Supplied d0 pages d1 × AllSuch Holds pages) → IsBetweenUnits (lent_pool d0).supply
     → KeepsStored d1 d2 → TakesPins d2 d3 → IsBetweenUnits (lent_pool d3).supply
@@ -75,6 +79,7 @@ held_between d0 d1 d2 d3 Holds held between kept taken =
 
 -- ---- pages that were to be held, for one of which there was no room
 
+-- Pages that came before a refusal are pages that the program needs.
 pub refused_came : (d0 d1 d2 : Dat) (Holds Needs : ℕ → Type 0) → ((page : ℕ) → Holds page → Needs page)
     → ((pages : List ℕ) × Supplied d0 pages d1 × AllSuch Holds pages) → lent_memory d1 ≡ lent_memory d0
     → TakesPins d1 d2 → lent_memory d2 ≡ lent_memory d1
@@ -88,11 +93,13 @@ refused_came d0 d1 d2 Holds Needs more held first taken last = (
   (such_for Holds Needs more held.0 held.2, tt),
 )
 
+-- After a refusal the pool lies between two units.
 pub refused_between : (d0 d1 d2 : Dat) (Holds : ℕ → Type 0)
     → ((pages : List ℕ) × Supplied d0 pages d1 × AllSuch Holds pages) → IsBetweenUnits (lent_pool d0).supply
     → TakesPins d1 d2 → IsBetweenUnits (lent_pool d2).supply
 refused_between d0 d1 d2 Holds held between taken = let_go_between d0 d1 d2 held.0 between held.1 taken
 
+-- A refusal for want of frames names a page that the program needs and that is absent.
 pub refused_whole : (error : DryRunError) (d0 d1 d2 : Dat) (Holds Needs : ℕ → Type 0) (P : Type 0)
     → ((page : ℕ) → Holds page → Needs page) → ((page : ℕ) → Holds page → page * 4096 < length (lent_bytes d0))
     → IsBetweenUnits (lent_pool d0).supply → ((pages : List ℕ) × Supplied d0 pages d1 × AllSuch Holds pages)
@@ -113,6 +120,7 @@ refused_whole tries.FramesOut d0 d1 d2 Holds Needs P more inside between held ta
 
 -- ---- pages that were touched
 
+-- Pages that a dry run brought are pages that the program needs.
 pub tried_came : (d0 d1 : Dat) (Touched Needs : ℕ → Type 0) → ((page : ℕ) → Touched page → Needs page)
     → CameOnly d0 Touched d1 → Brings PagedIn d0 Needs d1
 tried_came d0 d1 Touched Needs more paged_in = (
@@ -121,6 +129,7 @@ tried_came d0 d1 Touched Needs more paged_in = (
   each_for Touched Needs more paged_in.units paged_in.only,
 )
 
+-- A dry run that is out of frames lacks a page that the program touches.
 pub tried_whole : (ran : Result Ending DryRunError) (d0 d1 : Dat) (Touched Needs : ℕ → Type 0) (P : Type 0)
     → ((page : ℕ) → Touched page → Needs page) → length (lent_bytes d1) ≡ length (lent_bytes d0)
     → (ran ≡ Err tries.FramesOut → LacksSuch Touched d1) → (ran ≡ Err tries.FramesOut → P)
@@ -138,6 +147,7 @@ tried_whole (Err tries.FramesOut) d0 d1 Touched Needs P more size lacking same =
       same refl,
     )
 
+-- What holds of a dry run's end holds of the end that it reports.
 pub tried_walk : (ran : Result Ending DryRunError) (P : Ending → Type 0) → IfOk ran P → IfOk (told_by ran) P
 tried_walk (Ok ending) P p = p
 tried_walk (Err error) P p = tt
@@ -167,6 +177,7 @@ pub walk_moved : (r : Result Ending ChannelError) (W : Memory → Memory → End
 walk_moved r W m0 m1 m2 m3 first last walk =
     subst (λ (m : Memory). IfOk r (W m0 m)) (sym last) (subst (λ (m : Memory). IfOk r (W m m2)) first walk)
 
+-- A fixed program stays one at an equal address and in equal storage.
 pub fixed_there : (old new : Dat) (a b : ℕ) (words : List WordAt) (pages : List Page)
     → lent_memory new ≡ lent_memory old → a ≡ b
     → IsFixedProgram (lent_memory old) a (is_lent_page new) words pages
@@ -201,6 +212,7 @@ pub disk_first : (o : Option DiskAt) (m : Memory) (page : ℕ) → (o ≡ None �
 disk_first None m page none it = absurd (none refl)
 disk_first (Some disk) m page none it = inl it
 
+-- What holds on the end of a dry run holds on the end that it reports.
 pub tried_there : (ran : Result Ending DryRunError) (P : Type 0) → OnOk ran P → OnOk (told_by ran) P
 tried_there (Ok ending) P p = p
 tried_there (Err error) P p = tt

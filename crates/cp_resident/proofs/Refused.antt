@@ -135,6 +135,7 @@ such_for : (P Q : ℕ → Type 0) → ((page : ℕ) → P page → Q page) → (
 such_for P Q more [] all = tt
 such_for P Q more (page ∷ pages) all = (more page all.0, such_for P Q more pages all.1)
 
+-- If each page of each unit is one, all units are such.
 pub each_for : (P Q : ℕ → Type 0) → ((page : ℕ) → P page → Q page) → (units : List (List ℕ)) → EachAre P units
     → EachSuch Q units
 each_for P Q more [] all = tt

@@ -30,21 +30,25 @@ use Rattle.cp_resident.specs.GuestChannels.{HadRoom, told_by, error_of}
 
 -- ---- what is reported
 
+-- A run that reports want of memory had a dry run without memory.
 pub refused_by : (r : Result Ending DryRunError) → told_by r ≡ Err errors.Memory → r ≡ Err tries.Memory
 refused_by (Ok ending) is = cc
 refused_by (Err tries.Memory) is = refl
 refused_by (Err tries.FramesOut) is = cc
 
+-- An error that reports want of memory is one of the dry run.
 pub refused_of : (error : DryRunError) → error_of error ≡ errors.Memory → error ≡ tries.Memory
 refused_of tries.Memory is = refl
 refused_of tries.FramesOut is = cc
 
+-- An error that was found is the one that is reported.
 pub error_in : (a : ChannelError) (r : Result Ending ChannelError) → r ≡ Err a → r ≡ Err errors.Memory
     → a ≡ errors.Memory
 error_in a r is refused = cc
 
 -- ---- pages that have not moved, or are held
 
+-- The pool after a loan without change is the pool before it.
 pub still_after : (d0 d1 d2 : Dat) → IsBetweenUnits (lent_pool d0).supply → d1 ≡ d0 → TakesPins d1 d2
     → (lent_pool d2).supply ≡ (lent_pool d0).supply
 still_after d0 d1 d2 rest same taken =
@@ -60,6 +64,7 @@ let_go_present d e taken =
     ap (λ (supply : FrameSupply). is_there supply.owners e.user) taken.supply ∙ ap
     (λ (user : ℕ). is_there (lent_pool d).supply.owners user) taken.kept.same_user
 
+-- Pages that are held stay held after the loan.
 pub held_after : (m : Memory) (a b : ℕ) (d1 d2 d3 : Dat) → a ≡ b → KeepsStored d1 d2 → TakesPins d2 d3
     → ArePagesHeld m a d1 → ArePagesHeld m b d3
 held_after m a b d1 d2 d3 at kept taken held =
@@ -69,6 +74,7 @@ held_after m a b d1 d2 d3 at kept taken held =
       held = λ page needed. subst (λ (there : ℕ → Bool). there page ≡ true) (sym present) (held.held page needed);
     })
 
+-- The pages of a fixed program are held.
 pub held_fixed : (m : Memory) (a : ℕ) (d : Dat) (words : List WordAt) (pages : List Page)
     → IsFixedProgram m a (is_lent_page d) words pages → ArePagesHeld m a d
 held_fixed m a d words pages fixed = record { fixed = fixed.fixed; held = fixed.held }
@@ -111,11 +117,13 @@ module _ (start : Caw) (old new : Dat) where
 
 -- ---- a loading
 
+-- A loading that has not begun had room for its pages.
 pub first_untouched : (o : Option DiskAt) (old new : Dat) → (o ≡ None → ⊥) → new ≡ old
     → DiskHadRoomToLoad HadRoomAfterFirst old o new
 first_untouched None old new none same = absurd (none refl)
 first_untouched (Some disk) old new none same = inr (inl same)
 
+-- A loading had room for its pages after its first page came.
 pub after_first : (o : Option DiskAt) (old between new : Dat) → lent_memory between ≡ lent_memory old
     → CameOnly old (λ page. page ≡ 0) between → is_lent_page between 0 ≡ true
     → DiskHadRoomToLoad tried.HadRoomToLoad between o new → DiskHadRoomToLoad HadRoomAfterFirst old o new

@@ -575,6 +575,7 @@ pub record Stands (old : Equipped) (files : ClosedFiles) (new : Equipped) : Type
   pub punched : stands_in files.punched new.devices.punched ≡ length old.devices.punched
   pub notes : (user : ℕ) → noted user files ≡ closed_by user old new
 
+-- After a line the machine still stands as it says.
 pub line_stands : (w : UserDirectory) (typed : List ℕ) (old : Equipped) (reported : LineOutcome) (new : Equipped)
     → IsLine w typed old reported new → Stands old (files_closed reported) new
 line_stands w typed old reported new h =

@@ -34,6 +34,7 @@ below_next has address =
     (filter_of_map_range_with_len_more (λ (s : Subchannel). has s.address) new_device 0 address address
     (omega arith))
 
+-- One more address that has a device is attached.
 pub on : (has : ℕ → Bool) (address : ℕ) (list : List Subchannel) (b : Bool) → b ≡ has address
     → list ≡ subchannels_below has address → attached b address list ≡ subchannels_below has (address + 1)
 on has address list b is same = rw (is, same) (below_next has address)
@@ -226,6 +227,7 @@ same_filter : (p q : ℕ → Bool) → ((k : ℕ) → p k ≡ q k) → (list : L
 same_filter p q same [] = refl
 same_filter p q same (s ∷ ss) = rw (same s.address, same_filter p q same ss) refl
 
+-- All addresses that have a device are attached.
 pub attached_at : (d : DevicesValue) (addresses : List ℕ) (disks : List DiskAt)
     → addresses ≡ map (λ (disk : DiskAt). disk.address) disks → (list : List Subchannel)
     → list ≡ subchannels_below (has_at d addresses) 0x600 → list ≡ subchannels_below (has_device d disks) 0x600
@@ -243,6 +245,7 @@ count d addresses n = below_many (has_at d addresses) n ∙ same_many (has_at d 
 sum_few : (all count a b : ℕ) → all ≡ a + b → count ≡ a + b → count ≤ 32 → all ≤ 32
 sum_few all count a b e f h = omega arith
 
+-- Addresses that are all apart can be attached.
 pub all_apart : (d : DevicesValue) (addresses : List ℕ) (list : List Subchannel)
     → list ≡ subchannels_below (has_at d addresses) 0x600 → length list ≤ 32
     → length list ≡ length (places_of d.places) + length addresses → can_attach (places_of d.places ++ addresses) ≡ true
@@ -267,6 +270,7 @@ parts_of xs h =
     let i = both (nat_le (length xs) 32) (list_all (λ (address : ℕ). nat_lt address 0x600) xs) o.0 in
     (true_le (length xs) 32 i.0, of_apart xs 0x600 i.1 o.1)
 
+-- Addresses that are not all apart cannot be attached.
 pub not_apart : (d : DevicesValue) (addresses : List ℕ) (list : List Subchannel)
     → list ≡ subchannels_below (has_at d addresses) 0x600
     → (length list ≡ length (places_of d.places) + length addresses → ⊥)
@@ -301,6 +305,7 @@ all_below has (suc n) =
     (below_next has n ∙ ap (subchannels_below has) (next n))
     (below_push n (has n) (subchannels_below has n) (below_more n (subchannels_below has n) (all_below has n)))
 
+-- An address that is there twice is not added.
 pub not_added : (d : DevicesValue) (addresses : List ℕ) (device : ℕ) (list : List Subchannel) → device < 0x600
     → list ≡ subchannels_below (has_at d addresses) device → has_at d addresses device ≡ true
     → can_add device list ≡ false → can_attach (places_of d.places ++ addresses) ≡ false

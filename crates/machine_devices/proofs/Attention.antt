@@ -97,6 +97,7 @@ afresh old new p c l =
 quiet_of : (console : ConsoleState) → console.waiting ≡ [] → wants_attention console ≡ false
 quiet_of console e = rw e refl
 
+-- Attentions agree with the console at first.
 pub agrees_at_first : AttentionAgreesAtFirst
 agrees_at_first m list d disks e =
     reset_marks (waits_at d.places.console d.console) list
@@ -390,6 +391,7 @@ leaves reads Tick old new l h =
 leaves reads (Deck deck) old new l h = subst AttentionAgrees (sym l) h
 leaves reads (Message text) old new l h = subst AttentionAgrees (sym l) h
 
+-- Attentions agree with the console after each step.
 pub goes_on_agreeing : AttentionGoesOnAgreeing
 goes_on_agreeing reads [] first last h l = subst AttentionAgrees (sym l) h
 goes_on_agreeing reads (event ∷ events) first last h l =

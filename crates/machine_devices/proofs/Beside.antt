@@ -5,9 +5,11 @@ use Rattle.cp_spool.proofs.Others.{keeps_on, keeps_same}
 use Rattle.machine_devices.specs.Devices.{DevicesValue}
 use Rattle.machine_devices.specs.Lent.{DevicesParts, KeepsOtherUsers, devices_on, devices_with}
 
+-- Queues with equal files keep those of other users.
 pub beside_same : (d : DevicesParts) (q q' : QueuesValue) → q'.users ≡ q.users → KeepsOtherUsers d q d q'
 beside_same d q q' is = record { user = refl; others = keeps_same q.users q'.users d.user is }
 
+-- Keeping other users' files twice keeps them.
 pub beside_on : (d d' d'' : DevicesParts) (q q' q'' : QueuesValue) → KeepsOtherUsers d q d' q'
     → KeepsOtherUsers d' q' d'' q'' → KeepsOtherUsers d q d'' q''
 beside_on d d' d'' q q' q'' one two = record {

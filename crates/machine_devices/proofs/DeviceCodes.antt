@@ -27,6 +27,7 @@ places_code =
     (λ p. record { console = p.0; reader = p.1.0; punch = p.1.1.0; printer = p.1.1.1 })
     (λ p. refl)
 
+-- The bytes of the devices are a code: they are read back, whatever follows them.
 pub devices_code : IsCode devices_bytes
 devices_code =
     let front = both_code places_bytes console_bytes places_code console_code in
@@ -63,6 +64,7 @@ kind_again kinds.Deck = refl
 kind_again (kinds.Punch place) = refl
 kind_again (kinds.Printer place) = refl
 
+-- The bytes of a note are a code: it is read back, whatever follows it.
 pub note_code : IsCode note_bytes
 note_code =
     of_parts (both number (both number number))

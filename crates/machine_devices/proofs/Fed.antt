@@ -58,6 +58,7 @@ module _ (files : UserFiles) (part : ReaderPart) (before f : FeedState) (files' 
       let f_is : f ≡ fed_by files part = same ∙ is in
       (left ∙ ap (λ (x : FeedState). x.part) f_is, now ∙ ap (λ (x : FeedState). read_on x.ended x.place files) f_is)
 
+-- A feeding reader stops for a page as a reader with its decks does.
 pub stops_fed : (r : Result Ending ChannelError) (present : ℕ → Bool) (start : Caw) (m : Memory) (files : UserFiles)
     (part : ReaderPart) (before : FeedState) → before ≡ fed_by files part
     → IfErr r (IsStopped feed_machine nothing_needed present start m before)

@@ -301,5 +301,6 @@ module _ (gone : List (List ℕ)) where
         h.2,
   )
 
+-- Lines that a console has printed before do not matter to what an event leaves.
 pub do_not_matter_to_life : PrintedLinesDoNotMatter
 do_not_matter_to_life reads gone events old new h = lives gone reads events old new h

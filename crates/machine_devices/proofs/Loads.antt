@@ -13,6 +13,7 @@ use Rattle.machine_devices.specs.Lines.{LoadsDisk, ipl_told}
 use Rattle.machine_devices.specs.Loading.{is_good, left_by}
 use Rattle.machine_devices.specs.Resets.{devices_reset}
 
+-- A loading from a disk leaves what the machine says.
 pub disk_loads : (index device : ℕ) (old new : Equipped) (reported : LineOutcome) (well : Bool) (ending : Ending)
     (read : Memory) (o : Option DiskAt)
     → LoadsAt (storage_in old.machine) (map reset_disk old.disks) index o ending read new.disks

@@ -26,6 +26,7 @@ use Rattle.s370_intr.specs.Units.{Core, configured, followed, instructed, look, 
 use Rattle.s370_intr.specs.Run.{Run, looked, run}
 use Rattle.machine_devices.specs.Attention.{IsMarked, TellsAttention}
 
+-- Numbers that are compared as equal are equal.
 pub same_number : (x y : ℕ) → (x == y) ≡ true → x ≡ y
 same_number x y h = grind (arith, nat_tests, h)
 
@@ -181,6 +182,7 @@ looked_keeps (Accepts taken) c rest k f h = k f h
 looked_keeps (AcceptsStatus status) c rest k f h = k f h
 looked_keeps Instructs c rest k f h = k f h
 
+-- A run keeps the addresses of the subchannels.
 pub run_keeps : (n : ℕ) (c : Core) → Keeps c.subchannels (run n c).core.subchannels
 run_keeps zero c f h = h
 run_keeps (suc n) c f h =
@@ -247,6 +249,7 @@ ends_in (Some s) device key ending f list p h =
     in_another device (ended s.attention (status_word key ending)) f list
     (λ w. is_ended s.attention (status_word key ending) (p.0 ∙ w)) h
 
+-- The end of a program keeps the addresses of the subchannels.
 pub ended_keeps : (device key : ℕ) (ending : Ending) (list : List Subchannel)
     → Keeps list (program_ended device key ending list)
 ended_keeps device key ending list f h = ends_in (found device list) device key ending f list (h device) h

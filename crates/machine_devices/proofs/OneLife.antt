@@ -275,6 +275,7 @@ answers_alike (Asks command) v w typed old a b reported said same l r =
     obeys_alike v w command old a b reported said same l r
 answers_alike (Alone asked) v w typed old a b reported said same l r = outcomes_are_one a b reported said _ l r
 
+-- A typed line has one outcome.
 pub lines_are_one : LinesAreOne
 lines_are_one v w typed old one other reported said same l r =
     answers_alike (requested typed old) v w typed old one other reported said same l r
@@ -296,6 +297,7 @@ leaves_one reads Tick old a b l r =
 leaves_one reads (Deck deck) old a b l r = both a b _ l r
 leaves_one reads (Message text) old a b l r = both a b _ l r
 
+-- Two machines that live the same events are equal.
 pub lives_are_one : LivesAreOne
 lives_are_one reads [] first one other l r = both one other first l r
 lives_are_one reads (event ∷ events) first one other l r =
@@ -314,6 +316,7 @@ leaves_apart reads there Tick old a b keeps l r = leaves_one reads Tick old a b 
 leaves_apart reads there (Deck deck) old a b keeps l r = leaves_one reads (Deck deck) old a b l r
 leaves_apart reads there (Message text) old a b keeps l r = leaves_one reads (Message text) old a b l r
 
+-- What happens to one machine leaves the others as they are.
 pub lives_are_apart : LivesAreApart
 lives_are_apart reads there [] first one other keeps l r = both one other first l r
 lives_are_apart reads there (event ∷ events) first one other keeps l r =

@@ -496,12 +496,15 @@ lives reads (event ∷ events) first last l =
     stays_on first.machine.core.subchannels l.0.machine.core.subchannels last.machine.core.subchannels
     (leaves reads event first l.0 l.1) (lives reads events l.0 last l.2)
 
+-- At first no device has a program.
 pub none_works : NoneWorksAtFirst
 none_works m list = reset_has list
 
+-- Each device that works has a program after each step.
 pub go_on_having : AllGoOnHavingPrograms
 go_on_having reads events first last l h = (lives reads events first last l).good h
 
+-- The devices of a machine stay.
 pub devices_stay : DevicesStay
 devices_stay reads events first last l = (lives reads events first last l).addresses
 
@@ -512,6 +515,7 @@ works_in Idle h = refl
 works_in (Working caw) h = h
 works_in (Pending csw) h = refl
 
+-- A device that is served as working has a program.
 pub works_with : WorksWithProgram
 works_with device list s h e =
     ap (λ (o : Option Subchannel). is_some (start_of_found o)) e ∙ works_in s.state (found_has device list s e h)

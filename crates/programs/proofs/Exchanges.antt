@@ -94,6 +94,7 @@ refused i old new part line a b c e same kept w =
       subst (λ (o : Option (List ℕ)). Appends o c text) kept w,
     )
 
+-- A part that is refused leaves all as it was, and may have begun its answer.
 pub refused_front : {W : Type 0} (i : Installation W) (old new : Scene W) (part : List ℕ) (line : ℕ)
     (a b c : Option (List ℕ)) → part_of (i.seen old.world).users part ≡ Err line → new ≡ old → b ≡ a
     → AppendsFront b c (ended (refused_line line ∷ [])) → IsPartAnsweredPartly i old part a c
@@ -112,6 +113,7 @@ pub was_done : {W : Type 0} (i : Installation W) (old new : Scene W) (text : Lis
     → HasWholeLines text × IsFollowed i text old new a b
 was_done {W} i old new text part a b e h = subst (λ (p : Part W). Became i text old p a b) e h
 
+-- A part that was refused left all as it was.
 pub was_refused : {W : Type 0} (i : Installation W) (old new : Scene W) (line : ℕ) (text : List ℕ) (part : Part W)
     (a b : Option (List ℕ)) → part ≡ parts.Refused new line → Became i text old part a b
     → (part_of (i.seen old.world).users text ≡ Err line) × (new ≡ old) × (b ≡ a)
@@ -145,10 +147,12 @@ answers_more [] it = append-nil it.answer
 answers_more (x ∷ xs) it =
     ap (λ (l : List ℕ). x.answer ++ l) (answers_more xs it) ∙ sym (append_assoc x.answer (answers_of xs) it.answer)
 
+-- Before the first part nothing is read and nothing is written.
 pub so_far_none : {W : Type 0} (i : Installation W) (first : Scene W) (r w : Option (List ℕ))
     → IsSoFar i first first r r w w
 so_far_none i first r w = record { exchanges = []; answered = refl; read = Consumes-nil r; written = Appends-nil w }
 
+-- One more part is read and answered.
 pub so_far_more : {W : Type 0} (i : Installation W) (first mid : Scene W) (r s t w x y : Option (List ℕ))
     (it : Exchange W) → IsSoFar i first mid r s w x → IsExchange i mid it → Consumes s t it.read → Appends x y it.answer
     → IsSoFar i first it.left r t w y
@@ -161,6 +165,7 @@ so_far_more i first mid r s t w x y it h one read written = record {
       (Appends-trans w x y (answers_of h.exchanges) it.answer h.written written);
 }
 
+-- A follow that ends has read and answered all parts.
 pub followed_to : {W : Type 0} (i : Installation W) (detail : Detail) (old new : W) (last : Scene W) (end : List ℕ)
     (r s t w x y : Option (List ℕ)) → IsSoFar i (at_first i detail old) last r s w x → new ≡ last.world
     → Consumes s t end → Appends x y (ended (closing_lines (i.seen last.world)))
@@ -178,10 +183,12 @@ followed_to {W} i detail old new last end r s t w x y h left read closed =
 
 -- ---- an input that is not followed to its end
 
+-- Equal requests are read from the same input.
 pub is_next : (next other : NextRequest) (a b : Option (List ℕ)) → next ≡ other → GivesNext next a b
     → GivesNext other a b
 is_next next other a b e h = subst (λ (n : NextRequest). GivesNext n a b) e h
 
+-- A follow that breaks off has answered all parts but the last.
 pub broken_off : {W : Type 0} (i : Installation W) (detail : Detail) (old : W) (last : Scene W) (more : List ℕ)
     (r s t w x y : Option (List ℕ)) → IsSoFar i (at_first i detail old) last r s w x → Consumes s t more
     → IsBegun i last more x y → IsBrokenOff i detail old r t w y
@@ -196,12 +203,14 @@ broken_off i detail old last more r s t w x y h read begun = record {
   begun = begun;
 }
 
+-- An input that is accounted for stays so when the output failed.
 pub closed_why : (A : Type 0) (e : PlayError) (r s w x y : ℕ) → s ≡ r → x ≡ w → Accounts {A = A} (Err e) true true x y
     → InputAccounts {A = Unit {0}} (Err (play_failure e)) r s w y
 closed_why A plays.Memory r s w x y a b h = (a, h ∙ b)
 closed_why A (plays.Device k) r s w x y a b h = inr (inl (a, subst (λ (n : ℕ). IsCounted n y (hosts.Device k)) b h))
 closed_why A plays.Spent r s w x y a b h = (a, h.0 ∙ b)
 
+-- A failure accounts for what was read and written.
 pub why_of : {A : Type 0} (f : Failure) (result : Result A Failure) (r s w x : ℕ) → IsErrAnd result (λ z. z ≡ f)
     → InputAccounts {A = Unit {0}} (Err f) r s w x → InputAccounts result r s w x
 why_of f (Ok a) r s w x e h = absurd e

@@ -4,6 +4,7 @@ use Rattle.std.specs.Prelude.{slice_get}
 use Rattle.ckd_volume.specs.Volume.{VolumeFormat}
 use Rattle.programs.specs.Opened.{AreImagesAt, IsImageAt}
 
+-- One more image is read into the volume of its path.
 pub images_more : {F : Type 0} (Opens : List ℕ → F → Type 0) (remaining : F → Option (List ℕ)) (paths : List (List ℕ))
     (volumes : List VolumeFormat) (path : List ℕ) (volume : VolumeFormat) → AreImagesAt Opens remaining paths volumes
     → IsImageAt Opens remaining path volume → AreImagesAt Opens remaining (paths ++ path ∷ []) (volumes ++ volume ∷ [])

@@ -6,6 +6,7 @@ use Rattle.std.proofs.lemmas.Bool.Decides.{nat_tests}
 use Rattle.text_words.specs.Lines.{lines_of}
 use Rattle.sessions.specs.Transcript.{CutsBack, HasNoEnd, ended}
 
+-- Lines that are ended are ended together.
 pub ended_append : (xs ys : List (List ℕ)) → ended (xs ++ ys) ≡ ended xs ++ ended ys
 ended_append [] ys = refl
 ended_append (x ∷ xs) ys =
@@ -38,6 +39,7 @@ line_back (c ∷ cs) rest h =
     rw (is_no_end c (first_of (λ c. c ≢ 10) c cs h))
     (ap (onto_first c) (line_back cs rest (others_of (λ c. c ≢ 10) c cs h)))
 
+-- The text of lines is cut into the same lines.
 pub cuts_back : CutsBack
 cuts_back [] h = refl
 cuts_back (line ∷ lines) h =

@@ -180,6 +180,7 @@ users_lived i user (act ∷ more) old new (entry ∷ entries) done (inr h) =
     users_step i user act more old done.0 new entry entries done.1 h.0
     (users_lived i user more done.0 new entries done.2 h.1)
 
+-- Users are dealt fair slices.
 pub slices_are_fair : IsFairPolicy → {W : Type 0} (i : Installation W) → SlicesAreFair i
 slices_are_fair fair i user all old new entries done stays near =
     had same_user user old.lines.users new.lines.users (slices all) (HasDealt (Run user slice_units) entries)
@@ -367,6 +368,7 @@ programs_lived i program (act ∷ more) old new (entry ∷ entries) done (inr h)
     programs_step i program act more old done.0 new entry entries done.1 h.0
     (programs_lived i program more done.0 new entries done.2 h.1)
 
+-- Programs are served fairly.
 pub serves_are_fair : IsFairPolicy → {W : Type 0} (i : Installation W) → ServesAreFair i
 serves_are_fair fair i program all old new entries done stays near =
     had same_program program old.lines.programs new.lines.programs (serves all)

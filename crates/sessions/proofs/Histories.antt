@@ -83,6 +83,7 @@ transcript_append i detail names (x ∷ xs) ys =
     ap (λ (l : List ℕ). lines ++ l) (transcript_append i detail names xs ys) ∙ sym
     (append_assoc lines (transcript i detail names xs) (transcript i detail names ys))
 
+-- Events after others are done after them.
 pub acts_append : (xs ys : List Said) → acts (xs ++ ys) ≡ acts xs ++ acts ys
 acts_append [] ys = refl
 acts_append (x ∷ xs) ys =
@@ -110,6 +111,7 @@ turns_both (suc k) m =
 pub turns_around : (k m n : ℕ) → k + 1 + m ≡ n → turns n ≡ (turns k ++ turn) ++ turns m
 turns_around k m n e = ap turns (sym e) ∙ (turns_both (k + 1) m ∙ ap (λ (l : List Act). l ++ turns m) (turns_more k))
 
+-- What is appended after a front is appended after all.
 pub front_after : (a b c : Option (List ℕ)) (xs ys : List ℕ) → Appends a b xs → AppendsFront b c ys
     → AppendsFront a c (xs ++ ys)
 front_after a b c xs ys h k = (
@@ -118,6 +120,7 @@ front_after a b c xs ys h k = (
   rw (take-append-add xs ys k.0) (Appends-trans a b c xs (take k.0 ys) h k.2),
 )
 
+-- Before the first act nothing has happened.
 pub played_none : {W : Type 0} (i : Installation W) (old : Scene W) (a : Option (List ℕ))
     → IsOf (i.seen old.world) old.lines → IsPlayed i [] old old a a
 played_none i old a dealing =
@@ -132,6 +135,7 @@ told_same i old mid es users detail =
     ap (λ (d : Detail). transcript i d (names_of (i.seen mid.world)) es) detail
     ∙ ap (λ (u : List KnownUser). transcript i old.detail (names_of (record (i.seen mid.world) { users = u })) es) users
 
+-- Acts after others are played after them.
 pub played_more : {W : Type 0} (i : Installation W) (xs ys : List Act) (old mid new : Scene W) (a b c : Option (List ℕ))
     → IsPlayed i xs old mid a b → IsPlayed i ys mid new b c → IsPlayed i (xs ++ ys) old new a c
 played_more i xs ys old mid new a b c p q =
@@ -148,6 +152,7 @@ played_more i xs ys old mid new a b c p q =
       dealing = q.dealing;
     }
 
+-- Acts after others that are played partly are partly played.
 pub partly_more : {W : Type 0} (i : Installation W) (xs ys : List Act) (old mid : Scene W) (new : W)
     (a b c : Option (List ℕ)) → IsPlayed i xs old mid a b → IsPartly i ys mid new b c
     → IsPartly i (xs ++ ys) old new a c
@@ -178,6 +183,7 @@ lacking_rest : {W : Type 0} (i : Installation W) (rest more : List Act) (last ne
 lacking_rest i rest more last new (inl same) = inl same
 lacking_rest i rest more last new (inr lacks) = inr (lacking_more i rest more last new lacks)
 
+-- A front that is partly played is a part of all acts.
 pub partly_rest : {W : Type 0} (i : Installation W) (xs ys : List Act) (old : Scene W) (new : W) (a b : Option (List ℕ))
     → IsPartly i xs old new a b → IsPartly i (xs ++ ys) old new a b
 partly_rest i xs ys old new a b p = record {
@@ -249,6 +255,7 @@ applied {W} i detail what old new lines after a b h e users dealing =
     played_one i (Applies what) (Answered step) (scene old lines detail) (scene new after detail) a b
     (record { named = refl; happened = h.happened; left = left }) h.written users refl dealing
 
+-- An event that was not answered is a part of its act.
 pub applied_partly : {W : Type 0} (i : Installation W) (detail : Detail) (what : Said) (old new : W) (lines : Lines)
     (a b : Option (List ℕ)) → IsUnanswered i what old new a b ⊎ IsAnsweredPartly i Whole what old new a b
     → IsPartly i (Applies what ∷ []) (scene old lines detail) new a b
@@ -266,6 +273,7 @@ abbrev sliced_lines : {W : Type 0} → Installation W → W → W → ℕ → Li
 sliced_lines i old new user queue lines =
     record lines { users = queue; programs = line_after (i.seen old) (i.seen new) user lines.programs }
 
+-- A slice that was dealt is its user's run.
 pub sliced : {W : Type 0} (i : Installation W) (detail : Detail) (user : ℕ) (queue : List ℕ) (old new : W)
     (lines after : Lines) (a b : Option (List ℕ)) → IsDealt (ready_in (i.seen old)) lines.users (Some user) queue
     → IsAnswered i detail (said.Run user slice_units) old new a b → after ≡ sliced_lines i old new user queue lines
@@ -278,6 +286,7 @@ sliced {W} i detail user queue old new lines after a b dealt h e users dealing =
     (record { user = user; queue = queue; dealt = dealt; slice = refl; happened = h.happened; left = left })
     h.written users refl dealing
 
+-- A slice that was not answered is a part of its turn.
 pub sliced_partly : {W : Type 0} (i : Installation W) (detail : Detail) (user : ℕ) (queue : List ℕ) (old new : W)
     (lines : Lines) (a b : Option (List ℕ)) → IsDealt (ready_in (i.seen old)) lines.users (Some user) queue
     → IsUnanswered i (said.Run user slice_units) old new a b
@@ -305,6 +314,7 @@ not_sliced i detail old lines after a dealt stays dealing =
 pub same_queue : (old new : Lines) → new ≡ record old { users = new.users } → new.users ≡ old.users → new ≡ old
 same_queue old new e f = e ∙ ap (λ (users : List ℕ). record old { users = users }) f
 
+-- Lines with equal programs are equal.
 pub same_lines : (old new : Lines) → new ≡ record old { programs = new.programs } → new.programs ≡ old.programs
     → new ≡ old
 same_lines old new e f = e ∙ ap (λ (programs : List Program). record old { programs = programs }) f
@@ -315,6 +325,7 @@ abbrev served_with : {W : Type 0} → Installation W → W → W → Program →
 served_with i old new program turned lines =
     record lines { programs = line_after (i.seen old) (i.seen new) program.user turned }
 
+-- A serve that was dealt is its program's.
 pub served : {W : Type 0} (i : Installation W) (detail : Detail) (had : Bool) (program : Program)
     (turned : List Program) (old new : W) (lines after : Lines) (a b : Option (List ℕ))
     → IsDealt always lines.programs (Some program) turned
@@ -334,6 +345,7 @@ served {W} i detail had program turned old new lines after a b dealt h e users d
       left = left;
     }) h.written users refl dealing
 
+-- A serve that was not answered is a part of its turn.
 pub served_partly : {W : Type 0} (i : Installation W) (detail : Detail) (had : Bool) (program : Program)
     (turned : List Program) (old new : W) (lines : Lines) (a b : Option (List ℕ))
     → IsDealt always lines.programs (Some program) turned
@@ -381,6 +393,7 @@ not_served i detail had old lines after a b dealt stays w dealing =
     (subst (λ (t : List ℕ). Appends a b t) (passed_as i detail had (names_of (i.seen old))) w) refl refl
     (subst (IsOf (i.seen old)) (sym stays) dealing)
 
+-- A turn in which no program waits says so.
 pub not_served_partly : {W : Type 0} (i : Installation W) (detail : Detail) (had : Bool) (old : W) (lines : Lines)
     (a b : Option (List ℕ)) → IsDealt always lines.programs None lines.programs
     → AppendsFront a b (ended (passed_lines detail had))
@@ -414,6 +427,7 @@ pub ok_then : {A F P Q : Type 0} (r : Result A F) → (P → Q) → OnOk r P →
 ok_then (Ok a) f p = f p
 ok_then (Err e) f p = tt
 
+-- What follows on an error holds on it.
 pub err_then : {A F P Q : Type 0} (r : Result A F) → (P → Q) → OnErr r P → OnErr r Q
 err_then (Ok a) f p = tt
 err_then (Err e) f p = f p

@@ -138,6 +138,7 @@ module _ {W : Type 0} (i : Installation W) (law : IsToGoOn i) where
       } in
       (end.world, whole, followed.on.world)
 
+-- The parts of a script are one session.
 pub join : ReadsGrammar → {W : Type 0} (i : Installation W) → IsToGoOn i → PartsJoin i
 join grammar i law one other first middle last before between after whole p q =
     let users = (i.seen first.world).users in

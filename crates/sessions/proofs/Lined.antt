@@ -19,6 +19,7 @@ at_place d (x ∷ xs) (suc k) e h is misses =
     (ap (λ (l : List Subchannel). x ∷ l)
     (at_place d xs k e (omega arith) is (λ i less. misses (suc i) (omega (arith, less)))))
 
+-- A program joins the line before the first that started later.
 pub placed : (d : Subchannel) (xs : List Subchannel) (k : ℕ) → position (is_before d) xs ≡ Some k
     → in_order d xs ≡ take k xs ++ d ∷ drop k xs
 placed d xs k e = let found = position-Some (is_before d) xs k d e in at_place d xs k d found.0 found.1 found.2

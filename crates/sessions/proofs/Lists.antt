@@ -13,6 +13,7 @@ pub map_take_more : {A B : Type 0} (f : A → B) (xs : List A) (i : ℕ) (x : A)
     → map f (take (i + 1) xs) ≡ map f (take i xs) ++ f x ∷ []
 map_take_more f xs i x h is = rw add-one (more_suc f xs i x h ∙ ap (λ y. map f (take i xs) ++ f y ∷ []) (sym is))
 
+-- A list is its front and what follows it.
 pub map_around : {A B : Type 0} (f : A → B) (xs : List A) (i : ℕ) → map f xs ≡ map f (take i xs) ++ map f (drop i xs)
 map_around f [] zero = refl
 map_around f [] (suc i) = refl

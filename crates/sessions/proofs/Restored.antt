@@ -5,6 +5,7 @@ use Rattle.sessions.specs.Installed.{Installation}
 use Rattle.sessions.specs.Runs.{RestoredContinue}
 use Rattle.sessions.specs.Saved.{IsOneBySaved, KeepsBase}
 
+-- Sessions that were restored continue as one.
 pub restored : {W : Type 0} (i : Installation W) → KeepsBase i → IsOneBySaved i → RestoredContinue i
 restored i base saved one start other bytes same detail h k =
     let codes = lines_code one.lines other.lines h.rest k.saved.rest (sym h.written ∙ k.saved.written) in

@@ -51,6 +51,7 @@ same_step i j detail names one other h =
 joined : (a b c d : List ℕ) → a ≡ b → c ≡ d → a ++ c ≡ b ++ d
 joined a b c d e f = ap (λ (x : List ℕ). x ++ c) e ∙ ap (λ (x : List ℕ). b ++ x) f
 
+-- Two installations that show the same write the same transcript.
 pub agree : {V W : Type 0} (i : Installation V) (j : Installation W) → TranscriptsAgree i j
 agree i j detail names [] [] h = refl
 agree i j detail names [] (other ∷ others) h = absurd h

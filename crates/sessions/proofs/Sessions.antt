@@ -20,6 +20,7 @@ first_scene : {W : Type 0} (i : Installation W) (detail : Detail) (w : W) (first
     → first ≡ first_lines (i.seen w) → scene w first detail ≡ at_first i detail w
 first_scene i detail w first e = ap (λ (l : Lines). scene w l detail) e
 
+-- A whole script is a session to its end.
 pub whole : {W : Type 0} (i : Installation W) (detail : Detail) (text : List ℕ) (script : List Said) (old : W)
     (first : Lines) (last : Scene W) (r s a b c : Option (List ℕ)) → IsRead r s text
     → script_of (i.seen old).users text ≡ Ok script → first ≡ first_lines (i.seen old)
@@ -44,6 +45,7 @@ whole {W} i detail text script old first last r s a b c read accepted e played c
 front_more : (a b : Option (List ℕ)) (xs ys : List ℕ) → AppendsFront a b xs → AppendsFront a b (xs ++ ys)
 front_more a b xs ys h = (h.0, omega (arith, length-append xs ys, h.1), rw (take-append-le h.0 xs ys h.1) h.2)
 
+-- A script that is cut short is a session up to there.
 pub cut : {W : Type 0} (i : Installation W) (detail : Detail) (text : List ℕ) (script : List Said) (old new : W)
     (first : Lines) (r s a b : Option (List ℕ)) → IsRead r s text → script_of (i.seen old).users text ≡ Ok script
     → first ≡ first_lines (i.seen old) → IsPartly i (acts script) (scene old first detail) new a b

@@ -49,6 +49,7 @@ all_put s user number sorted (d ∷ ds) ordered =
     (by_test AreInOrder (is_joining s user number d) (in_order d sorted) sorted (λ is. put d sorted ordered)
     (λ is. ordered))
 
+-- Programs join the line in the order of their starts.
 pub in_starts_order : StartsAreInOrder
 in_starts_order s user number = all_put s user number [] (subchannels_at s user) tt
 
@@ -98,6 +99,7 @@ all_counted s user number is_such sorted (d ∷ ds) =
     ∙ sum_moved (count is_such next) (if joins && is_such d then 1 else 0) (count is_such sorted) rest
     (joined_one is_such joins d sorted)
 
+-- Each program that started joins the line.
 pub all_started : StartsAreComplete
 all_started s user number is_such =
     all_counted s user number is_such [] (subchannels_at s user) ∙ sym

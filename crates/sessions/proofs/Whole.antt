@@ -24,6 +24,7 @@ none_unended : (is : Bool) (line : ℕ) → (if is then None else Some line) ≡
 none_unended true line e = refl
 none_unended false line e = cc e
 
+-- A text without an unended line has whole lines.
 pub whole : (text : List ℕ) → unended_line text ≡ None → HasWholeLines text
 whole text e = whole_text text (none_unended (is_whole text) (length (lines_of text)) e)
 
@@ -63,6 +64,7 @@ from_lines [] c m n false e = last_one c n m (c == 10) e
 from_lines (d ∷ ds) c m n true e = more_than_one c d ds n m (c == 10) (from_lines ds d m) e
 from_lines (d ∷ ds) c m n false e = more_than_one c d ds n m (c == 10) (from_lines ds d m) e
 
+-- The first unended line is counted from the first line on.
 pub unended_at_first : (text : List ℕ) → unended_line text ≡ unended_from 1 true text
 unended_at_first [] = refl
 unended_at_first (c ∷ cs) = sym (from_lines cs c (length (lines_of (c ∷ cs))) 1 true (omega arith))
