@@ -1,7 +1,7 @@
 #!/usr/bin/env python3
 """Tests what CONTRIBUTING.md says of the text of crates: lines of src/ and specs/ have at most 100 columns, unless a text or an
-attribute in them is long; each definition in specs/ has a sentence above it; and the doc comment of each public function that
-returns a Result has `# Errors`.
+attribute in them is long, and those of proofs/ 120; each definition in specs/, and each lemma that another file uses, has a
+sentence above it; and the doc comment of each public function that returns a Result has `# Errors`.
 
     .ci/test-comments.py [CRATE]..
 
@@ -15,13 +15,18 @@ import sys
 
 TOP = os.path.dirname(os.path.dirname(os.path.realpath(__file__)))
 WIDTH = 100
-# lines that a text, an attribute or an example makes long
-LONG = re.compile(r'"|^\s*#\[|^\s*//|^use .* as ')
+WIDTH_OF_PROOFS = 120
+# lines that a text, an attribute, an example or one name makes long
+LONG = re.compile(r'"|^\s*#\[|^\s*//|^use .* as |^use [^, ]*$')
 DEFINITION = re.compile(
     r"(abbrev |opaque )?(pub )?(abbrev |opaque |record |data )*(?P<name>\w+) ?[:({]"
 )
 HEAD = re.compile(r"(abbrev|opaque|pub|record|data)\b")
 FUNCTION = re.compile(r"\s*pub fn (\w+)")
+LEMMA = re.compile(r"pub (record |data |abbrev )?(?P<name>[\w'-]+) ?[:({]")
+# what a proof or a tactic takes from a file of proofs/
+TAKEN = re.compile(r"use Rattle\.(\w+)\.proofs\.([\w.]+)\.\{([^}]*)\}")
+APPLIED = re.compile(r"\b(\w+)::proofs::([\w:]+)::(\w+)")
 # crates that only test others
 TESTS = {"promise_checks", "side_by_side"}
 # definitions of which each line says all
@@ -56,11 +61,35 @@ def doc_comment(lines: list[str], at: int) -> str:
     return "\n".join(reversed(found))
 
 
-def wide(path: str, lines: list[str]) -> list[str]:
+def wide(path: str, lines: list[str], width: int = WIDTH) -> list[str]:
     return [
         f"{path}:{number}: {len(line)} columns"
         for number, line in enumerate(lines, 1)
-        if len(line) > WIDTH and not LONG.search(line)
+        if len(line) > width and not LONG.search(line)
+    ]
+
+
+def taken() -> set[tuple[str, str, str]]:
+    """The lemmas that another file uses: crate, file and name."""
+    found = set()
+    for path in glob.glob(f"{TOP}/crates/*/[sp]*/**/*.*t", recursive=True):
+        crate, text = os.path.relpath(path, TOP).split("/")[1], "\n".join(lines_of(path))
+        for user, file, names in TAKEN.findall(text):
+            found |= {(user, file.replace(".", "/"), name.split()[0]) for name in names.split(",") if name.strip()}
+        for user, file, name in APPLIED.findall(text):
+            found.add((crate if user == "crate" else user, file.replace("::", "/"), name))
+    return found
+
+
+def unsaid_lemmas(crate: str, path: str, lines: list[str], used: set) -> list[str]:
+    """The lemmas of a file that another one uses, and that have no sentence above them."""
+    file = os.path.relpath(path, f"crates/{crate}/proofs").removesuffix(".antt")
+    return [
+        f"{path}:{number}: {found['name']} has no sentence above it"
+        for number, line in enumerate(lines, 1)
+        if (found := LEMMA.match(line))
+        and (crate, file, found["name"]) in used
+        and not lines[number - 2].startswith("--")
     ]
 
 
@@ -88,7 +117,7 @@ def without_errors(path: str, lines: list[str]) -> list[str]:
 
 
 def main(names: list[str]) -> int:
-    faults, passed = [], 0
+    faults, passed, used = [], 0, taken()
     for crate in names or sorted(os.listdir(f"{TOP}/crates")):
         folder = f"{TOP}/crates/{crate}"
         found = []
@@ -98,6 +127,9 @@ def main(names: list[str]) -> int:
         for path in sorted(glob.glob(f"{folder}/specs/**/*.antt", recursive=True)):
             lines, place = lines_of(path), os.path.relpath(path, TOP)
             found += wide(place, lines) + unsaid(place, lines)
+        for path in sorted(glob.glob(f"{folder}/proofs/**/*.antt", recursive=True)):
+            lines, place = lines_of(path), os.path.relpath(path, TOP)
+            found += wide(place, lines, WIDTH_OF_PROOFS) + unsaid_lemmas(crate, place, lines, used)
         faults += found
         passed += not found
     for fault in faults:

@@ -120,6 +120,7 @@ gone_at (lines ∷ more) [] user = []
 gone_at (lines ∷ more) (e ∷ users) zero = lines
 gone_at (lines ∷ more) (e ∷ users) (suc user) = gone_at more users user
 
+-- A user of a system that has printed lines before is that user with his own lines before.
 pub user_with : (gone : List (List (List ℕ))) (users : List Equipped) (user : ℕ)
     → get_or (users_having_printed gone users) user nobody ≡ having (gone_at gone users user) (get_or users user nobody)
 user_with [] users user = refl

@@ -371,6 +371,7 @@ transported P old old' new new' e f h =
 
 -- ---- who is logged on
 
+-- The users who are logged on are those whose machines say so.
 pub modes_of : (seats : List UserParts) (volumes : List VolumeFormat) (storages : List (List ℕ))
     → length seats ≡ length storages
     → map (λ (seat : UserParts). is_logged_on seat.parts.mode) seats ≡ logged_on_of (users_of seats volumes storages)

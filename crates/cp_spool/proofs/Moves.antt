@@ -277,6 +277,7 @@ placed_sound files queues user place inside sound =
     sound_set files queues user (record (queue_of queues user) { place = place }) inside
     (sound_placed files user place (queue_of queues user) (sound user)) sound
 
+-- Moving a reader to another card changes its user's place alone.
 pub users_placed : (files : Slab SpoolFileValue) (queues : List QueueKeys) (user : ℕ) (place : Option ℕ)
     → map (user_files files) (with_queue user (record (queue_of queues user) { place = place }) queues)
     ≡ with_files user (with_place place (files_of (map (user_files files) queues) user)) (map (user_files files) queues)
@@ -291,6 +292,7 @@ roomier_sound files queues user m n inside sound =
     sound_set files queues user (record (queue_of queues user) { punch_room = m; print_room = n }) inside
     (sound_roomier files user m n (queue_of queues user) (sound user)) sound
 
+-- More room for closed files changes no file.
 pub users_roomier : (files : Slab SpoolFileValue) (queues : List QueueKeys) (user m n : ℕ)
     → map (user_files files) (with_queue user (record (queue_of queues user) { punch_room = m; print_room = n }) queues)
     ≡ map (user_files files) queues

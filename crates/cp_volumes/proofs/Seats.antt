@@ -152,6 +152,7 @@ pub reset_seen_at : (volumes : List VolumeFormat) (ds : List SharedMinidisk) (in
 reset_seen_at volumes ds index d is =
     slice_get-map reset_disk (disks_on volumes ds) index ∙ ap (option_map reset_disk) (seen_at volumes ds index d is)
 
+-- Minidisks of users are in their places after a reset.
 pub users_reset : (volumes : List VolumeFormat) (ds : List SharedMinidisk) → IsUsers volumes (placements_of ds)
     → IsUsers volumes (placements_of (map reset_minidisk ds))
 users_reset volumes ds users = subst (λ (s : List Placement). IsUsers volumes s) (sym (reset_placements ds)) users
