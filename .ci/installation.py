@@ -373,7 +373,7 @@ TYPED = {
     "a break and an interrupt": (b"A\xff\xf3B\xff\xf4\n", ["#CP", "#CP", ""], b""),
     "options, all declined": (b"\xff\xfb\x1f\xff\xfd\x03\xff\xfd\x01\xff\xfc\x01\xff\xfe\x01A\n", ["A"],
                               b"\xff\xfe\x1f\xff\xfc\x03"),  # fmt: skip
-    "what is told of an option": (b"A\xff\xfa\x18\x00\nX\xff\xff\xf0Y\xff\xf0B\n", ["AB"], b""),
+    "what is said of an option": (b"A\xff\xfa\x18\x00\nX\xff\xff\xf0Y\xff\xf0B\n", ["AB"], b""),
     "whether somebody is there": (b"A\xff\xf6B\n", ["AB"], b"[YES]\r\n"),
     "a byte 255": (b"A\xff\xffB\n", ["A B"], b""),
 }
@@ -551,7 +551,7 @@ def try_recordings(check: Callable, folder: str) -> None:
     ]
     names = ["version of the program", "directory", "numbers of --frames and --slots", "volume 1"]
     check(
-        "what differs is told", all(name in item for name, item in zip(names, findings)), *findings
+        "what differs is reported", all(name in item for name, item in zip(names, findings)), *findings
     )
     hidden = without_passwords(b"* A\nUSER A SECRET 64K\n CONSOLE 009  3215\n")
     check("passwords are no part of it", hidden == b"USER A X 64K\nCONSOLE 009 3215\n", hidden)
@@ -582,7 +582,7 @@ def try_pace(check: Callable) -> None:
 
 
 def try_no_room(check: Callable) -> None:
-    """Who typed is told that a line found no room for a page, and nobody is told so of a turn that found none."""
+    """Whoever typed hears that a line found no room for a page, and nobody hears so of a turn that found none."""
     from gathjumli.engine import NO_ROOM, Engine
     from gathjumli.following import PartResult
     from gathjumli.parts import Pace, typed_line
@@ -603,7 +603,7 @@ def try_no_room(check: Callable) -> None:
             engine.take(part, result)
 
     try_results(short, done)
-    check("a line that found no room is told of", shown == [NO_ROOM], *shown)
+    check("a line that found no room is reported", shown == [NO_ROOM], *shown)
     shown.clear()
     try_results(done, short)
     check("a turn that found none is not", not shown, *shown)
@@ -687,7 +687,7 @@ def try_logging_on(check: Callable, site: object) -> None:
             *other.lines,
         )
         check(
-            "and the first one is told",
+            "and the first one is reported",
             (await alice.rest())[-1] == "ANOTHER TERMINAL TAKES OVER",
             *alice.lines,
         )
@@ -874,7 +874,7 @@ def refuse_other(check: Callable, site: object) -> None:
             file.write(directory)
         words = [site.command, *site.words, *site.paths, *more]
         done = subprocess.run(words, capture_output=True, text=True, stdin=subprocess.DEVNULL)
-        check(f"{findings} is told", done.returncode == 1 and findings in done.stderr, done.stderr)
+        check(f"{findings} is reported", done.returncode == 1 and findings in done.stderr, done.stderr)
     with open(site.paths[0], "w") as file:
         file.write(before.replace("WONDER", "LOOKING"))
     site.online()
@@ -936,7 +936,7 @@ def try_computing(check: Callable, site: object) -> None:
     check("who runs has ticks", b"\nTICK ALICE\n" in recording and b"TICK BOB" not in recording)
     site.operate("status")
     check(
-        "the operator is told",
+        "the operator is reported",
         site.await_message("2 on, 0 about to log on") and "all wait" in site.since_start(),
         *site.findings,
     )

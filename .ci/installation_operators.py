@@ -105,7 +105,7 @@ def try_operators(check: Callable, site: object) -> None:
         )
     gone = operator(site, "status")
     check(
-        "who comes later is told", gone.returncode == 3 and "operator:" in gone.stderr, gone.stderr
+        "who comes later is reported", gone.returncode == 3 and "operator:" in gone.stderr, gone.stderr
     )
     journal = read(f"{site.folder}/journal").decode()
     dated = re.findall(r"^\d{4}-\d\d-\d\d \d\d:\d\d:\d\d (.*)$", journal, re.M)
@@ -161,7 +161,7 @@ def try_limits(check: Callable, site: object) -> None:
         *shown,
     )
     check(
-        "the operator is told why",
+        "the operator hears why",
         site.await_message("ALICE is logged off: 1 MB are written"),
         *site.findings,
     )
@@ -302,7 +302,7 @@ def try_commands(check: Callable, site: object) -> None:
     site.online(*more)
     findings = "the session was to end at 2026-01-02 03:00, which is past: it goes on"
     check(
-        "one that is past is told",
+        "one that is past is reported",
         findings in site.since_start() and not os.path.exists(f"{site.record}.end-at"),
         *site.findings,
     )

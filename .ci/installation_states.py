@@ -202,7 +202,7 @@ def try_going_on(check: Check, site: Site, program: str) -> None:
     holds = value_in(lines) == 1 and "STORE G1 00000001" in lines and "STORED" in lines
     check("and who appears back sees his lines", holds and "RECONNECTED" in lines, *lines)
     site.operate("status")
-    check("status tells of it", site.await_message("the last state has"), *site.findings)
+    check("status reports it", site.await_message("the last state has"), *site.findings)
     os.kill(site.program(), signal.SIGKILL)
     check("a program that dies goes on from it", value_in(run(shown(site))) == 1, *site.findings)
     site.kill(is_all=True)
@@ -534,7 +534,7 @@ def try_end_at(check: Check, site: Site) -> None:
 
 
 def try_lost_beginning(check: Check, site: Site) -> None:
-    """If the state is lost with which a session goes on, nothing is overwritten, and what can be done is told."""
+    """If the state is lost with which a session goes on, nothing is overwritten, and the message says what can be done."""
     site.online()
     run(stored(site, 6))
     site.operate("end now")
@@ -718,16 +718,16 @@ def try_slow_states(check: Check, folder: str) -> None:
     write_text(f"{folder}/directory", "USER A PW 8K\n")
     recording = Recording(f"{folder}/recording")
     recording.begin(Base("program", "64 256", f"{folder}/directory", []))
-    told: list[str] = []
+    said: list[str] = []
     recording.add(b"LINE A LOGON\n")
-    states = States(recording, Printouts(None, told.append, set()), 30, told.append)
+    states = States(recording, Printouts(None, said.append, set()), 30, said.append)
     states.goes_on(0.0, 0.0, None)
     for waited in (1.5, 0.2, 1.5):
         states.note(LastState(5 << 20, waited))
-    check("a state that was slow alone", (states.is_due(31.0), told) == (True, []), told)
+    check("a state that was slow alone", (states.is_due(31.0), said) == (True, []), said)
     states.note(LastState(700 << 20, 2.25))
     wanted = "everybody waited 2.2 seconds for a state of 700 MB: no further one is saved before a suspend"
-    check("two slow states in a row", (states.is_due(31.0), told) == (False, [wanted]), told)
+    check("two slow states in a row", (states.is_due(31.0), said) == (False, [wanted]), said)
     check("one at a suspend", states.can_save(31.0))
     states.tried(100.0, True)
     check("the next one waits longer", states.due == 100.0 + 50 * 2.25, states.due)

@@ -447,7 +447,7 @@ class Short:
             itertools.zip_longest(findings[at + 1 :], wanted[at:]), 1
         ):
             if line != other:
-                return f"line {number} behind: {line!r}, and without the event {other!r}"
+                return f"line {number} after: {line!r}, and without the event {other!r}"
         return None
 
     def findings(self, player: object, script: str) -> list:

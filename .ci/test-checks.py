@@ -104,7 +104,7 @@ class Refusing:
             if ended.stderr == END:
                 return
             yield ended
-        raise Fault(f"{word}: no allocation below {MOST} tells {END}")
+        raise Fault(f"{word}: no allocation below {MOST} says {END}")
 
 
 def bytes_of(number: int) -> bytes:

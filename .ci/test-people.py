@@ -478,7 +478,7 @@ def test_trace(repository: str, work: str) -> None:
     write(f"{work}/bad", "LINE BARE LOGON\nBAD\n")
     done = Done(repository, "trace370", "--bare", "64K", f"{work}/bad")
     findings = "fault: script Line 2\ntrace370: line 2 is: 'BAD'\ntrace370: a line begins with RUN, LINE, TICK, SERVE, AUTO or DECK, and not with BAD\n"
-    check("a refused script is told", done.status == 1 and done.err == findings, *done.findings())
+    check("a refused script is reported", done.status == 1 and done.err == findings, *done.findings())
 
 
 NAMED = """ ORG X'100'
@@ -763,7 +763,7 @@ def refuse_images(repository: str, work: str, image: object) -> None:
         "cylinder 0 head 1: it has no record zero": changed(second + 9, b"\x05"),
         "cylinder 0 head 1: its records take 13192 bytes of 13165": changed(second + 21, full),
         "cylinder 0 head 1: its records have no end": changed(second + 5, bytes(size - 5)),
-        "no label that tells its serial number": changed(
+        "no label that has its serial number": changed(
             image.index("VOL1LOAD".encode("cp037")), b"\x00"
         ),
     }
@@ -836,7 +836,7 @@ def alternates(repository: str, work: str) -> None:
         file.write(b"\x80")
     done = Done(repository, "img2vol", "--serial", "WORK01", f"{work}/none", f"{work}/image")
     check(
-        "and told where one is used",
+        "and reported where one is used",
         "cylinder 404 head 0: an alternate track is used" in done.err,
         *done.findings(),
     )
@@ -1176,7 +1176,7 @@ def save_after_parts(what: str, user: Account) -> None:
                 and os.path.islink(f"{room}/link")
             )
             check(
-                f"{program}: saved behind the parts, over the old file: {is_in_the_way}, with an end: {bool(end)}",
+                f"{program}: saved after the parts, over the old file: {is_in_the_way}, with an end: {bool(end)}",
                 holds,
                 f"status {done.returncode}",
                 done.stderr,

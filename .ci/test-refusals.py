@@ -1,10 +1,10 @@
 #!/usr/bin/env python3
 """Tests what the built programs do where the host refuses them memory, fails a call of a file, or gives them a file that is cut.
-Each allocation and each call of a file is refused once; of the first 100 allocations and each seventh behind them also all that
+Each allocation and each call of a file is refused once; of the first 100 allocations and each seventh after them also all that
 follow. A program has to end as docs/FORMATS.md says: with its ordinary answer, or with the fault, its status, a beginning of its
 transcript, and images each of which is whole.
 
-It needs the programs that rt ci or the commands of bin/ built, and gcc on Linux with glibc; where one lacks, it says what and
+It needs the programs that rt ci or the commands of bin/ built, and gcc on Linux with glibc; if one is missing, it says what and
 fails. --programs FOLDER takes them from FOLDER/NAME/out/NAME. The last line is 'N passed, M failed'."""
 from __future__ import annotations
 
@@ -37,7 +37,7 @@ counts = {}
 
 
 def check(what: str, holds: object, *findings: object) -> None:
-    """Counts a test, and tells what is wrong where it does not hold."""
+    """Counts a test, and says what is wrong where it does not hold."""
     global passed, failed
     if holds:
         passed += 1
@@ -47,7 +47,7 @@ def check(what: str, holds: object, *findings: object) -> None:
 
 
 def count(what: str, number: int) -> None:
-    """Adds to what is told at the end."""
+    """Adds to what is reported at the end."""
     counts[what] = counts.get(what, 0) + number
 
 
@@ -143,7 +143,7 @@ def example(name: str) -> object:
 
 
 def session_after(comment: object, *more: object) -> object:
-    """The session of the table that stands behind this comment, with more volumes that nobody has."""
+    """The session of the table that follows this comment, with more volumes that nobody has."""
     blocks = read(f"{SESSIONS}/sessions.txt").decode().split("\n\n")
     [lines] = [block.split("\n") for block in blocks if f"# {comment}\n" in f"{block}\n"]
     of = lambda mark: [line[2:] for line in lines if line.startswith(f"{mark} ")]
@@ -208,7 +208,7 @@ def map_case() -> object:
 
 
 def cases() -> list:
-    """Those in which a disk is saved have two, so that one fails before or behind the other."""
+    """Those in which a disk is saved have two, so that one fails before or after the other."""
     spare = b"VOLUME SPARE 1\nREC 0 3 0000000001 - C1\n"
     return [
         example("supervisor-call"),
@@ -308,7 +308,7 @@ def fault_of(case: object, ended: object, fault: object) -> str | None:
         if ended.out != case.findings:
             return "images are saved after the transcript is written"
     if lines != [fault]:
-        return "another fault is told"
+        return "another fault is reported"
     if not case.findings.startswith(ended.out):
         return "the transcript is no beginning"
     if sorted(ended.files) != sorted(case.files):
@@ -334,7 +334,7 @@ def judged(
 ) -> object:
     """What is wrong with an end, or None."""
     if is_ordinary(case, ended):
-        return None if may_be_ordinary else "nothing is told of the failure"
+        return None if may_be_ordinary else "nothing is said of the failure"
     if ended.status != status:
         return "another end"
     return fault_of(case, ended, fault)
@@ -346,7 +346,7 @@ def judged(
 def refuse_each(
     host: object, pool: object, case: object, kind: str, numbers: object, verdict: object
 ) -> int:
-    """Runs a case once for each number and tells the first ends that are wrong; how many of the ends were ordinary."""
+    """Runs a case once for each number and prints the first ends that are wrong; how many of the ends were ordinary."""
     runs = list(pool.map(lambda item: host.run(case, f"{kind}:{item[0]}:{item[1]}"), numbers))
     wrong = [(at, ended, why) for at, ended in zip(numbers, runs) if (why := verdict(at, ended))]
     for at, ended, why in wrong[:3]:
@@ -364,7 +364,7 @@ def once(total: object) -> list:
 
 
 def onwards(total: object) -> list:
-    """Each call with all that follow it: of the first hundred, and of each seventh behind them."""
+    """Each call with all that follow it: of the first hundred, and of each seventh after them."""
     return [(n, 10**9) for n in range(1, total + 1) if n <= 100 or n % 7 == 0]
 
 
@@ -402,7 +402,7 @@ def refuse_memory(host: object, pool: object, case: object, allocations: object)
 
 def fail_files(host: object, pool: object, case: object, letters: object) -> None:
     """Each call of a file once, which the letters tell; and each read and write moves less than it was asked for."""
-    # a failed read, write, sync or rename is told; of the other calls a program may do without one
+    # a failed read, write, sync or rename is reported; of the other calls a program may do without one
     needed = lambda at: letters[at[0] - 1] in "rwsn"
     files = lambda at, ended: judged(case, ended, FILE, 3, not needed(at))
     ordinary = refuse_each(host, pool, case, "file", once(len(letters)), files)
@@ -432,20 +432,20 @@ def fail_files(host: object, pool: object, case: object, letters: object) -> Non
 
 def test_desk(host: Host, pool: ThreadPoolExecutor) -> None:
     """The logon desk whose host refuses it each allocation, or fails each call of a file: it ends and says so, and of what it has
-    decided it has told whole lines, in order."""
+    decided it has written whole lines, in order."""
     lines = list(desk.some_lines(1, DESK_LINES))
-    told = "".join(f"{line}\n" for answers in desk.answers(lines) for line in answers).encode()
+    written = "".join(f"{line}\n" for answers in desk.answers(lines) for line in answers).encode()
     case = Case(
         "the logon desk",
         "logon_desk_cli",
         ["lines"],
         {"lines": "".join(f"{line}\n" for line in lines)},
-        told,
+        written,
     )
     whole = host.run(case, report=True)
     check(
         "the logon desk where nothing is refused",
-        whole.status == 0 and whole.out == told,
+        whole.status == 0 and whole.out == written,
         *whole.findings(),
     )
     allocations, letters = int(whole.report[0]), whole.report[1]
@@ -453,7 +453,7 @@ def test_desk(host: Host, pool: ThreadPoolExecutor) -> None:
     refuse_each(host, pool, case, "memory", once(allocations), cut)
     refuse_each(host, pool, case, "memory", onwards(allocations), cut)
     refuse_each(host, pool, case, "file", once(len(letters)), cut)
-    short = lambda at, ended: None if (ended.status, ended.out) == (0, told) else "another answer"
+    short = lambda at, ended: None if (ended.status, ended.out) == (0, written) else "another answer"
     refuse_each(
         host,
         pool,
@@ -470,10 +470,10 @@ def desk_fault(case: Case, ended: Ended) -> str | None:
     if (ended.status, ended.out) == (0, case.findings):
         return None
     if ended.status == 0 or not ended.err:
-        return "nothing is told of the failure"
+        return "nothing is said of the failure"
     if not isinstance(ended.status, int) or ended.status < 0:
         return "it was ended by a signal"
-    return None if case.findings.startswith(ended.out) else "it has told something else"
+    return None if case.findings.startswith(ended.out) else "it has written something else"
 
 
 # --- files that are cut ---

@@ -411,7 +411,7 @@ def part_load(folder: str, options: object) -> None:
         begun = time.monotonic()
         town.online()
         notify(
-            f"load: a start that goes on takes {time.monotonic() - begun:.1f} s, beside two replays"
+            f"load: a start that goes on takes {time.monotonic() - begun:.1f} s, next to two replays"
         )
         check("and is suspended again", town.stop() == 0)
         found = found.result()
@@ -721,7 +721,7 @@ async def guesses(town: object) -> str:
     answer = await one.logon("U04", "PW04")
     took = time.monotonic() - asked
     check(
-        "a right password is let in beside guesses",
+        "a right password is let in next to guesses",
         answer == "LOGON OK" and took < 6,
         answer,
         f"{took:.1f} s",
@@ -741,10 +741,10 @@ async def thousand(town: object) -> str:
     begun = time.monotonic()
     one = await town.on("U05")
     took = time.monotonic() - begun
-    check("one logs on beside them", one.lines[-1] in ("LOGON OK", "RECONNECTED"), *one.lines)
+    check("one logs on next to them", one.lines[-1] in ("LOGON OK", "RECONNECTED"), *one.lines)
     for item in [one, *people]:
         item.go()
-    return f"{len(people)} connections, a logon beside them takes {1000 * took:.0f} ms"
+    return f"{len(people)} connections, a logon next to them takes {1000 * took:.0f} ms"
 
 
 def beside_honest(folder: str, name: str, phases: object) -> None:

@@ -422,7 +422,7 @@ def drop_the_line(wire: object, alice: object, bob: object) -> None:
     """ALICE's line is cut, and appears back; what BOB sent meanwhile is there once."""
     wire.cut()
     alice.await_(
-        "the page tells that the line is cut", lambda: "no connection" in alice.find("link").text
+        "the page says that the line is cut", lambda: "no connection" in alice.find("link").text
     )
     bob.type(*(f"msg alice Number {count}" for count in range(5)))
     bob.await_("all is sent", lambda: bob.lines().count("SENT") == 5)

@@ -105,7 +105,7 @@ def try_watching(check: Callable, folder: str) -> None:
     slow = "echo '= A 5 COUNT'; sleep 2.6; echo '= A 6 COUNT'; exit 4"
     shown = Shown(slow, script)
     check(
-        "a long run is told",
+        "a long run is reported",
         findings in shown.bytes and shown.status == 4,
         f"{shown.status}",
         shown.bytes,

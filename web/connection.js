@@ -4,12 +4,12 @@ const FIRST_WAIT = 500;
 const LONGEST_WAIT = 10000;
 
 export class Connection {
-  /** first() gives the first message of a connection, obey(message) takes each that comes, and told(isThere, seconds) is told how it is. */
-  constructor(path, first, obey, told) {
+  /** first() gives the first message of a connection, obey(message) takes each that comes, and report(isThere, seconds) is called with how it is. */
+  constructor(path, first, obey, report) {
     this.address = `${location.protocol === "https:" ? "wss" : "ws"}://${location.host}${path}`;
     this.first = first;
     this.obey = obey;
-    this.told = told;
+    this.report = report;
     this.wait = FIRST_WAIT;
     this.isEnded = false;
     this.open();
@@ -20,7 +20,7 @@ export class Connection {
     this.socket = socket;
     socket.onopen = () => {
       this.wait = FIRST_WAIT;
-      this.told(true, 0);
+      this.report(true, 0);
       this.send(this.first());
     };
     socket.onmessage = (event) => {
@@ -31,7 +31,7 @@ export class Connection {
 
   closed() {
     if (this.isEnded) return;
-    this.told(false, this.wait / 1000);
+    this.report(false, this.wait / 1000);
     setTimeout(() => this.open(), this.wait);
     this.wait = Math.min(LONGEST_WAIT, 2 * this.wait);
   }

@@ -177,15 +177,15 @@ function drawFrames(owners, count, slots, allSlots) {
     cell.append(drawn("title", {}, `frame ${place}: ${owners[place] ?? "free"}`));
     picture.append(cell);
   }
-  const told = names.map((name) => {
+  const items = names.map((name) => {
     const item = element("li", "", `${name} ${owners.filter((owner) => owner === name).length}`);
     const mark = drawn("svg", { viewBox: "0 0 10 10", class: "mark" });
     mark.append(drawn("rect", { width: 10, height: 10, fill: colour.get(name) }));
     item.prepend(mark);
     return item;
   });
-  told.push(element("li", "note", `${slots} of ${allSlots} slots are used`));
-  find("owners").replaceChildren(...told);
+  items.push(element("li", "note", `${slots} of ${allSlots} slots are used`));
+  find("owners").replaceChildren(...items);
 }
 
 if (token) open();

@@ -40,7 +40,7 @@ const OBEYED = {
   },
   on: (message) => show(message),
   off: () => show({ user: "" }),
-  deck: (message) => find("decks").prepend(element("li", "", `${message.name}: ${message.told}`)),
+  deck: (message) => find("decks").prepend(element("li", "", `${message.name}: ${message.findings}`)),
   files: showFiles,
   piece: showPiece,
   disks(message) {
@@ -120,7 +120,7 @@ find("look").addEventListener("click", () => {
   for (const what of ["PSW", ...Array.from({ length: 16 }, (_, register) => `G${register}`)]) change({ is: "line", text: `#CP DISPLAY ${what}` });
 });
 
-/** Looks at files when one is closed, and keeps what a line of the console tells of a register. */
+/** Looks at files when one is closed, and keeps what a line of the console says of a register. */
 function read(text) {
   if (CLOSED.test(text)) setTimeout(() => user && ask({ is: "files" }), TIME_TO_WRITE);
   const psw = PSW.exec(text);
@@ -198,8 +198,8 @@ function showFiles(message) {
 }
 
 function shownDisk(found) {
-  const told = `${found.address} on ${found.volume} ${found.right}, ${found.cylinders} cylinders, ${found.tracks.length} tracks with records`;
-  return [element("p", "", told), disk(found)];
+  const caption = `${found.address} on ${found.volume} ${found.right}, ${found.cylinders} cylinders, ${found.tracks.length} tracks with records`;
+  return [element("p", "", caption), disk(found)];
 }
 
 function openListing(file) {

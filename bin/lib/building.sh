@@ -358,9 +358,9 @@ print_prospects() {
 # says a step, here and to other builds: how long it has taken, and how long the rest takes if it goes on so
 print_progress() {
     gone=$(minutes_gone)
-    told=$1
-    [ "$gone" -eq 0 ] || told="$told, after $gone minutes$(minutes_left_text)"
-    say "$told"
+    message=$1
+    [ "$gone" -eq 0 ] || message="$message, after $gone minutes$(minutes_left_text)"
+    say "$message"
     echo "$program_crate is $1, after $gone minutes" > "$progress"
 }
 

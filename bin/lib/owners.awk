@@ -33,21 +33,21 @@ function sort_minidisks(count,    at, place, moved) {
     }
 }
 
-function tell(low, high, whose) {
+function print_extent(low, high, whose) {
     if (low < high) print "CYLINDERS " low " TO " high - 1 " " whose
 }
 
-function tell_owners(serial, cylinders,    count, at, told) {
+function print_owners(serial, cylinders,    count, at, shown) {
     count = read_directory(serial)
     sort_minidisks(count)
-    told = 0
+    shown = 0
     for (at = 1; at <= count; at++) {
-        tell(told, first[order[at]], "FREE")
-        tell(first[order[at]], past[order[at]], owner[order[at]])
-        if (past[order[at]] > told) told = past[order[at]]
+        print_extent(shown, first[order[at]], "FREE")
+        print_extent(first[order[at]], past[order[at]], owner[order[at]])
+        if (past[order[at]] > shown) shown = past[order[at]]
     }
-    tell(told, cylinders, "FREE")
+    print_extent(shown, cylinders, "FREE")
 }
 
 { print }
-NR == 1 && $1 == "VOLUME" { tell_owners($2, $4 + 0) }
+NR == 1 && $1 == "VOLUME" { print_owners($2, $4 + 0) }

@@ -10,7 +10,7 @@ FNR == NR {
 
 $0 == "LINE " marker {
     note()
-    beside(held)
+    pair_with(held)
     held = ""
     event++
     if (ended != 0 && event > done) { stopped = 1; exit }
@@ -26,7 +26,7 @@ $0 == "LINE " marker {
 END {
     if (stopped) exit
     if (held != "") print held
-    beside("")
+    pair_with("")
 }
 
 # follows whose machine runs, over the event that is held and the effect of it, and adds the note
@@ -58,7 +58,7 @@ function stops(line,   part) {
 }
 
 # the effect of an event, next to its line where that is short
-function beside(text,   i) {
+function pair_with(text,   i) {
     if (of[event + 0] + 0 == 0) { if (text != "") print text; return }
     if (length(text) > width + 8) { print text; text = "" }
     for (i = 0; i < of[event + 0]; i++) {

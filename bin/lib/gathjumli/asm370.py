@@ -367,7 +367,7 @@ class Expander:
         for operand in split_list(prototype.operands()):
             match = VARIABLE.match(operand)
             if not match and operand:
-                raise Fault(f"a parameter is a name behind &, and not {operand}", prototype.start)
+                raise Fault(f"a parameter is a name after &, and not {operand}", prototype.start)
             if match and operand[match.end() : match.end() + 1] == "=":
                 keywords[match.group(1)] = operand[match.end() + 1 :]
             elif match:
@@ -465,7 +465,7 @@ class Expander:
         for name in split_list(statement.operands()):
             match = VARIABLE.fullmatch(name)
             if not match:
-                raise Fault(f"a variable is a name behind &, and not {name}", statement.start)
+                raise Fault(f"a variable is a name after &, and not {name}", statement.start)
             if statement.operation.startswith("GBL"):
                 self.globals.setdefault(match.group(1), start)
                 frame.variables[match.group(1)] = None
@@ -1040,7 +1040,7 @@ class Assembler:
 
     def comma(self, reader: Any) -> None:
         if reader.is_done():
-            raise Fault(f"{self.statement.operation} lacks an operand here", reader.at)
+            raise Fault(f"{self.statement.operation} needs an operand here", reader.at)
         reader.need(",")
 
     def finish(self, reader: Any) -> None:
@@ -1089,7 +1089,7 @@ class Assembler:
     def place(self, reader: Any) -> tuple:
         """An address as it is written: its value, its length, and what is in parentheses after it."""
         if reader.is_done():
-            raise Fault(f"{self.statement.operation} lacks an operand here", reader.at)
+            raise Fault(f"{self.statement.operation} needs an operand here", reader.at)
         value, length = self.literal(reader) if reader.peek() == "=" else self.expression(reader)
         inner = []
         if reader.take("("):
@@ -1400,7 +1400,7 @@ class Assembler:
         self.instruction_length = None
         is_first = True
         if reader.is_done():
-            raise Fault(f"{statement.operation} lacks an operand here", reader.at)
+            raise Fault(f"{statement.operation} needs an operand here", reader.at)
         fault = None
         while is_first or not reader.is_done():
             if not is_first:

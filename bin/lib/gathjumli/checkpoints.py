@@ -194,7 +194,7 @@ class Checkpoint:
         if words[1:] != sums or digits and not is_state(self.state(), digits):
             raise Failure(
                 FILE_FAILED,
-                f"{self.folder} lacks images that were saved at the end of {self.record}",
+                f"{self.folder} has no images that were saved at the end of {self.record}",
             )
         return digits
 

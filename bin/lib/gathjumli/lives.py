@@ -20,7 +20,7 @@ STRETCHES = 480
 RAN = re.compile("= ([A-Z0-9]+) ([0-9]+) ([A-Z]+)")
 SERVED = re.compile("= ([A-Z0-9]+) SERVED ([0-9A-F]{3})")
 LACKED = re.compile("= ([A-Z0-9]+) FRAMES")
-KINDS = ("units", "serves", "lines", "lacks")
+KINDS = ("units", "serves", "lines", "shortages")
 
 
 class Time:
@@ -143,12 +143,12 @@ class Story:
         elif ran := RAN.fullmatch(event):
             self.time.add(ran[1], "units", int(ran[2]))
             if ran[3] == "FRAMES":
-                self.time.add(ran[1], "lacks", 1)
+                self.time.add(ran[1], "shortages", 1)
             self.time.pass_by(int(ran[2]))
         elif served := SERVED.fullmatch(event):
             self.time.add(served[1], "serves", 1)
         elif was_absent := LACKED.fullmatch(event):
-            self.time.add(was_absent[1], "lacks", 1)
+            self.time.add(was_absent[1], "shortages", 1)
 
 
 def kind_of(text: str, is_reply: Any) -> str:

@@ -118,7 +118,7 @@ def lane(name: str, top: Any, counts: Any, width: Any, moments: Any) -> Iterator
         yield rectangle(x, top + 26 - height, wide, height, "#5b8c5a", f"{units} units")
     for kind, y, height, color in (
         ("serves", 0, 5, "#c0392b"),
-        ("lacks", 27, 4, "#8e44ad"),
+        ("shortages", 27, 4, "#8e44ad"),
         ("lines", 32, 3, "#23408e"),
     ):
         for place, count in sorted(counts[kind].items()):

@@ -194,7 +194,7 @@ def read_emulated(data: Any, serial: Any) -> Any:
     serial = serial or labelled(found)
     if serial is None:
         raise Failure(
-            REFUSED, "the volume has no label that tells its serial number: give --serial"
+            REFUSED, "the volume has no label that has its serial number: give --serial"
         )
     return Volume(serial, found)
 

@@ -253,7 +253,7 @@ class UserPage:
         if not message.get("more"):
             self.deck = None
             findings = await self.pages.read_in(name, bytes(data), user.name)
-            self.put({"is": "deck", "name": name, "told": findings})
+            self.put({"is": "deck", "name": name, "findings": findings})
 
     async def list_files(self, message: Any) -> None:
         user = self.logged_on()

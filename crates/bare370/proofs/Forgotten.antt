@@ -11,7 +11,7 @@ use Rattle.sessions.specs.Continuing.{HappensToo, IsToGoOn}
 use Rattle.sessions.specs.Installed.{Step, machine_at, user_at}
 use Rattle.sessions.specs.Schedule.{user_said}
 use Rattle.sessions.specs.Transcript.{last_lines}
-use Rattle.session_script.specs.Script.{Said}
+use Rattle.session_script.specs.Script.{EventValue}
 use Rattle.bare370.specs.Goes.{Alone, GoesOnAs, HasHappened, as_said, machine_goes, own, seen_in}
 
 -- the lines that have joined the console are the same, whatever was printed before

@@ -7,7 +7,7 @@ use Rattle.machine_channels.specs.Disks.{DiskAt}
 use Rattle.machine_devices.specs.Comes.{LineMay}
 use Rattle.machine_devices.specs.declared.places.Places.{Places}
 use Rattle.machine_devices.specs.declared.reply.Reply.{Reply}
-use Rattle.session_script.specs.Script.{Said, Run, Line, Tick, Serve, Auto, Deck}
+use Rattle.session_script.specs.Script.{EventValue, Run, Line, Tick, Serve, Auto, Deck}
 use Rattle.session_script.specs.declared.event.ScriptEvent.{ScriptEvent}
 use Rattle.session_script.specs.declared.event.ScriptEvent.TheVariants as scripts
 use Rattle.bare_installation.specs.Bare.{Bare, bare}
@@ -35,7 +35,7 @@ seen_in a = record {
 }
 
 -- an event as a script names it
-abbrev pub as_said : MachineEvent → Said
+abbrev pub as_said : MachineEvent → EventValue
 as_said (happenings.Run units) = Run own units
 as_said (happenings.Line typed) = Line own typed.now
 as_said (happenings.Serve device) = Serve own device
@@ -43,20 +43,21 @@ as_said happenings.Tick = Tick own
 as_said (happenings.Deck cards) = Deck own cards.now
 
 -- the event that was said happened to the machine, and was answered so
-pub record HasHappened (old : Alone) (said : Said) (reply : Reply) (new : Alone) : Type 0 where
+pub record HasHappened (old : Alone) (said : EventValue) (reply : Reply) (new : Alone)
+    : Type 0 where
   pub event : MachineEvent
   pub named : as_said event ≡ said
   pub applied : IsApplied old.machine event reply new.machine
   pub addresses : new.addresses ≡ old.addresses
 
 -- it may be refused memory by this machine, of which nothing is said then
-pub record MayLack (old : Alone) (said : Said) (new : Alone) : Type 0 where
+pub record MayLack (old : Alone) (said : EventValue) (new : Alone) : Type 0 where
   pub event : MachineEvent
   pub named : as_said event ≡ said
   pub lacks : MayLackMemory old.machine event
 
 -- what was said may want memory: such lines, a program that does, and a deck, whose cards are made
-abbrev pub MayRefuse : Alone → Said → Type 0
+abbrev pub MayRefuse : Alone → EventValue → Type 0
 MayRefuse old (Run user units) = ⊥
 MayRefuse old (Line user text) = LineMay text old.machine.equipped
 MayRefuse old (Tick user) = ⊥

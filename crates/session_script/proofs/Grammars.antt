@@ -18,7 +18,8 @@ use Rattle.text_words.proofs.Spellings.{chosen, parts, alone, word_whole, word_a
 use Rattle.text_words.proofs.Spellings.{after_again_alone}
 use Rattle.session_script.specs.Users.{KnownUser, has_device, names_of}
 use Rattle.session_script.specs.Cards.{card_of, cards_in}
-use Rattle.session_script.specs.Script.{Said, Run, Line, Tick, Serve, Auto, Deck, auto_of, cards_after, counted, dealt}
+use Rattle.session_script.specs.Script.{EventValue, Run, Line, Tick, Serve, Auto, Deck, auto_of, cards_after, counted}
+use Rattle.session_script.specs.Script.{dealt}
 use Rattle.session_script.specs.Script.{deck_of, is_ignored, joined, operands_of, read_on, run_of, said_of, serve_of}
 use Rattle.session_script.specs.Script.{served, text_of, tick_of, turned, typed_of}
 use Rattle.session_script.specs.Grammar.{IsName, SaysLine, Says, Reads, ReadsGrammar}
@@ -26,14 +27,14 @@ use Rattle.session_script.specs.Grammar.{IsName, SaysLine, Says, Reads, ReadsGra
 is_word : (xs ys : List ℕ) → bytes_eq xs ys ≡ true → xs ≡ ys
 is_word xs ys h = (bytes_eq-Decides xs ys).0 h
 
-counts : (user units : ℕ) (e : Said) → counted user units ≡ Some e → (e ≡ Run user units) × (1 ≤ units)
+counts : (user units : ℕ) (e : EventValue) → counted user units ≡ Some e → (e ≡ Run user units) × (1 ≤ units)
     × (units ≤ 1000000)
 counts user units e h = elim (chosen (leb 1 units && leb units 1000000) (Some (Run user units)) None (Some e) h) [
   | inl k ↦ let both = k.0 in (cc, grind (arith, nat_tests), grind (arith, nat_tests))
   | inr k ↦ cc
 ]
 
-run_found : (users : List KnownUser) (line operands : List ℕ) (after : List (List ℕ)) (e : Said)
+run_found : (users : List KnownUser) (line operands : List ℕ) (after : List (List ℕ)) (e : EventValue)
     → line ≡ codes "RUN" ++ 32 ∷ operands → run_of (names_of users) operands ≡ Some e → Says users line after e
 run_found users line operands after e spelled h =
     option_and_then_some (λ user. option_and_then (λ digits. option_and_then (counted user) (decimal_of 7 digits))
@@ -66,7 +67,7 @@ typed_on users line operands user (Some text) after named spelled = record {
   spelled = inl (spelled ∙ ap (λ (l : List ℕ). codes "LINE" ++ 32 ∷ l) (parts operands text after));
 }
 
-typed_by : (users : List KnownUser) (line operands : List ℕ) (after : List (List ℕ)) (e : Said) (o : Option ℕ)
+typed_by : (users : List KnownUser) (line operands : List ℕ) (after : List (List ℕ)) (e : EventValue) (o : Option ℕ)
     → user_of (names_of users) (word_of operands) ≡ o → line ≡ codes "LINE" ++ 32 ∷ operands
     → option_map (λ user. Line user (text_of (after_word operands))) o ≡ Some e → Says users line after e
 typed_by users line operands after e None named spelled h = cc
@@ -74,7 +75,8 @@ typed_by users line operands after e (Some user) named spelled h =
     let same : Line user (text_of (after_word operands)) ≡ e = cc in
     subst (Says users line after) same (typed_on users line operands user (after_word operands) refl named spelled)
 
-ticked_by : (users : List KnownUser) (line operands : List ℕ) (after : List (List ℕ)) (e : Said) (o : Option (List ℕ))
+ticked_by : (users : List KnownUser) (line operands : List ℕ) (after : List (List ℕ)) (e : EventValue)
+    (o : Option (List ℕ))
     (u : Option ℕ) → after_word operands ≡ o → user_of (names_of users) (word_of operands) ≡ u
     → line ≡ codes "TICK" ++ 32 ∷ operands → cond (is_some o) None (option_map Tick u) ≡ Some e
     → Says users line after e
@@ -88,14 +90,14 @@ ticked_by users line operands after e None (Some user) follows named spelled h =
       named = record { whole = word_whole operands; found = named };
     })
 
-serves : (users : List KnownUser) (user device : ℕ) (e : Said) → served users user device ≡ Some e
+serves : (users : List KnownUser) (user device : ℕ) (e : EventValue) → served users user device ≡ Some e
     → (e ≡ Serve user device) × (has_device users user device ≡ true)
 serves users user device e h = elim (chosen (has_device users user device) (Some (Serve user device)) None (Some e) h) [
   | inl k ↦ (cc, k.0)
   | inr k ↦ cc
 ]
 
-serve_found : (users : List KnownUser) (line operands : List ℕ) (after : List (List ℕ)) (e : Said)
+serve_found : (users : List KnownUser) (line operands : List ℕ) (after : List (List ℕ)) (e : EventValue)
     → line ≡ codes "SERVE" ++ 32 ∷ operands → serve_of users operands ≡ Some e → Says users line after e
 serve_found users line operands after e spelled h =
     option_and_then_some (λ user. option_and_then (λ digits. option_and_then (served users user)
@@ -114,13 +116,13 @@ serve_found users line operands after e spelled h =
       had = k.1;
     }))))
 
-turns_are : (turns : ℕ) (e : Said) → turned turns ≡ Some e → (e ≡ Auto turns) × (1 ≤ turns) × (turns ≤ 100000)
+turns_are : (turns : ℕ) (e : EventValue) → turned turns ≡ Some e → (e ≡ Auto turns) × (1 ≤ turns) × (turns ≤ 100000)
 turns_are turns e h = elim (chosen (leb 1 turns && leb turns 100000) (Some (Auto turns)) None (Some e) h) [
   | inl k ↦ let both = k.0 in (cc, grind (arith, nat_tests), grind (arith, nat_tests))
   | inr k ↦ cc
 ]
 
-auto_found : (users : List KnownUser) (line operands : List ℕ) (after : List (List ℕ)) (e : Said)
+auto_found : (users : List KnownUser) (line operands : List ℕ) (after : List (List ℕ)) (e : EventValue)
     → line ≡ codes "AUTO" ++ 32 ∷ operands → auto_of operands ≡ Some e → Says users line after e
 auto_found users line operands after e spelled h =
     option_and_then_some turned (decimal_of 7 operands) e h (λ turns number h1.
@@ -133,13 +135,13 @@ auto_found users line operands after e spelled h =
       most = k.2;
     }))
 
-deals_on : (user count : ℕ) (after : List (List ℕ)) (e : Said) (b : Bool)
+deals_on : (user count : ℕ) (after : List (List ℕ)) (e : EventValue) (b : Bool)
     → option_map (Deck user) (cond b (Some (map card_of (take count after))) None) ≡ Some e → (b ≡ true)
     × (e ≡ Deck user (map card_of (take count after)))
 deals_on user count after e true h = (refl, cc)
 deals_on user count after e false h = cc
 
-deals : (user count : ℕ) (after : List (List ℕ)) (e : Said) → dealt user after count ≡ Some e
+deals : (user count : ℕ) (after : List (List ℕ)) (e : EventValue) → dealt user after count ≡ Some e
     → (e ≡ Deck user (map card_of (take count after))) × (1 ≤ count) × (count ≤ 1000) × (count ≤ length after)
 deals user count after e h = elim (chosen (leb 1 count && leb count 1000)
     (option_map (Deck user) (cards_in count after)) None (Some e) h) [
@@ -151,7 +153,7 @@ deals user count after e h = elim (chosen (leb 1 count && leb count 1000)
       | inr k ↦ cc
     ]
 
-deck_found : (users : List KnownUser) (line operands : List ℕ) (after : List (List ℕ)) (e : Said)
+deck_found : (users : List KnownUser) (line operands : List ℕ) (after : List (List ℕ)) (e : EventValue)
     → line ≡ codes "DECK" ++ 32 ∷ operands → deck_of (names_of users) operands after ≡ Some e → Says users line after e
 deck_found users line operands after e spelled h =
     option_and_then_some (λ user. option_and_then (λ digits. option_and_then (dealt user after) (decimal_of 7 digits))
@@ -176,8 +178,8 @@ deck_found users line operands after e spelled h =
     }))))
 
 -- what one of the words names, where the line's first word is it
-picked : (users : List KnownUser) (line verb operands : List ℕ) (after : List (List ℕ)) (e : Said) (word : List ℕ)
-    (own others : Option Said) → line ≡ verb ++ 32 ∷ operands
+picked : (users : List KnownUser) (line verb operands : List ℕ) (after : List (List ℕ)) (e : EventValue) (word : List ℕ)
+    (own others : Option EventValue) → line ≡ verb ++ 32 ∷ operands
     → (line ≡ word ++ 32 ∷ operands → own ≡ Some e → Says users line after e)
     → (others ≡ Some e → Says users line after e)
     → cond (bytes_eq verb word) own others ≡ Some e → Says users line after e
@@ -187,7 +189,7 @@ picked users line verb operands after e word own others spelled here there h = e
       | inr k ↦ there k.1
     ]
 
-found_on : (users : List KnownUser) (line verb operands : List ℕ) (after : List (List ℕ)) (e : Said)
+found_on : (users : List KnownUser) (line verb operands : List ℕ) (after : List (List ℕ)) (e : EventValue)
     → line ≡ verb ++ 32 ∷ operands → operands_of users verb operands after ≡ Some e → Says users line after e
 found_on users line verb operands after e spelled h =
     let deck = cond (bytes_eq verb (codes "DECK")) (deck_of (names_of users) operands after) None in
@@ -209,7 +211,8 @@ found_on users line verb operands after e spelled h =
     (picked users line verb operands after e (codes "DECK") (deck_of (names_of users) operands after) None spelled
     (λ s k. deck_found users line operands after e s k) (λ k. cc)))))) h
 
-found : (users : List KnownUser) (line : List ℕ) (after : List (List ℕ)) (e : Said) → said_of users line after ≡ Some e
+found : (users : List KnownUser) (line : List ℕ) (after : List (List ℕ)) (e : EventValue)
+    → said_of users line after ≡ Some e
     → Says users line after e
 found users line after e h = option_and_then_some (λ operands. operands_of users (word_of line) operands after)
     (after_word line) e h (λ operands follows h1.
@@ -258,7 +261,7 @@ deck_again users user name digits own others named number least most =
     rw (word_again name digits named.whole, named.found, after_again name digits named.whole, number)
     (deal_again user (length own) own others refl least most)
 
-again : (users : List KnownUser) (line : List ℕ) (after : List (List ℕ)) (e : Said) → Says users line after e
+again : (users : List KnownUser) (line : List ℕ) (after : List (List ℕ)) (e : EventValue) → Says users line after e
     → said_of users line after ≡ Some e
 again users line after (Run user units) h =
     rw h.spelled (run_again users user units h.name h.digits h.named h.number h.least h.most)
@@ -289,7 +292,7 @@ again users line after (Deck user cards) h =
     h.most)
 
 -- the cards of an event are among the lines after it
-few : (users : List KnownUser) (line : List ℕ) (after : List (List ℕ)) (e : Said) → Says users line after e
+few : (users : List KnownUser) (line : List ℕ) (after : List (List ℕ)) (e : EventValue) → Says users line after e
     → cards_after e ≤ length after
 few users line after (Run user units) h = omega arith
 few users line after (Line user text) h = omega arith
@@ -304,12 +307,12 @@ few users line after (Deck user cards) h =
     omega arith
 
 -- what is read of lines, the first so many of which are cards, after what was read before them
-record Read (users : List KnownUser) (lines : List (List ℕ)) (cards : ℕ) (front events : List Said) : Type 0 where
-  own : List Said
+record Read (users : List KnownUser) (lines : List (List ℕ)) (cards : ℕ) (front events : List EventValue) : Type 0 where
+  own : List EventValue
   joins : events ≡ front ++ own
   is : Reads users cards lines [] own 0
 
-card_on : (users : List KnownUser) (line : List ℕ) (lines : List (List ℕ)) (n left : ℕ) (front events : List Said)
+card_on : (users : List KnownUser) (line : List ℕ) (lines : List (List ℕ)) (n left : ℕ) (front events : List EventValue)
     (b : Bool) → leb (length line) 80 ≡ b
     → (read_on users (n + 1) (record { events = front; cards = left }) lines ≡ Ok events
     → Read users lines left front events)
@@ -319,9 +322,9 @@ card_on users line lines n left front events true fits hyp h = let r = hyp h in
     record { own = r.own; joins = r.joins; is = (grind (arith, nat_tests), r.is) }
 card_on users line lines n left front events false fits hyp h = cc
 
-entry_on : (users : List KnownUser) (line : List ℕ) (lines : List (List ℕ)) (n : ℕ) (front events : List Said)
-    (b : Bool) (o : Option Said) → is_ignored line ≡ b → said_of users line lines ≡ o
-    → ((before : List Said) (cards : ℕ) → cards ≤ length lines
+entry_on : (users : List KnownUser) (line : List ℕ) (lines : List (List ℕ)) (n : ℕ) (front events : List EventValue)
+    (b : Bool) (o : Option EventValue) → is_ignored line ≡ b → said_of users line lines ≡ o
+    → ((before : List EventValue) (cards : ℕ) → cards ≤ length lines
     → read_on users (n + 1) (record { events = before; cards = cards }) lines ≡ Ok events
     → Read users lines cards before events)
     → and_then (cond b (Ok (record { events = front; cards = 0 })) (joined n front o))
@@ -338,7 +341,7 @@ entry_on users line lines n front events false (Some one) e s hyp h =
       is = inr (e, one, r.own, refl, rw append-nil says, r.is);
     }
 
-read_found : (users : List KnownUser) (lines : List (List ℕ)) (n cards : ℕ) (front events : List Said)
+read_found : (users : List KnownUser) (lines : List (List ℕ)) (n cards : ℕ) (front events : List EventValue)
     → cards ≤ length lines → read_on users n (record { events = front; cards = cards }) lines ≡ Ok events
     → Read users lines cards front events
 read_found users [] n cards front events there h = let same : front ≡ events = cc in
@@ -349,7 +352,7 @@ read_found users (line ∷ lines) n zero front events there h = entry_on users l
     (said_of users line lines) refl refl (λ before cards few_enough. read_found users lines
     (n + 1) cards before events few_enough) h
 
-read_again : (users : List KnownUser) (lines : List (List ℕ)) (n cards : ℕ) (front own : List Said)
+read_again : (users : List KnownUser) (lines : List (List ℕ)) (n cards : ℕ) (front own : List EventValue)
     → Reads users cards lines [] own 0 → read_on users n (record { events = front; cards = cards }) lines ≡ Ok
     (front ++ own)
 read_again users [] n cards front own h = rw h.0 (ap Ok (sym (append-nil front)))
@@ -373,12 +376,13 @@ record Bad (users : List KnownUser) (lines : List (List ℕ)) (cards n number : 
   after : List (List ℕ)
   split : lines ≡ before ++ bad ∷ after
   numbered : number ≡ n + length before
-  events : List Said
+  events : List EventValue
   left : ℕ
   accepted : Reads users cards before (bad ∷ after) events left
-  refused : (es : List Said) (more : ℕ) → Reads users left (bad ∷ []) after es more → ⊥
+  refused : (es : List EventValue) (more : ℕ) → Reads users left (bad ∷ []) after es more → ⊥
 
-bad_card : (users : List KnownUser) (line : List ℕ) (lines : List (List ℕ)) (n number left : ℕ) (front : List Said)
+bad_card : (users : List KnownUser) (line : List ℕ) (lines : List (List ℕ)) (n number left : ℕ)
+    (front : List EventValue)
     (b : Bool) → leb (length line) 80 ≡ b
     → (read_on users (n + 1) (record { events = front; cards = left }) lines ≡ Err number
     → Bad users lines left (n + 1) number)
@@ -411,9 +415,9 @@ bad_card users line lines n number left front false fits hyp h =
       refused = λ es more reads. let short = reads.0 in grind (arith, nat_tests);
     }
 
-bad_entry : (users : List KnownUser) (line : List ℕ) (lines : List (List ℕ)) (n number : ℕ) (front : List Said)
-    (b : Bool) (o : Option Said) → is_ignored line ≡ b → said_of users line lines ≡ o
-    → ((before : List Said) (cards : ℕ) → read_on users (n + 1)
+bad_entry : (users : List KnownUser) (line : List ℕ) (lines : List (List ℕ)) (n number : ℕ) (front : List EventValue)
+    (b : Bool) (o : Option EventValue) → is_ignored line ≡ b → said_of users line lines ≡ o
+    → ((before : List EventValue) (cards : ℕ) → read_on users (n + 1)
     (record { events = before; cards = cards }) lines ≡ Err number → Bad users lines cards (n + 1) number)
     → and_then (cond b (Ok (record { events = front; cards = 0 })) (joined n front o))
     (λ next. read_on users (n + 1) next lines) ≡ Err number → Bad users (line ∷ lines) zero n number
@@ -468,7 +472,7 @@ bad_entry users line lines n number front false (Some one) e s hyp h =
       refused = r.refused;
     }
 
-bad_found : (users : List KnownUser) (lines : List (List ℕ)) (n number cards : ℕ) (front : List Said)
+bad_found : (users : List KnownUser) (lines : List (List ℕ)) (n number cards : ℕ) (front : List EventValue)
     → read_on users n (record { events = front; cards = cards }) lines ≡ Err number → Bad users lines cards n number
 bad_found users [] n number cards front h = cc
 bad_found users (line ∷ lines) n number (suc left) front h = bad_card users line lines n number left front
@@ -480,7 +484,7 @@ bad_found users (line ∷ lines) n number zero front h = bad_entry users line li
 pub reads : ReadsGrammar
 reads users text = (
   λ events h. let r = read_found users (lines_of text) 1 0 [] events (omega arith) h in
-      subst (λ (l : List Said). Reads users 0 (lines_of text) [] l 0) (sym r.joins) r.is,
+      subst (λ (l : List EventValue). Reads users 0 (lines_of text) [] l 0) (sym r.joins) r.is,
   λ events h. read_again users (lines_of text) 1 0 [] events h,
   λ number h. let r = bad_found users (lines_of text) 1 number 0 [] h in
       record {

@@ -7,7 +7,7 @@ use Rattle.text_words.specs.Numbers.{decimal_of, hexadecimal_of}
 use Rattle.user_names.specs.Users.{user_of}
 use Rattle.session_script.specs.Users.{KnownUser, has_device, names_of}
 use Rattle.session_script.specs.Cards.{card_of}
-use Rattle.session_script.specs.Script.{Said, Run, Line, Tick, Serve, Auto, Deck, cards_after}
+use Rattle.session_script.specs.Script.{EventValue, Run, Line, Tick, Serve, Auto, Deck, cards_after}
 use Rattle.session_script.specs.Script.{is_ignored, script_of}
 
 -- a word that is the name of this user
@@ -73,7 +73,7 @@ pub record SaysDeck (names : List (List ℕ)) (line : List ℕ) (after : List (L
   pub punched : cards ≡ map card_of own
 
 -- a line says an event, where these lines come after it
-abbrev pub Says : List KnownUser → List ℕ → List (List ℕ) → Said → Type 0
+abbrev pub Says : List KnownUser → List ℕ → List (List ℕ) → EventValue → Type 0
 Says users line after (Run user units) = SaysRun (names_of users) line user units
 Says users line after (Line user text) = SaysLine (names_of users) line user text
 Says users line after (Tick user) = SaysTick (names_of users) line user
@@ -84,18 +84,18 @@ Says users line after (Deck user cards) = SaysDeck (names_of users) line after u
 -- these lines, of which the first so many are cards, say these events; so many of the lines after
 -- them are cards then. A card has at most 80 characters; each other line is ignored, or says the
 -- next event
-abbrev pub Reads : List KnownUser → ℕ → List (List ℕ) → List (List ℕ) → List Said → ℕ → Type 0
+abbrev pub Reads : List KnownUser → ℕ → List (List ℕ) → List (List ℕ) → List EventValue → ℕ → Type 0
 Reads users cards [] after events left = (events ≡ []) × (left ≡ cards)
 Reads users (suc cards) (line ∷ lines) after events left = (length line ≤ 80)
     × Reads users cards lines after events left
 Reads users zero (line ∷ lines) after events left =
     ((is_ignored line ≡ true) × Reads users 0 lines after events left)
-    ⊎ ((is_ignored line ≡ false) × (e : Said) × (es : List Said) × (events ≡ e ∷ es)
+    ⊎ ((is_ignored line ≡ false) × (e : EventValue) × (es : List EventValue) × (events ≡ e ∷ es)
     × Says users line (lines ++ after) e
     × Reads users (cards_after e) lines after es left)
 
 -- the lines are a script of these events
-abbrev pub IsScript : List KnownUser → List (List ℕ) → List Said → Type 0
+abbrev pub IsScript : List KnownUser → List (List ℕ) → List EventValue → Type 0
 IsScript users lines events = Reads users 0 lines [] events 0
 
 -- this line, counted from 1, is the first that no script has: those before it are read, and it
@@ -106,17 +106,17 @@ pub record IsFirstBad (users : List KnownUser) (lines : List (List ℕ)) (number
   pub after : List (List ℕ)
   pub split : lines ≡ before ++ bad ∷ after
   pub numbered : number ≡ length before + 1
-  pub events : List Said
+  pub events : List EventValue
   pub cards : ℕ
   pub accepted : Reads users 0 before (bad ∷ after) events cards
-  pub refused : (es : List Said) (left : ℕ) → Reads users cards (bad ∷ []) after es left → ⊥
+  pub refused : (es : List EventValue) (left : ℕ) → Reads users cards (bad ∷ []) after es left → ⊥
 
 -- what is read is in the grammar, what is in the grammar is read, and the line that is reported is
 -- the first bad one
 abbrev pub ReadsGrammar : Type 0
 ReadsGrammar = (users : List KnownUser) (text : List ℕ) →
-    ((events : List Said) → script_of users text ≡ Ok events
+    ((events : List EventValue) → script_of users text ≡ Ok events
     → IsScript users (lines_of text) events)
-    × ((events : List Said) → IsScript users (lines_of text) events
+    × ((events : List EventValue) → IsScript users (lines_of text) events
     → script_of users text ≡ Ok events)
     × ((number : ℕ) → script_of users text ≡ Err number → IsFirstBad users (lines_of text) number)

@@ -16,22 +16,22 @@ use Rattle.session_script.specs.declared.reader.ScriptError.{ScriptError}
 use Rattle.session_script.specs.declared.reader.ScriptError.TheVariants as errors
 
 -- an event as a script names it
-pub data Said : Type 0 where
+pub data EventValue : Type 0 where
   -- so many units of this user
-  Run : ℕ → ℕ → Said
+  Run : ℕ → ℕ → EventValue
   -- this line, typed at the user's terminal
-  Line : ℕ → List ℕ → Said
+  Line : ℕ → List ℕ → EventValue
   -- a tick of this user's timer
-  Tick : ℕ → Said
+  Tick : ℕ → EventValue
   -- the user's device of this address is served
-  Serve : ℕ → ℕ → Said
+  Serve : ℕ → ℕ → EventValue
   -- so many turns are dealt
-  Auto : ℕ → Said
+  Auto : ℕ → EventValue
   -- the operator gives this user a deck of these cards
-  Deck : ℕ → List (List ℕ) → Said
+  Deck : ℕ → List (List ℕ) → EventValue
 
 -- the event that a value is
-abbrev pub said : ScriptEvent → Said
+abbrev pub said : ScriptEvent → EventValue
 said (events.Run user units) = Run user units
 said (events.Line user text) = Line user text.now
 said (events.Tick user) = Tick user
@@ -62,11 +62,11 @@ IsOfDevice users (events.Deck user cards) = Unit {0}
 IsOfDevice users (events.Serve user device) = has_device users user device ≡ true
 
 -- a number of units is 1 to 1,000,000
-abbrev pub counted : ℕ → ℕ → Option Said
+abbrev pub counted : ℕ → ℕ → Option EventValue
 counted user units = if nat_le 1 units && nat_le units 1000000 then Some (Run user units) else None
 
 -- `RUN u n`, after its first word
-abbrev pub run_of : List (List ℕ) → List ℕ → Option Said
+abbrev pub run_of : List (List ℕ) → List ℕ → Option EventValue
 run_of names operands = option_and_then
     (λ user. option_and_then (λ digits. option_and_then (counted user) (decimal_of 7 digits))
     (after_word operands)) (user_of names (word_of operands))
@@ -77,49 +77,49 @@ text_of None = []
 text_of (Some text) = text
 
 -- `LINE u text`, after its first word
-abbrev pub typed_of : List (List ℕ) → List ℕ → Option Said
+abbrev pub typed_of : List (List ℕ) → List ℕ → Option EventValue
 typed_of names operands =
     option_map (λ user. Line user (text_of (after_word operands)))
     (user_of names (word_of operands))
 
 -- `TICK u`, after its first word: nothing follows the name
-abbrev pub tick_of : List (List ℕ) → List ℕ → Option Said
+abbrev pub tick_of : List (List ℕ) → List ℕ → Option EventValue
 tick_of names operands = if is_some (after_word operands) then None
     else option_map Tick (user_of names (word_of operands))
 
 -- a device that is served is one of the user's
-abbrev pub served : List KnownUser → ℕ → ℕ → Option Said
+abbrev pub served : List KnownUser → ℕ → ℕ → Option EventValue
 served users user device = if has_device users user device then Some (Serve user device) else None
 
 -- `SERVE u addr`, after its first word
-abbrev pub serve_of : List KnownUser → List ℕ → Option Said
+abbrev pub serve_of : List KnownUser → List ℕ → Option EventValue
 serve_of users operands =
     option_and_then (λ user.
     option_and_then (λ digits. option_and_then (served users user) (hexadecimal_of 3 3 digits))
     (after_word operands)) (user_of (names_of users) (word_of operands))
 
 -- a number of turns is 1 to 100,000
-abbrev pub turned : ℕ → Option Said
+abbrev pub turned : ℕ → Option EventValue
 turned turns = if nat_le 1 turns && nat_le turns 100000 then Some (Auto turns) else None
 
 -- `AUTO k`, after its first word
-abbrev pub auto_of : List ℕ → Option Said
+abbrev pub auto_of : List ℕ → Option EventValue
 auto_of operands = option_and_then turned (decimal_of 7 operands)
 
 -- a deck has 1 to 1000 cards, which are the next lines
-abbrev pub dealt : ℕ → List (List ℕ) → ℕ → Option Said
+abbrev pub dealt : ℕ → List (List ℕ) → ℕ → Option EventValue
 dealt user after count = if nat_le 1 count && nat_le count 1000
     then option_map (Deck user) (cards_in count after) else None
 
 -- `DECK u k`, after its first word; these lines come after it
-abbrev pub deck_of : List (List ℕ) → List ℕ → List (List ℕ) → Option Said
+abbrev pub deck_of : List (List ℕ) → List ℕ → List (List ℕ) → Option EventValue
 deck_of names operands after =
     option_and_then (λ user.
     option_and_then (λ digits. option_and_then (dealt user after) (decimal_of 7 digits))
     (after_word operands)) (user_of names (word_of operands))
 
 -- by the first word
-abbrev pub operands_of : List KnownUser → List ℕ → List ℕ → List (List ℕ) → Option Said
+abbrev pub operands_of : List KnownUser → List ℕ → List ℕ → List (List ℕ) → Option EventValue
 operands_of users verb operands after =
     if bytes_eq verb (codes "RUN") then run_of (names_of users) operands
     else if bytes_eq verb (codes "LINE") then typed_of (names_of users) operands
@@ -130,7 +130,7 @@ operands_of users verb operands after =
     else None
 
 -- what a line names before these lines, none where it is refused
-abbrev pub said_of : List KnownUser → List ℕ → List (List ℕ) → Option Said
+abbrev pub said_of : List KnownUser → List ℕ → List (List ℕ) → Option EventValue
 said_of users line after =
     option_and_then (λ operands. operands_of users (word_of line) operands after) (after_word line)
 
@@ -140,7 +140,7 @@ is_ignored [] = true
 is_ignored (c ∷ cs) = c == 42
 
 -- how many of the lines after an event are its cards
-abbrev pub cards_after : Said → ℕ
+abbrev pub cards_after : EventValue → ℕ
 cards_after (Deck user cards) = length cards
 cards_after (Run user units) = 0
 cards_after (Line user text) = 0
@@ -151,42 +151,44 @@ cards_after (Auto turns) = 0
 -- how far a script is read: its events, and how many of the next lines are cards of the last of
 -- them
 pub record Reading : Type 0 where
-  pub events : List Said
+  pub events : List EventValue
   pub cards : ℕ
 
 -- an event is added to those before it; a line that is refused is reported by its number
-abbrev pub joined : ℕ → List Said → Option Said → Result Reading ℕ
+abbrev pub joined : ℕ → List EventValue → Option EventValue → Result Reading ℕ
 joined number so_far None = Err number
 joined number so_far (Some one) =
     Ok (record { events = so_far ++ one ∷ []; cards = cards_after one })
 
 -- what a line of this number, which is no card, adds to the events before it
-abbrev pub line_step : List KnownUser → ℕ → List Said → List ℕ → List (List ℕ) → Result Reading ℕ
+abbrev pub line_step : List KnownUser → ℕ → List EventValue → List ℕ → List (List ℕ)
+    → Result Reading ℕ
 line_step users number so_far line after =
     if is_ignored line then Ok (record { events = so_far; cards = 0 })
     else joined number so_far (said_of users line after)
 
--- a line of this number, which is a card, has at most 80 characters; so many cards are left after
--- it
-abbrev pub card_step : ℕ → List Said → ℕ → List ℕ → Result Reading ℕ
+-- a line of this number, which is a card, has at most 80 characters; so many cards are left
+-- after it
+abbrev pub card_step : ℕ → List EventValue → ℕ → List ℕ → Result Reading ℕ
 card_step number so_far left line = if nat_le (length line) 80
     then Ok (record { events = so_far; cards = left }) else Err number
 
 -- a line of this number, by whether it is a card
-abbrev pub step : List KnownUser → ℕ → List Said → ℕ → List ℕ → List (List ℕ) → Result Reading ℕ
+abbrev pub step : List KnownUser → ℕ → List EventValue → ℕ → List ℕ → List (List ℕ)
+    → Result Reading ℕ
 step users number so_far zero line after = line_step users number so_far line after
 step users number so_far (suc left) line after = card_step number so_far left line
 
 -- the events of a script that is read so far and has these lines left, or the number of the first
 -- that is refused
-abbrev pub read_on : List KnownUser → ℕ → Reading → List (List ℕ) → Result (List Said) ℕ
+abbrev pub read_on : List KnownUser → ℕ → Reading → List (List ℕ) → Result (List EventValue) ℕ
 read_on users number so_far [] = Ok so_far.events
 read_on users number so_far (line ∷ lines) =
     and_then (step users number so_far.events so_far.cards line lines)
     (λ next. read_on users (number + 1) next lines)
 
 -- the events that a script names, or the number of its first line that is refused
-abbrev pub script_of : List KnownUser → List ℕ → Result (List Said) ℕ
+abbrev pub script_of : List KnownUser → List ℕ → Result (List EventValue) ℕ
 script_of users text = read_on users 1 (record { events = []; cards = 0 }) (lines_of text)
 
 -- why a script is not read: memory, or this refusal

@@ -19,7 +19,7 @@ use Rattle.machine_devices.specs.declared.files.FileKind.TheVariants as kinds
 use Rattle.machine_devices.specs.declared.files.FileNote.{FileNote}
 use Rattle.s370_subchannels.specs.Subchannels.{next_start}
 use Rattle.s370_subchannels.specs.declared.subchannel.Subchannel.{Subchannel}
-use Rattle.session_script.specs.Script.{Said}
+use Rattle.session_script.specs.Script.{EventValue}
 use Rattle.session_script.specs.Script as said
 use Rattle.session_script.specs.Users.{KnownUser}
 use Rattle.sessions.specs.Alike.{AreAlike}
@@ -228,14 +228,15 @@ module _ {W : Type 0} (i : Installation W) (law : IsToGoOn i) where
         record { world = t.on; lines = same; detail = refl; had_slice = refl } in
         subst (λ (x : Scene W). ContinuesAs i end x) (sym left) on
 
-    too : (what : Said) (step : Step W) → step.said ≡ what → i.Happens other what step.reply step.left
+    too : (what : EventValue) (step : Step W) → step.said ≡ what → i.Happens other what step.reply step.left
         → HappensToo i one step
     too what step named happened =
-        law.happens one other step g (subst (λ (x : Said). i.Happens other x step.reply step.left) (sym named) happened)
+        law.happens one other step g (subst (λ (x : EventValue). i.Happens other x step.reply step.left)
+        (sym named) happened)
 
-    mine_is : (what : Said) (step : Step W) (t : HappensToo i one step) → step.said ≡ what
+    mine_is : (what : EventValue) (step : Step W) (t : HappensToo i one step) → step.said ≡ what
         → i.Happens one what step.reply t.left
-    mine_is what step t named = subst (λ (x : Said). i.Happens one x step.reply t.left) named t.happens
+    mine_is what step t named = subst (λ (x : EventValue). i.Happens one x step.reply t.left) named t.happens
 
     stayed : next ≡ within false other lines detail → ContinuesAs i (within false one lines detail) next
     stayed left =
@@ -244,7 +245,7 @@ module _ {W : Type 0} (i : Installation W) (law : IsToGoOn i) where
         record { world = g; lines = refl; detail = refl; had_slice = refl } in
         subst (λ (x : Scene W). ContinuesAs i end x) (sym left) on
 
-    applied : (what : Said) (step : Step W) → IsApplied i what step (within had other lines detail) next
+    applied : (what : EventValue) (step : Step W) → IsApplied i what step (within had other lines detail) next
         → Follows (Applies what) (Answered step) here next
     applied what step h =
         let t = too what step h.named h.happened in

@@ -9,7 +9,7 @@ use Rattle.cp_dispatch.specs.Turns.{IsDealt as IsTurn, StandsWithin, at_end, wit
 use Rattle.cp_dispatch.specs.Fairness.{Call, Deal, Come, Go, HasTurn, IsCalls, IsFair, IsReadyThroughout, deals}
 use Rattle.cp_dispatch.specs.Policy.{IsFairPolicy, always, is_of, same_program, same_user}
 use Rattle.cp_dispatch.specs.declared.program.Program.{Program}
-use Rattle.session_script.specs.Script.{Said, Run, Serve}
+use Rattle.session_script.specs.Script.{EventValue, Run, Serve}
 use Rattle.session_script.specs.Users.{has_device}
 use Rattle.sessions.specs.Installed.{Installation, Installed, subchannels_at}
 use Rattle.sessions.specs.Schedule.{Act, Applies, AreDone, Entry, Answered, Dealt, Idle, IsDone, Passed, Scene, Serves}

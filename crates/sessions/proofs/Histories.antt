@@ -11,7 +11,7 @@ use Rattle.cp_dispatch.specs.Policy.{Lines, always}
 use Rattle.cp_dispatch.specs.Turns.{IsDealt}
 use Rattle.cp_dispatch.specs.declared.program.Program.{Program}
 use Rattle.machine_devices.specs.declared.reply.Reply.{Reply}
-use Rattle.session_script.specs.Script.{Said}
+use Rattle.session_script.specs.Script.{EventValue}
 use Rattle.session_script.specs.Script as said
 use Rattle.session_script.specs.Users.{KnownUser}
 use Rattle.sessions.specs.Installed.{Installation, IsHistory, Step, names_of}
@@ -45,7 +45,7 @@ history i [] old new [] h = world_is new old h
 history i [] old new (e ∷ es) h = absurd h
 history i (x ∷ xs) old new [] h = absurd h
 history {W} i (Applies what ∷ xs) old new (Answered step ∷ es) h = (
-  subst (λ (s : Said). i.Happens old.world s step.reply step.left) (sym h.1.named) h.1.happened,
+  subst (λ (s : EventValue). i.Happens old.world s step.reply step.left) (sym h.1.named) h.1.happened,
   from_world i (steps_of es) h.0.world step.left new.world (ap (λ (s : Scene W). s.world) h.1.left)
       (history i xs h.0 new es h.2),
 )
@@ -54,7 +54,7 @@ history i (Applies what ∷ xs) old new (Passed ∷ es) h = absurd h.1
 history i (Applies what ∷ xs) old new (Idle ∷ es) h = absurd h.1
 history i (Slices ∷ xs) old new (Answered step ∷ es) h = absurd h.1
 history {W} i (Slices ∷ xs) old new (Dealt step ∷ es) h = (
-  subst (λ (s : Said). i.Happens old.world s step.reply step.left) (sym h.1.slice) h.1.happened,
+  subst (λ (s : EventValue). i.Happens old.world s step.reply step.left) (sym h.1.slice) h.1.happened,
   from_world i (steps_of es) h.0.world step.left new.world (ap (λ (s : Scene W). s.world) h.1.left)
       (history i xs h.0 new es h.2),
 )
@@ -64,7 +64,7 @@ history {W} i (Slices ∷ xs) old new (Passed ∷ es) h =
 history i (Slices ∷ xs) old new (Idle ∷ es) h = absurd h.1
 history i (Serves ∷ xs) old new (Answered step ∷ es) h = absurd h.1
 history {W} i (Serves ∷ xs) old new (Dealt step ∷ es) h = (
-  subst (λ (s : Said). i.Happens old.world s step.reply step.left) (sym h.1.served) h.1.happened,
+  subst (λ (s : EventValue). i.Happens old.world s step.reply step.left) (sym h.1.served) h.1.happened,
   from_world i (steps_of es) h.0.world step.left new.world (ap (λ (s : Scene W). s.world) h.1.left)
       (history i xs h.0 new es h.2),
 )
@@ -84,13 +84,13 @@ transcript_append i detail names (x ∷ xs) ys =
     (append_assoc lines (transcript i detail names xs) (transcript i detail names ys))
 
 -- Events after others are done after them.
-pub acts_append : (xs ys : List Said) → acts (xs ++ ys) ≡ acts xs ++ acts ys
+pub acts_append : (xs ys : List EventValue) → acts (xs ++ ys) ≡ acts xs ++ acts ys
 acts_append [] ys = refl
 acts_append (x ∷ xs) ys =
     ap (λ (l : List Act). acts_of x ++ l) (acts_append xs ys) ∙ sym (append_assoc (acts_of x) (acts xs) (acts ys))
 
 -- the acts of one line more
-pub acts_more : (xs : List Said) (x : Said) → acts (xs ++ x ∷ []) ≡ acts xs ++ acts_of x
+pub acts_more : (xs : List EventValue) (x : EventValue) → acts (xs ++ x ∷ []) ≡ acts xs ++ acts_of x
 acts_more xs x = acts_append xs (x ∷ []) ∙ ap (λ (l : List Act). acts xs ++ l) (append-nil (acts_of x))
 
 turns_behind : (k : ℕ) → turns (suc k) ≡ turns k ++ turn
@@ -198,7 +198,7 @@ partly_rest i xs ys old new a b p = record {
 }
 
 -- nothing was done, or the first act was refused memory
-pub partly_none : {W : Type 0} (i : Installation W) (act : Act) (what : Said) (old : Scene W) (new : W)
+pub partly_none : {W : Type 0} (i : Installation W) (act : Act) (what : EventValue) (old : Scene W) (new : W)
     (a b : Option (List ℕ)) → MayAsk act what → IsUnanswered i what old.world new a b
     → IsPartly i (act ∷ []) old new a b
 partly_none i act what old new a b asks h = record {
@@ -245,7 +245,8 @@ played_one i act entry old new a b h w users detail dealing = record {
 -- ---- an event that a script says
 
 -- it was answered, and queue and line were brought up
-pub applied : {W : Type 0} (i : Installation W) (detail : Detail) (what : Said) (old new : W) (lines after : Lines)
+pub applied : {W : Type 0} (i : Installation W) (detail : Detail) (what : EventValue) (old new : W)
+    (lines after : Lines)
     (a b : Option (List ℕ)) → IsAnswered i Whole what old new a b
     → after ≡ lines_after (i.seen old) (i.seen new) (user_said what) lines → (i.seen new).users ≡ (i.seen old).users
     → IsOf (i.seen new) after → IsPlayed i (Applies what ∷ []) (scene old lines detail) (scene new after detail) a b
@@ -256,7 +257,8 @@ applied {W} i detail what old new lines after a b h e users dealing =
     (record { named = refl; happened = h.happened; left = left }) h.written users refl dealing
 
 -- An event that was not answered is a part of its act.
-pub applied_partly : {W : Type 0} (i : Installation W) (detail : Detail) (what : Said) (old new : W) (lines : Lines)
+pub applied_partly : {W : Type 0} (i : Installation W) (detail : Detail) (what : EventValue) (old new : W)
+    (lines : Lines)
     (a b : Option (List ℕ)) → IsUnanswered i what old new a b ⊎ IsAnsweredPartly i Whole what old new a b
     → IsPartly i (Applies what ∷ []) (scene old lines detail) new a b
 applied_partly i detail what old new lines a b (inl h) =
@@ -406,7 +408,7 @@ not_served_partly i detail had old lines a b dealt w =
 -- ---- answers
 
 -- what was answered is answered in part too
-pub answered_partly : {W : Type 0} (i : Installation W) (detail : Detail) (what : Said) (old new : W)
+pub answered_partly : {W : Type 0} (i : Installation W) (detail : Detail) (what : EventValue) (old new : W)
     (a b : Option (List ℕ)) → IsAnswered i detail what old new a b → IsAnsweredPartly i detail what old new a b
 answered_partly {W} i detail what old new a b h =
     let step : Step W = record { said = what; reply = h.reply; left = new } in

@@ -5,7 +5,7 @@ use Rattle.std.specs.Prelude.{◌==◌}
 use Rattle.std.proofs.KnownBytes.{Appends-trans}
 use Rattle.text_words.specs.Lines.{lines_of}
 use Rattle.session_script.specs.Grammar.{Reads, ReadsGrammar, Says}
-use Rattle.session_script.specs.Script.{Said, Run, Line, Tick, Serve, Auto, Deck, cards_after, script_of}
+use Rattle.session_script.specs.Script.{EventValue, Run, Line, Tick, Serve, Auto, Deck, cards_after, script_of}
 use Rattle.session_script.specs.Users.{KnownUser}
 use Rattle.sessions.specs.Files.{closing_lines}
 use Rattle.sessions.specs.Installed.{Installation, names_of}
@@ -46,7 +46,8 @@ lines_join one other (inr whole) =
 -- ---- the grammar
 
 -- a line says the same before more lines
-says_more : (users : List KnownUser) (line : List ℕ) (after more : List (List ℕ)) (e : Said) → Says users line after e
+says_more : (users : List KnownUser) (line : List ℕ) (after more : List (List ℕ)) (e : EventValue)
+    → Says users line after e
     → Says users line (after ++ more) e
 says_more users line after more (Run user units) h = h
 says_more users line after more (Line user text) h = h
@@ -67,7 +68,7 @@ says_more users line after more (Deck user cards) h = record {
   punched = h.punched;
 }
 
-reads_join : (users : List KnownUser) (cards : ℕ) (xs ys : List (List ℕ)) (es fs : List Said)
+reads_join : (users : List KnownUser) (cards : ℕ) (xs ys : List (List ℕ)) (es fs : List EventValue)
     → Reads users cards xs [] es 0 → Reads users 0 ys [] fs 0 → Reads users cards (xs ++ ys) [] (es ++ fs) 0
 reads_join users cards [] ys es fs h k = subst (λ (n : ℕ). Reads users n ys [] (es ++ fs) 0) h.1 (rw h.0 k)
 reads_join users (suc cards) (x ∷ xs) ys es fs h k = (h.0, reads_join users cards xs ys es fs h.1 k)
@@ -79,12 +80,13 @@ reads_join users zero (x ∷ xs) ys es fs (inr h) k =
       h.0,
       h.1,
       h.2 ++ fs,
-      ap (λ (l : List Said). l ++ fs) h.3,
+      ap (λ (l : List EventValue). l ++ fs) h.3,
       says,
       reads_join users (cards_after h.1) xs ys h.2 fs h.5 k,
     )
 
-scripts_join : ReadsGrammar → (users : List KnownUser) (one other : List ℕ) (es fs : List Said) → HasWholeLines one
+scripts_join : ReadsGrammar → (users : List KnownUser) (one other : List ℕ) (es fs : List EventValue)
+    → HasWholeLines one
     → script_of users one ≡ Ok es → script_of users other ≡ Ok fs → script_of users (one ++ other) ≡ Ok (es ++ fs)
 scripts_join grammar users one other es fs whole first second =
     let both = reads_join users 0 (lines_of one) (lines_of other) es fs ((grammar users one).0 es first)
@@ -94,7 +96,7 @@ scripts_join grammar users one other es fs whole first second =
 -- ---- what is followed
 
 -- a script that was played, to a world that then has forgotten printed lines
-pub followed_on : {W : Type 0} (i : Installation W) (text : List ℕ) (script : List Said) (old : Scene W)
+pub followed_on : {W : Type 0} (i : Installation W) (text : List ℕ) (script : List EventValue) (old : Scene W)
     (world next : W) (lines : Lines) (detail : Detail)
     (a b : Option (List ℕ)) → script_of (i.seen old.world).users text ≡ Ok script
     → IsPlayed i (acts script) old (scene world lines detail) a b → i.GoesOnAs world next

@@ -4,7 +4,7 @@ use Rattle.machine_devices.specs.declared.reply.Ended.{Ended}
 use Rattle.machine_devices.specs.declared.reply.Ended.TheVariants as ends
 use Rattle.machine_devices.specs.declared.reply.Reply.{Reply}
 use Rattle.user_names.specs.Users.{name_of}
-use Rattle.session_script.specs.Script.{Said}
+use Rattle.session_script.specs.Script.{EventValue}
 use Rattle.unit_record.specs.Reader.{DeckValue}
 use Rattle.sessions.specs.Alike.{AreAlike, IsAlike, TranscriptsAgree}
 use Rattle.sessions.specs.Installed.{Installation, Step, machine_at, user_at}
@@ -23,7 +23,7 @@ written_same name count o p (ends.Ran ran) h = refl
 written_same name count o p ends.Done h = refl
 written_same name count o p ends.FramesOut h = refl
 
-reply_same : (detail : Detail) (names : List (List ℕ)) (user : ℕ) (event : Said) (decks : List DeckValue)
+reply_same : (detail : Detail) (names : List (List ℕ)) (user : ℕ) (event : EventValue) (decks : List DeckValue)
     (reply : Reply) (o p : List (List ℕ))
     → last_lines reply.lines o ≡ last_lines reply.lines p
     → reply_lines detail names user event decks o reply ≡ reply_lines detail names user event decks p reply
@@ -39,7 +39,7 @@ same_step : {V W : Type 0} (i : Installation V) (j : Installation W) (detail : D
 same_step i j detail names one other h =
     let user = user_said other.said in
     let seen = i.seen one.left in
-    ap (λ (s : Said). reply_lines detail names (user_said s) s (user_at seen (user_said s)).devices.reader.decks
+    ap (λ (s : EventValue). reply_lines detail names (user_said s) s (user_at seen (user_said s)).devices.reader.decks
     (machine_at seen (user_said s)).output one.reply) h.said
     ∙ (ap (λ (d : List DeckValue). reply_lines detail names user other.said d (machine_at seen user).output one.reply)
     h.decks

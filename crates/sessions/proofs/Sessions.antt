@@ -7,7 +7,7 @@ use Rattle.std.proofs.KnownBytes.{Appends-trans}
 use Rattle.std.proofs.lemmas.List.{take-append-le}
 use Rattle.s370_num.specs.Host.{AppendsFront}
 use Rattle.cp_dispatch.specs.Policy.{Lines}
-use Rattle.session_script.specs.Script.{Said, script_of}
+use Rattle.session_script.specs.Script.{EventValue, script_of}
 use Rattle.sessions.specs.Files.{closing_lines}
 use Rattle.sessions.specs.Installed.{Installation, names_of}
 use Rattle.sessions.specs.Schedule.{Scene, acts, first_lines, scene}
@@ -21,7 +21,7 @@ first_scene : {W : Type 0} (i : Installation W) (detail : Detail) (w : W) (first
 first_scene i detail w first e = ap (λ (l : Lines). scene w l detail) e
 
 -- A whole script is a session to its end.
-pub whole : {W : Type 0} (i : Installation W) (detail : Detail) (text : List ℕ) (script : List Said) (old : W)
+pub whole : {W : Type 0} (i : Installation W) (detail : Detail) (text : List ℕ) (script : List EventValue) (old : W)
     (first : Lines) (last : Scene W) (r s a b c : Option (List ℕ)) → IsRead r s text
     → script_of (i.seen old).users text ≡ Ok script → first ≡ first_lines (i.seen old)
     → IsPlayed i (acts script) (scene old first detail) last a b
@@ -46,7 +46,7 @@ front_more : (a b : Option (List ℕ)) (xs ys : List ℕ) → AppendsFront a b x
 front_more a b xs ys h = (h.0, omega (arith, length-append xs ys, h.1), rw (take-append-le h.0 xs ys h.1) h.2)
 
 -- A script that is cut short is a session up to there.
-pub cut : {W : Type 0} (i : Installation W) (detail : Detail) (text : List ℕ) (script : List Said) (old new : W)
+pub cut : {W : Type 0} (i : Installation W) (detail : Detail) (text : List ℕ) (script : List EventValue) (old new : W)
     (first : Lines) (r s a b : Option (List ℕ)) → IsRead r s text → script_of (i.seen old).users text ≡ Ok script
     → first ≡ first_lines (i.seen old) → IsPartly i (acts script) (scene old first detail) new a b
     → IsCut i detail old new r s a b
@@ -70,7 +70,7 @@ cut {W} i detail text script old new first r s a b read accepted e partly =
     }
 
 -- all was played, and a beginning of the files was written
-pub cut_short : {W : Type 0} (i : Installation W) (detail : Detail) (text : List ℕ) (script : List Said) (old : W)
+pub cut_short : {W : Type 0} (i : Installation W) (detail : Detail) (text : List ℕ) (script : List EventValue) (old : W)
     (first : Lines) (last : Scene W) (r s a b c : Option (List ℕ)) → IsRead r s text
     → script_of (i.seen old).users text ≡ Ok script → first ≡ first_lines (i.seen old)
     → IsPlayed i (acts script) (scene old first detail) last a b

@@ -1,7 +1,7 @@
 -- What is reported of an event that was answered.
 use Rattle.std.proofs.Common.{◌≡◌, ℕ, List, ap, ◌∙◌}
 use Rattle.machine_devices.specs.declared.reply.Reply.{Reply}
-use Rattle.session_script.specs.Script.{Said}
+use Rattle.session_script.specs.Script.{EventValue}
 use Rattle.session_script.specs.Users.{KnownUser, names_of as names_in}
 use Rattle.sessions.specs.Installed.{Installation, names_of, user_at}
 use Rattle.sessions.specs.Schedule.{user_said}
@@ -9,7 +9,7 @@ use Rattle.sessions.specs.Transcript.{ended, reply_lines, step_lines}
 use Rattle.sessions.specs.declared.schedule.Detail.{Detail}
 
 -- the lines of a reply to an event that was said are those of the step
-pub told_alike : {W : Type 0} (i : Installation W) (detail : Detail) (what : Said) (old new : W) (reply : Reply)
+pub told_alike : {W : Type 0} (i : Installation W) (detail : Detail) (what : EventValue) (old new : W) (reply : Reply)
     (user : ℕ) (text : List ℕ) → user ≡ user_said what → (i.seen new).users ≡ (i.seen old).users
     → text ≡ ended (reply_lines detail (names_of (i.seen new)) user what
     (user_at (i.seen new) user).devices.reader.decks (user_at (i.seen new) user).machine.output reply)

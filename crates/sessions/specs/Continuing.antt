@@ -3,7 +3,7 @@
 use Rattle.std.specs.Prelude.{◌≡◌, map}
 use Rattle.machine_devices.specs.Forgotten.{unprinted}
 use Rattle.machine_devices.specs.declared.reply.Reply.{Reply}
-use Rattle.session_script.specs.Script.{Said}
+use Rattle.session_script.specs.Script.{EventValue}
 use Rattle.sessions.specs.Alike.{IsAlike}
 use Rattle.sessions.specs.Installed.{Installation, Installed, Step}
 use Rattle.sessions.specs.Schedule.{Scene}

@@ -6,7 +6,7 @@ use Rattle.s370_subchannels.specs.Subchannels.{next_start}
 use Rattle.s370_subchannels.specs.declared.subchannel.Subchannel.{Subchannel}
 use Rattle.cp_dispatch.specs.Turns.{StandsWithin}
 use Rattle.cp_dispatch.specs.declared.program.Program.{Program}
-use Rattle.session_script.specs.Script.{Said, Run, Serve}
+use Rattle.session_script.specs.Script.{EventValue, Run, Serve}
 use Rattle.sessions.specs.Installed.{Installation, subchannels_at}
 use Rattle.sessions.specs.Schedule.{Act, Applies, AreDone, Entry, Answered, Dealt, Idle, Passed}
 use Rattle.sessions.specs.Schedule.{Scene, Serves, Slices, is_user_on, ready_in, slice_units}
@@ -27,14 +27,14 @@ serves (Slices ∷ more) = serves more
 serves (Serves ∷ more) = serves more + 1
 
 -- this event was dealt
-abbrev pub IsDealt : {W : Type 0} → Said → Entry W → Type 0
+abbrev pub IsDealt : {W : Type 0} → EventValue → Entry W → Type 0
 IsDealt said (Answered step) = ⊥
 IsDealt said (Dealt step) = step.said ≡ said
 IsDealt said Passed = ⊥
 IsDealt said Idle = ⊥
 
 -- it was dealt once or more
-abbrev pub HasDealt : {W : Type 0} → Said → List (Entry W) → Type 0
+abbrev pub HasDealt : {W : Type 0} → EventValue → List (Entry W) → Type 0
 HasDealt said [] = ⊥
 HasDealt said (entry ∷ entries) = IsDealt said entry ⊎ HasDealt said entries
 

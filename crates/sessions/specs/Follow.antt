@@ -3,7 +3,7 @@ use Rattle.std.specs.Prelude.{◌≡◌, ◌==◌, ℕ, Bool, true, if◌then◌
 use Rattle.std.specs.Prelude.{◌⊎◌, Option, Some, None, Result, Ok, Err}
 use Rattle.std.specs.Io.KnownBytes.{Appends}
 use Rattle.text_words.specs.Lines.{lines_of}
-use Rattle.session_script.specs.Script.{Said, script_of}
+use Rattle.session_script.specs.Script.{EventValue, script_of}
 use Rattle.session_script.specs.Users.{KnownUser}
 use Rattle.sessions.specs.Files.{closing_lines}
 use Rattle.sessions.specs.Continuing.{ContinuesAs}
@@ -30,20 +30,20 @@ abbrev pub unended_line : List ℕ → Option ℕ
 unended_line text = if is_whole text then None else Some (length (lines_of text))
 
 -- a line that nothing ends is refused, where no other one is
-abbrev pub ended_script : Result (List Said) ℕ → Option ℕ → Result (List Said) ℕ
+abbrev pub ended_script : Result (List EventValue) ℕ → Option ℕ → Result (List EventValue) ℕ
 ended_script (Ok script) None = Ok script
 ended_script (Ok script) (Some line) = Err line
 ended_script (Err line) unended = Err line
 
 -- the script that a part is, or the line of it that is the first refused
-abbrev pub part_of : List KnownUser → List ℕ → Result (List Said) ℕ
+abbrev pub part_of : List KnownUser → List ℕ → Result (List EventValue) ℕ
 part_of users text = ended_script (script_of users text) (unended_line text)
 
 -- the text is a script; it was done, and its transcript was written; the scene to which it has led
 -- goes on as this one, which may have forgotten printed lines
 pub record IsFollowed {W : Type 0} (i : Installation W) (text : List ℕ) (old new : Scene W)
     (before after : Option (List ℕ)) : Type 0 where
-  pub script : List Said
+  pub script : List EventValue
   pub accepted : script_of (i.seen old.world).users text ≡ Ok script
   pub end : Scene W
   pub played : IsPlayed i (acts script) old end before after
@@ -52,7 +52,7 @@ pub record IsFollowed {W : Type 0} (i : Installation W) (text : List ℕ) (old n
 -- the text is a script; a beginning of it was done, and a beginning of that transcript was written
 pub record IsFollowedPartly {W : Type 0} (i : Installation W) (text : List ℕ) (old : Scene W)
     (before after : Option (List ℕ)) : Type 0 where
-  pub script : List Said
+  pub script : List EventValue
   pub accepted : script_of (i.seen old.world).users text ≡ Ok script
   pub left : W
   pub played : IsPartly i (acts script) old left before after

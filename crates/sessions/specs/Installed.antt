@@ -7,7 +7,7 @@ use Rattle.machine_devices.specs.Equipped.{Equipped, nobody}
 use Rattle.machine_devices.specs.declared.files.FileNote.{FileNote}
 use Rattle.machine_devices.specs.declared.reply.Reply.{Reply}
 use Rattle.cp_dispatch.specs.declared.program.Program.{Program}
-use Rattle.session_script.specs.Script.{Said}
+use Rattle.session_script.specs.Script.{EventValue}
 use Rattle.session_script.specs.Users.{KnownUser, has_device, names_of as names_in}
 
 -- its users, as scripts know them; each one's machine with its devices; and of each file what it
@@ -47,9 +47,9 @@ IsLineStated users line = list_all (is_stated users) line ≡ true
 -- same; and as which others it goes on.
 pub record Installation (W : Type 0) : Type 1 where
   pub seen : W → Installed
-  pub Happens : W → Said → Reply → W → Type 0
-  pub May : W → Said → Type 0
-  pub Lacks : W → Said → W → Type 0
+  pub Happens : W → EventValue → Reply → W → Type 0
+  pub May : W → EventValue → Type 0
+  pub Lacks : W → EventValue → W → Type 0
   pub is_spent : W → Bool
   pub IsSaved : W → List ℕ → Type 0
   pub HasSameBase : W → W → Type 0
@@ -57,7 +57,7 @@ pub record Installation (W : Type 0) : Type 1 where
 
 -- an event that was said, the reply, and what it has left
 pub record Step (W : Type 0) : Type 0 where
-  pub said : Said
+  pub said : EventValue
   pub reply : Reply
   pub left : W
 

@@ -1,7 +1,7 @@
 -- Saved states of an installation.
 use Rattle.std.specs.Prelude.{◌≡◌, ℕ, Bool, true, false, List, ◌++◌}
 use Rattle.machine_devices.specs.declared.reply.Reply.{Reply}
-use Rattle.session_script.specs.Script.{Said}
+use Rattle.session_script.specs.Script.{EventValue}
 use Rattle.sessions.specs.Installed.{Installation}
 
 -- bytes are those of one state: of two installations of one base that are saved as these bytes, one
@@ -16,7 +16,7 @@ pub record KeepsBase {W : Type 0} (i : Installation W) : Type 0 where
   pub symmetric : (one other : W) → i.HasSameBase one other → i.HasSameBase other one
   pub transitive : (one other last : W) → i.HasSameBase one other → i.HasSameBase other last
       → i.HasSameBase one last
-  pub kept : (old new : W) (said : Said) (reply : Reply) → i.Happens old said reply new
+  pub kept : (old new : W) (said : EventValue) (reply : Reply) → i.Happens old said reply new
       → i.HasSameBase old new
 
 -- what saving an installation appends: bytes as which it is saved if it has states, and otherwise

@@ -11,7 +11,7 @@ use Rattle.cp_dispatch.specs.declared.program.Program.{Program}
 use Rattle.machine_panel.specs.declared.machine.Mode.{Mode}
 use Rattle.machine_panel.specs.declared.machine.Mode.TheVariants.{Off, Stopped, Running}
 use Rattle.machine_panel.specs.Ready.{is_ready}
-use Rattle.session_script.specs.Script.{Said, Run, Line, Tick, Serve, Deck, Auto}
+use Rattle.session_script.specs.Script.{EventValue, Run, Line, Tick, Serve, Deck, Auto}
 use Rattle.session_script.specs.Users.{has_device}
 use Rattle.session_script.specs.declared.event.ScriptEvent.{ScriptEvent}
 use Rattle.session_script.specs.declared.event.ScriptEvent.TheVariants as scripts
@@ -24,7 +24,7 @@ use Rattle.sessions.specs.declared.schedule.Detail.{Detail}
 -- what a script asks for
 pub data Act : Type 0 where
   -- this event happens
-  Applies : Said → Act
+  Applies : EventValue → Act
   -- a turn begins: a slice is dealt
   Slices : Act
   -- it ends: a serve is dealt
@@ -40,7 +40,7 @@ turns zero = []
 turns (suc k) = turn ++ turns k
 
 -- a line asks for one event, and `AUTO k` for k turns
-abbrev pub acts_of : Said → List Act
+abbrev pub acts_of : EventValue → List Act
 acts_of (Run user units) = Applies (Run user units) ∷ []
 acts_of (Line user text) = Applies (Line user text) ∷ []
 acts_of (Tick user) = Applies (Tick user) ∷ []
@@ -49,12 +49,12 @@ acts_of (Deck user cards) = Applies (Deck user cards) ∷ []
 acts_of (Auto count) = turns count
 
 -- what the lines of a script ask for, in order
-abbrev pub acts : List Said → List Act
+abbrev pub acts : List EventValue → List Act
 acts [] = []
 acts (said ∷ more) = acts_of said ++ acts more
 
 -- the user of an event; turns name nobody
-abbrev pub user_said : Said → ℕ
+abbrev pub user_said : EventValue → ℕ
 user_said (Run user units) = user
 user_said (Line user text) = user
 user_said (Tick user) = user
@@ -225,7 +225,7 @@ passed false = Idle
 
 -- the event that was said happened; the queue has who logged on by it, and no more who logged off,
 -- and the line what was started by it, and no more what has ended
-pub record IsApplied {W : Type 0} (i : Installation W) (said : Said) (step : Step W)
+pub record IsApplied {W : Type 0} (i : Installation W) (said : EventValue) (step : Step W)
     (old new : Scene W) : Type 0 where
   pub named : step.said ≡ said
   pub happened : i.Happens old.world said step.reply step.left
@@ -308,7 +308,7 @@ steps_of (Idle ∷ entries) = steps_of entries
 -- ---- where memory is refused
 
 -- an event that an act may bring about
-abbrev pub MayAsk : Act → Said → Type 0
+abbrev pub MayAsk : Act → EventValue → Type 0
 MayAsk (Applies said) asked = asked ≡ said
 MayAsk Slices asked = (user : ℕ) × (asked ≡ Run user slice_units)
 MayAsk Serves asked = (user : ℕ) × (device : ℕ) × (asked ≡ Serve user device)
@@ -316,4 +316,4 @@ MayAsk Serves asked = (user : ℕ) × (device : ℕ) × (asked ≡ Serve user de
 -- the first of these acts was refused memory
 abbrev pub IsLacking : {W : Type 0} → Installation W → List Act → W → W → Type 0
 IsLacking i [] old new = ⊥
-IsLacking i (act ∷ rest) old new = (asked : Said) × MayAsk act asked × i.Lacks old asked new
+IsLacking i (act ∷ rest) old new = (asked : EventValue) × MayAsk act asked × i.Lacks old asked new

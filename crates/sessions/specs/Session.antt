@@ -7,7 +7,7 @@ use Rattle.s370_num.specs.declared.host.HostFault.{HostFault}
 use Rattle.s370_num.specs.declared.host.HostFault.TheVariants as faults
 use Rattle.machine_devices.specs.declared.reply.Reply.{Reply}
 use Rattle.session_script.specs.Users.{KnownUser}
-use Rattle.session_script.specs.Script.{Said, script_of}
+use Rattle.session_script.specs.Script.{EventValue, script_of}
 use Rattle.session_script.specs.declared.reader.ScriptError.{ScriptError}
 use Rattle.session_script.specs.declared.reader.ScriptError.TheVariants as refusals
 use Rattle.sessions.specs.Files.{closing_lines}
@@ -45,7 +45,7 @@ pub record IsSession {W : Type 0} (i : Installation W) (detail : Detail) (old ne
     (reader_old reader_new writer_old writer_new : Option (List ℕ)) : Type 0 where
   pub text : List ℕ
   pub read : IsRead reader_old reader_new text
-  pub script : List Said
+  pub script : List EventValue
   pub accepted : script_of (i.seen old).users text ≡ Ok script
   pub entries : List (Entry W)
   pub last : Scene W
@@ -62,7 +62,7 @@ pub record IsCut {W : Type 0} (i : Installation W) (detail : Detail) (old new : 
     (reader_old reader_new writer_old writer_new : Option (List ℕ)) : Type 0 where
   pub text : List ℕ
   pub read : IsRead reader_old reader_new text
-  pub script : List Said
+  pub script : List EventValue
   pub accepted : script_of (i.seen old).users text ≡ Ok script
   pub front : List Act
   pub rest : List Act
@@ -107,7 +107,7 @@ pub record IsPartly {W : Type 0} (i : Installation W) (all : List Act) (old : Sc
       (transcript i old.detail (names_of (i.seen old.world)) entries)
 
 -- the event that was said happened, and its lines were written
-pub record IsAnswered {W : Type 0} (i : Installation W) (detail : Detail) (said : Said)
+pub record IsAnswered {W : Type 0} (i : Installation W) (detail : Detail) (said : EventValue)
     (old new : W) (before after : Option (List ℕ)) : Type 0 where
   pub reply : Reply
   pub happened : i.Happens old said reply new
@@ -116,7 +116,7 @@ pub record IsAnswered {W : Type 0} (i : Installation W) (detail : Detail) (said 
       (record { said = said; reply = reply; left = new })))
 
 -- it happened, and a beginning of its lines was written
-pub record IsAnsweredPartly {W : Type 0} (i : Installation W) (detail : Detail) (said : Said)
+pub record IsAnsweredPartly {W : Type 0} (i : Installation W) (detail : Detail) (said : EventValue)
     (old new : W) (before after : Option (List ℕ)) : Type 0 where
   pub reply : Reply
   pub happened : i.Happens old said reply new
@@ -125,7 +125,7 @@ pub record IsAnsweredPartly {W : Type 0} (i : Installation W) (detail : Detail) 
       (record { said = said; reply = reply; left = new })))
 
 -- it did not happen, or was refused memory, and nothing was written
-pub record IsUnanswered {W : Type 0} (i : Installation W) (said : Said) (old new : W)
+pub record IsUnanswered {W : Type 0} (i : Installation W) (said : EventValue) (old new : W)
     (before after : Option (List ℕ)) : Type 0 where
   pub left : (new ≡ old) ⊎ i.Lacks old said new
   pub same : after ≡ before

@@ -20,7 +20,7 @@ use Rattle.machine_devices.specs.declared.reply.Delivered.{Delivered}
 use Rattle.machine_devices.specs.declared.reply.Delivery.{Delivery}
 use Rattle.machine_devices.specs.declared.reply.Delivery.TheVariants as deliveries
 use Rattle.machine_devices.specs.declared.reply.Reply.{Reply}
-use Rattle.session_script.specs.Script.{Said as Asked}
+use Rattle.session_script.specs.Script.{EventValue as Asked}
 use Rattle.session_script.specs.Script as asked
 use Rattle.sessions.specs.Installed.{Installation, Step, machine_at, user_at}
 use Rattle.sessions.specs.Schedule.{Entry, Answered, Dealt, Passed, Idle, user_said}

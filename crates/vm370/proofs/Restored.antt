@@ -15,7 +15,7 @@ use Rattle.cp_directory.specs.Users.{DirectoryUser}
 use Rattle.ckd_volume.specs.Volume.{VolumeFormat}
 use Rattle.machine_devices.specs.Equipped.{Equipped, nobody}
 use Rattle.machine_devices.specs.Forgotten.{unprinted}
-use Rattle.session_script.specs.Script.{Said}
+use Rattle.session_script.specs.Script.{EventValue}
 use Rattle.sessions.specs.Continuing.{HappensToo, IsToGoOn, but_printed}
 use Rattle.sessions.specs.Installed.{Installed, Step}
 use Rattle.sessions.specs.Saved.{IsOneBySaved, KeepsBase}

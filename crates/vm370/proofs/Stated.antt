@@ -10,7 +10,7 @@ use Rattle.cp_core.specs.declared.events.Event.{Event}
 use Rattle.cp_core.specs.declared.events.Event.TheVariants as events
 use Rattle.cp_directory.specs.Users.{DirectoryUser, addresses_of}
 use Rattle.session_script.specs.Users.{KnownUser, devices_of, has_device}
-use Rattle.session_script.specs.Script.{Said, Run, Line, Tick, Serve, Auto, Deck, IsOfDevice, said}
+use Rattle.session_script.specs.Script.{EventValue, Run, Line, Tick, Serve, Auto, Deck, IsOfDevice, said}
 use Rattle.session_script.specs.declared.event.ScriptEvent.{ScriptEvent}
 use Rattle.session_script.specs.declared.event.ScriptEvent.TheVariants as scripts
 use Rattle.sessions.specs.Installed.{IsHistory, Step, names_of}
@@ -35,7 +35,7 @@ had [] user device = refl
 had (one ∷ directory) zero device = refl
 had (one ∷ directory) (suc user) device = had directory user device
 
-abbrev IsOfDeviceSaid : List KnownUser → Said → Type 0
+abbrev IsOfDeviceSaid : List KnownUser → EventValue → Type 0
 IsOfDeviceSaid users (Run user units) = Unit {0}
 IsOfDeviceSaid users (Line user text) = Unit {0}
 IsOfDeviceSaid users (Tick user) = Unit {0}
@@ -67,7 +67,7 @@ of_event s (events.Deck user cards) h lacks = lacks
 pub stated : (s : SystemView) (script : ScriptEvent) (event : Event) → as_said event ≡ said script
     → IsOfDevice (known_users s.directory) script → IsStated s event
 stated s script event same h =
-    of_event s event (subst (λ (x : Said). IsOfDeviceSaid (known_users s.directory) x) (sym same)
+    of_event s event (subst (λ (x : EventValue). IsOfDeviceSaid (known_users s.directory) x) (sym same)
     (of_said (known_users s.directory) script h))
 
 -- ---- histories
@@ -75,7 +75,8 @@ stated s script event same h =
 step_of : (old : SystemView) (step : Step SystemView) (event : Event) → as_said event ≡ step.said
     → of_system (record { event = event; reply = step.reply; seen = step.left }) ≡ step
 step_of old step event e =
-    ap (λ (s : Said). let one : Step SystemView = record { said = s; reply = step.reply; left = step.left } in one) e
+    ap (λ (s : EventValue). let one : Step SystemView = record { said = s; reply = step.reply; left = step.left } in
+    one) e
 
 together : (step : Step SystemView) (steps : List (Step SystemView)) (one : SystemStep) (more : List SystemStep)
     → of_system one ≡ step → map of_system more ≡ steps → map of_system (one ∷ more) ≡ step ∷ steps

@@ -14,7 +14,7 @@ use Rattle.cp_core.specs.declared.events.Event.TheVariants as events
 use Rattle.machine_devices.specs.declared.reply.Reply.{Reply}
 use Rattle.cp_directory.specs.Users.{DirectoryUser, addresses_of}
 use Rattle.session_script.specs.Cards.{cards_of}
-use Rattle.session_script.specs.Script.{Said, Run, Line, Tick, Serve, Auto, Deck}
+use Rattle.session_script.specs.Script.{EventValue, Run, Line, Tick, Serve, Auto, Deck}
 use Rattle.session_script.specs.Users.{KnownUser}
 use Rattle.session_script.specs.declared.event.ScriptEvent.{ScriptEvent}
 use Rattle.session_script.specs.declared.event.ScriptEvent.TheVariants as scripts
@@ -33,7 +33,7 @@ abbrev pub seen_in : SystemView → Installed
 seen_in s = record { users = known_users s.directory; machines = s.users; files = s.files }
 
 -- an event as a script names it
-abbrev pub as_said : Event → Said
+abbrev pub as_said : Event → EventValue
 as_said (events.Run user units) = Run user units
 as_said (events.Line user text) = Line user text.now
 as_said (events.Tick user) = Tick user
@@ -41,7 +41,7 @@ as_said (events.Serve user device) = Serve user device
 as_said (events.Deck user cards) = Deck user cards.now
 
 -- the event that was said was applied, and was answered so
-pub record HasHappened (old : SystemView) (said : Said) (reply : Reply)
+pub record HasHappened (old : SystemView) (said : EventValue) (reply : Reply)
     (new : SystemView) : Type 0 where
   pub event : Event
   pub named : as_said event ≡ said
@@ -49,7 +49,7 @@ pub record HasHappened (old : SystemView) (said : Said) (reply : Reply)
 
 -- it was refused memory: each user is as he was, but for one whose own line closes files or whose
 -- device is served, and the system is spent
-pub record IsSpent (old : SystemView) (said : Said) (new : SystemView) : Type 0 where
+pub record IsSpent (old : SystemView) (said : EventValue) (new : SystemView) : Type 0 where
   pub event : Event
   pub named : as_said event ≡ said
   pub spent : new.is_spent ≡ true
@@ -61,7 +61,7 @@ pub record IsSpent (old : SystemView) (said : Said) (new : SystemView) : Type 0 
 
 -- what was said may want memory: such lines, a device that is served and works on a program, and a
 -- deck, whose cards are made
-abbrev pub MayRefuse : SystemView → Said → Type 0
+abbrev pub MayRefuse : SystemView → EventValue → Type 0
 MayRefuse old (Run user units) = ⊥
 MayRefuse old (Line user text) = LineMay text (user_at old user)
 MayRefuse old (Tick user) = ⊥

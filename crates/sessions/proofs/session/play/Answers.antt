@@ -1,5 +1,5 @@
 use Rattle.std.proofs.Common.{◌≡◌, ◌+◌, refl, subst, sym, ap, ◌∙◌, map, take, drop, List, [], ◌∷◌, ◌++◌, All, arith}
-use Rattle.session_script.specs.Script.{said, Said}
+use Rattle.session_script.specs.Script.{said, EventValue}
 use Rattle.sessions.specs.Schedule.{Act, acts, acts_of, scene}
 use Rattle.sessions.proofs.Lists.{map_take_more, map_around}
 use Rattle.sessions.proofs.Histories.{acts_append, acts_more, on_err, played_more, played_none, partly_more}
@@ -19,7 +19,7 @@ returns-in_err-act-clause-err g c =
     let old = scene c.args.installation.now c.args.policy.now c.args.detail in
     let mid = scene c.loop-event.installation c.loop-event.policy c.args.detail in
     let whole : map said events ≡ (done ++ one ∷ [])
-    ++ rest = map_around said events (k + 1) ∙ ap (λ (l : List Said). l ++ rest)
+    ++ rest = map_around said events (k + 1) ∙ ap (λ (l : List EventValue). l ++ rest)
     (map_take_more said events k event (omega arith) c.event-item.is) in
     let all : acts (map said events) ≡ (acts done ++ acts_of one)
     ++ acts rest = ap acts whole ∙ acts_append (done ++ one ∷ []) rest ∙ ap (λ (l : List Act). l ++ acts rest)

@@ -2,7 +2,7 @@ use Rattle.std.proofs.Common.{◌≡◌, ℕ, Bool, Err, Ok, Result, List, true,
 use Rattle.std.proofs.Common.{◌∙◌}
 use Rattle.std.specs.Prelude.{IsErrAnd}
 use Rattle.cp_dispatch.specs.Policy.{Lines}
-use Rattle.session_script.specs.Script.{IsRefusal, Said, said}
+use Rattle.session_script.specs.Script.{IsRefusal, EventValue, said}
 use Rattle.session_script.specs.declared.reader.ScriptError.{ScriptError}
 use Rattle.session_script.specs.declared.reader.ScriptError.TheVariants as refusals
 use Rattle.sessions.specs.Schedule.{IsOf, first_line, first_lines, scene}
@@ -20,7 +20,7 @@ use Rattle.sessions.proofs.Sessions.{cut, cut_short, whole}
 use Rattle.sessions.proofs.session.session.Goals as goal
 
 -- the line that is reported is the script's
-line_told : {A : Type 0} (script : Result (List Said) ℕ) (why : ScriptError) (r : Result A SessionError) (n : ℕ)
+line_told : {A : Type 0} (script : Result (List EventValue) ℕ) (why : ScriptError) (r : Result A SessionError) (n : ℕ)
     → IsRefusal script why → IsErrAnd r (λ e. e ≡ refusal_error why) → r ≡ Err (ends.Line n) → script ≡ Err n
 line_told script why (Ok a) n f h e = cc
 line_told script refusals.Memory (Err x) n f h e = cc

@@ -1,6 +1,6 @@
 use Rattle.std.proofs.Common.{◌≡◌, ◌∙◌, Err, ap, subst}
 use Rattle.cp_core.specs.declared.events.CpError.TheVariants.{Memory, NoSuchDevice}
-use Rattle.session_script.specs.Script.{Said}
+use Rattle.session_script.specs.Script.{EventValue}
 use Rattle.vm370.specs.Goes.{MayRefuse}
 use Rattle.vm370.proofs.Refused.{refusal}
 use Rattle.vm370.proofs.Stated.{stated}
@@ -16,5 +16,5 @@ unreachable-requires-in-Err-NoSuchDevice c =
 pub returns-in-Err-Memory-clause-memory : goal.returns-in-Err-Memory-clause-memory
 returns-in-Err-Memory-clause-memory c = λ _. (
     let refused : c.apply.result ≡ Err Memory = c.in-Err-Memory.is ∙ ap Err c.in-Err-Memory.field-0-is in
-    subst (λ (s : Said). MayRefuse c.args.system.now s) c.event_of.ensures.event
+    subst (λ (s : EventValue). MayRefuse c.args.system.now s) c.event_of.ensures.event
     (refusal c.args.system.now c.event_of.result (c.apply.ensures.memory refused).1))
