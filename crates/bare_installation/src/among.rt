@@ -14,9 +14,9 @@ use std::alloc::{AllocError, Global};
 use unit_record::{Card, Sender};
 
 impl Bare {
-    /// A line that is typed in this world, and what is reported. What it sends goes to nobody, and
-    /// a file that it closed stays with its device alone, without a number: that is for whoever
-    /// knows the others. If memory is refused, nothing is said of the machine.
+    /// Types a line in this world, and returns its outcome. What it sends goes to nobody, and a
+    /// file that it closed stays with its device alone, without a number: that is for whoever knows
+    /// the others. If memory is refused, nothing is said of the machine.
     ///
     /// # Errors
     ///

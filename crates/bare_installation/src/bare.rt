@@ -167,7 +167,7 @@ impl Bare {
         ))
     }
 
-    /// What an event does to the machine, and what is answered. If memory is refused, nothing is
+    /// Applies an event to the machine, and returns the reply. If memory is refused, nothing is
     /// said of the machine.
     ///
     /// # Errors
@@ -418,21 +418,22 @@ impl Bare {
     {
         self.machine.console_output(line)
     }
-    /// Returns its devices, with their files.
+    /// Returns the devices of the machine, with their files.
     pub fn devices(&self) -> SeenDevices<'_>
         ensures { result ≡ self.now.equipped.devices }
     {
         SeenDevices::new(&self.devices, &self.queues)
     }
 
-    /// Returns its disks, in the order in which they were attached.
+    /// Returns the disks of the machine, in the order in which they were attached.
     pub fn disks(&self) -> &[AttachedDisk]
         ensures { result.now ≡ self.now.equipped.disks }
     {
         self.channels.disks()
     }
 
-    /// Returns what each file was so far: the one with number 1 is first. All are those of user 0.
+    /// Returns what each file was when it was closed: the one with number 1 is first. All are those
+    /// of user 0.
     pub fn files(&self) -> &[FileNote]
         ensures { result.now ≡ self.now.files }
     {

@@ -26,9 +26,9 @@ use user_names::UserNo;
 const USERS: u8 = 1;
 
 impl Bare {
-    /// A line that is typed, and what is answered. Memory is refused only where it closes a file,
-    /// sends a message, resets or loads the machine, waits for the console, or is one for which a
-    /// machine makes room; nothing is said of the machine then.
+    /// Types a line, and returns the reply. Memory is refused only where it closes a file, sends a
+    /// message, resets or loads the machine, waits for the console, or is one for which a machine
+    /// makes room; nothing is said of the machine then.
     ///
     /// # Errors
     ///

@@ -3,27 +3,27 @@ ghost use Rattle.channel_laws.specs.Laws as laws;
 
 use s370_walk::Device;
 
-/// A copy with real addresses reaches the end to which the copy with the guest's addresses comes,
-/// with the same device, and real storage is then still the guest's.
+/// States that a copy with real addresses reaches the end to which the copy with the guest's
+/// addresses comes, with the same device, and that real storage is then still the guest's.
 pub fn real_walks_are_the_copys<D: Device>()
     ensures { laws.EndsAsTheCopy D }
 {}
 
-/// A run of the copy over real addresses is the guest's own with words and lists as they were when
-/// it was copied, and the guest's own as it goes if the program is steady.
+/// States that a run of the copy over real addresses is the guest's own with words and lists as
+/// they were when it was copied, and the guest's own as it goes if the program is steady.
 pub fn real_walks_are_the_guests<D: Device>()
     ensures frozen { laws.EndsAsTheFrozen D }
     ensures steady { laws.EndsAsTheSteady D }
 {}
 
-/// A program after one more command reaches the ends to which it comes by itself.
+/// States that a program after one more command reaches the ends to which it comes by itself.
 pub fn prefixed_walks_are_walks<D: Device>()
     ensures raised { laws.EndsBehindACommand D }
     ensures lowered { laws.EndsByItself D }
 {}
 
-/// A run over real addresses, each of which lies in a frame that is present, never needs a page
-/// that is not.
+/// States that a run over real addresses, each of which lies in a frame that is present, never
+/// needs a page that is not.
 pub fn real_walks_are_never_stuck<D: Device>()
     ensures { laws.NeedsNoPage D }
 {}

@@ -88,7 +88,7 @@ impl TrialStorage {
         &self.touched
     }
 
-    /// Returns all bytes.
+    /// Returns all bytes of the storage on which a program is tried.
     pub fn bytes(&self) -> &[u8]
         ensures { result.now ≡ trial_bytes self.now }
     {

@@ -58,7 +58,7 @@ impl DryRun for Printer {
     }
 }
 
-/// How a program with this start is limited.
+/// Returns how a program with this start is limited.
 pub fn limits_of(start: Caw) -> Limits
     ensures { result ≡ record { key = start.key; commands = most_commands; prefix = 0 } }
 {

@@ -62,7 +62,7 @@ fn put_cylinders(out: &mut Vec<u8>, volume: &Volume) -> Result<(), AllocError>
     put_zero(out)
 }
 
-/// Appends a volume.
+/// Appends the bytes of a volume, of which it can be restored.
 ///
 /// # Errors
 ///
@@ -75,7 +75,7 @@ pub fn put_volume(out: &mut Vec<u8>, volume: &Volume) -> Result<(), AllocError>
     put_cylinders(out, volume)
 }
 
-/// States that bytes are those of one volume.
+/// States that no two volumes have the same bytes.
 pub fn one_by_saved()
     ensures { IsOneBySaved }
 {}

@@ -61,8 +61,8 @@ pub fn make_volume(alloc: Global, text: &[u8]) -> Result<Volume, TextError>
     filled(alloc, volume, lines)
 }
 
-/// What is made is what the grammar of volume texts says, nothing else is accepted, and the line
-/// that is reported is the first wrong one.
+/// States that what is made is what the grammar of volume texts says, that nothing else is
+/// accepted, and that the line which is reported is the first wrong one.
 pub fn reads_grammar()
     ensures { ReadsGrammar }
 {}

@@ -55,7 +55,7 @@ pub fn record_cost(key: usize, content: usize) -> usize
     }
 }
 
-/// Where the bytes of a record begin.
+/// Returns where the bytes of a record begin.
 pub fn start_of(entries: &[CountArea], i: usize) -> usize
     requires fits { total_cost entries.now ≤ 13165 }
     requires within { i ≤ length entries.now }
@@ -127,6 +127,7 @@ pub struct Span {
     pub end: usize,
 }
 
+/// Returns where the key and the data of a record lie in the bytes of all records.
 pub fn span_of(entries: &[CountArea], i: usize) -> Span
     requires fits { total_cost entries.now ≤ 13165 }
     requires within { i < length entries.now }
@@ -151,6 +152,7 @@ pub struct Record<'a> {
     pub content: &'a [u8],
 }
 
+/// Returns a record of a track, whose bytes are a part of those of all records.
 pub fn part<'a>(entries: &[CountArea], area: &'a [u8], i: usize) -> Record<'a>
     requires fits { total_cost entries.now ≤ 13165 }
     requires whole { length area.now ≡ total entries.now }

@@ -84,7 +84,7 @@ impl Track {
         })
     }
 
-    /// Flag, cylinder and head.
+    /// Returns the home address: flag, cylinder and head.
     pub fn home(&self) -> [u8; 5]
         ensures { result ≡ self.now.home }
     {

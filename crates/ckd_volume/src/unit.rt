@@ -119,8 +119,8 @@ impl Unit {
         }
     }
 
-    /// As before a program, under this arm: so disks that are parts of one volume take turns at its
-    /// unit, each with an arm and a sense of its own. It takes no memory.
+    /// Makes the unit as before a program, under this arm: so disks that are parts of one volume
+    /// take turns at its unit, each with an arm and a sense of its own. It takes no memory.
     pub fn set_arm(&mut self, arm: Arm)
         requires cylinder { arm.cylinder < length self.old.cylinders }
         requires home { arm.home < length self.old.cylinders }
@@ -132,14 +132,14 @@ impl Unit {
         self.home = arm.home;
     }
 
-    /// A system reset: no command is under way, and there is no sense; the arm stays.
+    /// Does a system reset: no command is under way, and there is no sense; the arm stays.
     pub fn reset(&mut self)
         ensures { self.new ≡ disk_reset self.old }
     {
         self.panel.reset();
     }
 
-    /// As [`Unit::reset`], and the arm is over cylinder 0, with head 0 chosen.
+    /// Does a reset as [`Unit::reset`] does, and moves the arm to cylinder 0 and head 0.
     pub fn clear(&mut self)
         ensures { self.new ≡ disk_cleared self.old }
     {
@@ -148,8 +148,8 @@ impl Unit {
         self.cylinder = 0;
     }
 
-    /// After a channel program: no command is under way; the arm and the sense stay. The next
-    /// program does not see the difference, since its first command begins so.
+    /// Makes the unit as after a channel program: no command is under way; the arm and the sense
+    /// stay. The next program does not see the difference, since its first command begins so.
     pub fn rest(&mut self)
         ensures { self.new ≡ rested self.old }
     {

@@ -194,7 +194,7 @@ impl Volume {
         &mut self.cylinders[number]
     }
 
-    /// A track, to be written, if the volume has it; the others stay.
+    /// Borrows a track, to be written, if the volume has it; the others stay.
     pub fn track_mut(&mut self, cylinder: usize, head: usize) -> Option<&mut Track>
         ensures* writes_back { sem 𝓛 (LendsTrackOf self.entry cylinder head result) }
         ensures some { IsSome result ↔ ((cylinder < length self.old.cylinders) × (head < 19)) }

@@ -27,7 +27,7 @@ impl ConsoleLine {
         }
     }
 
-    /// Returns its characters.
+    /// Returns the characters of the line.
     pub fn as_slice(&self) -> &[u8]
         ensures characters { result.now ≡ characters_of self.now }
         ensures short { length result.now ≤ 144 }

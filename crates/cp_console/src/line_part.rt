@@ -20,7 +20,7 @@ impl<'a> Model for LinePart<'a> {
 }
 
 impl<'a> LinePart<'a> {
-    /// Returns the part that has these characters.
+    /// Returns the part of a line that has these characters.
     pub fn new(characters: &'a [u8]) -> LinePart<'a>
         ensures { result ≡ characters.now }
     {

@@ -16,7 +16,7 @@ use text_words::numbers::{decimal_of, hexadecimal_of};
 /// The highest address of a device.
 const HIGHEST_ADDRESS: u32 = 0x5FF;
 
-/// `CONSOLE address 3215`
+/// Reads `CONSOLE address 3215`.
 pub fn read_console<'a>(operands: &[&'a [u8]]) -> Option<Statement<'a>>
     ensures { option_map stated result ≡ console_stated (map (λ w. w.now) operands.now) }
 {
@@ -35,7 +35,7 @@ fn console_of<'a>(address: &'a [u8], model: &[u8]) -> Option<Statement<'a>>
     Some(Statement::Device(DeviceKind::Console, address_of(address)?))
 }
 
-/// `SPOOL address kind`
+/// Reads `SPOOL address kind`.
 pub fn read_spool<'a>(operands: &[&'a [u8]]) -> Option<Statement<'a>>
     ensures { option_map stated result ≡ spool_stated (map (λ w. w.now) operands.now) }
 {
@@ -68,7 +68,7 @@ fn spool_kind_of(word: &[u8]) -> Option<DeviceKind>
     }
 }
 
-/// `MDISK address 3330 start count volser mode`
+/// Reads `MDISK address 3330 start count volser mode`.
 pub fn read_minidisk<'a>(operands: &[&'a [u8]]) -> Option<Statement<'a>>
     ensures { option_map stated result ≡ disk_stated (map (λ w. w.now) operands.now) }
 {

@@ -63,7 +63,7 @@ impl UserDevices {
             || is_there(*printer, address)
     }
 
-    /// Returns how many there are.
+    /// Returns how many devices a user has.
     pub fn count(&self) -> usize
         ensures value { result ≡ length (places_of self.now) }
         ensures few { result ≤ 4 }

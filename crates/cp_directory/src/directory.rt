@@ -209,7 +209,7 @@ impl Directory {
         users.as_slice()
     }
 
-    /// Returns how many users there are.
+    /// Returns how many users the directory has.
     pub fn len(&self) -> usize
         ensures value { result ≡ length self.now }
         ensures few { result ≤ MOST_USERS }

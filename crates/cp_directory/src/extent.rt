@@ -81,7 +81,7 @@ impl Volser {
         })
     }
 
-    /// Returns its characters.
+    /// Returns the characters of the volume's serial number.
     pub fn as_bytes(&self) -> &[u8]
         ensures bytes { result.now ≡ self.now }
         ensures lawful { is_volser result.now ≡ true }

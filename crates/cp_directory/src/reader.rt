@@ -180,8 +180,9 @@ fn place_minidisk(
     }
 }
 
-/// What [`read_directory`] reads is what the grammar says, and it reads all of that; the fault that
-/// it says is the first fault of the first faulty line, and that is always reported.
+/// States that what [`read_directory`] reads is what the grammar says, and that it reads all of
+/// that; the fault that it says is the first fault of the first faulty line, and that is always
+/// reported.
 pub fn reads_grammar()
     ensures { ReadsGrammar }
 {}

@@ -56,7 +56,7 @@ impl Policy {
         })
     }
 
-    /// A user logs on, and is at the end of the queue.
+    /// Puts a user who logs on at the end of the queue.
     pub fn join(&mut self, user: UserNo)
         requires { user < self.old.most_users }
         ensures { self.new ≡ record
@@ -65,15 +65,15 @@ impl Policy {
         put_user(&mut self.users, user);
     }
 
-    /// A user logs off, and is in the queue no more.
+    /// Removes a user who logs off from the queue.
     pub fn leave(&mut self, user: UserNo)
         ensures { self.new ≡ record self.old { users = without (same_user user) self.old.users } }
     {
         take_out_user(&mut self.users, user);
     }
 
-    /// The program of a user's device is started, and is at the end of the line, also where it was
-    /// in it before. If memory is refused, it is not in the line.
+    /// Puts the program of a user's device, which was started, at the end of the line, also if it
+    /// was in it before. If memory is refused, it is not in the line.
     ///
     /// # Errors
     ///
@@ -92,7 +92,7 @@ impl Policy {
         put_program(&mut self.programs, user, device)
     }
 
-    /// The program of a user's device has ended or was withdrawn, and is in the line no more.
+    /// Removes the program of a user's device, which has ended or was withdrawn, from the line.
     pub fn ended(&mut self, user: UserNo, device: DevAddr)
         ensures { self.new ≡ record
             self.old { programs = without (is_of user device) self.old.programs } }
@@ -210,9 +210,9 @@ fn place_of_program(programs: &[Program], user: UserNo, device: DevAddr) -> Opti
         .position(|program| program.is_of(user, device))
 }
 
-/// Whoever is ready throughout has a turn, of the slices and of the serves: with j others before,
-/// one of the next j +
-/// 1. So of as many slices as there are users logged on each who is ready has one.
+/// States that whoever is ready throughout has a turn, of the slices and of the serves: with j
+/// others before, one of the next j + 1. So of as many slices as there are users logged on each who
+/// is ready has one.
 pub fn is_fair()
     ensures { IsFairPolicy }
 {}

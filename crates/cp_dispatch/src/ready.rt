@@ -24,7 +24,7 @@ impl Model for Ready {
 }
 
 impl Ready {
-    /// Nobody is ready.
+    /// Returns the state in which nobody is ready.
     pub fn nobody() -> Ready
         ensures { result ≡ replicate 64 false }
     {
@@ -33,7 +33,7 @@ impl Ready {
         }
     }
 
-    /// Says whether a user is ready.
+    /// Sets whether a user is ready.
     pub fn set(&mut self, user: UserNo, is_ready: bool)
         ensures { self.new ≡ slice_set self.old user is_ready }
     {

@@ -25,7 +25,7 @@ impl Model for Slots {
 }
 
 impl Slots {
-    /// So many slots, each with zero. It takes no memory.
+    /// Creates so many slots, each with zero. It takes no memory.
     pub fn new(alloc: Global, count: usize) -> Slots
         ensures { result ≡ replicate count 0 }
     {
@@ -35,7 +35,7 @@ impl Slots {
         }
     }
 
-    /// Returns how many there are.
+    /// Returns how many slots there are.
     pub fn count(&self) -> usize
         ensures { result ≡ length self.now }
     {

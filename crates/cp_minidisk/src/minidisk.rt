@@ -98,7 +98,7 @@ impl Minidisk {
         *sense
     }
 
-    /// A system reset: there is no sense, and the arm stays.
+    /// Does a system reset: there is no sense, and the arm stays.
     pub fn reset(&mut self)
         ensures { self.new ≡ minidisk_reset self.old }
     {
@@ -108,7 +108,7 @@ impl Minidisk {
         };
     }
 
-    /// As [`Minidisk::reset`], and the arm is at the first track.
+    /// Does a reset as [`Minidisk::reset`] does, and moves the arm to the first track.
     pub fn clear(&mut self)
         ensures { self.new ≡ minidisk_new self.old.extent }
     {

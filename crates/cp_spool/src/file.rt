@@ -99,7 +99,7 @@ impl SpoolFile {
         }
     }
 
-    /// Returns its entries, in order, where a punch or a printer made it.
+    /// Returns the entries of a file that a punch or a printer made, in order.
     pub fn entries(&self) -> &[Entry]
         ensures { result.now ≡ entries_in self.now.contents }
     {

@@ -68,7 +68,7 @@ impl Queues {
         })
     }
 
-    /// Returns how many users there are.
+    /// Returns how many users the queues are of.
     pub fn users(&self) -> usize
         ensures { result ≡ length self.now.users }
     {

@@ -198,7 +198,7 @@ impl<'a> TriedLoading for FedReader<'a> {
 impl<'a> FedReader<'a> {
     ghost use Rattle.cp_spool.specs.Reader.{next_card, read_started};
 
-    /// This reader, which feeds from the queue of this user.
+    /// Creates the reader that feeds from the queue of this user.
     pub fn new(queues: &'a Queues, user: UserNo, reader: SpoolReader) -> FedReader<'a>
         ensures { result ≡ fed_by (files_of queues.now.users user) reader }
     {

@@ -41,14 +41,14 @@ impl<'a> SeenDeck<'a> {
         }
     }
 
-    /// Returns its label.
+    /// Returns the label of the deck.
     pub fn label(&self) -> u64
         ensures { result ≡ self.now.label }
     {
         self.label
     }
 
-    /// Returns from whom it comes.
+    /// Returns who sent the deck.
     pub fn sender(&self) -> Sender
         ensures { result ≡ self.now.sender }
     {

@@ -48,7 +48,7 @@ impl SharedDisk {
         }
     }
 
-    /// Returns its address.
+    /// Returns the address at which the user finds the disk.
     pub fn address(&self) -> DevAddr
         ensures { result ≡ self.now.address }
     {

@@ -84,7 +84,7 @@ impl Volumes {
         Ok(Volumes { units })
     }
 
-    /// Returns no volumes. It takes no memory.
+    /// Creates a list without volumes. It takes no memory.
     pub fn none(alloc: Global) -> Volumes
         ensures { result ≡ [] }
     {
@@ -93,7 +93,7 @@ impl Volumes {
         }
     }
 
-    /// Returns how many there are.
+    /// Returns how many volumes there are.
     pub fn count(&self) -> usize
         ensures { result ≡ length self.now }
     {

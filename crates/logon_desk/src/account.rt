@@ -21,7 +21,7 @@ pub struct KeptLine {
 }
 
 impl KeptLine {
-    /// Returns a copy.
+    /// Returns a copy of the line.
     ///
     /// # Errors
     ///
@@ -52,7 +52,7 @@ impl Model for KeptLines {
 }
 
 impl KeptLines {
-    /// No line.
+    /// Creates a list of no lines.
     pub fn new(alloc: Global) -> KeptLines
         ensures { result ≡ [] }
     {

@@ -60,7 +60,7 @@ pub struct Connection {
 }
 
 impl Connection {
-    /// No connection.
+    /// Returns the state of a place without a connection.
     pub fn gone(alloc: Global) -> Connection
         ensures { result ≡ gone }
     {
@@ -140,7 +140,7 @@ pub fn after_line(stage: Stage, said: Said) -> LogonStep
 }
 
 impl Patience {
-    /// A guess begins to wait for so long.
+    /// Notes that a guess begins to wait for so long.
     pub fn begun(self, now: u64, wait: u64) -> Patience
         requires now { now < 2 ^ 62 }
         requires wait { wait ≤ 4000 }
@@ -153,7 +153,7 @@ impl Patience {
         }
     }
 
-    /// A guess was wrong.
+    /// Notes that a guess was wrong.
     pub fn refused(self, now: u64) -> Patience
         requires { now < 2 ^ 62 }
         ensures { result ≡ refused self now }
@@ -165,7 +165,7 @@ impl Patience {
         }
     }
 
-    /// He may try again, in the time that he had left.
+    /// Lets the guesser try again, in the time that he had left.
     pub fn again(self, now: u64) -> Patience
         requires { now < 2 ^ 62 }
         ensures { result ≡ again self now }

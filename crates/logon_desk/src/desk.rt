@@ -102,7 +102,8 @@ impl LogonDesk {
         strangers(&self.connections)
     }
 
-    /// One of those who are about to log on, from the address from which most of them have come.
+    /// Returns one of those who are about to log on, from the address from which most of them have
+    /// come.
     pub fn busiest(&self) -> Option<usize>
         ensures within { IfSome result (λ c. c < length self.now.connections) }
         ensures busiest { IfSome result (λ c. IsBusiest self.now.connections c) }
@@ -120,7 +121,7 @@ impl LogonDesk {
         !matches!(self.connections[connection].stage, Stage::Gone)
     }
 
-    /// A connection has come from an address.
+    /// Opens a connection that has come from an address.
     ///
     /// # Errors
     ///
@@ -142,7 +143,7 @@ impl LogonDesk {
         say(connection, Notice::Online, out)
     }
 
-    /// Bytes have come at a connection.
+    /// Receives bytes that have come at a connection.
     ///
     /// # Errors
     ///
@@ -378,7 +379,7 @@ impl LogonDesk {
         place.stage = Stage::Waiting(guess);
     }
 
-    /// This time has come for a connection.
+    /// Does what is due for a connection at this time.
     ///
     /// # Errors
     ///
@@ -476,7 +477,7 @@ impl LogonDesk {
         }
     }
 
-    /// The host answers whether a name and a password are right.
+    /// Takes the host's answer whether a name and a password are right.
     ///
     /// # Errors
     ///
@@ -552,7 +553,7 @@ impl LogonDesk {
         out.push(DeskAction::Notes(JournalEntry::WrongPassword { user, connection }))
     }
 
-    /// A connection has ended, or is to end.
+    /// Closes a connection that has ended, or is to end.
     ///
     /// # Errors
     ///
@@ -634,7 +635,7 @@ impl LogonDesk {
         self.accounts[user.index()].kept.keep(line)
     }
 
-    /// The machine of a user is on or off, and runs or is stopped.
+    /// Notes whether the machine of a user is on or off, and runs or is stopped.
     pub fn turn(&mut self, user: UserNo, is_on: bool, is_running: bool)
         requires { user < length self.old.accounts }
         ensures { IsStep self.old (Turns user is_on is_running) [] self.new [] }
@@ -648,7 +649,7 @@ impl LogonDesk {
         }
     }
 
-    /// The line that was typed for a user is done.
+    /// Notes that the line that was typed for a user is done.
     pub fn finish(&mut self, user: UserNo)
         requires { user < length self.old.accounts }
         ensures { IsStep self.old (Finishes user) [] self.new [] }

@@ -36,7 +36,7 @@ impl Model for Guesses {
 }
 
 impl Guesses {
-    /// No guess was made.
+    /// Creates queues without guesses.
     ///
     /// # Errors
     ///

@@ -142,7 +142,7 @@ impl Model for Outputs {
 }
 
 impl Outputs {
-    /// Nothing.
+    /// Creates an empty list of actions.
     pub fn new(alloc: Global) -> Outputs
         ensures { result ≡ [] }
     {
@@ -170,7 +170,7 @@ impl Outputs {
         &self.outputs
     }
 
-    /// It was done.
+    /// Empties the list after its actions were done.
     pub fn clear(&mut self)
         ensures { self.new ≡ [] }
     {

@@ -48,8 +48,8 @@ fn goes_first(count: usize, most: usize, deadline: u64, latest: u64) -> bool
     count > most || (count == most && deadline >= latest)
 }
 
-/// One of those who are about to log on, from the address from which most of them have come; of
-/// these the one who may log on for the longest, who is mostly the last who came.
+/// Returns one of those who are about to log on, from the address from which most of them have
+/// come; of these the one who may log on for the longest, who is mostly the last who came.
 pub fn busiest(connections: &[Connection]) -> Option<usize>
     ensures within { IfSome result (λ c. c < length connections.now) }
     ensures busiest { IfSome result (λ c. IsBusiest connections.now c) }

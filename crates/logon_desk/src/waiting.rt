@@ -21,7 +21,7 @@ impl Model for WaitingBytes {
 }
 
 impl WaitingBytes {
-    /// No byte waits.
+    /// Creates a buffer in which no byte waits.
     pub fn new(alloc: Global) -> WaitingBytes
         ensures { result ≡ [] }
     {
@@ -37,7 +37,7 @@ impl WaitingBytes {
         self.bytes.len()
     }
 
-    /// More have come.
+    /// Appends bytes that have come.
     ///
     /// # Errors
     ///
@@ -51,7 +51,7 @@ impl WaitingBytes {
         Ok(())
     }
 
-    /// Takes the first.
+    /// Takes the first byte that waits.
     pub fn take(&mut self) -> Option<u8>
         ensures none { IfNone result ((self.old ≡ []) × (self.new ≡ [])) }
         ensures some { IfSome result (λ byte. self.old ≡ byte ∷ self.new) }

@@ -28,7 +28,7 @@ fn text_of(notice: Notice) -> &'static [u8]
     }
 }
 
-/// The line for one thing that is to be done.
+/// Appends the line for one action of the desk.
 ///
 /// # Errors
 ///
@@ -77,7 +77,7 @@ pub fn print(output: &DeskAction, text: &mut Bytes) -> Result<(), AllocError>
     }
 }
 
-/// A line that only has a number.
+/// Appends a line that only has a number.
 ///
 /// # Errors
 ///

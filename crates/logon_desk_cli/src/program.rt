@@ -49,7 +49,7 @@ impl Model for Session {
 }
 
 impl Session {
-    /// Before the first line.
+    /// Creates the session before its first line.
     pub fn new(alloc: Global) -> Session
         ensures { result ≡ Rattle.logon_desk_cli.specs.Answered.nothing_read }
     {
@@ -68,7 +68,7 @@ impl Session {
         self.text.as_slice()
     }
 
-    /// It was written.
+    /// Forgets the text that was written.
     pub fn forget(&mut self)
         ensures { self.new ≡ record self.old { text = [] } }
     {

@@ -37,14 +37,14 @@ impl AttachedDisk {
         AttachedDisk { address, unit }
     }
 
-    /// Returns its address.
+    /// Returns the address of the disk.
     pub fn address(&self) -> DevAddr
         ensures { result ≡ self.now.address }
     {
         self.address
     }
 
-    /// Returns the unit.
+    /// Returns the unit of the disk.
     pub fn unit(&self) -> &Unit
         ensures { result.now ≡ self.now.unit }
     {

@@ -129,8 +129,8 @@ impl Devices {
         }
     }
 
-    /// What LOGOFF does: closes the open files of punch and printer, and puts the current deck back
-    /// into the queue. Where memory is refused all stays.
+    /// Does LOGOFF: closes the open files of punch and printer, and puts the current deck back into
+    /// the queue. Where memory is refused all stays.
     ///
     /// # Errors
     ///
@@ -242,7 +242,7 @@ fn place_of(entries: &[Entry], closed: usize) -> Option<usize>
     }
 }
 
-/// Returns the same cards once more.
+/// Returns a copy of the cards.
 ///
 /// # Errors
 ///

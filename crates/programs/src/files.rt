@@ -196,7 +196,7 @@ pub fn save_images<F: FileStore, V: HasVolumes>(
     Ok(())
 }
 
-/// Follows the parts of a script that an input has, and writes what comes of each; and saves the
+/// Follows the parts of a script that an input has, and writes the answer to each; and saves the
 /// images of the volumes at these paths, in their order, if the end was asked for.
 ///
 /// # Errors

@@ -196,7 +196,7 @@ fn combine_in<S: Storage>(
     storage.store_in(target, to, made);
 }
 
-/// What NC, OC, XC, MVN and MVZ make of two strings that each lie in a block that was found.
+/// Does NC, OC, XC, MVN or MVZ of two strings that each lie in a block that was found.
 ///
 /// A short string goes through short buffers, which take no time to make.
 #[inline(always)]

@@ -134,7 +134,7 @@ fn order_in<S: Storage>(
     string_order(xs, ys)
 }
 
-/// As [`string_order`], of two strings that each lie in a block that was found.
+/// Compares two strings as [`string_order`] does, if each lies in a block that was found.
 ///
 /// Short strings go through short buffers, which take no time to make.
 #[inline(always)]

@@ -68,7 +68,7 @@ pub fn store_registers<S: Storage>(
     storage.store(address.get(), &words[..4 * count as usize]);
 }
 
-/// As [`store_registers`], into words that lie in a block that was found.
+/// Stores registers into words that lie in a block that was found.
 #[inline(always)]
 pub fn store_registers_in<S: Storage>(
     registers: &[u32; 16],
@@ -113,7 +113,7 @@ pub fn load_registers<S: Storage>(
     }
 }
 
-/// As [`load_registers`], from words that lie in a block that was found.
+/// Loads registers from words that lie in a block that was found.
 #[inline(always)]
 pub fn load_registers_in<S: Storage>(
     registers: &mut [u32; 16],

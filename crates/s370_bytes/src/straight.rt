@@ -8,8 +8,8 @@ use crate::combine::lag_of;
 use crate::long::set_all;
 use s370_store::{Block, Storage, load_byte_in};
 
-/// What MVC makes of a string in one block and one in another or the same, where it is one copy.
-/// Else nothing changes.
+/// Does MVC of a string in one block and one in another or the same, if it is one copy. Else
+/// nothing changes.
 #[inline(always)]
 pub fn move_straight<S: Storage>(
     storage: &mut S,
@@ -43,8 +43,8 @@ pub fn move_straight<S: Storage>(
     true
 }
 
-/// What MVC makes of a string that is read one byte before where it is written: its first byte goes
-/// to all of them. Else nothing changes. Both lie in blocks that were found.
+/// Does MVC of a string that is read one byte before where it is written: its first byte goes to
+/// all of them. Else nothing changes. Both lie in blocks that were found.
 #[inline(always)]
 pub fn fill_straight<S: Storage>(
     storage: &mut S,

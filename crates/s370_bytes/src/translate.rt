@@ -104,8 +104,8 @@ fn translate_in<S: Storage>(
     storage.store_in(target, to, bytes);
 }
 
-/// What TR makes of a string and a table that each lie in a block that was found, if they have no
-/// byte in common. Else nothing changes.
+/// Does TR of a string and a table that each lie in a block that was found, if they have no byte in
+/// common. Else nothing changes.
 #[inline(always)]
 pub fn translate_straight<S: Storage>(
     storage: &mut S,

@@ -226,7 +226,7 @@ pub fn run_supplied<S: AmpleSupply, D: Device>(
     go_supplied(storage, device, limits, Place::Next(first_spot(start)))
 }
 
-/// The same for the program of an initial program loading.
+/// Runs the program of an initial program loading, whose pages are brought as it needs them.
 ///
 /// # Errors
 ///

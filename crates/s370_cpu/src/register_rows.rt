@@ -126,7 +126,7 @@ pub fn branch_register(kind: Branching, cpu: &mut Cpu, place: Place, i: Instruct
     branch_row(kind, cpu, place, i, i.r2().number() != 0, target)
 }
 
-/// An operation on two registers.
+/// Does an operation on two registers.
 #[inline(always)]
 pub fn register_operation(operation: Arithmetic, cpu: &mut Cpu, i: Instruction) -> Completion
     ensures { arithmetic operation cpu.old (r1_of i) (slice_index cpu.old.general (r2_of i))

@@ -20,7 +20,7 @@ impl Pending {
         key: false,
     };
 
-    /// Those that the processor has enabled.
+    /// Returns the external conditions that the processor has enabled.
     #[inline(always)]
     pub fn enabled(self, cpu: &Cpu) -> Pending
         ensures { result ≡ enabled_of cpu.now self }
@@ -49,7 +49,7 @@ impl Pending {
         timer | key
     }
 
-    /// Those that are left when some were taken.
+    /// Returns the external conditions that are left when some were taken.
     #[inline]
     pub fn without(self, taken: Pending) -> Pending
         ensures { result ≡ without self taken }

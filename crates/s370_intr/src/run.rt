@@ -510,8 +510,8 @@ fn blank_cpu() -> Cpu {
     }
 }
 
-/// At most so many units of a running processor. Each brings the pages that it needs, nine at most,
-/// and what is brought for one stays until it ends. This takes no memory.
+/// Runs at most so many units of a running processor. Each brings the pages that it needs, nine at
+/// most, and what is brought for one stays until it ends. This takes no memory.
 pub fn run_units<P: Processor, S: UnitSupply>(
     cpu: &mut Cpu,
     pending: &mut Pending,

@@ -15,9 +15,9 @@ const TIMER: Range = Range {
 /// What a tick takes from the interval timer.
 const STEP: u32 = 256;
 
-/// A tick of the interval timer, the word at location 80, which makes the timer condition pending
-/// where it takes the word from zero or positive to negative (GA22-7000, "Interval Timer"). Keys
-/// are not tested. Where page 0 is not present it is the error, and nothing is changed.
+/// Steps the interval timer, the word at location 80: the timer condition is pending when that word
+/// goes from zero or positive to negative (GA22-7000, "Interval Timer"). Keys are not tested. Where
+/// page 0 is not present it is the error, and nothing is changed.
 ///
 /// # Errors
 ///

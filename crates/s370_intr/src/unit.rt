@@ -113,8 +113,8 @@ pub(crate) fn instruct_control<P: Processor, S: Keyed>(
     }
 }
 
-/// One instruction, and the interruption or the answer that it ends in. If they need a page that is
-/// not present, that is the error, and all is as it was.
+/// Does one instruction, and the interruption or the answer that it ends in. If they need a page
+/// that is not present, that is the error, and all is as it was.
 ///
 /// # Errors
 ///

@@ -132,7 +132,7 @@ impl Word {
         }
     }
 
-    /// The bytes of the word as they are in storage, the leftmost first.
+    /// Returns the bytes of the word as they are in storage, the leftmost first.
     #[inline(always)]
     pub fn to_bytes(self) -> [u8; 4]
         ensures { result ≡ to_be_bytes w32 self }

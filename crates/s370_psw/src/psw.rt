@@ -122,7 +122,7 @@ impl Psw {
 impl Psw {
     ghost use Rattle.s370_psw.specs.Fields.{enables_channel, enables_external};
 
-    /// Where the next instruction is.
+    /// Returns the address of the next instruction.
     #[inline(always)]
     pub fn address(&self) -> Addr24
         ensures { result ≡ self.now.address }
@@ -224,6 +224,7 @@ impl Psw {
 
 /// What instructions change.
 impl Psw {
+    /// Sets the system mask.
     #[inline(always)]
     pub fn set_system_mask(&mut self, mask: u8)
         ensures { self.new ≡ record self.old { system_mask = mask } }
@@ -231,6 +232,7 @@ impl Psw {
         self.system_mask = mask;
     }
 
+    /// Sets the address of the next instruction.
     #[inline(always)]
     pub fn set_address(&mut self, address: Addr24)
         ensures { self.new ≡ record self.old { address = address } }
@@ -255,6 +257,7 @@ impl Psw {
         self.program_mask = mask;
     }
 
+    /// Sets whether the processor waits.
     #[inline(always)]
     pub fn set_wait(&mut self, wait: bool)
         ensures { self.new ≡ record self.old { wait = wait } }
@@ -262,6 +265,7 @@ impl Psw {
         self.wait = wait;
     }
 
+    /// Sets whether the processor is in the problem state.
     #[inline(always)]
     pub fn set_problem(&mut self, problem: bool)
         ensures { self.new ≡ record self.old { problem = problem } }
@@ -270,7 +274,7 @@ impl Psw {
     }
 }
 
-/// Each field of any PSW is no wider than its bits, so that the laws below hold of it.
+/// States that each field of any PSW is no wider than its bits, so that the laws below hold of it.
 #[inline(always)]
 pub fn fields_in_range(psw: &Psw)
     ensures { IsInRange psw.now }
@@ -281,9 +285,9 @@ pub fn fields_in_range(psw: &Psw)
     let _mask = psw.system_mask;
 }
 
-/// The laws of storing and loading: a PSW that is stored with any codes and loaded again is the
-/// PSW, its codes are in their bits, and a PSW that is loaded and stored again has the bits that it
-/// had, but for those of the codes.
+/// States the laws of storing and loading: a PSW that is stored with any codes and loaded again is
+/// the PSW, its codes are in their bits, and a PSW that is loaded and stored again has the bits
+/// that it had, but for those of the codes.
 pub fn storing_and_loading()
     ensures reads_back { ReadsBack }
     ensures loads_back { LoadsBack }

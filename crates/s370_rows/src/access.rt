@@ -12,8 +12,8 @@ use crate::ending::Refusal;
 use s370_psw::ProgramCode;
 use s370_store::{Access, Fault, Range, Storage, check_two};
 
-/// Leave to access a range of at most 256 bytes with the key of the PSW, or why the instruction
-/// can't.
+/// Returns leave to access a range of at most 256 bytes with the key of the PSW, or why the
+/// instruction can't.
 ///
 /// # Errors
 ///
@@ -33,7 +33,8 @@ pub fn grant<S: Storage>(
     leave_of(storage.check(range, access, cpu.psw.key()))
 }
 
-/// Leave to access two ranges of at most 256 bytes, tested together, or why the instruction can't.
+/// Returns leave to access two ranges of at most 256 bytes, tested together, or why the instruction
+/// can't.
 ///
 /// # Errors
 ///

@@ -93,8 +93,8 @@ fn index_is(kind: IndexBranch, sum: u32, comparand: u32) -> bool
     }
 }
 
-/// 86 BXH, 87 BXLE: a register is added to another, and a branch where the sum is high, or is low
-/// or equal, to a third
+/// 86 BXH, 87 BXLE: adds a register to another, and branches if the sum is high, or is low or
+/// equal, compared with a third.
 #[inline(always)]
 pub fn branch_on_index(
     kind: IndexBranch,

@@ -16,7 +16,7 @@ impl Cpu {
         high << 32 | self.general[register.index() + 1] as u64
     }
 
-    /// A register and the one after it take one number of 64 bits.
+    /// Sets a register and the one after it to one number of 64 bits.
     #[inline(always)]
     pub fn set_pair(&mut self, register: Register, value: u64)
         requires { register < 15 }

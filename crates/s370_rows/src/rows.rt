@@ -30,7 +30,7 @@ pub fn arithmetic_row(
     overflow_ending(cpu, computed.overflows)
 }
 
-/// How an instruction ends whose signed result may not have fit.
+/// Returns how an instruction ends whose signed result may not have fit.
 #[inline(always)]
 pub fn overflow_ending(cpu: &Cpu, overflows: bool) -> Completion
     ensures { result ≡ overflow_ending cpu.now overflows }

@@ -21,7 +21,8 @@ pub fn compare_and_swap(cpu: &mut Cpu, first: Register, third: Register, word: u
     }
 }
 
-/// BB CDS: the same with pairs of registers and a doubleword
+/// BB CDS: compares a pair of registers with a doubleword, and stores another pair if they are
+/// equal.
 #[inline(always)]
 pub fn compare_and_swap_pair(
     cpu: &mut Cpu,

@@ -48,7 +48,7 @@ impl PagedStorage {
         })
     }
 
-    /// Says whether a page is present.
+    /// Sets whether a page is present.
     pub fn set_present(&mut self, page: Page, present: bool)
         requires { page.0 < length (paged_flags self.old) }
         ensures flags { paged_flags self.new ≡ slice_set (paged_flags self.old) page.0 present }

@@ -111,7 +111,7 @@ pub fn may_access_block<K: KeyTable>(
     block_passes(keys, block, access, key)
 }
 
-/// The test of an access to one range by size and keys, as if every page were present.
+/// Tests an access to one range by size and keys, as if every page were present.
 ///
 /// A body's own `check` makes it first, and then looks for the pages. At most 2048 bytes lie in one
 /// block or in two that follow one another, so the key of the first byte decides, or those of the

@@ -23,8 +23,8 @@ impl Subchannels {
         }
     }
 
-    /// The program of the device of this address, which had this key, has ended so: its channel
-    /// status word is pending.
+    /// Ends the program of the device of this address, which had this key: its channel status word
+    /// is pending.
     pub fn end_program(&mut self, device: u16, key: AccessKey, ending: Ending)
         ensures { self.new ≡ program_ended device key ending self.old }
     {

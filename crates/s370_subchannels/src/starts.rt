@@ -4,7 +4,7 @@ ghost use Rattle.s370_subchannels.specs.Starts.{IsFirstStarted, first_of, is_sta
 
 use crate::subchannel::{DeviceState, Subchannel};
 
-/// Of the devices that work, the first of those whose start has this number or a higher one.
+/// Returns, of the devices that work, the first one whose start has this number or a higher one.
 pub fn first_started(list: &[Subchannel], number: u64) -> Option<Subchannel>
     ensures { IsFirstStarted number list.now result }
 {

@@ -110,7 +110,7 @@ impl UnitStatus {
         self.bits & status.bits != 0
     }
 
-    /// Returns the bits of both.
+    /// Returns the bits that either of the two has.
     #[inline(always)]
     pub fn with(self, status: UnitStatus) -> UnitStatus
         ensures { result ≡ both self status }

@@ -10,25 +10,26 @@ ghost use Rattle.s370_walk.specs.Walk.{Form, Written, live, Over, Reaches, Setti
 
 use crate::traits::Device;
 
-/// A walk reaches one end, with one storage and one device: whatever says where it ends says the
-/// same.
+/// States that a walk reaches one end, with one storage and one device: whatever says where it ends
+/// says the same.
 pub fn a_walk_comes_to_one_end<D: Device>()
     ensures { (form : Form) (h : Setting D) (s : State D) (e f : Ending) (m n : Memory) (d g : D)
         → Reaches form h s (Over e m d) → Reaches form h s (Over f n g)
         → ◌≡◌ {A = State D} (Over e m d) (Over f n g) }
 {}
 
-/// A program that never changes what it has still to read comes to the same end, whether each word
-/// and seek argument is read when it is reached or as it was when the program began.
+/// States that a program that never changes what it has still to read comes to the same end,
+/// whether each word and seek argument is read when it is reached or as it was when the program
+/// began.
 pub fn steady_programs_end_alike<D: Device>()
     ensures { (form : Form) (h : Setting D) (began : Memory) (s t : State D)
         → IsSteady form h began s
         → Reaches (frozen form began) h s t → Reaches form h s t }
 {}
 
-/// A walk over a smaller machine, by which a device is seen, comes to what the walk over the device
-/// comes to: the same ending, with the same storage, for the same pages; and so the other way
-/// round.
+/// States that a walk over a smaller machine, by which a device is seen, comes to what the walk
+/// over the device comes to: the same ending, with the same storage, for the same pages; and so the
+/// other way round.
 pub fn a_view_walks_as_its_device<D: Device, E: Device>()
     ensures ends { (form : Form) (h : Setting D) (small : Machine E) (view : D → E) (s : State D)
         (e : Ending) (m : Memory)

@@ -57,7 +57,7 @@ pub fn put_number(out: &mut Vec<u8>, value: u64) -> Result<(), AllocError>
     Ok(())
 }
 
-/// Appends whether something is so.
+/// Appends a flag as one byte, 1 if it is set.
 ///
 /// # Errors
 ///
@@ -134,7 +134,7 @@ impl<'a> Input<'a> {
         Some(front)
     }
 
-    /// Takes the next number.
+    /// Takes the next number of the input.
     pub fn number(&mut self) -> Option<u64> {
         let eight = self.take(8)?;
         let mut value = 0u64;

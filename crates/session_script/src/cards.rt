@@ -34,7 +34,7 @@ impl<'a> Cards<'a> {
         }
     }
 
-    /// Returns how many cards there are.
+    /// Returns how many cards the deck has.
     pub fn len(&self) -> usize
         ensures { result ≡ length (cards_of self.now) }
     {

@@ -281,8 +281,8 @@ fn read_deck<'a>(
     }
 }
 
-/// A script is read as its events, nothing else is accepted, and a text that is no script is
-/// refused at its first bad line.
+/// States that a script is read as its events, that nothing else is accepted, and that a text that
+/// is no script is refused at its first bad line.
 pub fn reads_grammar()
     ensures { ReadsGrammar }
 {}

@@ -20,7 +20,7 @@ impl Model for Bytes {
 }
 
 impl Bytes {
-    /// No bytes.
+    /// Creates a text of no bytes.
     pub fn new(alloc: Global) -> Bytes
         ensures { result ≡ [] }
     {
@@ -29,7 +29,7 @@ impl Bytes {
         }
     }
 
-    /// These bytes.
+    /// Creates the text of these bytes.
     pub fn owning(bytes: Vec<u8>) -> Bytes
         ensures { result ≡ bytes.items }
     {

@@ -111,7 +111,7 @@ impl LineDecoder {
         }
     }
 
-    /// Takes a byte.
+    /// Takes the next byte that has come, and returns what it completes.
     ///
     /// # Errors
     ///
@@ -227,7 +227,7 @@ fn add(line: &mut Bytes, character: u8) -> Result<(), AllocError>
     Ok(())
 }
 
-/// The character as it is in a line: a blank for what is no printable ASCII character.
+/// Returns the character as it is in a line: a blank for what is no printable ASCII character.
 pub fn printable(byte: u8) -> u8
     ensures { result ≡ printable byte }
 {

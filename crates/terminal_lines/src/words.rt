@@ -17,7 +17,7 @@ pub struct Guess {
 }
 
 impl Guess {
-    /// Returns a copy.
+    /// Returns a copy of the name and the password.
     ///
     /// # Errors
     ///

@@ -5,7 +5,7 @@ ghost use Rattle.text_words.specs.Lines.{lines_of, is_comment};
 
 use std::marker::Model;
 
-/// Where a byte is first.
+/// Returns where a byte is first.
 pub fn place_of(byte: u8, bytes: &[u8]) -> Option<usize>
     ensures { result ≡ position (λ c. c == byte) bytes.now }
 {

@@ -168,7 +168,8 @@ impl Console {
         }
     }
 
-    /// Types a line, which waits to be read. Where memory is refused the console stays as it was.
+    /// Types a line at the console, which waits to be read. Where memory is refused the console
+    /// stays as it was.
     ///
     /// # Errors
     ///

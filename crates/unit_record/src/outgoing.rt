@@ -22,7 +22,7 @@ impl Model for Outgoing {
 }
 
 impl Outgoing {
-    /// Nothing to be given.
+    /// Creates a buffer with nothing to be given.
     pub fn new() -> Outgoing
         ensures { result ≡ [] }
     {
@@ -39,7 +39,7 @@ impl Outgoing {
         Outgoing { bytes, given: 0 }
     }
 
-    /// Returns the same bytes once more.
+    /// Returns a copy of the bytes that are to be given.
     pub fn copy(&self) -> Outgoing
         ensures { result ≡ self.now }
     {

@@ -48,7 +48,7 @@ impl Entry {
         *code
     }
 
-    /// Returns its bytes, as they were in storage.
+    /// Returns the bytes of the entry, as they were in storage.
     pub fn bytes(&self) -> &[u8]
         ensures { result.now ≡ self.now.bytes }
     {
@@ -75,7 +75,7 @@ impl Model for Output {
 }
 
 impl Output {
-    /// Nothing was made.
+    /// Creates an output in which nothing was made.
     pub fn new(alloc: Global) -> Output
         ensures { result.entries ≡ [] }
     {

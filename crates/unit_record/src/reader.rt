@@ -58,21 +58,21 @@ impl Deck {
         }
     }
 
-    /// Returns its label.
+    /// Returns the label of the deck.
     pub fn label(&self) -> u64
         ensures { result ≡ self.now.label }
     {
         self.label
     }
 
-    /// Returns from whom it comes.
+    /// Returns who sent the deck.
     pub fn sender(&self) -> Sender
         ensures { result ≡ self.now.sender }
     {
         self.sender
     }
 
-    /// Returns its cards, in order.
+    /// Returns the cards of the deck, in order.
     pub fn cards(&self) -> &[Card]
         ensures { result.now ≡ self.now.cards }
     {
@@ -251,7 +251,7 @@ impl Reader {
         self.giving = Outgoing::new();
     }
 
-    /// Returns how many decks there are, a current one included.
+    /// Returns how many decks the reader has, a current one included.
     pub fn len(&self) -> usize
         ensures { result ≡ length self.now.decks }
     {

@@ -96,7 +96,7 @@ fn put_entry(out: &mut Vec<u8>, entry: &Entry) -> Result<(), AllocError>
     put_bytes(out, entry.bytes())
 }
 
-/// Appends entries.
+/// Appends the bytes of entries.
 ///
 /// # Errors
 ///

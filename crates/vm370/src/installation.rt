@@ -42,7 +42,7 @@ impl Model for SharedMachines {
 }
 
 impl SharedMachines {
-    /// Those of a system.
+    /// Creates the installation of a system.
     pub fn new(system: System) -> SharedMachines
         ensures { result ≡ system }
     {
