@@ -192,7 +192,7 @@ fn has_address(addresses: &[u16], address: u16) -> bool
     addresses.iter().any(|device| *device == address)
 }
 
-/// The operator gives a deck of these cards.
+/// Gives the reader a deck of these cards of the operator.
 fn give(alloc: Global, machine: &mut Bare, cards: &[Card]) -> Result<Reply, Refused>
     ensures ok { IfOk result (λ reply. (event : MachineEvent) × (as_said event ≡ Deck 0 cards.now)
         × IsApplied machine.old event reply machine.new) }
@@ -210,7 +210,7 @@ fn give(alloc: Global, machine: &mut Bare, cards: &[Card]) -> Result<Reply, Refu
     }
 }
 
-/// That the operator gives these cards.
+/// Returns the event that the operator gives these cards.
 fn deck<'a>(cards: &'a [Card]) -> MachineEvent<'a>
     ensures { as_said result ≡ Deck 0 cards.now }
 {

@@ -134,7 +134,7 @@ fn made(alloc: Global, blocks: u32, volumes: Vec<Volume>) -> Result<OneMachine, 
     }
 }
 
-/// Why no machine is made whose disks are not attached.
+/// Returns why no machine is made whose disks are not attached.
 fn unattached(error: AttachError) -> Failure {
     match error {
         AttachError::Memory => Failure::Memory,

@@ -218,7 +218,7 @@ impl Bare {
         }
     }
 
-    /// The operator gives a copy of these cards to the reader; no cards are no deck. If memory is
+    /// Gives the reader a copy of these cards of the operator; no cards are no deck. If memory is
     /// refused, nothing is said of the machine.
     fn give(&mut self, alloc: Global, cards: &[Card]) -> Result<Reply, AllocError>
         ensures after { OnOk result (self.new ≡ with_deck cards.now self.old) }

@@ -63,7 +63,8 @@ impl Bare {
         }
     }
 
-    /// What a line does in this world. If memory is refused, nothing is said of the machine.
+    /// Does what a line asks for in this world, and returns the reply. If memory is refused,
+    /// nothing is said of the machine.
     pub(crate) fn answer<W: UserDirectory>(
         &mut self,
         alloc: Global,
@@ -133,7 +134,7 @@ impl Bare {
         Ok(())
     }
 
-    /// The next file is one of this kind.
+    /// Notes that the next file is one of this kind.
     fn note(&mut self, kind: FileKind) -> Result<(), AllocError>
         ensures { OnOk result (self.new ≡ record self.old {
           files = self.old.files ++ record { user = 0; kind = kind } ∷ [];

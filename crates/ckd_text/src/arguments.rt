@@ -161,6 +161,7 @@ fn command<'a>(alloc: Global, tool: Tool) -> Result<Command<'a>, AllocError>
     }
 }
 
+/// Returns how the command line of `mkvol` goes.
 fn mkvol_command<'a>(alloc: Global) -> Result<Command<'a>, AllocError>
     ensures { IfOk result (λ c. app_of c ≡ command_of tools.Mkvol) }
 {
@@ -177,6 +178,7 @@ fn mkvol_command<'a>(alloc: Global) -> Result<Command<'a>, AllocError>
     Ok(command)
 }
 
+/// Returns how the command line of `trackmap` goes.
 fn trackmap_command<'a>(alloc: Global) -> Result<Command<'a>, AllocError>
     ensures { IfOk result (λ c. app_of c ≡ command_of tools.Trackmap) }
 {

@@ -32,6 +32,7 @@ fn is_serial(word: &[u8]) -> bool
     word.iter().all(|c| is_letter_or_digit(*c))
 }
 
+/// Returns whether a byte is a letter or a digit.
 fn is_letter_or_digit(c: u8) -> bool
     ensures { result ≡ is_letter_or_digit c }
 {
@@ -90,6 +91,7 @@ fn are_hexadecimal(word: &[u8]) -> bool
     word.iter().all(|c| is_hexadecimal(*c))
 }
 
+/// Returns whether a byte is a hexadecimal digit.
 fn is_hexadecimal(c: u8) -> bool
     ensures { result ≡ is_hexadecimal c }
 {

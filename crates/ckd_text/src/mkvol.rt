@@ -32,8 +32,7 @@ A fault is one line on standard error. Exit statuses:
   4  there was not memory enough
 ";
 
-/// The program: its words name an image and a text, and the image of the volume that the text
-/// states is written.
+/// Runs `mkvol`: writes the image of the volume that a text states; its arguments name both.
 pub(crate) fn run<R: AllocGlobal + Files + Env + Eprint>(rt: &R) -> Result<(), ToolFailure> {
     let alloc = rt.alloc();
     let words = words(rt, PROGRAM)?;

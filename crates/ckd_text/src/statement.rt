@@ -60,7 +60,7 @@ pub fn read_header(line: &[u8]) -> Option<StatedVolume>
     }
 }
 
-/// `VOLUME serial cylinders`, after its first word.
+/// Reads `VOLUME serial cylinders`, after its first word.
 fn read_volume(operands: &[u8]) -> Option<StatedVolume>
     ensures { option_map blank_of result ≡ volume_by operands.now }
 {
@@ -128,7 +128,7 @@ fn read_place(operands: &[u8]) -> Option<TrackOperands<'_>>
     })
 }
 
-/// `HOME cylinder head address`, after its place.
+/// Reads `HOME cylinder head address`, after its place.
 fn read_home(place: TrackOperands<'_>) -> Option<VolumeStatement>
     ensures { option_map stated result ≡ home_by (placed place.entry) }
 {
@@ -136,7 +136,7 @@ fn read_home(place: TrackOperands<'_>) -> Option<VolumeStatement>
     Some(VolumeStatement::Home(place.cylinder, place.head, home))
 }
 
-/// `REC cylinder head id key data`, after its place.
+/// Reads `REC cylinder head id key data`, after its place.
 fn read_add(alloc: Global, place: TrackOperands<'_>) -> Result<Option<VolumeStatement>, AllocError>
     ensures { IfOk result (λ found. option_map stated found ≡ add_by (placed place.entry)) }
 {

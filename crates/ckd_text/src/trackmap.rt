@@ -32,7 +32,7 @@ The map goes to standard output, a fault as one line to standard error. Exit sta
   4  there was not memory enough
 ";
 
-/// The program: its words name an image, and the map of its volume is written.
+/// Runs `trackmap`: writes the map of the volume whose image its arguments name.
 pub(crate) fn run<R: AllocGlobal + Files + Env + Print + Eprint>(
     rt: &R,
 ) -> Result<(), ToolFailure> {

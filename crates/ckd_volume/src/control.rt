@@ -20,7 +20,7 @@ pub struct Seek {
     pub head: usize,
 }
 
-/// Two bytes as one number.
+/// Returns two bytes as one number.
 fn halfword(bytes: &[u8], k: usize) -> usize
     requires { k + 1 < length bytes.now }
     ensures { result ≡ table.halfword bytes.now k }
@@ -118,7 +118,7 @@ impl ControlUnit {
         None
     }
 
-    /// These bytes are held in place of the others.
+    /// Holds these bytes in place of the others.
     pub(crate) fn set_argument(&mut self, argument: [u8; 6])
         ensures { self.new ≡ record (self.old) { bytes = argument } }
     {
@@ -126,7 +126,7 @@ impl ControlUnit {
         self.hold(&argument);
     }
 
-    /// A seek ends at the index of the track under this head.
+    /// Ends a seek at the index of the track under this head.
     pub(crate) fn end_seek(&mut self, head: usize) -> UnitStatus
         requires { head < 19 }
         ensures status { result ≡ begin.no_status }
@@ -137,7 +137,7 @@ impl ControlUnit {
         self.end(UnitStatus::NONE)
     }
 
-    /// The arm's first head is chosen.
+    /// Chooses the first head of the arm.
     pub(crate) fn choose_first_head(&mut self)
         ensures { self.new ≡ record (self.old) { head = 0 } }
     {

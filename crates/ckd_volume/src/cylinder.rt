@@ -91,7 +91,7 @@ impl Cylinder {
         &self.tracks[head]
     }
 
-    /// The track under this head, to be written.
+    /// Borrows the track under this head, to be written.
     pub(crate) fn track_mut(&mut self, head: usize) -> &mut Track
         requires { head < 19 }
         ensures* writes_back { sem 𝓛 (LendsTrack self.entry head result) }
@@ -100,7 +100,7 @@ impl Cylinder {
         &mut self.tracks[head]
     }
 
-    /// The track under a head, to be written, if there is such a head.
+    /// Borrows the track under a head, to be written, if there is such a head.
     pub(crate) fn head_mut(&mut self, head: usize) -> Option<&mut Track>
         ensures* writes_back { sem 𝓛 (LendsHead self.entry head result) }
         ensures some { IsSome result ↔ (head < 19) }

@@ -97,7 +97,7 @@ impl ControlUnit {
         })
     }
 
-    /// A command starts; a program starts at the index.
+    /// Starts a command; a program starts at the index.
     pub(crate) fn start(&mut self, first: bool)
         ensures { self.new ≡ table.starting self.old first }
     {
@@ -112,7 +112,7 @@ impl ControlUnit {
         self.given = 0;
     }
 
-    /// As before a program, and without sense.
+    /// Makes the control unit as before a program, and without sense.
     pub(crate) fn reset(&mut self)
         ensures { self.new ≡ record (table.starting self.old true) { sense = table.sense_of 0 0 } }
     {
@@ -123,7 +123,8 @@ impl ControlUnit {
         };
     }
 
-    /// As before a program, with the mode, the head and the sense of another arm.
+    /// Makes the control unit as before a program, with the mode, the head and the sense of another
+    /// arm.
     pub(crate) fn restart(&mut self, writable: bool, head: usize, sense: Sense)
         requires { head < 19 }
         ensures { self.new ≡ record
@@ -135,7 +136,7 @@ impl ControlUnit {
         self.sense = sense;
     }
 
-    /// A refusal, with its sense.
+    /// Refuses the command, with its sense.
     pub(crate) fn refuse(&mut self, first: u8, second: u8) -> Answer
         ensures answer { result ≡ (table.refused self.old first second).answer }
         ensures after { self.new ≡ (table.refused self.old first second).front }
@@ -144,7 +145,7 @@ impl ControlUnit {
         Answer::Refused(UnitStatus::UNIT_CHECK)
     }
 
-    /// Command reject.
+    /// Refuses the command as one that is not known.
     pub(crate) fn reject(&mut self) -> Answer
         ensures answer { result ≡ (table.rejected self.old).answer }
         ensures after { self.new ≡ (table.rejected self.old).front }
@@ -152,7 +153,7 @@ impl ControlUnit {
         self.refuse(0x80, 0)
     }
 
-    /// The record was not found.
+    /// Refuses the command since the record was not found.
     pub(crate) fn lose(&mut self, head: usize, second: u8) -> Answer
         requires { head < 19 }
         ensures answer { result ≡ (table.lost self.old head second).answer }
@@ -162,7 +163,7 @@ impl ControlUnit {
         self.refuse(0, second)
     }
 
-    /// The arm has this head, and is at this place.
+    /// Moves to this head and this place.
     pub(crate) fn go(&mut self, head: usize, points: u8, place: Orientation)
         requires head { head < 19 }
         requires place { front.next_at place ≤ 97 }
@@ -173,7 +174,7 @@ impl ControlUnit {
         self.points = points;
     }
 
-    /// So many bytes are taken.
+    /// Begins to take so many bytes.
     pub(crate) fn take_for(&mut self, count: u32, job: PendingCommand) -> Answer
         ensures answer { result ≡ (table.takes self.old count job).answer }
         ensures after { self.new ≡ (table.takes self.old count job).front }
@@ -182,7 +183,7 @@ impl ControlUnit {
         Answer::Output(count)
     }
 
-    /// These bytes are given, after those that are held already.
+    /// Appends these bytes to those that are held to be given.
     pub(crate) fn hold(&mut self, bytes: &[u8])
         requires { length self.old.bytes + length bytes.now ≤ 65798 }
         ensures { self.new ≡ record (self.old) { bytes = self.old.bytes ++ bytes.now } }
@@ -193,7 +194,7 @@ impl ControlUnit {
         }
     }
 
-    /// The bytes that are held are given.
+    /// Begins to give the bytes that are held.
     pub(crate) fn give_held(&mut self, status: UnitStatus) -> Answer
         ensures answer { result ≡ (table.gives self.old status self.old.bytes).answer }
         ensures after { self.new ≡ (table.gives self.old status self.old.bytes).front }
@@ -202,7 +203,7 @@ impl ControlUnit {
         Answer::Input(self.bytes.len() as u32)
     }
 
-    /// The bytes that are held are given, or there is a refusal where there are none.
+    /// Begins to give the bytes that are held, or refuses the command if there are none.
     pub(crate) fn give_data_held(&mut self, status: UnitStatus) -> Answer
         ensures answer { result ≡ (table.gives_data self.old status self.old.bytes).answer }
         ensures after { self.new ≡ (table.gives_data self.old status self.old.bytes).front }
@@ -213,7 +214,7 @@ impl ControlUnit {
         self.give_held(status)
     }
 
-    /// A byte further.
+    /// Gives the next byte.
     pub(crate) fn give(&mut self) -> u8
         ensures byte { result ≡ slice_index self.old.bytes self.old.given }
         ensures after { self.new ≡ unit.gave self.old }
@@ -227,7 +228,7 @@ impl ControlUnit {
         }
     }
 
-    /// A byte more is taken.
+    /// Takes one more byte.
     pub(crate) fn take(&mut self, byte: u8)
         ensures { self.new ≡ unit.took self.old byte }
     {
@@ -239,7 +240,7 @@ impl ControlUnit {
         }
     }
 
-    /// The command ends.
+    /// Ends the command.
     pub(crate) fn end(&mut self, status: UnitStatus) -> UnitStatus
         ensures status { result ≡ status }
         ensures after { self.new ≡ table_end.resting self.old }
@@ -250,7 +251,7 @@ impl ControlUnit {
         status
     }
 
-    /// The command ends with unit check and this sense.
+    /// Ends the command with unit check and this sense.
     pub(crate) fn fail(&mut self, first: u8, second: u8) -> UnitStatus
         ensures status { result ≡ (table_end.fails self.old first second).status }
         ensures after { self.new ≡ (table_end.fails self.old first second).front }

@@ -11,7 +11,7 @@ use crate::parts::{Found, Orientation};
 use ckd_track::Record;
 use s370_walk::{Answer, Order, UnitStatus};
 
-/// A record without data is a unit exception.
+/// Answers a record without data with unit exception.
 pub(crate) fn exception(content: &[u8]) -> UnitStatus
     ensures { result ≡ begin.exception_of content.now }
 {

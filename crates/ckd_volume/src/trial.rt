@@ -76,7 +76,7 @@ fn copy_cylinder(
     Ok(())
 }
 
-/// A command begins over a cylinder.
+/// Begins a command over a cylinder.
 #[tactic(auto, using(crate::proofs::Overlays::overlaid_copy, crate::proofs::Overlays::overlaid_own))]
 fn begin_over(
     panel: &mut ControlUnit,
@@ -100,7 +100,7 @@ fn begin_over(
     }
 }
 
-/// A command ends over a cylinder.
+/// Ends a command over a cylinder.
 #[tactic(auto, using(crate::proofs::Overlays::overlaid_copy, crate::proofs::Overlays::overlaid_own, crate::proofs::Overlays::overlaid_set, crate::proofs::Overlays::same_set))]
 fn finish_over(
     panel: &mut ControlUnit,
@@ -135,7 +135,7 @@ fn finish_over(
     }
 }
 
-/// No copies of so many cylinders.
+/// Creates a list without copies of so many cylinders.
 fn no_copies(alloc: Global, count: usize) -> Result<Vec<Option<Cylinder>>, AllocError>
     ensures { IfOk result (λ made. made.items ≡ replicate count None) }
 {

@@ -172,7 +172,7 @@ impl Unit {
         self.panel.set_argument(argument);
     }
 
-    /// Read IPL moves the arm to the first track before all else.
+    /// Moves the arm to the first track, as Read IPL does before all else.
     fn aim(&mut self, is_ipl: bool)
         ensures { self.new ≡ aimed self.old is_ipl }
     {

@@ -54,7 +54,7 @@ impl Model for Volume {
     ghost invariant = { λ v. (0 < length v.cylinders.items) × (length v.cylinders.items ≤ 808) };
 }
 
-/// So many cylinders without records.
+/// Creates so many cylinders without records.
 #[tactic(auto, using(crate::proofs::Blanks::cylinders_on))]
 fn blank_cylinders_of(alloc: Global, count: u16) -> Result<Vec<Cylinder>, AllocError>
     ensures cylinders { IfOk result (λ made. made.items ≡ blank_cylinders 0 count) }
@@ -81,7 +81,7 @@ fn copies_of(alloc: Global, cylinders: &[Cylinder]) -> Result<Vec<Cylinder>, All
     Ok(copies)
 }
 
-/// These cylinders in the place of as many, from this one on.
+/// Puts these cylinders in the place of as many, from this one on.
 #[tactic(auto, using(crate::proofs::PutBack::put_one, crate::proofs::PutBack::put_none))]
 fn put_cylinders(cylinders: &mut [Cylinder], start: usize, part: Vec<Cylinder>)
     requires { start + length part.items ≤ length cylinders.old }
@@ -185,7 +185,7 @@ impl Volume {
         &self.cylinders[number]
     }
 
-    /// A cylinder, to be written.
+    /// Borrows a cylinder, to be written.
     pub(crate) fn cylinder_mut(&mut self, number: usize) -> &mut Cylinder
         requires { number < length self.old.cylinders }
         ensures* writes_back { sem 𝓛 (LendsCylinder self.entry number result) }

@@ -220,7 +220,7 @@ impl ControlUnit {
         }
     }
 
-    /// A whole record was written before this place.
+    /// Ends a command that wrote a whole record before this place.
     fn end_written(&mut self, next: usize) -> UnitStatus
         requires { next ≤ 97 }
         ensures status { result ≡ begin.no_status }

@@ -34,7 +34,7 @@ impl Model for StoredBytes {
 }
 
 impl StoredBytes {
-    /// No bytes.
+    /// Creates a buffer of no bytes.
     fn new() -> StoredBytes
         ensures { result ≡ [] }
     {

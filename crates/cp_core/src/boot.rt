@@ -168,7 +168,7 @@ impl System {
     }
 }
 
-/// Why no system is booted whose devices are not attached.
+/// Returns why no system is booted whose devices are not attached.
 fn boot_error(error: AttachError) -> BootError
     ensures { result ≡ boot_error error }
 {
@@ -178,7 +178,7 @@ fn boot_error(error: AttachError) -> BootError
     }
 }
 
-/// Where the devices of a user are.
+/// Returns where the devices of a user are.
 fn places_in(devices: UserDevices) -> Places
     ensures { result ≡ places_in devices }
 {

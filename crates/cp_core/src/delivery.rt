@@ -20,7 +20,7 @@ pub(crate) enum Parcel {
 impl Parcel {
     ghost use Rattle.cp_core.specs.Parcels.{note_of};
 
-    /// How it is reported.
+    /// Returns how a delivery is reported.
     pub(crate) fn note(&self) -> Delivery
         ensures { result ≡ note_of self.now }
     {

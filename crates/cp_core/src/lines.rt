@@ -34,7 +34,7 @@ use std::alloc::AllocError;
 use unit_record::{Card, Target};
 use user_names::UserNo;
 
-/// Of each of these users, whether he is logged on.
+/// Returns, for each of these users, whether he is logged on.
 fn logged_on_among(users: &[UserMachine]) -> ArrayVec<bool, 64>
     requires { length users.now ≤ 64 }
     ensures { result.items ≡ map (λ user. is_logged_on user.parts.mode) users.now }
@@ -82,14 +82,14 @@ impl System {
         }
     }
 
-    /// Of each user, whether he is logged on.
+    /// Returns, for each user, whether he is logged on.
     fn logged_on(&self) -> ArrayVec<bool, 64>
         ensures { result.items ≡ logged_on_of self.now.users }
     {
         logged_on_among(&self.users)
     }
 
-    /// A line that a user types, in his world.
+    /// Types a line of a user, in his world.
     fn type_line(&mut self, user: usize, typed: &[u8]) -> Result<LineOutcome, LineError>
         requires { user < length self.old.users }
         ensures typed { HasTyped (world_of self.old user) user typed.now (user_at self.old user)

@@ -100,7 +100,8 @@ pub(crate) fn serve_supplied<S: Storage, C: Channels<S>>(
     }
 }
 
-/// A line that a user types. It holds what it brings until it ends.
+/// Types a line of a user whose pages are brought as it needs them. It holds what it brings until
+/// it ends.
 pub(crate) fn type_supplied<W: UserDirectory>(
     alloc: Global,
     devices: &mut Devices,

@@ -268,7 +268,7 @@ impl System {
         )
     }
 
-    /// A parcel comes to a user. If memory is refused, each user's machine stays.
+    /// Delivers a parcel to a user. If memory is refused, each user's machine stays.
     pub(crate) fn deliver(&mut self, to: usize, parcel: Parcel) -> Result<(), AllocError>
         requires to { to < length self.old.users }
         requires there { IsThere self.old parcel }
@@ -282,7 +282,7 @@ impl System {
         self.users[to].receive(&mut self.queues, parcel)
     }
 
-    /// A file of a user gets the next number.
+    /// Gives a file of a user the next number.
     pub(crate) fn note(&mut self, user: UserNo, kind: FileKind) -> Result<(), AllocError>
         ensures ok { OnOk result (self.new
             ≡ record self.old {
@@ -466,7 +466,7 @@ impl System {
         }
     }
 
-    /// The timer of a user's machine ticks. This takes no memory.
+    /// Steps the interval timer of a user's machine. This takes no memory.
     fn tick(&mut self, user: usize) -> Reply
         requires { user < length self.old.users }
         ensures step { IsReplied self.old
@@ -484,7 +484,7 @@ impl System {
         }
     }
 
-    /// A device of a user's machine is served.
+    /// Serves a device of a user's machine.
     fn serve(&mut self, user: usize, device: DevAddr) -> Result<Reply, AllocError>
         requires { user < length self.old.users }
         ensures step { IfOk result

@@ -94,7 +94,7 @@ impl UserMachine {
         }
     }
 
-    /// A parcel comes to the user. If memory is refused, his machine stays.
+    /// Receives a parcel for the user. If memory is refused, his machine stays.
     pub(crate) fn receive(&mut self, queues: &mut Queues, parcel: Parcel) -> Result<(), AllocError>
         requires owner { self.old.devices.user < length queues.old.users }
         requires there { IsThereIn queues.old parcel }

@@ -143,7 +143,7 @@ impl<'a> Dat<'a> {
         self.frames.pin(frame);
     }
 
-    /// Takes the marks from all frames.
+    /// Unpins all frames.
     pub fn unpin_all(&mut self)
         ensures rest { KeepsFrames self.old self.new }
         ensures storages { (lent_pool self.new).storages ≡ (lent_pool self.old).storages }

@@ -26,6 +26,7 @@ pub fn read_console<'a>(operands: &[&'a [u8]]) -> Option<Statement<'a>>
     }
 }
 
+/// Returns the console that these words state.
 fn console_of<'a>(address: &'a [u8], model: &[u8]) -> Option<Statement<'a>>
     ensures { option_map stated result ≡ console_of address.now model.now }
 {
@@ -45,6 +46,7 @@ pub fn read_spool<'a>(operands: &[&'a [u8]]) -> Option<Statement<'a>>
     }
 }
 
+/// Returns the spooled device that these words state.
 fn spool_of<'a>(address: &'a [u8], kind: &[u8]) -> Option<Statement<'a>>
     ensures { option_map stated result ≡ spool_of address.now kind.now }
 {
@@ -80,6 +82,7 @@ pub fn read_minidisk<'a>(operands: &[&'a [u8]]) -> Option<Statement<'a>>
     }
 }
 
+/// Returns the minidisk that these words state.
 fn disk_of<'a>(
     address: &'a [u8],
     model: &[u8],

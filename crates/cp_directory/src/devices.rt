@@ -97,7 +97,7 @@ fn is_there(place: Option<DevAddr>, address: DevAddr) -> bool
     }
 }
 
-/// One device, or none.
+/// Returns 1 for a device, and 0 for none.
 fn count_of(place: Option<DevAddr>) -> usize
     ensures value { result ≡ length (option_to_list place) }
     ensures few { result ≤ 1 }

@@ -52,6 +52,7 @@ impl UserName {
     }
 }
 
+/// Returns whether a word is a user's name.
 fn is_name(word: &[u8]) -> bool
     ensures { result ≡ is_name word.now }
 {
@@ -78,6 +79,7 @@ pub fn is_letter_or_digit(c: u8) -> bool
     is_letter(c) || is_digit(c)
 }
 
+/// Returns whether a byte is a capital letter.
 fn is_letter(c: u8) -> bool
     ensures { result ≡ is_letter c }
 {

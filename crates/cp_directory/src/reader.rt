@@ -98,6 +98,7 @@ fn place(
     }
 }
 
+/// Adds a user to the directory, or returns why that cannot be.
 fn place_user(
     alloc: Global,
     directory: &mut Directory,
@@ -123,6 +124,7 @@ fn place_user(
     }
 }
 
+/// Adds a device to the last user, or returns why that cannot be.
 fn place_device(
     directory: &mut Directory,
     kind: DeviceKind,
@@ -144,6 +146,7 @@ fn place_device(
     Ok(())
 }
 
+/// Adds a minidisk to the last user, or returns why that cannot be.
 fn place_minidisk(
     directory: &mut Directory,
     line: usize,

@@ -73,7 +73,7 @@ fn well_formed(statement: Option<Statement<'_>>) -> Result<Statement<'_>, LineFa
     }
 }
 
-/// `USER name password storage`
+/// Reads `USER name password storage`.
 fn read_user<'a>(operands: &[&'a [u8]]) -> Option<Statement<'a>>
     ensures { option_map stated result ≡ user_stated (map (λ w. w.now) operands.now) }
 {
@@ -83,6 +83,7 @@ fn read_user<'a>(operands: &[&'a [u8]]) -> Option<Statement<'a>>
     }
 }
 
+/// Returns the user that these words state.
 fn user_of<'a>(name: &[u8], password: &[u8], size: &'a [u8]) -> Option<Statement<'a>>
     ensures { option_map stated result ≡ user_of name.now password.now size.now }
 {
@@ -104,6 +105,7 @@ fn read_size(word: &[u8]) -> Option<SpelledSize<'_>>
     }
 }
 
+/// Returns the size of these digits and this letter.
 fn size_by(digits: &[u8], letter: u8) -> Option<SpelledSize<'_>>
     ensures { option_map kilobytes result ≡ kilobytes_by digits.now letter }
 {
@@ -114,6 +116,7 @@ fn size_by(digits: &[u8], letter: u8) -> Option<SpelledSize<'_>>
     Some(SpelledSize { digits, unit })
 }
 
+/// Returns the unit that the last letter of a size stands for.
 fn unit_of(letter: u8) -> Option<SizeUnit>
     ensures { option_map kilobytes_in result ≡ unit_of letter }
 {
@@ -134,6 +137,7 @@ fn is_number(digits: &[u8]) -> bool
     }
 }
 
+/// Returns whether each byte is a digit.
 fn all_digits(digits: &[u8]) -> bool
     ensures { result ≡ list_all is_digit digits.now }
 {

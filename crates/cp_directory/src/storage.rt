@@ -45,7 +45,7 @@ impl StorageSize {
         self.pages
     }
 
-    /// Returns how many blocks of 2048 bytes, each with a key of its own.
+    /// Returns how many blocks of 2048 bytes the storage has, each with a key of its own.
     pub fn blocks(self) -> u32
         ensures { result ≡ 2 * self }
     {

@@ -23,7 +23,7 @@ pub fn free_frames(alloc: Global, count: usize) -> Result<Vec<Option<UserPage>>,
     Ok(vec![in alloc; None; count]?)
 }
 
-/// Returns the marks of this many frames that are not pinned.
+/// Returns the pins of this many frames that are not pinned.
 ///
 /// # Errors
 ///
@@ -34,7 +34,7 @@ pub fn no_pins(alloc: Global, count: usize) -> Result<Vec<bool>, AllocError>
     Ok(vec![in alloc; false; count]?)
 }
 
-/// Takes all marks away.
+/// Unpins all frames of this list.
 pub fn clear_pins(pins: &mut Vec<bool>)
     ensures { pins.new.items ≡ replicate (length pins.old.items) false }
 {

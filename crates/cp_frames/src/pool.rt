@@ -340,7 +340,7 @@ impl Frames {
         }
     }
 
-    /// Takes the marks from all frames.
+    /// Unpins all frames.
     pub fn unpin_all(&mut self)
         ensures supply { self.new.supply
             ≡ record self.old.supply { pins = replicate (length self.old.supply.pins) false } }
@@ -364,8 +364,8 @@ impl Frames {
         }
     }
 
-    /// Takes all pages of a user out of their frames and slots, after which its storage is all
-    /// zero, and all marks away.
+    /// Takes all pages of a user out of their frames and slots, after which the user's storage is
+    /// all zero, and unpins all frames.
     pub fn release(&mut self, user: UserNo)
         ensures storages { self.new.storages
             ≡ slice_set self.old.storages user (replicate (length (bytes_of self.old user)) 0) }

@@ -22,7 +22,7 @@ use s370_store::Storage;
 use s370_walk::{Ccw, Flags};
 use std::alloc::Global;
 
-/// The node of a place: the word there with its links, whose places are added.
+/// Returns the node of a place: the word there with its links, whose places are added.
 fn copy_word<S: Storage>(
     alloc: Global,
     storage: &S,
@@ -122,7 +122,7 @@ pub fn may_skip(word: &Ccw) -> bool
         && !word.flags.has(Flags::CHAIN_DATA)
 }
 
-/// Where a word leads: a transfer in channel keeps the role, CD leads to a continuation.
+/// Returns where a word leads: a transfer in channel keeps the role, CD leads to a continuation.
 fn next_of(word: &Ccw, place: CcwLocation) -> CcwLocation
     ensures address { result.address ≡ word.now.next }
     ensures role { result.continues ≡ role_after word.now place.continues }

@@ -22,7 +22,7 @@ fn slot(place: CcwLocation) -> usize
     place.address as usize / 8 * 2 + half
 }
 
-/// The number of a place, which is added where it is new.
+/// Returns the number of a place, which is added if it is new.
 fn number_of(
     places: &mut Vec<CcwLocation>,
     index: &mut Slots,
@@ -52,8 +52,8 @@ fn number_of(
     Ok(number as u32)
 }
 
-/// The link to a place, which is added where it is new; where no word lies there, or a word does
-/// not lead there, a link past the places.
+/// Returns the link to a place, which is added if it is new; if no word lies there, or a word does
+/// not lead there, the link is past the places.
 pub(crate) fn link<S: Storage>(
     storage: &S,
     places: &mut Vec<CcwLocation>,

@@ -189,6 +189,7 @@ impl LogonDesk {
         }
     }
 
+    /// Takes the first byte that waits at a connection.
     fn take_first(
         &mut self,
         alloc: Global,
@@ -223,6 +224,7 @@ impl LogonDesk {
         }
     }
 
+    /// Returns whether a connection is its user's terminal, and no line of his is being done.
     fn is_ready(&self, connection: usize, user: UserNo) -> bool
         ensures { result ≡ is_taking self.now connection (Stage.On user) }
     {
@@ -240,6 +242,7 @@ impl LogonDesk {
         self.connections[connection].waiting.len()
     }
 
+    /// Does what a byte has completed at a connection.
     fn after_decoded(
         &mut self,
         alloc: Global,
@@ -265,6 +268,7 @@ impl LogonDesk {
         }
     }
 
+    /// Does what a line asks for that was typed at a connection.
     fn after_line(
         &mut self,
         alloc: Global,
@@ -287,6 +291,7 @@ impl LogonDesk {
         }
     }
 
+    /// Types a line of a user who is on.
     fn type_line(
         &mut self,
         alloc: Global,
@@ -303,6 +308,7 @@ impl LogonDesk {
         out.push(DeskAction::Types { user, line })
     }
 
+    /// Returns whether the machine of a user runs.
     fn is_running(&self, user: UserNo) -> bool
         ensures { result ≡ (account_of self.now user).is_running }
     {
@@ -312,6 +318,7 @@ impl LogonDesk {
         }
     }
 
+    /// Takes a line of somebody who is about to log on.
     fn logon_line(
         &mut self,
         alloc: Global,
@@ -333,6 +340,7 @@ impl LogonDesk {
         self.answered(connection, answer, now, out)
     }
 
+    /// Moves a connection to the stage that comes of a line, and shows the notice.
     fn answered(
         &mut self,
         connection: usize,
@@ -354,6 +362,7 @@ impl LogonDesk {
         }
     }
 
+    /// Moves a connection to a stage; a guess waits in its queue.
     fn come_to(&mut self, connection: usize, stage: Stage, now: u64)
         requires within { connection < length self.old.connections }
         requires now { now < 2 ^ 62 }
@@ -366,6 +375,7 @@ impl LogonDesk {
         }
     }
 
+    /// Lets a guess wait in its queue.
     fn guess_waits(&mut self, connection: usize, guess: Guess, now: u64)
         requires within { connection < length self.old.connections }
         requires now { now < 2 ^ 62 }
@@ -421,6 +431,8 @@ impl LogonDesk {
         }
     }
 
+    /// Tells a guesser that he was refused, and lets him try again, or ends the connection after
+    /// the last try.
     fn after_pause(
         &mut self,
         alloc: Global,
@@ -444,6 +456,7 @@ impl LogonDesk {
         Ok(())
     }
 
+    /// Ends the connection of a user who is on elsewhere by now.
     fn leave_behind(
         &mut self,
         alloc: Global,
@@ -509,6 +522,7 @@ impl LogonDesk {
         }
     }
 
+    /// Logs a user on at a connection, which is then his terminal.
     fn log_on(
         &mut self,
         alloc: Global,
@@ -535,6 +549,7 @@ impl LogonDesk {
         Ok(())
     }
 
+    /// Makes a connection wait after a wrong guess, and notes it for the journal.
     fn wrong_guess(
         &mut self,
         connection: usize,
@@ -576,6 +591,7 @@ impl LogonDesk {
         self.end(alloc, connection, out)
     }
 
+    /// Ends a connection.
     fn end(&mut self, alloc: Global, connection: usize, out: &mut Outputs) -> Result<(), AllocError>
         requires within { connection < length self.old.connections }
         ensures { OnOk result (Does (ended self.old connection []) out.old self.new out.new) }
@@ -673,7 +689,7 @@ fn places_of(alloc: Global, connections: usize) -> Result<Vec<Connection>, Alloc
     Ok(places)
 }
 
-/// Users whose machines are off.
+/// Creates the accounts of users whose machines are off.
 fn accounts_of(alloc: Global, names: &[Bytes]) -> Result<Vec<Account>, AllocError>
     ensures { IfOk result (λ accounts. accounts.items ≡ map new_account names.now) }
 {
@@ -691,7 +707,7 @@ fn say(connection: usize, notice: Notice, out: &mut Outputs) -> Result<(), Alloc
     out.push(DeskAction::Says { connection, notice })
 }
 
-/// What a user is shown who logs on.
+/// Logs the machine of a user on, or shows him what he has missed if it is on.
 fn greet(
     alloc: Global,
     connection: usize,
@@ -713,6 +729,7 @@ fn greet(
     show_again(alloc, connection, user, account.kept.as_slice(), out)
 }
 
+/// Shows a connection the lines that were kept of its user.
 fn show_again(
     alloc: Global,
     connection: usize,
@@ -733,6 +750,7 @@ fn show_again(
     Ok(())
 }
 
+/// Returns whether a user's terminal is this connection.
 fn is_terminal(terminal: Option<usize>, connection: usize) -> bool
     ensures { result ≡ Rattle.logon_desk.specs.Desk.is_terminal terminal connection }
 {
@@ -742,6 +760,7 @@ fn is_terminal(terminal: Option<usize>, connection: usize) -> bool
     }
 }
 
+/// Returns whether a stage is that of being logged on as this user.
 fn is_user(stage: &Stage, user: UserNo) -> bool
     ensures { result ≡ Rattle.logon_desk.specs.Desk.is_user stage.now user }
 {
@@ -751,6 +770,7 @@ fn is_user(stage: &Stage, user: UserNo) -> bool
     }
 }
 
+/// Returns whether two guesses have the same name and password.
 fn is_same(one: &Guess, other: &Guess) -> bool
     ensures { result ≡ same_guess one.now other.now }
 {
@@ -758,7 +778,8 @@ fn is_same(one: &Guess, other: &Guess) -> bool
         && one.password.as_slice() == other.password.as_slice()
 }
 
-/// A line as it is shown: its first characters, without what a terminal takes for something else.
+/// Returns a line as it is shown: its first characters, without what a terminal takes for something
+/// else.
 fn shown(alloc: Global, line: &[u8]) -> Result<Bytes, AllocError>
     ensures { IfOk result (λ copy. copy ≡ shown line.now) }
 {
@@ -766,6 +787,7 @@ fn shown(alloc: Global, line: &[u8]) -> Result<Bytes, AllocError>
     Ok(Bytes::owning(line.iter().map(|c| printable(*c)).collect(alloc)?))
 }
 
+/// Returns the first characters of a line.
 fn first_characters(line: &[u8]) -> &[u8]
     ensures { result.now ≡ take 1024 line.now }
 {

@@ -104,6 +104,7 @@ pub fn queue_of(name: &[u8], address: u64) -> usize
     (number >> 54) as usize
 }
 
+/// Returns a number that one more character is mixed into.
 fn mixed(number: u64, c: u8) -> u64
     ensures value { result ≡ mixed number c }
     ensures fits { result < 2 ^ 64 }

@@ -13,6 +13,7 @@ pub fn is_stranger(connection: &Connection) -> bool
     !matches!(connection.stage, Stage::Gone | Stage::On(_))
 }
 
+/// Returns whether a stranger's connection comes from this address.
 fn comes_from(connection: &Connection, address: u64) -> bool
     ensures { result ≡ comes_from address connection.now }
 {
@@ -29,6 +30,7 @@ pub fn strangers(connections: &[Connection]) -> usize
         .count()
 }
 
+/// Returns how many strangers' connections come from an address.
 fn strangers_from(connections: &[Connection], address: u64) -> usize
     ensures { result ≡ strangers_from connections.now address }
 {

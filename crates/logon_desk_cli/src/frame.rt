@@ -135,6 +135,7 @@ impl<'a> Model for Words<'a> {
 }
 
 impl<'a> Words<'a> {
+    /// Takes the next word of a frame.
     fn next(&mut self) -> Option<&'a [u8]>
         ensures { MatchOption result (self.old ≡ []) (λ word. self.old ≡ word.now ∷ self.new) }
     {
@@ -143,7 +144,7 @@ impl<'a> Words<'a> {
         Some(word)
     }
 
-    /// A hexadecimal number.
+    /// Takes a hexadecimal number.
     fn number(&mut self) -> Result<u64, FrameError>
         ensures value { IsRead result (number_at self.old) }
         ensures rest { OnOk result (self.new ≡ after_first self.old) }
@@ -154,6 +155,7 @@ impl<'a> Words<'a> {
         }
     }
 
+    /// Takes the number of a place.
     fn place(&mut self) -> Result<usize, FrameError>
         ensures value { IsRead result (number_at self.old) }
         ensures rest { OnOk result (self.new ≡ after_first self.old) }
@@ -161,7 +163,7 @@ impl<'a> Words<'a> {
         Ok(self.number()? as usize)
     }
 
-    /// Bytes in hexadecimal; `-` for none.
+    /// Takes bytes in hexadecimal; `-` stands for none.
     fn bytes(&mut self, alloc: Global) -> Result<Bytes, FrameError>
         ensures value { IsRead result (bytes_at self.old) }
         ensures rest { OnOk result (self.new ≡ after_first self.old) }
@@ -184,6 +186,7 @@ fn number_of(digits: &[u8]) -> Option<u64>
     Some(number)
 }
 
+/// Returns a number with one more hexadecimal digit, if it fits.
 fn more_digit(number: u64, digit: u8) -> Option<u64>
     ensures { result ≡ more_digit number digit }
 {
@@ -200,6 +203,7 @@ fn bytes_of(alloc: Global, digits: &[u8]) -> Result<Bytes, FrameError>
     pairs_of(alloc, digits)
 }
 
+/// Returns the bytes of pairs of digits.
 fn pairs_of(alloc: Global, digits: &[u8]) -> Result<Bytes, FrameError>
     ensures { IsRead result (pairs_of digits.now) }
 {
@@ -216,6 +220,7 @@ fn pairs_of(alloc: Global, digits: &[u8]) -> Result<Bytes, FrameError>
     }
 }
 
+/// Returns the byte of two digits.
 fn byte_of(high: u8, low: u8) -> Result<u8, FrameError>
     ensures { IsRead result (byte_of high low) }
 {
@@ -243,6 +248,7 @@ pub fn frame_of(alloc: Global, line: &[u8]) -> Result<TimedFrame, FrameError>
     Ok(TimedFrame { time, frame })
 }
 
+/// Returns the verb that the first word of a line names.
 fn verb_of(word: &[u8]) -> Option<Verb>
     ensures { result ≡ verb_of word.now }
 {
@@ -262,7 +268,7 @@ fn verb_of(word: &[u8]) -> Option<Verb>
     }
 }
 
-/// The frame that the words of a line are.
+/// Reads the frame of a verb from the words of a line.
 fn read(alloc: Global, verb: Verb, words: &mut Words) -> Result<Frame, FrameError>
     ensures { IsRead result (frame_with verb words.old) }
 {
@@ -293,6 +299,7 @@ fn read(alloc: Global, verb: Verb, words: &mut Words) -> Result<Frame, FrameErro
     }
 }
 
+/// Reads the frame of a line that is kept of a user.
 fn keep_of(alloc: Global, words: &mut Words) -> Result<Frame, FrameError>
     ensures { IsRead result (keep_of words.old) }
 {
@@ -305,6 +312,7 @@ fn keep_of(alloc: Global, words: &mut Words) -> Result<Frame, FrameError>
     })
 }
 
+/// Reads the frame of the host's answer to a guess.
 fn says_of(alloc: Global, words: &mut Words) -> Result<Frame, FrameError>
     ensures { IsRead result (says_of words.old) }
 {

@@ -89,6 +89,7 @@ pub fn print_number(name: &[u8], number: usize, text: &mut Bytes) -> Result<(), 
     text.push(b'\n')
 }
 
+/// Appends the line for an entry of the journal.
 fn note(entry: JournalEntry, text: &mut Bytes) -> Result<(), AllocError>
     ensures { OnOk result (text.new ≡ text.old ++ noted entry) }
 {
@@ -102,6 +103,7 @@ fn note(entry: JournalEntry, text: &mut Bytes) -> Result<(), AllocError>
     }
 }
 
+/// Appends the line for an entry of the journal with this name.
 fn note_of(
     name: &[u8],
     user: Option<UserNo>,
@@ -121,6 +123,7 @@ fn note_of(
     text.push(b'\n')
 }
 
+/// Appends the line that gives a connection a text.
 fn give(connection: usize, bytes: &[u8], end: &[u8], text: &mut Bytes) -> Result<(), AllocError>
     ensures { OnOk result
         (text.new ≡ text.old ++ line (codes "GIVE") connection (field (bytes.now ++ end.now))) }
@@ -130,6 +133,7 @@ fn give(connection: usize, bytes: &[u8], end: &[u8], text: &mut Bytes) -> Result
     text.push(b'\n')
 }
 
+/// Appends a verb, a blank and a number.
 fn word(name: &[u8], number: usize, text: &mut Bytes) -> Result<(), AllocError>
     ensures { OnOk result (text.new ≡ text.old ++ begun name.now number) }
 {
@@ -138,7 +142,7 @@ fn word(name: &[u8], number: usize, text: &mut Bytes) -> Result<(), AllocError>
     push_number(number, text)
 }
 
-/// A number of at most four hexadecimal digits.
+/// Appends a number of at most four hexadecimal digits.
 fn push_number(number: usize, text: &mut Bytes) -> Result<(), AllocError>
     ensures { OnOk result (text.new ≡ text.old ++ hex_number number) }
 {
@@ -146,7 +150,7 @@ fn push_number(number: usize, text: &mut Bytes) -> Result<(), AllocError>
     push_byte((number % 256) as u8, text)
 }
 
-/// Bytes in hexadecimal, and a hyphen for none.
+/// Appends bytes in hexadecimal, and a hyphen for none.
 fn push_bytes(bytes: &[u8], end: &[u8], text: &mut Bytes) -> Result<(), AllocError>
     ensures { OnOk result (text.new ≡ text.old ++ field (bytes.now ++ end.now)) }
 {
@@ -158,6 +162,7 @@ fn push_bytes(bytes: &[u8], end: &[u8], text: &mut Bytes) -> Result<(), AllocErr
     push_all(end, text)
 }
 
+/// Appends each byte in hexadecimal.
 fn push_all(bytes: &[u8], text: &mut Bytes) -> Result<(), AllocError>
     ensures { OnOk result (text.new ≡ text.old ++ hex bytes.now) }
 {
@@ -167,6 +172,7 @@ fn push_all(bytes: &[u8], text: &mut Bytes) -> Result<(), AllocError>
     Ok(())
 }
 
+/// Appends a byte in hexadecimal.
 fn push_byte(byte: u8, text: &mut Bytes) -> Result<(), AllocError>
     ensures { OnOk result
         (text.new ≡ text.old ++ hex_digit (byte / 16) ∷ hex_digit (byte % 16) ∷ []) }
@@ -175,6 +181,7 @@ fn push_byte(byte: u8, text: &mut Bytes) -> Result<(), AllocError>
     text.push(digit(byte % 16))
 }
 
+/// Returns the character of a hexadecimal digit.
 fn digit(value: u8) -> u8
     requires { value < 16 }
     ensures { result ≡ hex_digit value }

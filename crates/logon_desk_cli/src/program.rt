@@ -90,6 +90,7 @@ impl Session {
         }
     }
 
+    /// Takes a frame, and appends what the desk does.
     fn take_frame(&mut self, alloc: Global, now: u64, frame: Frame) -> Result<bool, AllocError>
         requires { now < 2 ^ 62 }
         ensures { IfOk result (λ taken. TakesFrame self.old now frame taken self.new) }
@@ -106,7 +107,7 @@ impl Session {
         }
     }
 
-    /// The lines before a desk is there.
+    /// Takes the lines before a desk is there.
     fn begin(&mut self, alloc: Global, frame: Frame) -> Result<bool, AllocError>
         ensures { IfOk result (λ taken. Begins self.old frame taken self.new) }
     {
@@ -200,6 +201,7 @@ fn note_reading(desk: &LogonDesk, frame: &Frame, reading: &mut Vec<usize>) -> Re
     }
 }
 
+/// Returns whether a place has a connection.
 fn is_open(desk: &LogonDesk, place: usize) -> bool
     ensures { result ≡ is_open desk.now place }
 {
@@ -224,7 +226,7 @@ fn make_room_for(
     }
 }
 
-/// Where too many are about to log on, one of those from the busiest address goes.
+/// Ends one of the connections from the busiest address if too many are about to log on.
 fn make_room(alloc: Global, desk: &mut LogonDesk, out: &mut Outputs) -> Result<(), AllocError>
     ensures places { OnOk result (length desk.new.connections ≡ length desk.old.connections) }
     ensures room { OnOk result
@@ -305,6 +307,7 @@ fn serve(alloc: Global, desk: &mut LogonDesk, now: u64, out: &mut Outputs) -> Re
     Ok(())
 }
 
+/// Serves the bytes that wait at a place.
 fn serve_place(
     alloc: Global,
     desk: &mut LogonDesk,
@@ -389,12 +392,14 @@ fn print_read(desk: &LogonDesk, reading: &[usize], text: &mut Bytes) -> Result<(
     Ok(())
 }
 
+/// Returns whether bytes may be read from a connection.
 fn is_read(desk: &LogonDesk, place: usize) -> bool
     ensures { result ≡ is_read desk.now place }
 {
     is_open(desk, place) && desk.waiting(place) == 0
 }
 
+/// Returns whether a byte still waits at a connection.
 fn still_waits(desk: &LogonDesk, place: usize) -> bool
     ensures { result ≡ still_waits desk.now place }
 {

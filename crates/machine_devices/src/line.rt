@@ -49,7 +49,7 @@ pub enum LineOutcome {
 }
 
 impl LineOutcome {
-    /// Returns a response that is said, where there is one.
+    /// Returns the outcome of a response, or of none.
     #[inline]
     pub fn of(response: Option<Response>) -> LineOutcome
         ensures { result ≡ said response }

@@ -33,7 +33,7 @@ pub enum UserResponse {
 }
 
 impl UserResponse {
-    /// Returns a response that is said, where there is one.
+    /// Returns what a user is shown of a response, or of none.
     #[inline]
     pub fn of(response: Option<Response>) -> UserResponse
         ensures { result ≡ saying response }
@@ -92,7 +92,7 @@ pub struct Delivered {
     pub what: Delivery,
 }
 
-/// Returns what is said to a line that was answered so, where the next file has this number.
+/// Returns what a user is shown of the outcome of his line, if the next file has this number.
 pub fn said_to_line(number: u64, reported: &LineOutcome) -> UserResponse
     ensures { result ≡ said_to_line number reported.now }
 {

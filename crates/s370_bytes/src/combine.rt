@@ -115,7 +115,7 @@ fn condition_of(bytes: &[u8]) -> ConditionCode
     }
 }
 
-/// The condition of what was made.
+/// Sets the condition code of what was made.
 #[inline(always)]
 fn set_combined_condition(operation: Combine, cpu: &mut Cpu, made: &[u8])
     ensures { cpu.new ≡ combined_condition operation cpu.old made.now }
@@ -159,7 +159,7 @@ fn combine_at<S: Storage>(
     storage.store(to, made);
 }
 
-/// As `combine_at`, of ranges that each lie in a block that was found.
+/// Combines ranges as `combine_at` does, each in a block that was found.
 #[inline(always)]
 fn combine_in<S: Storage>(
     operation: Combine,

@@ -103,7 +103,7 @@ pub fn compare_row<S: Storage>(
     Ok(Completion::Done)
 }
 
-/// The order of two strings of one length that each lie in a block that was found, through buffers
+/// Returns the order of two strings of one length, each in a block that was found, through buffers
 /// of that length.
 #[inline(always)]
 fn order_in<S: Storage>(

@@ -47,7 +47,7 @@ fn signed_value(doubleword: u64) -> Option<i64>
     })
 }
 
-/// The low bits of a number in a register.
+/// Loads the low bits of a number into a register.
 #[inline]
 fn load_binary(
     cpu: &mut Cpu,

@@ -80,7 +80,7 @@ fn laid_out(layout: Layout, target: &[u8], source: &[u8], place: usize) -> u8
     }
 }
 
-/// The whole result.
+/// Lays out the whole result.
 #[inline]
 fn lay_out(layout: Layout, target: &[u8], source: &[u8], made: &mut [u8])
     requires same { length made.old ≡ length target.now }

@@ -155,7 +155,7 @@ fn move_through<S: Storage>(
     storage.store(to, made);
 }
 
-/// As [`move_padded`], where there are pads.
+/// Moves as [`move_padded`] does, if there are pads.
 #[inline(never)]
 fn move_pads<S: Storage>(storage: &mut S, to: u32, from: u32, pad: u8, count: u32, moved: u32)
     requires within { moved ≤ count }
@@ -195,7 +195,7 @@ fn move_padded<S: Storage>(storage: &mut S, to: u32, from: u32, pad: u8, count: 
     }
 }
 
-/// One part of the long move.
+/// Moves one part of the long move.
 fn move_part<S: Storage>(
     cpu: &mut Cpu,
     storage: &mut S,
@@ -427,7 +427,7 @@ fn longest(first: &Operand, second: &Operand) -> u32
     if longer < 256 { longer } else { 256 }
 }
 
-/// What a comparison of padded parts leaves.
+/// Sets what a comparison of padded parts leaves.
 #[inline]
 fn conclude(
     cpu: &mut Cpu,
@@ -502,7 +502,7 @@ fn compare_at<S: Storage>(
     conclude(cpu, r1, r2, count, count_1, count_2, left, right)
 }
 
-/// One part of the long comparison.
+/// Compares one part of the long comparison.
 fn compare_part<S: Storage>(
     cpu: &mut Cpu,
     storage: &S,

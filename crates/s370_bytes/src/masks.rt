@@ -181,8 +181,8 @@ pub fn store_characters_row<S: Storage>(
     Ok(Completion::Done)
 }
 
-/// The condition code of the bytes of a register that a mask chooses against those of a range,
-/// through a buffer.
+/// Returns the condition code of the bytes of a register that a mask chooses against those of a
+/// range, through a buffer.
 #[inline]
 fn order_at<S: Storage>(
     cpu: &Cpu,

@@ -22,7 +22,7 @@ fn count_of(first: Register, last: Register) -> u32
     (last.number() as u32 + 16 - first.number() as u32) % 16 + 1
 }
 
-/// The words of registers, one after another.
+/// Fills bytes with the words of registers, one after another.
 fn fill(words: &mut [u8; 64], registers: &[u32; 16], first: Register, count: u32)
     requires few { count ≤ 16 }
     ensures { take (4 * count) words.new ≡ words_from registers.now first count }

@@ -71,7 +71,7 @@ fn translate_apart<S: Storage>(
     storage.store(to, bytes);
 }
 
-/// As `translate_apart`, of a range and a table that each lie in a block that was found.
+/// Translates as `translate_apart` does, if range and table each lie in a block that was found.
 #[inline(always)]
 fn translate_in<S: Storage>(
     storage: &mut S,
@@ -231,7 +231,7 @@ fn zeros(table: &[u8], names: &[u8]) -> usize
     names.len()
 }
 
-/// What a test of bytes, of which the first has an address, leaves.
+/// Sets what a test of bytes, of which the first has an address, leaves.
 #[inline]
 fn scan(cpu: &mut Cpu, first: Addr24, names: &[u8], table: &[u8])
     requires whole { length table.now ≡ 256 }

@@ -23,7 +23,7 @@ pub(crate) fn end_at(at: u32, status: UnitStatus, channel: ChannelStatus, count:
     }
 }
 
-/// A check stops a transfer, and the device ends with the bytes that it has.
+/// Stops a transfer by a check; the device ends with the bytes that it has.
 pub(crate) fn stop<D: Device>(device: &mut D, at: u32, check: ChannelStatus, count: u16) -> Ending
     ensures ending { result ≡ ending at (D.machine.status device.old) check count }
     ensures after { device.new ≡ D.machine.finished device.old }
@@ -31,7 +31,7 @@ pub(crate) fn stop<D: Device>(device: &mut D, at: u32, check: ChannelStatus, cou
     end_at(at, device.finish(), check, count)
 }
 
-/// A word cannot be fetched, or is bad.
+/// Ends a program whose next word cannot be fetched, or is bad.
 pub(crate) fn fail<D: Device>(device: &mut D, role: Option<Transfer>, at: u32) -> Ending
     ensures ending { result ≡ failure D.machine role at device.old }
     ensures after { device.new ≡ failed D.machine role device.old }
@@ -94,7 +94,7 @@ pub(crate) fn left_of<D: Device>(device: &D, p: &Position) -> u32
     if device.is_done() { 0 } else { p.transfer.left }
 }
 
-/// What a word leads to whose count is zero, or whose device has nothing left.
+/// Ends a word whose count is zero, or whose device has nothing left, and returns what it leads to.
 #[tactic(auto, unfolding(crate::specs::Progress::weight))]
 pub(crate) fn finish<D: Device>(device: &mut D, limits: &Limits, p: &Position) -> Progress
     requires { (p.now.count ≡ 0) ⊎ (rest D.machine p.now device.old ≡ 0) }

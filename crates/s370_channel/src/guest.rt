@@ -107,7 +107,7 @@ fn address_said(number: u32, value: u32) -> Option<u32>
     }
 }
 
-/// Where the block of a number begins of an area that is one piece of storage.
+/// Returns where the block of a number begins of an area that is one piece of storage.
 fn block_start(address: u32, number: u32) -> Option<u32>
     ensures { result ≡ straight address number }
 {

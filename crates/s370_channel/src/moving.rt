@@ -71,7 +71,7 @@ pub(crate) fn place<F: WordForm, S: Storage>(
     }
 }
 
-/// One byte further.
+/// Moves the position one byte further.
 fn one_on(p: &Position, before: Option<u32>) -> Moved
     requires count { 0 < p.now.count }
     requires left { 0 < p.now.transfer.left }

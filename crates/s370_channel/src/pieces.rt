@@ -40,7 +40,7 @@ fn least(one: u32, other: u32) -> u32
     if one < other { one } else { other }
 }
 
-/// So many bytes further, of which the last lies at an address.
+/// Moves the position so many bytes further, of which the last lies at an address.
 fn many_on(p: &Position, n: u32, last: u32) -> Position
     requires count { n ≤ p.now.count }
     requires left { n ≤ p.now.transfer.left }

@@ -13,7 +13,7 @@ use s370_walk::{NextCcw, WordForm};
 /// How many commands one program may start: the start of one more is a program check.
 pub const MOST_COMMANDS: u32 = 65535;
 
-/// Where a program starts that begins at an address.
+/// Returns where a program starts that begins at an address.
 pub(crate) fn first_spot(at: u32) -> NextCcw
     ensures { result ≡ start_spot at }
 {

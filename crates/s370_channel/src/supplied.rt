@@ -120,7 +120,8 @@ fn supply_step<S: AmpleSupply, D: Device>(
     }
 }
 
-/// The same, where there is room for every page: what was brought is held no longer.
+/// Brings the pages of a unit, if there is room for every page; what was brought is pinned no
+/// longer.
 fn supply_unit<S: AmpleSupply, D: Device>(
     storage: &mut S,
     device: &mut D,

@@ -79,7 +79,7 @@ pub fn word_row<S: Storage>(
     word_row_at(operation, cpu, storage, i, start)
 }
 
-/// As [`word_row`], whose word is at this address.
+/// Does a row as [`word_row`] does, whose word is at this address.
 ///
 /// # Errors
 ///

@@ -37,7 +37,7 @@ fn branch_row(
     }
 }
 
-/// By how many bits a shift is.
+/// Returns by how many bits a shift is.
 #[inline(always)]
 fn shift_count(cpu: &Cpu, i: Instruction) -> u8
     ensures value { result ≡ shift_count cpu.now i }

@@ -42,7 +42,7 @@ pub fn store_word_row<S: Storage>(
     store_word_row_at(cpu, storage, i, start)
 }
 
-/// As [`store_word_row`], whose word is at this address.
+/// Does a row as [`store_word_row`] does, whose word is at this address.
 ///
 /// # Errors
 ///

@@ -74,8 +74,8 @@ pub fn step<S: Storage>(cpu: &mut Cpu, storage: &mut S) -> Stop
     carry_known(cpu, storage, start, opcode)
 }
 
-/// As [`step`], for an instruction in a block that was found for fetches with the processor's key.
-/// It is at an even address there, with room for the longest instruction.
+/// Does an instruction as [`step`] does, in a block that was found for fetches with the processor's
+/// key. It is at an even address there, with room for the longest instruction.
 #[inline(always)]
 pub fn step_in<S: Storage>(cpu: &mut Cpu, storage: &mut S, start: Addr24, block: Block) -> Stop
     requires here { start ≡ cpu.old.psw.address }
@@ -93,7 +93,7 @@ pub fn step_in<S: Storage>(cpu: &mut Cpu, storage: &mut S, start: Addr24, block:
     carry_in(cpu, storage, start, block)
 }
 
-/// As [`step_in`], where the instruction may be fetched.
+/// Does an instruction as [`step_in`] does, if it may be fetched.
 #[inline(always)]
 fn carry_in<S: Storage>(cpu: &mut Cpu, storage: &mut S, start: Addr24, block: Block) -> Stop
     requires here { start ≡ cpu.old.psw.address }
@@ -112,7 +112,7 @@ fn carry_in<S: Storage>(cpu: &mut Cpu, storage: &mut S, start: Addr24, block: Bl
     carry(cpu, storage, opcode, first)
 }
 
-/// As [`step`], where one look is not enough for the fetch.
+/// Does an instruction as [`step`] does, if one look is not enough for the fetch.
 #[inline(never)]
 fn step_apart<S: Storage>(cpu: &mut Cpu, storage: &mut S) -> Stop
     ensures unit { let before = state_of cpu.old (S.memory storage.old) in

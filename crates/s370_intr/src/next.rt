@@ -95,7 +95,7 @@ pub fn look(cpu: &Cpu, pending: Pending, subchannels: &Subchannels) -> Next
     offered(subchannels.first_status(&cpu.psw), &cpu.psw)
 }
 
-/// A status of a device comes before a wait.
+/// Returns what comes next of a device that may interrupt and a wait: the status comes first.
 #[inline(always)]
 fn offered(status: Option<Status>, psw: &Psw) -> Next
     ensures { result ≡ offered status psw.now }

@@ -61,7 +61,7 @@ impl Pending {
     }
 }
 
-/// Bit 24 of control register 0.
+/// Returns whether bit 24 of control register 0 is one.
 #[inline(always)]
 fn has_timer_subclass(cpu: &Cpu) -> bool
     ensures { result ≡ has_subclass cpu.now 24 }
@@ -69,7 +69,7 @@ fn has_timer_subclass(cpu: &Cpu) -> bool
     cpu.control[0] >> 7 & 1 == 1
 }
 
-/// Bit 25 of control register 0.
+/// Returns whether bit 25 of control register 0 is one.
 #[inline(always)]
 fn has_key_subclass(cpu: &Cpu) -> bool
     ensures { result ≡ has_subclass cpu.now 25 }

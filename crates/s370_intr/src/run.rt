@@ -33,7 +33,7 @@ pub struct Ran {
     pub reason: Reason,
 }
 
-/// The unit that a look says, tried once; none where it stops.
+/// Tries once the unit that a look says; none is done where it stops.
 #[inline(always)]
 fn try_unit<P: Processor, S: Keyed>(
     said: Next,
@@ -59,7 +59,7 @@ fn try_unit<P: Processor, S: Keyed>(
     }
 }
 
-/// The unit that a look says, after each page was brought that it needs, each of them once. If
+/// Does the unit that a look says, after each page was brought that it needs, each of them once. If
 /// there is no room for one of them, nothing has changed.
 fn bring_pages<P: Processor, S: UnitSupply>(
     said: Next,
@@ -93,8 +93,8 @@ fn bring_pages<P: Processor, S: UnitSupply>(
     }
 }
 
-/// The unit that a look says, for which pages have to be brought: they are held until it ends, and
-/// no longer. It is out of line, so that a unit that brings nothing pays nothing for it.
+/// Does the unit that a look says, for which pages have to be brought: they are pinned until it
+/// ends, and no longer. It is out of line, so that a unit that brings nothing pays nothing for it.
 #[inline(never)]
 fn bring_for_unit<P: Processor, S: UnitSupply>(
     said: Next,
@@ -123,9 +123,9 @@ fn bring_for_unit<P: Processor, S: UnitSupply>(
     done
 }
 
-/// The unit that a look says, tried once, and where it needs an absent page with all pages that it
-/// needs; none where it stops. If there is no room for one of them, nothing has changed; the pages
-/// that were brought for it stay.
+/// Does the unit that a look says: tries it once, and brings all pages that it needs if one is
+/// absent; none is done where it stops. If there is no room for one of them, nothing has changed;
+/// the pages that were brought for it stay.
 #[inline(always)]
 fn try_or_bring<P: Processor, S: UnitSupply>(
     said: Next,
@@ -155,7 +155,7 @@ fn try_or_bring<P: Processor, S: UnitSupply>(
     }
 }
 
-/// As `try_or_bring`, out of line.
+/// Does a unit as `try_or_bring` does, out of line.
 #[inline(never)]
 fn accept_supplied<P: Processor, S: UnitSupply>(
     said: Next,
@@ -182,8 +182,8 @@ fn accept_supplied<P: Processor, S: UnitSupply>(
     try_or_bring::<P, S>(said, cpu, spare, pending, subchannels, storage)
 }
 
-/// The same. An instruction is named here, and all else is out of line, so that nothing of other
-/// units is carried through it.
+/// Does a unit as `try_or_bring` does. An instruction is named here, and all else is out of line,
+/// so that nothing of other units is carried through it.
 #[inline(always)]
 fn supplied<P: Processor, S: UnitSupply>(
     said: Next,
@@ -467,7 +467,7 @@ fn instruct_quickly<P: Processor, S: Keyed>(
     }
 }
 
-/// The same, where there is an instruction with nothing pending; else none.
+/// Does a unit as `try_or_bring` does, if it is an instruction with nothing pending; else none.
 #[inline(always)]
 fn go_quickly<P: Processor, S: Keyed>(
     is_plain: bool,

@@ -136,8 +136,8 @@ pub fn instruct<P: Processor, S: Keyed>(
     instruct_saving::<P, S>(cpu, &mut spare, subchannels, storage)
 }
 
-/// As [`instruct`], with a place for a copy of the registers, of which one is made only where it
-/// may be wanted.
+/// Does an instruction as [`instruct`] does, with a place for a copy of the registers, of which one
+/// is made only where it may be wanted.
 #[inline(always)]
 pub(crate) fn instruct_saving<P: Processor, S: Keyed>(
     cpu: &mut Cpu,

@@ -71,6 +71,7 @@ pub fn ebcdic_of(character: u8) -> Option<u8>
     if byte == NO_BYTE { None } else { Some(byte) }
 }
 
+/// Returns the EBCDIC byte of a character, or the byte that stands for none.
 #[inline(always)]
 fn byte_or_none(character: u8) -> u8
     ensures { result ≡ unwrap_or (byte_of character) NO_BYTE }

@@ -30,8 +30,8 @@ use s370_rows::{
 };
 use s370_store::{Access, Block, Storage, load_byte_in, load_word_in, store_word_in};
 
-/// The block from which an operand of so many bytes is fetched, which is held from then on; None if
-/// it lies in two blocks, or may not be fetched.
+/// Returns the block from which an operand of so many bytes is fetched, which is held from then on;
+/// None if it lies in two blocks, or may not be fetched.
 #[inline(always)]
 pub fn source_block<S: Storage>(
     cpu: &Cpu,
@@ -60,8 +60,8 @@ pub fn source_block<S: Storage>(
     Some(found)
 }
 
-/// The block into which an operand of so many bytes is stored, which is held from then on; None if
-/// it lies in two blocks, or may not be stored.
+/// Returns the block into which an operand of so many bytes is stored, which is held from then on;
+/// None if it lies in two blocks, or may not be stored.
 #[inline(always)]
 pub fn target_block<S: Storage>(
     cpu: &Cpu,
@@ -90,7 +90,7 @@ pub fn target_block<S: Storage>(
     Some(found)
 }
 
-/// The word at the address of a second operand with an index.
+/// Returns the word at the address of a second operand with an index.
 #[inline(always)]
 fn held_word<S: Storage>(
     cpu: &Cpu,
@@ -113,7 +113,7 @@ fn held_word<S: Storage>(
     }
 }
 
-/// The signed halfword at the address of a second operand with an index.
+/// Returns the signed halfword at the address of a second operand with an index.
 #[inline(always)]
 fn held_halfword<S: Storage>(
     cpu: &Cpu,
@@ -140,7 +140,7 @@ fn held_halfword<S: Storage>(
     }
 }
 
-/// The byte at an address.
+/// Returns the byte at an address.
 #[inline(always)]
 fn held_byte<S: Storage>(cpu: &Cpu, storage: &S, start: Addr24, held: &mut HeldBlock) -> Option<u8>
     requires operands { AreHeld (S.IsPlaced storage.now) (S.memory storage.now)
@@ -593,7 +593,7 @@ pub fn store_held<S: Storage, const CODE: u8, const WAY: u8>(
     }
 }
 
-/// How a row ended that was carried out; one that was refused has changed nothing.
+/// Returns how a row ended that was carried out; one that was refused has changed nothing.
 #[inline(always)]
 pub fn done_of(outcome: Result<Completion, Refusal>) -> Option<Completion>
     ensures { result ≡ done_of outcome }

@@ -69,7 +69,7 @@ pub fn step_quickly<S: Storage>(
     step_found_quickly(cpu, storage, start, block, held)
 }
 
-/// As [`step_quickly`], where the instruction may be fetched.
+/// Does an instruction as [`step_quickly`] does, if it may be fetched.
 #[inline(always)]
 fn step_found_quickly<S: Storage>(
     cpu: &mut Cpu,
@@ -246,8 +246,8 @@ fn carry_quickly<S: Storage, const CODE: u8>(
     finish_quickly::<S, CODE, IN_TURN>(cpu, storage, Place { next, ilc }, first, held)
 }
 
-/// As `carry_quickly`, out of line: a call is little next to what these instructions do, and the
-/// loop keeps its registers for those that it inlines.
+/// Does an instruction as `carry_quickly` does, out of line: a call is little next to what these
+/// instructions do, and the loop keeps its registers for those that it inlines.
 #[inline(never)]
 fn carry_apart<S: Storage, const CODE: u8>(
     cpu: &mut Cpu,
@@ -413,7 +413,7 @@ fn finish_target<S: Storage>(
     }
 }
 
-/// As `finish_quickly`, out of line.
+/// Ends an instruction as `finish_quickly` does, out of line.
 #[inline(never)]
 fn finish_apart<S: Storage, const CODE: u8>(
     cpu: &mut Cpu,

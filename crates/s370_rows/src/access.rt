@@ -84,7 +84,7 @@ pub fn copy_granted<S: Storage>(cpu: &Cpu, storage: &mut S, from: u32, to: u32, 
     storage.copy_at_once(from, to, count, cpu.psw.key())
 }
 
-/// What the answer of a check is to the instruction that asked.
+/// Returns what the answer of a check is to the instruction that asked.
 #[inline(always)]
 fn leave_of(answer: Result<(), Fault>) -> Result<(), Refusal>
     ensures { (m : State) → (present : ℕ → Bool) → (ts : List Test)

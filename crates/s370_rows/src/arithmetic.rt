@@ -115,6 +115,7 @@ fn judged(value: u32, number: i64) -> Computed
     }
 }
 
+/// Returns what is kept of a signed number: its low 32 bits, with condition code and overflow.
 #[inline(always)]
 fn judged_number(number: i64) -> Computed
     ensures { result ≡ exact_number number }
@@ -145,6 +146,7 @@ pub fn zero_of(value: u32) -> ConditionCode
     }
 }
 
+/// Returns a value with the condition code that says whether it is zero.
 #[inline(always)]
 fn tested(value: u32) -> Computed
     ensures { result ≡ plain value (zero_code value) }

@@ -44,7 +44,7 @@ pub fn select_bytes(word: u32, mask: u8, into: &mut [u8])
     }
 }
 
-/// At most four bytes as the left part of a word.
+/// Returns at most four bytes as the left part of a word.
 #[inline]
 fn left_word(bytes: &[u8]) -> u32
     requires { length bytes.now ≤ 4 }

@@ -35,6 +35,7 @@ fn scaled(number: i64, count: u8) -> i128
     number as i128 * (1u64 << count) as i128
 }
 
+/// Returns a word that is shifted right with its sign.
 #[inline(always)]
 fn shift_right(a: u32, count: u8) -> Computed
     requires { count < 64 }
@@ -44,6 +45,7 @@ fn shift_right(a: u32, count: u8) -> Computed
     kept((number as i32).cast_unsigned(), sign_of(number))
 }
 
+/// Returns a word that is shifted left under its sign.
 #[inline(always)]
 fn shift_left(a: u32, count: u8) -> Computed
     requires { count < 64 }
@@ -92,6 +94,7 @@ pub fn shift_row(shift: Shift, cpu: &mut Cpu, register: Register, count: u8) -> 
     overflow_ending(cpu, computed.overflows)
 }
 
+/// Returns a pair with this value and condition code, without overflow.
 #[inline(always)]
 fn kept_pair(value: u64, condition: ConditionCode) -> ComputedPair
     ensures { result ≡ plain_pair value condition }
@@ -103,6 +106,7 @@ fn kept_pair(value: u64, condition: ConditionCode) -> ComputedPair
     }
 }
 
+/// Returns a pair that is shifted right with its sign.
 #[inline(always)]
 fn shift_right_pair(a: u64, count: u8) -> ComputedPair
     requires { count < 64 }
@@ -112,6 +116,7 @@ fn shift_right_pair(a: u64, count: u8) -> ComputedPair
     kept_pair(number.cast_unsigned(), sign_of(number))
 }
 
+/// Returns a pair that is shifted left under its sign.
 #[inline(always)]
 fn shift_left_pair(a: u64, count: u8) -> ComputedPair
     requires { count < 64 }

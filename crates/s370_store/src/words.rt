@@ -166,7 +166,7 @@ pub fn check_two<S: Storage>(
     join(one, other)
 }
 
-/// The answer of two checks together.
+/// Returns the answer of two checks together.
 #[inline(always)]
 fn join(first: Result<(), Fault>, second: Result<(), Fault>) -> Result<(), Fault>
     ensures { result ≡ join_of first second }

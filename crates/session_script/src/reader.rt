@@ -183,7 +183,7 @@ fn read_event<'a>(
     }
 }
 
-/// `RUN u n`, after its first word.
+/// Reads `RUN u n`, after its first word.
 fn read_run<'a>(users: &[ScriptUser<'_>], operands: &'a [u8]) -> Option<ScriptEvent<'a>>
     requires { length users.now ≤ MOST_USERS }
     ensures users { IfSome result (IsOfUser users.now) }
@@ -200,7 +200,7 @@ fn read_run<'a>(users: &[ScriptUser<'_>], operands: &'a [u8]) -> Option<ScriptEv
     }
 }
 
-/// `LINE u text`, after its first word; an empty text may lack the blank before it.
+/// Reads `LINE u text`, after its first word; an empty text may have no blank before it.
 fn read_typed<'a>(users: &[ScriptUser<'_>], operands: &'a [u8]) -> Option<ScriptEvent<'a>>
     requires { length users.now ≤ MOST_USERS }
     ensures users { IfSome result (IsOfUser users.now) }
@@ -215,7 +215,7 @@ fn read_typed<'a>(users: &[ScriptUser<'_>], operands: &'a [u8]) -> Option<Script
     }
 }
 
-/// `TICK u`, after its first word: nothing follows the name.
+/// Reads `TICK u`, after its first word: nothing follows the name.
 fn read_tick<'a>(users: &[ScriptUser<'_>], operands: &'a [u8]) -> Option<ScriptEvent<'a>>
     requires { length users.now ≤ MOST_USERS }
     ensures users { IfSome result (IsOfUser users.now) }
@@ -230,7 +230,7 @@ fn read_tick<'a>(users: &[ScriptUser<'_>], operands: &'a [u8]) -> Option<ScriptE
     Some(ScriptEvent::Tick(user))
 }
 
-/// `SERVE u addr`, after its first word: the device is one that the user has.
+/// Reads `SERVE u addr`, after its first word: the device is one that the user has.
 fn read_serve<'a>(users: &[ScriptUser<'_>], operands: &'a [u8]) -> Option<ScriptEvent<'a>>
     requires { length users.now ≤ MOST_USERS }
     ensures users { IfSome result (IsOfUser users.now) }
@@ -259,7 +259,7 @@ fn turns_of(operands: &[u8]) -> Option<u32>
     }
 }
 
-/// `DECK u k`, after its first word: the first k lines of the text after it are the cards.
+/// Reads `DECK u k`, after its first word: the first k lines of the text after it are the cards.
 fn read_deck<'a>(
     users: &[ScriptUser<'_>],
     operands: &'a [u8],

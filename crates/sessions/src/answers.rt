@@ -53,7 +53,7 @@ pub(crate) fn follow<I: Installation, W: HostWriter>(
     Ok(())
 }
 
-/// Returns the user whom an event names that is no turns.
+/// Returns the user whom an event names; turns, which name none, are never asked.
 pub(crate) fn user_in(event: &ScriptEvent<'_>) -> UserNo
     requires { IsEvent event.now }
     ensures { result ≡ user_said (said event.now) }

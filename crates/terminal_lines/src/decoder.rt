@@ -141,6 +141,7 @@ impl LineDecoder {
         }
     }
 
+    /// Takes a byte of text.
     fn take_text(&mut self, alloc: Global, byte: u8) -> Result<Decoded, AllocError>
         ensures { IfOk result (λ decoded. after_text self.old byte
             ≡ record { typed = self.new; decoded = decoded }) }
@@ -166,6 +167,7 @@ impl LineDecoder {
         }
     }
 
+    /// Takes the byte after IAC.
     fn take_command(&mut self, alloc: Global, byte: u8) -> Result<Decoded, AllocError>
         ensures { IfOk result (λ decoded. after_command self.old byte
             ≡ record { typed = self.new; decoded = decoded }) }
@@ -198,6 +200,7 @@ impl LineDecoder {
         }
     }
 
+    /// Takes the option of a command.
     fn take_option(&mut self, command: u8, option: u8) -> Decoded
         ensures { after_option self.old command option
             ≡ record { typed = self.new; decoded = result } }

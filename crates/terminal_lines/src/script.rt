@@ -27,6 +27,7 @@ pub fn script_line(alloc: Global, is_running: bool, line: &[u8]) -> Result<Bytes
     Ok(script)
 }
 
+/// Returns whether the first word of a line is this one, in small letters or capitals.
 fn begins_with(alloc: Global, line: &[u8], word: &[u8]) -> Result<bool, AllocError>
     ensures { IfOk result (λ begins. begins ≡ begins_with word.now line.now) }
 {
@@ -35,6 +36,7 @@ fn begins_with(alloc: Global, line: &[u8], word: &[u8]) -> Result<bool, AllocErr
     Ok(first.as_slice() == word)
 }
 
+/// Returns the command of a line, without `#CP` before it.
 fn command_of(alloc: Global, line: &[u8]) -> Result<&[u8], AllocError>
     ensures { IfOk result (λ command. command.now ≡ command_of line.now) }
 {
@@ -45,6 +47,7 @@ fn command_of(alloc: Global, line: &[u8]) -> Result<&[u8], AllocError>
     }
 }
 
+/// Returns the text of a message, or nothing if the line is none.
 fn message_of(alloc: Global, line: &[u8]) -> Result<&[u8], AllocError>
     ensures { IfOk result (λ message. message.now ≡ message_of line.now) }
 {
@@ -56,6 +59,7 @@ fn message_of(alloc: Global, line: &[u8]) -> Result<&[u8], AllocError>
     }
 }
 
+/// Returns what follows the first word of a line.
 fn after_first_word(line: &[u8]) -> &[u8]
     ensures { result.now ≡ after_first_word line.now }
 {

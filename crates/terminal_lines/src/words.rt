@@ -69,6 +69,7 @@ pub fn said_of(alloc: Global, line: &[u8]) -> Result<Said, AllocError>
     }
 }
 
+/// Returns what a word and a name say: a name to log on with after LOGON, else another line.
 fn named(alloc: Global, is_logon: bool, name: &[u8]) -> Result<Said, AllocError>
     ensures { IfOk result (λ said. said ≡ (if is_logon then Said.Name name.now else Said.Other)) }
 {
@@ -78,6 +79,7 @@ fn named(alloc: Global, is_logon: bool, name: &[u8]) -> Result<Said, AllocError>
     Ok(Said::Name(Bytes::of(alloc, name)?))
 }
 
+/// Returns what a word, a name and a password say: a guess after LOGON, else another line.
 fn both(alloc: Global, is_logon: bool, name: &[u8], password: &[u8]) -> Result<Said, AllocError>
     ensures { IfOk result (λ said. said
         ≡ (if is_logon then Said.Both (record { name = name.now; password = password.now })
@@ -103,6 +105,7 @@ pub fn in_capitals(alloc: Global, line: &[u8]) -> Result<Bytes, AllocError>
     Ok(Bytes::owning(line.iter().map(|c| capital(*c)).collect(alloc)?))
 }
 
+/// Returns a letter as a capital, and any other byte as it is.
 fn capital(c: u8) -> u8
     ensures { result ≡ capital c }
 {

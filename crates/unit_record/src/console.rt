@@ -153,7 +153,7 @@ impl Console {
         }
     }
 
-    /// A read of the first waiting line.
+    /// Begins a read of the first waiting line.
     fn read(&mut self) -> Answer
         ensures answer { result ≡ read_answer self.old.waiting }
         ensures after { self.new ≡ read_started self.old self.old.waiting }

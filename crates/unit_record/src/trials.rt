@@ -45,7 +45,7 @@ impl<'a> Model for ConsoleTrial<'a> {
 impl<'a> ConsoleTrial<'a> {
     ghost use Rattle.unit_record.specs.Trials.{seen_read};
 
-    /// A read of the first waiting line.
+    /// Begins a read of the first waiting line, as far as a dry run sees it.
     fn read(&mut self) -> Answer
         ensures answer { result ≡ line_answer self.old.waiting }
         ensures after { self.new ≡ seen_read self.old self.old.waiting }

@@ -153,7 +153,7 @@ fn command<'a>(alloc: Global, program: &'a str) -> Result<Command<'a>, AllocErro
     Ok(command)
 }
 
-/// `--frames N`
+/// Returns the option `--frames N`.
 pub(crate) fn frames<'a>(alloc: Global) -> Arg<'a>
     ensures rule { rule_of result ≡ frames_rule }
     ensures local { result.global ≡ false }
@@ -166,7 +166,7 @@ pub(crate) fn frames<'a>(alloc: Global) -> Arg<'a>
         )
 }
 
-/// `--slots N`
+/// Returns the option `--slots N`.
 pub(crate) fn slots<'a>(alloc: Global) -> Arg<'a>
     ensures rule { rule_of result ≡ slots_rule }
     ensures local { result.global ≡ false }

@@ -56,7 +56,7 @@ impl SharedMachines {
         &self.system
     }
 
-    /// A user whom scripts know is one of the system's.
+    /// Returns the place of a user whom scripts know, who is one of the system's.
     fn place(&self, user: UserNo) -> UserNo
         requires { user < length (seen_in self.now).users }
         ensures user { result ≡ user }

@@ -28,6 +28,7 @@ impl<F> Counted<F> {
         Counted { file, failures: 0 }
     }
 
+    /// Counts a failure, and returns it.
     fn fail(&mut self) -> HostFault
         ensures file { self.new.file ≡ self.old.file }
         ensures more { self.new.failures ≡ one_more self.old.failures }

@@ -31,7 +31,7 @@ impl<F> Failing<F> {
         }
     }
 
-    // Counts the call down, and says whether it is the one that fails.
+    /// Counts a call, and returns whether it is the one that fails.
     fn is_due(&mut self) -> bool
         ensures due { result ≡ (self.old.left == 0) }
         ensures file { self.new.file ≡ self.old.file }
@@ -42,6 +42,7 @@ impl<F> Failing<F> {
         is_due
     }
 
+    /// Counts a failure, and returns it.
     fn fail(&mut self) -> HostFault
         ensures file { self.new.file ≡ self.old.file }
         ensures more { self.new.failures ≡ one_more self.old.failures }
