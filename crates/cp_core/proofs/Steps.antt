@@ -55,7 +55,7 @@ use Rattle.machine_devices.specs.declared.reply.Ended.TheVariants.{Ran, Served, 
 use Rattle.cp_core.specs.declared.events.Event.TheVariants.{Run, Line, Tick, Deck, Serve}
 use Rattle.machine_devices.specs.declared.reply.Reply.{Reply}
 use Rattle.machine_devices.specs.declared.files.FileNote.{FileNote}
-use Rattle.machine_devices.proofs.Answered.{follow_may, follow_same, line_stands}
+use Rattle.machine_devices.proofs.Answered.{follow_may, follow_same, line_stands, load_needs_none}
 use Rattle.cp_core.proofs.Kept.{nine_each}
 use Rattle.cp_core.proofs.Led.{come_led, led_alone, lives_on, others_stay, printer_stays, punch_stays, stays_each}
 use Rattle.cp_core.proofs.Switches.{switch_wants_none}
@@ -365,6 +365,7 @@ pub line_refused : (old new : SystemView) (user : ℕ) (typed : Bor (List ℕ))
     → IsCutShort old (Line user typed) new
 line_refused old new user typed h lent rest between = record {
   may = h.leaves.1;
+  roomy = λ ipl. h.roomy ipl refl;
   supplied = record {
     between_before = rest;
     between = between;
@@ -389,6 +390,7 @@ line_cut old middle new user typed reported h lent rest between needs users supp
     let q = requested typed.now e in
     record {
       may = follow_may w typed.now e reported (user_at middle user) h.leaves needs;
+      roomy = λ ipl. absurd (load_needs_none w typed.now e reported (user_at middle user) ipl h.leaves needs);
       supplied = record {
         between_before = rest;
         between = subst IsBetweenUnits (sym supply) between;
@@ -457,6 +459,7 @@ pub serve_cut : (old new : SystemView) (user device : ℕ)
     → IsCutShort old (Serve user device) new
 serve_cut old new user device h lent rest between = record {
   may = h.leaves;
+  roomy = h.roomy refl;
   supplied = record {
     between_before = rest;
     between = between;
@@ -569,6 +572,7 @@ deck_cut old new user cards rest some left =
     let supply : new.supply ≡ old.supply = ap (λ (x : SystemView). x.supply) left in
     record {
       may = some_cards cards.now some;
+      roomy = tt;
       supplied = record {
         between_before = rest;
         between = subst IsBetweenUnits (sym supply) rest;

@@ -2,6 +2,7 @@
 use Rattle.std.proofs.Common.{◌≡◌, ◌∙◌, MutBor, ap, sym, subst, ℕ, Bool, true, false, List, [], ◌∷◌, ◌++◌, ◌*◌, ◌<◌}
 use Rattle.std.proofs.Common.{length, replicate, refl, Option, None, Some, Result, Ok, Err, inl, inr}
 use Rattle.std.specs.Prelude.{All, IfOk, IsSome, OnErr, OnOk, is_some}
+use Rattle.std.proofs.lemmas.Bool.{false≢true}
 use Rattle.std.proofs.lemmas.List.{get_or_default, length-replicate}
 use Rattle.s370_store.specs.Access.{Touches}
 use Rattle.s370_channel.specs.Reading.{as_reached}
@@ -14,7 +15,7 @@ use Rattle.cp_frames.specs.Paging.{IsRefused}
 use Rattle.cp_frames.proofs.Layouts.{is_this_page}
 use Rattle.cp_dat.specs.declared.dat.Dat.{Dat}
 use Rattle.cp_dat.specs.Bringing.{found_from}
-use Rattle.cp_dat.specs.Lent.{KeepsFrames, is_lent_page, keeps_frames_on, lent_bytes, lent_pool, user_of}
+use Rattle.cp_dat.specs.Lent.{KeepsFrames, is_lent_page, keeps_frames_on, lent_bytes, lent_memory, lent_pool, user_of}
 use Rattle.cp_dat.specs.Letting.{between_again, came_on, let_go_came}
 use Rattle.cp_dat.specs.Supplied.{GivesBack, HasNoRoom, HasSuch, IsBetweenUnits, IsBroughtInUnits, IsPagedFor, Supplied}
 use Rattle.cp_dat.specs.Supplied.{SuppliedUnits, TakesPins, unpinned}
@@ -23,11 +24,11 @@ use Rattle.machine_panel.specs.declared.line.LineError.TheVariants as errors
 use Rattle.machine_devices.specs.Requests.{needs_of, switches}
 use Rattle.machine_channels.specs.Channels.{Brings, IsOutOfFrames, NoRoom}
 use Rattle.machine_devices.specs.declared.line.LineOutcome.{LineOutcome}
-use Rattle.machine_devices.specs.Equipped.{Equipped}
+use Rattle.machine_devices.specs.Equipped.{Equipped, storage_in}
 use Rattle.machine_devices.specs.Lines.{IsLine, requested}
 use Rattle.machine_devices.specs.Serve.{IsServedAt}
 use Rattle.machine_devices.specs.UserDirectory.{UserDirectory}
-use Rattle.cp_resident.specs.GuestChannels.{PagedIn, IsFilled}
+use Rattle.cp_resident.specs.GuestChannels.{HadRoom, PagedIn, IsFilled}
 use Rattle.cp_volumes.specs.Keeping.{neighbours_same}
 use Rattle.machine_devices.proofs.Beside.{beside_same}
 use Rattle.machine_panel.specs.Machine.{Parts}
@@ -35,7 +36,10 @@ use Rattle.cp_core.specs.Lending.{KeepsLent, disks_of}
 use Rattle.cp_core.specs.declared.work.Lent.{Lent}
 use Rattle.cp_core.specs.Supply.{IsGivenBack, IsShort, LineBrings, NeedsAll}
 use Rattle.cp_core.specs.Typed.{IsLineLent}
-use Rattle.machine_devices.specs.Comes.{LineMay, LoadWants, is_ipl}
+use Rattle.machine_devices.specs.Comes.{LineHadRoom, LineMay, LoadWants, is_ipl}
+use Rattle.machine_devices.specs.Stopped.{ServeHadRoom}
+use Rattle.cp_trial.specs.DryRun.{HadRoomAfterFirst}
+use Rattle.cp_core.specs.Room.{LineHadFrames}
 use Rattle.cp_core.specs.Wants.{DeviceNeeds, LineWants}
 use Rattle.cp_core.specs.UserOp.{HasServed, HasTyped, LineGivesBack, LineLeaves, ServeLeaves}
 use Rattle.cp_core.proofs.Switches.{all_wanted, load_wanted, switch_no_ipl, wanted}
@@ -159,8 +163,9 @@ pub plainly_lent : (typed : List ℕ) (before : Equipped) (old between new : Dat
     → (switches (requested typed before) ≡ true → OnErr r (Supplied old [] between))
     → (switches (requested typed before) ≡ false
     → (pages : List ℕ) × Supplied old pages between × AllNeeded (Touches (needs_of (requested typed before))) pages)
+    → is_ipl (requested typed before) ≡ false
     → IsLineLent typed before old new r
-plainly_lent typed before old between new r rest taken frames cleared not_cleared supply =
+plainly_lent typed before old between new r rest taken frames cleared not_cleared supply plain =
     let needs : ℕ → Type 0 = LineWants typed before in
     let kept : KeepsFrames old between =
     either (switches (requested typed before)) _ (λ on. kept_where r old between (cleared on) (not_cleared on))
@@ -194,19 +199,21 @@ plainly_lent typed before old between new r rest taken frames cleared not_cleare
       ));
       between = between_again (lent_pool old).supply (lent_pool between).supply (lent_pool new).supply rest owners pins
           taken.supply;
+      roomy = λ ipl. absurd (false≢true (sym plain ∙ ipl));
     }
 
 -- and so does a line that loads the machine: it is ready then, so there are no pins to take away
 pub loading_lent : (typed : List ℕ) (before : Equipped) (old middle new : Dat) (r : Result LineOutcome LineError)
-    → is_ipl (requested typed before) ≡ true
+    → is_ipl (requested typed before) ≡ true → lent_memory old ≡ storage_in before.machine
     → length (lent_bytes old) ≡ length before.machine.core.processor.bytes → IsBetweenUnits (lent_pool middle).supply
     → TakesPins middle new
     → (r ≡ Err errors.FramesOut
     → IsOutOfFrames (length (lent_bytes old)) (LoadWants (requested typed before) before)
     (no_room middle (LoadWants (requested typed before) before)))
     → Brings PagedIn old (LoadWants (requested typed before) before) middle
+    → (r ≡ Err errors.Memory → LineHadRoom HadRoomAfterFirst old middle (requested typed before) before)
     → IsLineLent typed before old new r
-loading_lent typed before old middle new r ipl size between taken out brought =
+loading_lent typed before old middle new r ipl stored size between taken out brought roomy =
     let loads : ℕ → Type 0 = LoadWants (requested typed before) before in
     let needs : ℕ → Type 0 = LineWants typed before in
     let more : (page : ℕ) → loads page → needs page = load_wanted typed before in
@@ -238,6 +245,14 @@ loading_lent typed before old middle new r ipl size between taken out brought =
         subst (λ (b : Bool). LineBrings b needs brought.0) (sym ipl) (each_for loads needs more brought.0 brought.2),
       );
       between = subst (λ (s : FrameSupply). IsBetweenUnits s) (sym same) between;
+      roomy = λ load refused. record {
+        old = old;
+        new = middle;
+        lent = record { whose = refl; memory = stored; frames = refl };
+        whose = paged_in.kept.same_user;
+        frames = sym same;
+        had = roomy refused;
+      };
     }
 
 -- ---- what a line leaves
@@ -285,6 +300,9 @@ typed_work world user typed before after old new r u lent ok out kept memory =
         subst (λ (n : ℕ). IsBroughtInUnits n s.0 (lent_pool old).supply (lent_pool new).supply) u s.1.brought,
         s.2,
       ));
+      roomy = λ load refused. subst
+          (λ (n : ℕ). LineHadFrames typed n before (lent_pool old).supply (lent_pool new).supply) u
+          (lent.roomy load refused);
     }
 
 -- ---- what a serve leaves
@@ -308,8 +326,10 @@ pub serve_work : (device user : ℕ) (before after : Equipped) (old new : Dat) (
     → IsOutOfFrames (length before.machine.core.processor.bytes) (DeviceNeeds device before)
     (no_room new (DeviceNeeds device before)))
     → (r ≡ Err errors.Memory → IsSome (program_of device before.machine.core.subchannels))
+    → lent_memory old ≡ storage_in before.machine
+    → (r ≡ Err errors.Memory → ServeHadRoom as_reached HadRoom old new device before)
     → HasServed device user before (lent_pool old).supply r after (lent_pool new).supply
-serve_work device user before after old new r u brought ok same out memory =
+serve_work device user before after old new r u brought ok same out memory stored roomy =
     let needs : ℕ → Type 0 = DeviceNeeds device before in
     let lacking : r ≡ Err errors.FramesOut
     → IsLacking needs (length before.machine.core.processor.bytes) (IsShort (lent_pool new).supply user needs) =
@@ -330,6 +350,14 @@ serve_work device user before after old new r u brought ok same out memory =
             brought.1.paged_in.brought,
         brought.2,
       );
+      roomy = λ refused. record {
+        old = old;
+        new = new;
+        lent = record { whose = u; memory = stored; frames = refl };
+        whose = brought.1.paged_in.kept.same_user ∙ u;
+        frames = refl;
+        had = roomy refused;
+      };
     }
 
 -- ---- what is borrowed next to the storage

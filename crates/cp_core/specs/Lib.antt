@@ -20,5 +20,6 @@ pub mod Sizes
 pub mod Owners
 pub mod Lending
 pub mod Keeps
+pub mod Room
 pub mod Saved
 pub mod Forgotten

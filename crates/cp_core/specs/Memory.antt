@@ -1,8 +1,9 @@
 -- Where memory may be refused, and what is left then.
 use Rattle.std.specs.Prelude.{◌≡◌, ℕ, ◌<◌, ◌==◌, ◌&&◌, Bool, true, false, length, IsSome}
 use Rattle.s370_subchannels.specs.Programs.{program_of}
-use Rattle.machine_devices.specs.Comes.{LineMay, is_cut}
+use Rattle.machine_devices.specs.Comes.{LineMay, is_cut, is_ipl}
 use Rattle.machine_devices.specs.Lines.{requested}
+use Rattle.cp_core.specs.Room.{LineHadFrames, ServeHadFrames}
 use Rattle.cp_core.specs.Supply.{IsSuppliedInPart}
 use Rattle.cp_core.specs.System.{SystemView, machine_at, user_at}
 use Rattle.cp_core.specs.declared.events.Event.{Event}
@@ -28,11 +29,24 @@ is_cut_short old (Tick named) user = false
 is_cut_short old (Deck named cards) user = false
 is_cut_short old (Serve named device) user = named == user
 
+-- where memory was refused to a serve or an IPL there was room for the pages that it needs: one that
+-- has none is out of frames
+abbrev pub HadRoomFor : SystemView → Event → SystemView → Type 0
+HadRoomFor old (Line user typed) new =
+    is_ipl (requested typed.now (user_at old user)) ≡ true
+    → LineHadFrames typed.now user (user_at old user) old.supply new.supply
+HadRoomFor old (Serve user device) new =
+    ServeHadFrames device user (user_at old user) old.supply new.supply
+HadRoomFor old (Run user asked) new = Unit {0}
+HadRoomFor old (Tick user) new = Unit {0}
+HadRoomFor old (Deck user cards) new = Unit {0}
+
 -- what is left where memory was refused: pages have come and left as the event lets them, and each
 -- user is as he was, but for one whose own line closes files or is an IPL, or whose device is
 -- served
 pub record IsCutShort (old : SystemView) (event : Event) (new : SystemView) : Type 0 where
   pub may : MayTakeMemory old event
+  pub roomy : HadRoomFor old event new
   pub supplied : IsSuppliedInPart old event new
   pub others : (user : ℕ) → is_cut_short old event user ≡ false
       → user_at new user ≡ user_at old user

@@ -12,10 +12,11 @@ use Rattle.machine_devices.specs.Lines.{requested}
 use Rattle.machine_devices.specs.Requests.{switches}
 use Rattle.cp_core.specs.Supply.{IsGivenBack, IsShort, LineBrings}
 use Rattle.machine_devices.specs.Comes.{is_ipl}
+use Rattle.cp_core.specs.Room.{LineHadFrames}
 use Rattle.cp_core.specs.Wants.{LineWants}
 
 -- LOGON and LOGOFF give back all pages, unless they are refused memory; every other line brings
--- pages that it needs; no frame is pinned then
+-- pages that it needs; no frame is pinned then, and an IPL is refused memory only with room
 pub record IsLineLent (typed : List ℕ) (before : Equipped) (old new : Dat)
     (r : Result LineOutcome LineError) : Type 0 where
   pub kept : KeepsFrames old new
@@ -30,3 +31,5 @@ pub record IsLineLent (typed : List ℕ) (before : Equipped) (old new : Dat)
       → (units : List (List ℕ)) × SuppliedUnits old units new
       × LineBrings (is_ipl (requested typed before)) (LineWants typed before) units
   pub between : IsBetweenUnits (lent_pool new).supply
+  pub roomy : is_ipl (requested typed before) ≡ true → r ≡ Err errors.Memory
+      → LineHadFrames typed (user_of old) before (lent_pool old).supply (lent_pool new).supply

@@ -24,6 +24,7 @@ use Rattle.machine_devices.specs.Serve.{IsServedAt}
 use Rattle.machine_devices.specs.UserDirectory.{UserDirectory}
 use Rattle.cp_core.specs.Supply.{IsGivenBack, IsShort, LineBrings}
 use Rattle.machine_devices.specs.Comes.{LineMay, is_ipl}
+use Rattle.cp_core.specs.Room.{LineHadFrames, ServeHadFrames}
 use Rattle.cp_core.specs.Wants.{DeviceNeeds, LineWants}
 
 -- ---- a run
@@ -86,6 +87,8 @@ pub record HasTyped (world : UserDirectory) (user : ℕ) (typed : List ℕ) (old
   pub brought : switches (requested typed old) ≡ false
       → (units : List (List ℕ)) × IsBroughtInUnits user units before after
       × LineBrings (is_ipl (requested typed old)) (LineWants typed old) units
+  pub roomy : is_ipl (requested typed old) ≡ true → result ≡ Err errors.Memory
+      → LineHadFrames typed user old before after
 
 -- ---- a serve
 
@@ -104,3 +107,4 @@ pub record HasServed (device user : ℕ) (old : Equipped) (before : FrameSupply)
   pub leaves : ServeLeaves device user old result new after
   pub brought : (units : List (List ℕ)) × IsBroughtInUnits user units before after
       × EachSuch (DeviceNeeds device old) units
+  pub roomy : result ≡ Err errors.Memory → ServeHadFrames device user old before after

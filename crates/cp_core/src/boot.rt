@@ -107,7 +107,6 @@ impl System {
         volumes: Vec<Volume>,
         sizes: Sizes,
     ) -> Result<System, BootError>
-        requires { length directory ≤ 64 }
         ensures ok { IfOk result
             (λ system. IsBooted directory volumes.items sizes.frames sizes.slots system) }
         ensures too_few { (result ≡ Err BootError.TooFewFrames) ↔ (sizes.frames < 16) }

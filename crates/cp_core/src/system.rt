@@ -11,7 +11,7 @@ ghost use Rattle.machine_devices.specs.Notes.{next_file};
 ghost use Rattle.cp_core.specs.Histories.{EachIsBare, IsReplied};
 ghost use Rattle.cp_core.specs.Keeps.{EventKeeps, KeepsCutShort};
 ghost use Rattle.cp_core.specs.Local.{IsApplied};
-ghost use Rattle.cp_core.specs.Memory.{IsCutShort, MayTakeMemory, is_cut_short};
+ghost use Rattle.cp_core.specs.Memory.{HadRoomFor, IsCutShort, MayTakeMemory, is_cut_short};
 ghost use Rattle.cp_core.specs.Parcels.{IsThere, contents};
 ghost use Rattle.cp_core.specs.Stated.{LacksDevice, states_device};
 ghost use Rattle.cp_core.specs.Supply.{IsSupplied, IsSuppliedInPart};
@@ -357,6 +357,7 @@ impl System {
         ensures unchanged_for_no_device { result ≡ Err CpError.NoSuchDevice → self.new ≡ self.old }
         ensures memory { result ≡ Err CpError.Memory
             → (self.new.is_spent ≡ true) × MayTakeMemory self.old event.entry }
+        ensures roomy { result ≡ Err CpError.Memory → HadRoomFor self.old event.entry self.new }
         ensures unchanged_without_memory { result ≡ Err CpError.Memory → (user : ℕ)
             → is_cut_short self.old event.entry user ≡ false
             → user_at self.new user ≡ user_at self.old user }
@@ -406,6 +407,7 @@ impl System {
         ensures unchanged_for_no_device { result ≡ Err CpError.NoSuchDevice → self.new ≡ self.old }
         ensures memory { result ≡ Err CpError.Memory
             → (self.new.is_spent ≡ true) × MayTakeMemory self.old event.entry }
+        ensures roomy { result ≡ Err CpError.Memory → HadRoomFor self.old event.entry self.new }
         ensures unchanged_without_memory { result ≡ Err CpError.Memory → (user : ℕ)
             → is_cut_short self.old event.entry user ≡ false
             → user_at self.new user ≡ user_at self.old user }

@@ -475,6 +475,35 @@ follow_same w typed old reported new none h needs =
     let q = requested typed old in
     same_mild q old reported new (is_cut_parts (closes q) (is_ipl q) none) (mild q w typed old reported new h) needs
 
+ipl_closes_none : (q : Request) → is_ipl q ≡ true → closes q ≡ false
+ipl_closes_none (Loads device) is = refl
+ipl_closes_none LogsOn is = cc
+ipl_closes_none LogsOff is = cc
+ipl_closes_none Resets is = cc
+ipl_closes_none Types is = cc
+ipl_closes_none (Asks command) is = cc
+ipl_closes_none (Alone asked) is = cc
+
+ipl_sends_none : (q : Request) → is_ipl q ≡ true → sends q ≡ false
+ipl_sends_none (Loads device) is = refl
+ipl_sends_none LogsOn is = cc
+ipl_sends_none LogsOff is = cc
+ipl_sends_none Resets is = cc
+ipl_sends_none Types is = cc
+ipl_sends_none (Asks command) is = cc
+ipl_sends_none (Alone asked) is = cc
+
+-- what comes of an IPL takes none
+pub load_needs_none : (w : UserDirectory) (typed : List ℕ) (old : Equipped) (reported : LineOutcome) (new : Equipped)
+    → is_ipl (requested typed old) ≡ true → IsLine w typed old reported new → NeedsMemory reported → ⊥
+load_needs_none w typed old reported new is h needs =
+    let q = requested typed old in
+    let gentle = mild q w typed old reported new h in
+    elim needs [
+      | inl sent ↦ not_both (gentle.unsent (ipl_sends_none q is)) sent
+      | inr closed ↦ not_closed (files_closed reported) (gentle.none (ipl_closes_none q is)) closed
+    ]
+
 -- ---- which files were closed
 
 -- a device has closed one file at this place, or none

@@ -2,6 +2,7 @@
 -- that takes memory.
 use Rattle.std.specs.Prelude.{◌≡◌, ℕ, ◌<◌, ◌⊎◌, ◌||◌, Bool, true, false, List, IsSome, Option, Some}
 use Rattle.std.specs.Prelude.{None}
+use Rattle.s370_walk.specs.Hardware.{Machine as Device}
 use Rattle.cp_console.specs.declared.device_commands.DeviceCommand.{DeviceCommand}
 use Rattle.cp_console.specs.declared.device_commands.DeviceCommand.TheVariants as commands
 use Rattle.machine_devices.specs.declared.files.ClosedFiles.{ClosedFiles}
@@ -15,7 +16,7 @@ use Rattle.machine_devices.specs.declared.places.AttachedDevice.{AttachedDevice}
 use Rattle.machine_devices.specs.declared.places.AttachedDevice.TheVariants as kinds
 use Rattle.machine_devices.specs.Devices.{DevicesValue, kind_at, part_at}
 use Rattle.machine_devices.specs.Equipped.{Equipped}
-use Rattle.machine_devices.specs.Lines.{IplNeeds, can_load, files_closed, requested}
+use Rattle.machine_devices.specs.Lines.{IplNeeds, LoadHadRoom, can_load, files_closed, requested}
 use Rattle.machine_devices.specs.Spooling.{open_files}
 use Rattle.machine_panel.specs.Panel.{line_room}
 
@@ -40,6 +41,17 @@ LoadWants Resets e = λ page. ⊥
 LoadWants Types e = λ page. ⊥
 LoadWants (Asks command) e = λ page. ⊥
 LoadWants (Alone asked) e = λ page. ⊥
+
+-- memory was refused to that loading before it began, or with room for its pages
+module _ {S : Type 0} (HadRoom : (D : Type 0) → Device D → S → D → S → Type 0) (old new : S) where
+  abbrev pub LineHadRoom : Request → Equipped → Type 0
+  LineHadRoom (Loads device) e = LoadHadRoom HadRoom old new (kind_at e.devices e.disks device) e
+  LineHadRoom LogsOn e = ⊥
+  LineHadRoom LogsOff e = ⊥
+  LineHadRoom Resets e = ⊥
+  LineHadRoom Types e = ⊥
+  LineHadRoom (Asks command) e = ⊥
+  LineHadRoom (Alone asked) e = ⊥
 
 -- CLOSE closes a file
 abbrev pub command_closes : DeviceCommand → Bool

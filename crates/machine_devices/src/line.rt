@@ -10,7 +10,7 @@ ghost use Rattle.cp_spool.specs.Queues.{UserFiles};
 ghost use Rattle.machine_devices.specs.Equipped.{equipped};
 ghost use Rattle.machine_devices.specs.Lent.{KeepsOtherUsers, devices_on, devices_with};
 ghost use Rattle.machine_devices.specs.Requests.{needs_of, switches};
-ghost use Rattle.machine_devices.specs.Comes.{HasClosed, LineMay, LoadWants, is_ipl};
+ghost use Rattle.machine_devices.specs.Comes.{HasClosed, LineHadRoom, LineMay, LoadWants, is_ipl};
 ghost use Rattle.machine_devices.specs.Spooling.{open_files};
 ghost use Rattle.machine_devices.specs.Reuses.{LineForgets};
 ghost use Rattle.machine_devices.specs.Lines.{IsLine, files_closed, logged_off, outcome, said};
@@ -140,6 +140,13 @@ impl Devices {
             → result ≡ Err LineError.FramesOut
             → IsOutOfFrames (length (S.Storage.memory storage.old).bytes) needs
             (NoRoom C.IsOut C.IsFilled S.Storage.present storage.new needs) }
+        ensures roomy { let before = equipped machine.old (devices_on self.old queues.old)
+            (C.disks channels.old)
+            (S.Storage.memory storage.old) in
+            is_ipl (requested typed.now before) ≡ true → C.is_whole ≡ true
+            → result ≡ Err LineError.Memory
+            → LineHadRoom C.HadRoomToLoad storage.old storage.new (requested typed.now before)
+            before }
         ensures cleared { let before = equipped machine.old (devices_on self.old queues.old)
             (C.disks channels.old)
             (S.Storage.memory storage.old) in

@@ -18,8 +18,8 @@ returns-clause-lent g c =
     let typed = c.args.typed.now in
     either (is_ipl (requested typed before)) (IsLineLent typed before c.args.storage.now c.let_go.new.self line.result)
     (λ ipl. (let paged_in = line.ensures.paged_in ipl in
-    loading_lent typed before c.args.storage.now line.new.storage c.let_go.new.self line.result ipl refl paged_in.1
-    c.let_go.ensures.let_go (line.ensures.out ipl refl) paged_in.0))
+    loading_lent typed before c.args.storage.now line.new.storage c.let_go.new.self line.result ipl refl refl paged_in.1
+    c.let_go.ensures.let_go (line.ensures.out ipl refl) paged_in.0 (line.ensures.roomy ipl refl)))
     (λ plain. plainly_lent typed before c.args.storage.now line.new.storage c.let_go.new.self line.result
     c.requires.between c.let_go.ensures.let_go (line.ensures.frames plain) line.ensures.cleared
-    line.ensures.not_cleared (λ off. line.ensures.supply off plain))
+    line.ensures.not_cleared (λ off. line.ensures.supply off plain) plain)

@@ -1,4 +1,4 @@
-use Rattle.std.proofs.Common.{All, Err, ◌≡◌, ◌∙◌, ◌*◌, ℕ, List, Option, None, ap, arith, length, map, replicate, subst}
+use Rattle.std.proofs.Common.{All, Err, ◌≡◌, ◌≤◌, ◌∙◌, ◌*◌, ℕ, List, Option, None, ap, arith, length, map, replicate, subst}
 use Rattle.std.proofs.Common.{sym, false, refl}
 use Rattle.std.specs.List.{find, position}
 use Rattle.ckd_volume.specs.Volume.{VolumeFormat}
@@ -35,6 +35,8 @@ invariant_of-result c =
     subst (λ (us : List DirectoryUser). (k : ℕ) → AreLawful (minidisks_at us k)) c.users-3.ensures.users
     c.in-Ok.ensures.lawful in
     let apart : AreApart users = c.users-3.ensures.apart in
+    let few : length users ≤ 64 =
+    subst (λ (us : List DirectoryUser). length us ≤ 64) c.users-3.ensures.users c.users-3.ensures.few in
     let there : find (user_lacks volumes) users ≡ None =
     subst (λ (vs : List VolumeFormat). find (user_lacks vs) users ≡ None) c.deref-2.ensures.value
     (subst (λ (us : List DirectoryUser). find (user_lacks c.deref-2.result.now) us ≡ None) c.users.ensures.users
@@ -49,7 +51,7 @@ invariant_of-result c =
     c.in-Ok-new-3.ensures.storages ∙ ap (λ (ps : List ℕ). map (λ pages. replicate (pages * 4096) 0) ps) pages in (
       subst (λ (xs : List UserParts). IsSystem xs c.in-Ok-new.volumes c.in-Ok-new-3.frames users) (sym are)
           (record {
-            whole = rw stored (whole_new volumes seats users new c.requires);
+            whole = rw stored (whole_new volumes seats users new few);
             disks = subst (AreSeated seats) (sym c.in-Ok-new.ensures.volumes)
                 (seated_new volumes seats users new apart lawful there inside);
             there = subst AreThere (sym c.in-Ok-new.ensures.volumes) c.in-Ok-new.ensures.there;

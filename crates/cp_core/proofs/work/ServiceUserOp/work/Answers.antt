@@ -12,9 +12,10 @@ use Rattle.cp_dat.specs.Lent.{lent_bytes, lent_memory, lent_pool, user_of}
 use Rattle.machine_devices.specs.Equipped.{Equipped, equipped}
 use Rattle.machine_devices.specs.Lent.{devices_on}
 use Rattle.machine_devices.specs.Serve.{IsServedAt}
+use Rattle.machine_devices.specs.Stopped.{ServeHadRoom}
 use Rattle.machine_panel.specs.declared.line.LineError.TheVariants as errors
 use Rattle.cp_volumes.specs.Shared.{DisksValue, KeepsOtherDisks, seen}
-use Rattle.cp_resident.specs.GuestChannels.{PagedIn, disks_on, hung_on, reuse_of}
+use Rattle.cp_resident.specs.GuestChannels.{HadRoom, PagedIn, disks_on, hung_on, reuse_of}
 use Rattle.machine_channels.specs.Channels.{Brings, IsOutOfFrames}
 use Rattle.cp_core.specs.Wants.{DeviceNeeds}
 use Rattle.cp_core.specs.Lending.{disks_of}
@@ -61,13 +62,16 @@ returns-clause-does c =
     × Brings PagedIn c.args.storage.now (DeviceNeeds c.args.self.now.device (from d)) served.new.storage
     × (r ≡ Err errors.FramesOut
     → IsOutOfFrames (length (lent_bytes c.args.storage.now)) (DeviceNeeds c.args.self.now.device (from d))
-    (no_room served.new.storage (DeviceNeeds c.args.self.now.device (from d)))) in
+    (no_room served.new.storage (DeviceNeeds c.args.self.now.device (from d))))
+    × (r ≡ Err errors.Memory
+    → ServeHadRoom as_reached HadRoom c.args.storage.now served.new.storage c.args.self.now.device (from d)) in
     let facts : Facts start =
     subst Facts c.take-channels.ensures.hung
-    (served.ensures.served, served.ensures.unchanged_without_frames, served.ensures.paged_in, served.ensures.frames) in
+    (served.ensures.served, served.ensures.unchanged_without_frames, served.ensures.paged_in, served.ensures.frames,
+    served.ensures.roomy) in
     rw (c.give.ensures.volumes, c.give.ensures.minidisks)
     (serve_work c.args.self.now.device (user_of c.args.storage.now) (from start) after c.args.storage.now
-    served.new.storage r refl facts.2 facts.0 facts.1 facts.3 served.ensures.memory)
+    served.new.storage r refl facts.2 facts.0 facts.1 facts.3 served.ensures.memory refl facts.4)
 
 pub returns-clause-keeps : goal.returns-clause-keeps
 returns-clause-keeps c =

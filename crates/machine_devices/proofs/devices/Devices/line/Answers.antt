@@ -9,7 +9,7 @@ use Rattle.machine_panel.specs.Machine.{machine_of}
 use Rattle.machine_devices.specs.Equipped.{Equipped, equipped}
 use Rattle.machine_devices.specs.Lent.{devices_on, devices_with}
 use Rattle.cp_spool.specs.Queues.{files_of}
-use Rattle.machine_devices.specs.Comes.{MayTakeMemory}
+use Rattle.machine_devices.specs.Comes.{LineHadRoom, MayTakeMemory}
 use Rattle.machine_devices.specs.Lines.{IsAnswered, requested}
 use Rattle.machine_devices.specs.Comes.{LoadWants}
 use Rattle.machine_channels.specs.Channels.{Brings, IsOutOfFrames, NoRoom}
@@ -144,6 +144,19 @@ returns-in-Loads-clause-out g c = λ ipl. (
     → IsOutOfFrames size (LoadWants q before)
     (NoRoom g.C.Channels.IsOut g.C.Channels.IsFilled g.S.Storage.present c.ipl.new.storage (LoadWants q before)))
     (sym judged) c.ipl.ensures.out)
+
+pub returns-in-Loads-clause-roomy : goal.returns-in-Loads-clause-roomy
+returns-in-Loads-clause-roomy g c = λ ipl. (
+    let before : Equipped = equipped c.args.machine.now (devices_on c.args.self.now c.args.queues.now)
+    (g.C.Disks.disks c.args.channels.now) (g.S.Storage.memory c.args.storage.now) in
+    let has = c.is_some-has_console.ensures ∙ ap (λ (p : Places). is_some p.console) c.places.ensures in
+    let judged : requested c.args.typed.now before ≡ Loads c.in-Loads.device =
+    requested_is (Loads c.in-Loads.device) before c.args.typed.now c.as_slice.result.now c.mode.result
+    c.is_some-has_console.result c.in-Loads.ensures c.mode.ensures has
+    (c.as_slice.ensures.value ∙ c.new-text.ensures) in
+    subst (λ (q : Request). g.C.Channels.is_whole ≡ true → c.ipl.result ≡ Err errors.Memory
+    → LineHadRoom g.C.Channels.HadRoomToLoad c.args.storage.now c.ipl.new.storage q before)
+    (sym judged) c.ipl.ensures.roomy)
 
 pub returns-in-Loads-clause-paged_in : goal.returns-in-Loads-clause-paged_in
 returns-in-Loads-clause-paged_in g c = λ ipl. (
