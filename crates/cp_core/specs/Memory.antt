@@ -29,8 +29,8 @@ is_cut_short old (Tick named) user = false
 is_cut_short old (Deck named cards) user = false
 is_cut_short old (Serve named device) user = named == user
 
--- where memory was refused to a serve or an IPL there was room for the pages that it needs: one that
--- has none is out of frames
+-- memory was refused to a serve or an IPL with room for the pages that it needs: one that has none
+-- is out of frames
 abbrev pub HadRoomFor : SystemView → Event → SystemView → Type 0
 HadRoomFor old (Line user typed) new =
     is_ipl (requested typed.now (user_at old user)) ≡ true

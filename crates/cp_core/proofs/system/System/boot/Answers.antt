@@ -1,5 +1,5 @@
-use Rattle.std.proofs.Common.{All, Err, ◌≡◌, ◌≤◌, ◌∙◌, ◌*◌, ℕ, List, Option, None, ap, arith, length, map, replicate, subst}
-use Rattle.std.proofs.Common.{sym, false, refl}
+use Rattle.std.proofs.Common.{All, Err, ◌≡◌, ◌≤◌, ◌∙◌, ◌*◌, ℕ, List, Option, None, ap, arith, length, map, replicate}
+use Rattle.std.proofs.Common.{subst, sym, false, refl}
 use Rattle.std.specs.List.{find, position}
 use Rattle.ckd_volume.specs.Volume.{VolumeFormat}
 use Rattle.cp_directory.specs.Grammar.{HasLawfulDevices}

@@ -66,9 +66,13 @@ returns-clause-does c =
     × (r ≡ Err errors.Memory
     → ServeHadRoom as_reached HadRoom c.args.storage.now served.new.storage c.args.self.now.device (from d)) in
     let facts : Facts start =
-    subst Facts c.take-channels.ensures.hung
-    (served.ensures.served, served.ensures.unchanged_without_frames, served.ensures.paged_in, served.ensures.frames,
-    served.ensures.roomy) in
+    subst Facts c.take-channels.ensures.hung (
+      served.ensures.served,
+      served.ensures.unchanged_without_frames,
+      served.ensures.paged_in,
+      served.ensures.frames,
+      served.ensures.roomy,
+    ) in
     rw (c.give.ensures.volumes, c.give.ensures.minidisks)
     (serve_work c.args.self.now.device (user_of c.args.storage.now) (from start) after c.args.storage.now
     served.new.storage r refl facts.2 facts.0 facts.1 facts.3 served.ensures.memory refl facts.4)
