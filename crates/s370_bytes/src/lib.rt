@@ -35,10 +35,13 @@ mod translate;
 
 pub use combine::{Combine, combine_row, combine_straight, move_row};
 pub use compare::{compare_row, compare_straight};
-pub use decimal::{binary_row, decimal_row};
+pub use decimal::{binary_row, decimal_of, decimal_row};
 pub use digits::{Layout, layout_row};
 pub use long::{compare_long_row, move_long_quickly, move_long_row};
-pub use masks::{compare_characters_row, insert_characters_row, store_characters_row};
+pub use masks::{
+    chosen_count, compare_characters_row, insert_characters_row, store_characters_in,
+    store_characters_row,
+};
 pub use multiple::{
     load_multiple_row, load_registers, load_registers_in, store_multiple_row, store_registers,
     store_registers_in, words_range,

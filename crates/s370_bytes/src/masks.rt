@@ -1,6 +1,8 @@
 //! Characters of a register that a mask chooses.
 ghost use Rattle.std.specs.Prelude.{◌≡◌, ℕ, ◌+◌, ◌<◌, ◌≤◌, length, slice_range, take};
 ghost use Rattle.s370_store.specs.Access.{IsGranted};
+ghost use Rattle.s370_store.specs.Memory.{with_stored};
+ghost use Rattle.s370_rows.specs.Formats.{r1_of, r2_of};
 ghost use Rattle.s370_rows.specs.State.{state_of};
 ghost use Rattle.s370_rows.specs.Rows.{MeetsRow};
 ghost use Rattle.s370_bytes.specs.Compare.{string_order};
@@ -13,7 +15,7 @@ use crate::combine::is_zero;
 use crate::compare::string_order;
 use s370_num::{ConditionCode, Register};
 use s370_rows::{Cpu, Ending, Instruction, Refusal, grant};
-use s370_store::{Access, Range, Storage};
+use s370_store::{Access, Block, Range, Storage};
 
 /// Returns whether a mask has the bit that stands for a byte of a register, from the left.
 #[inline(always)]
@@ -26,7 +28,7 @@ fn is_chosen(mask: u8, place: u32) -> bool
 
 /// Returns how many bytes a mask chooses.
 #[tactic(auto, unfolding(crate::specs::Masks::chosen_count))]
-fn chosen_count(mask: u8) -> u32
+pub fn chosen_count(mask: u8) -> u32
     ensures value { result ≡ chosen_count mask }
     ensures few { result ≤ 4 }
 {
@@ -149,6 +151,31 @@ pub fn insert_characters_row<S: Storage>(
         &mut from[..count as usize],
     );
     Ok(Ending::Done)
+}
+
+/// What STCM makes of a range that lies in a block that was found, where the mask chooses some.
+#[inline(always)]
+pub fn store_characters_in<S: Storage>(
+    cpu: &Cpu,
+    storage: &mut S,
+    block: Block,
+    start: u32,
+    i: Instruction,
+)
+    requires some { 0 < chosen_count (r2_of i) }
+    requires placed { S.IsPlaced storage.old block }
+    requires begins { block.first ≤ start }
+    requires ends { start + chosen_count (r2_of i) ≤ block.first + 2048 }
+    ensures stored { S.memory storage.new
+        ≡ with_stored (S.memory storage.old) start
+        (chosen (r2_of i) (bytes_of cpu.now (r1_of i))) }
+    ensures rest { S.Keeps storage.old storage.new }
+{
+    let mask = i.r2().number();
+    let count = chosen_count(mask);
+    let mut made = [0u8; 4];
+    gather(mask, &cpu.general[i.r1().index()].to_be_bytes(), &mut made);
+    storage.store_in(block, start, &made[..count as usize]);
 }
 
 /// BE STCM: store characters under mask.
