@@ -130,3 +130,18 @@ front_translated bytes first made a t n apart inside few l p low e =
     let x : get_or (take n first) j 0 ≡ get_or first j 0 = get_or-take n first j 0 s in
     let y : get_or (slice_range bytes t (t + 256)) (get_or first j 0) 0 ≡ get_or bytes (t + get_or first j 0) 0 = range_inside bytes t 256 (get_or first j 0) (low j) in
     get_or-take n made j 0 s ∙ e j s ∙ sym (rw x y)))
+
+-- the first bytes of four that four zeros follow
+pub front_of_four : (xs : List ℕ) (n : ℕ) → length xs ≡ 4 → n ≤ 4
+    → take n (get_or xs 0 0 ∷ get_or xs 1 0 ∷ get_or xs 2 0 ∷ get_or xs 3 0 ∷ 0 ∷ 0 ∷ 0 ∷ 0 ∷ []) ≡ take n xs
+front_of_four (a ∷ b ∷ c ∷ d ∷ []) zero l s = refl
+front_of_four (a ∷ b ∷ c ∷ d ∷ []) (suc zero) l s = refl
+front_of_four (a ∷ b ∷ c ∷ d ∷ []) (suc (suc zero)) l s = refl
+front_of_four (a ∷ b ∷ c ∷ d ∷ []) (suc (suc (suc zero))) l s = refl
+front_of_four (a ∷ b ∷ c ∷ d ∷ []) (suc (suc (suc (suc zero)))) l s = refl
+front_of_four (a ∷ b ∷ c ∷ d ∷ []) (suc (suc (suc (suc (suc n))))) l s = absurd (omega arith)
+front_of_four ([]) n l s = absurd (omega arith)
+front_of_four (a ∷ []) n l s = absurd (omega arith)
+front_of_four (a ∷ b ∷ []) n l s = absurd (omega arith)
+front_of_four (a ∷ b ∷ c ∷ []) n l s = absurd (omega arith)
+front_of_four (a ∷ b ∷ c ∷ d ∷ e ∷ xs) n l s = absurd (omega arith)

@@ -191,7 +191,7 @@ fn compare_long<S: Storage>(
 
 /// Returns the condition code of two numbers.
 #[inline(always)]
-fn number_order(a: u64, b: u64) -> ConditionCode
+pub fn number_order(a: u64, b: u64) -> ConditionCode
     ensures { result ≡ order_code a b }
 {
     if a == b {
@@ -216,7 +216,7 @@ pub fn front_number(bytes: [u8; 8], count: u32) -> u64
 /// Returns the number that at most eight bytes are which lie in a block that was found, where eight
 /// bytes lie in it.
 #[inline(always)]
-fn number_in<S: Storage>(storage: &S, block: Block, start: u32, count: u32) -> u64
+pub fn number_in<S: Storage>(storage: &S, block: Block, start: u32, count: u32) -> u64
     requires some { 0 < count }
     requires few { count ≤ 8 }
     requires placed { S.IsPlaced storage.now block }

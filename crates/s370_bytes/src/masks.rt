@@ -6,13 +6,14 @@ ghost use Rattle.s370_rows.specs.Formats.{r1_of, r2_of};
 ghost use Rattle.s370_rows.specs.State.{state_of};
 ghost use Rattle.s370_rows.specs.Rows.{MeetsRow};
 ghost use Rattle.s370_bytes.specs.Compare.{string_order};
+ghost use Rattle.s370_bytes.specs.Strings.{number};
 ghost use Rattle.s370_bytes.specs.Masks.{is_chosen, chosen_count, chosen, inserted, bytes_of};
 ghost use Rattle.s370_bytes.specs.Masks.{tested_count, inserted_code, with_inserted};
 ghost use Rattle.s370_bytes.specs.Masks.{characters_inserted, characters_stored};
 ghost use Rattle.s370_bytes.specs.Masks.{characters_compared};
 
 use crate::combine::is_zero;
-use crate::compare::string_order;
+use crate::compare::{front_number, number_in, number_order, string_order};
 use s370_num::{ConditionCode, Register};
 use s370_rows::{Cpu, Ending, Instruction, Refusal, grant};
 use s370_store::{Access, Block, Range, Storage};
@@ -234,6 +235,45 @@ fn order_at<S: Storage>(
     );
     storage.load(start, right);
     string_order(&left[..right.len()], right)
+}
+
+/// Returns the number that the bytes of a register are which a mask chooses, where it chooses some.
+#[inline(always)]
+fn chosen_number(cpu: &Cpu, register: Register, mask: u8) -> u64
+    requires some { 0 < chosen_count mask }
+    ensures { result ≡ number (chosen mask (bytes_of cpu.now register)) }
+{
+    let mut left = [0u8; 4];
+    gather(
+        mask,
+        &cpu.general[register.index()].to_be_bytes(),
+        &mut left,
+    );
+    let [a, b, c, d] = left;
+    front_number([a, b, c, d, 0, 0, 0, 0], chosen_count(mask))
+}
+
+/// Returns the condition code that CLM sets, where eight bytes from its operand on lie in a block
+/// that was found, and the mask chooses some.
+#[inline(always)]
+pub fn characters_order_in<S: Storage>(
+    cpu: &Cpu,
+    storage: &S,
+    block: Block,
+    start: u32,
+    i: Instruction,
+) -> ConditionCode
+    requires some { 0 < chosen_count (r2_of i) }
+    requires placed { S.IsPlaced storage.now block }
+    requires begins { block.first ≤ start }
+    requires ends { start + 8 ≤ block.first + 2048 }
+    ensures { result ≡ string_order (chosen (r2_of i) (bytes_of cpu.now (r1_of i)))
+        (slice_range (S.memory storage.now).bytes start (start + chosen_count (r2_of i))) }
+{
+    let mask = i.r2().number();
+    let left = chosen_number(cpu, i.r1(), mask);
+    let right = number_in(storage, block, start, chosen_count(mask));
+    number_order(left, right)
 }
 
 /// BD CLM: compare logical characters under mask.

@@ -10,7 +10,7 @@ ghost use Rattle.s370_store.specs.declared.Access.TheVariants.{Fetch, Store};
 ghost use Rattle.s370_rows.specs.State.{state_of};
 ghost use Rattle.s370_rows.specs.Rows.{Grants, fetch_test};
 ghost use Rattle.s370_bytes.specs.Decimal.{decimal_stored};
-ghost use Rattle.s370_bytes.specs.Masks.{characters_stored};
+ghost use Rattle.s370_bytes.specs.Masks.{characters_compared, characters_stored};
 ghost use Rattle.s370_bytes.specs.Multiple.{multiple_loaded, multiple_stored};
 ghost use Rattle.s370_cpu.specs.FetchRows.{MeetsOperand, byte_tested, character_inserted};
 ghost use Rattle.s370_cpu.specs.FetchRows.{fetch_row, half_of, halfword_multiplied};
@@ -24,8 +24,8 @@ ghost use Rattle.s370_quick.specs.Quick.{AreHeld, MeetsAtOnce, done_of};
 use crate::held::{HeldBlock, operand_block};
 use crate::strings::{combine_quickly, compare_quickly, move_quickly, translate_quickly};
 use s370_bytes::{
-    Combine, chosen_count, decimal_of, load_registers_in, store_characters_in,
-    store_characters_row, store_registers_in, words_range,
+    Combine, characters_order_in, chosen_count, compare_characters_row, decimal_of, holds_eight,
+    load_registers_in, store_characters_in, store_characters_row, store_registers_in, words_range,
 };
 use s370_cpu::{FetchRow, StoreRow, fetch_row, store_row};
 use s370_num::Addr24;
@@ -361,6 +361,39 @@ fn load_multiple_quickly<S: Storage>(
     }
 }
 
+/// BD CLM: compare logical characters under mask.
+#[inline(always)]
+fn compare_characters_quickly<S: Storage>(
+    cpu: &mut Cpu,
+    storage: &S,
+    i: Instruction,
+    held: &mut HeldBlock,
+) -> Option<Ending>
+    requires operands { AreHeld (S.IsPlaced storage.now) (S.memory storage.now)
+        (S.present storage.now) cpu.old.psw.key held.old }
+    ensures row { let before = state_of cpu.old (S.memory storage.now) in
+        let after = state_of cpu.new (S.memory storage.now) in
+        MeetsAtOnce (characters_compared before i) (S.present storage.now) before result after }
+    ensures operands { AreHeld (S.IsPlaced storage.now) (S.memory storage.now)
+        (S.present storage.now) cpu.old.psw.key held.new }
+{
+    let start = cpu.based(i.second_half);
+    let count = chosen_count(i.r2().number());
+    if count == 0 {
+        return done_of(compare_characters_row(cpu, storage, i));
+    }
+    match source_block(cpu, storage, held, start, count) {
+        Some(found) => if holds_eight(found, start.get()) {
+            let condition = characters_order_in(cpu, storage, found, start.get(), i);
+            cpu.psw.set_condition(condition);
+            Some(Ending::Done)
+        } else {
+            done_of(compare_characters_row(cpu, storage, i))
+        },
+        None => None,
+    }
+}
+
 /// 50 ST: the store of a register.
 #[inline(always)]
 fn store_word_quickly<S: Storage>(
@@ -657,6 +690,7 @@ pub fn fetch_held<S: Storage, const CODE: u8, const WAY: u8>(
         FetchRow::LoadMultiple => load_multiple_quickly(cpu, storage, i, held),
         FetchRow::TestByte(test) => test_byte_quickly(test, cpu, storage, i, held),
         FetchRow::CompareStrings => compare_quickly(cpu, storage, i, held),
+        FetchRow::CompareCharacters => compare_characters_quickly(cpu, storage, i, held),
         _ => done_of(fetch_row::<S, CODE>(row, cpu, storage, i)),
     }
 }
