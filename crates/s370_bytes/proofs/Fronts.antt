@@ -87,9 +87,9 @@ front_made op bytes first other made a b n few inside l p q apart e =
     (length-take-le n made (omega (arith, l))) refl refl (sym apart)
     (λ j s. (
     let x : get_or first j 0 ≡ get_or (slice_range bytes a (a + n)) j 0 =
-        ap (λ (xs : List ℕ). get_or xs j 0) p ∙ range_inside bytes a 8 j (omega (arith, few)) ∙ sym (range_inside bytes a n j s) in
+    ap (λ (xs : List ℕ). get_or xs j 0) p ∙ range_inside bytes a 8 j (omega (arith, few)) ∙ sym (range_inside bytes a n j s) in
     let y : get_or other j 0 ≡ get_or (slice_range bytes b (b + n)) j 0 =
-        ap (λ (xs : List ℕ). get_or xs j 0) q ∙ range_inside bytes b 8 j (omega (arith, few)) ∙ sym (range_inside bytes b n j s) in
+    ap (λ (xs : List ℕ). get_or xs j 0) q ∙ range_inside bytes b 8 j (omega (arith, few)) ∙ sym (range_inside bytes b n j s) in
     let z : lagged (slice_range bytes b (b + n)) (take n made) n j ≡ get_or (slice_range bytes b (b + n)) j 0 = lagged_source _ _ n j s in
     get_or-take n made j 0 s ∙ e j s ∙ rw (x, y, z) refl))
 
@@ -106,13 +106,13 @@ front_put bytes first made a n few l m p rest =
     (λ (low : k < a). put_below bytes made a k here low ∙ sym (put_below bytes (take n made) a k there low))
     (λ (high : a ≤ k). ⊎_elim
     (λ (front : k < a + n). put_inside bytes made a k here high (omega (arith, l))
-        ∙ sym (put_inside bytes (take n made) a k there high (omega (arith, t)) ∙ get_or-take n made (k - a) 0 (omega arith)))
+    ∙ sym (put_inside bytes (take n made) a k there high (omega (arith, t)) ∙ get_or-take n made (k - a) 0 (omega arith)))
     (λ (past : a + n ≤ k). ⊎_elim
     (λ (back : k < a + 8).
     (let e : a + (k - a) ≡ k = omega arith in
     put_inside bytes made a k here high (omega (arith, l)) ∙ rest (k - a) (omega arith)
-        ∙ ap (λ (xs : List ℕ). get_or xs (k - a) 0) p ∙ range_inside bytes a 8 (k - a) (omega arith) ∙ ap (λ (i : ℕ). get_or bytes i 0) e
-        ∙ sym (put_above bytes (take n made) a k there (omega (arith, t)))))
+    ∙ ap (λ (xs : List ℕ). get_or xs (k - a) 0) p ∙ range_inside bytes a 8 (k - a) (omega arith) ∙ ap (λ (i : ℕ). get_or bytes i 0) e
+    ∙ sym (put_above bytes (take n made) a k there (omega (arith, t)))))
     (λ (out : a + 8 ≤ k). put_above bytes made a k here (omega (arith, l)) ∙ sym (put_above bytes (take n made) a k there (omega (arith, t))))
     (cases_lt k (a + 8)))
     (cases_lt k (a + n)))

@@ -376,13 +376,9 @@ pub fn combine_straight<S: Storage>(
         && holds_eight(target, to)
         && holds_eight(source, from)
     {
-        return combine_short(
-            operation, cpu, storage, target, to, source, from, count,
-        );
+        return combine_short(operation, cpu, storage, target, to, source, from, count);
     }
-    combine_long(
-        operation, cpu, storage, target, to, source, from, count,
-    )
+    combine_long(operation, cpu, storage, target, to, source, from, count)
 }
 
 /// D1 MVN, D3 MVZ, D4 NC, D6 OC, D7 XC: combine a string with another; left to right.

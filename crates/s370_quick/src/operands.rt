@@ -31,8 +31,8 @@ use s370_cpu::{FetchRow, StoreRow, fetch_row, store_row};
 use s370_num::Addr24;
 use s370_rows::{
     Arithmetic, ByteChange, ByteTest, Cpu, Ending, Instruction, Refusal, arithmetic_row,
-    change_byte, compare_and_swap, compare_and_swap_pair, divide_row, halfword_operand, insert_byte_row,
-    multiply_halfword_row, multiply_row, test_byte,
+    change_byte, compare_and_swap, compare_and_swap_pair, divide_row, halfword_operand,
+    insert_byte_row, multiply_halfword_row, multiply_row, test_byte,
 };
 use s370_store::{Access, Block, Storage, load_byte_in, load_word_in, store_word_in};
 

@@ -1,5 +1,5 @@
-use Rattle.std.proofs.Common.{rules, arith, ◌≡◌, ◌∙◌, List, ℕ, take, length, ap, sym}
-use Rattle.s370_store.specs.Memory.{Memory, memory_of, with_stored}
+use Rattle.std.proofs.Common.{rules, ◌≡◌, ◌∙◌, List, ℕ, take, ap}
+use Rattle.s370_store.specs.Memory.{memory_of, with_stored}
 use Rattle.s370_bytes.specs.Combine.{made_of, combined_condition}
 use Rattle.s370_bytes.proofs.Fronts.{front_made, front_put}
 use Rattle.s370_bytes.proofs.combine.combine_short.Given.{Over}

@@ -1,4 +1,4 @@
-use Rattle.std.proofs.Common.{arith, rules}
+use Rattle.std.proofs.Common.{rules}
 use Rattle.s370_bytes.proofs.Fronts.{front_is}
 use Rattle.s370_bytes.proofs.compare.front_number.Goals as goal
 

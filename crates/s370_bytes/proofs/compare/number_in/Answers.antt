@@ -1,4 +1,4 @@
-use Rattle.std.proofs.Common.{◌∙◌, ap}
+use Rattle.std.proofs.Common.{ap}
 use Rattle.s370_bytes.specs.Strings.{number}
 use Rattle.s370_bytes.proofs.Fronts.{front_of_range}
 use Rattle.s370_bytes.proofs.compare.number_in.Goals as goal

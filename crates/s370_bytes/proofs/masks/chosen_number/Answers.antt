@@ -1,4 +1,4 @@
-use Rattle.std.proofs.Common.{rules, ◌≡◌, ◌∙◌, ℕ, List, take, ap}
+use Rattle.std.proofs.Common.{rules, ◌∙◌, ℕ, take, ap}
 use Rattle.s370_bytes.specs.Strings.{number}
 use Rattle.s370_bytes.proofs.Fronts.{front_of_four}
 use Rattle.s370_bytes.proofs.masks.chosen_number.Goals as goal

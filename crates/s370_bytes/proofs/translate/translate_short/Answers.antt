@@ -1,4 +1,4 @@
-use Rattle.std.proofs.Common.{rules, arith, ◌≡◌, ◌∙◌, List, ℕ, ap}
+use Rattle.std.proofs.Common.{rules, ◌∙◌, List, ℕ, ap}
 use Rattle.s370_store.specs.Memory.{memory_of, with_stored}
 use Rattle.s370_bytes.proofs.Fronts.{front_put, front_translated}
 use Rattle.s370_bytes.proofs.translate.translate_short.Goals as goal
