@@ -1,9 +1,10 @@
 -- Digits in one base read in another.
-use Rattle.std.proofs.Common.{◌≡◌, ℕ, suc, ◌+◌, ◌-◌, ◌*◌, ◌/◌, ◌%◌, ◌^◌, ◌<◌, ◌≤◌, true, false, ◌&&◌, nat_lt, refl, ◌∙◌}
+use Rattle.std.proofs.Common.{◌≡◌, ℕ, zero, suc, ◌+◌, ◌-◌, ◌*◌, ◌/◌, ◌%◌, ◌^◌, ◌<◌, ◌≤◌, true, false, ◌&&◌, nat_lt}
+use Rattle.std.proofs.Common.{refl, ◌∙◌}
 use Rattle.std.proofs.Common.{arith, add-one}
 use Rattle.std.proofs.lemmas.Nat.{mul-add-lt}
 use Rattle.std.proofs.lemmas.Bool.Decides.{nat_tests}
-use Rattle.std.proofs.Math.Nat.{pow-suc, pow-le-pow_right, mul_comm, mul_assoc, mul-add}
+use Rattle.std.proofs.Math.Nat.{pow-suc, pow-le-pow_right, mul_comm, mul_assoc, mul-add, zero-div, zero-mod}
 use Rattle.s370_bytes.specs.Decimal.{rebased, is_decimal}
 
 pub rebased_step : (to from m n x : ℕ) → m ≡ suc n → rebased to from m x ≡ x % from + to * rebased to from n (x / from)
@@ -13,6 +14,12 @@ rebased_step to from m n x e = rw e refl
 pub rebased_none : (to from x : ℕ) → rebased to from 0 x ≡ 0
 unfolding rebased
 rebased_none to from x = refl
+
+-- no digits are left of zero
+pub rebased_zero : (to from m : ℕ) → 0 < from → rebased to from m 0 ≡ 0
+rebased_zero to from zero some = rebased_none to from 0
+rebased_zero to from (suc n) some =
+    rw (rebased_step to from (suc n) n 0 refl, zero-div from, zero-mod from, rebased_zero to from n some) (omega arith)
 
 pub decimal_step : (m n x : ℕ) → m ≡ suc n → is_decimal m x ≡ nat_lt (x % 16) 10 && is_decimal n (x / 16)
 unfolding is_decimal

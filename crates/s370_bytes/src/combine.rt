@@ -1,5 +1,6 @@
 //! Strings that are changed from left to right.
 ghost use Rattle.std.specs.Prelude.{◌≡◌, ℕ, ◌+◌, ◌==◌, ◌<◌, ◌≤◌, length, slice_index, slice_range};
+ghost use Rattle.std.specs.Prelude.{take};
 ghost use Rattle.s370_store.specs.Access.{IsGranted};
 ghost use Rattle.s370_store.specs.Memory.{with_stored};
 ghost use Rattle.s370_rows.specs.Arithmetic.{zero_code};
@@ -10,6 +11,7 @@ ghost use Rattle.s370_bytes.specs.Combine.{combined, combined_condition, string_
 ghost use Rattle.s370_bytes.specs.Combine.{lag_of, lagged};
 ghost use Rattle.s370_bytes.specs.Strings.{number};
 
+use crate::compare::{front_number, holds_eight};
 use s370_num::ConditionCode;
 use s370_rows::{Completion, Cpu, Instruction, Refusal, grant_two};
 use s370_store::{Access, Block, Range, Storage};
@@ -196,11 +198,11 @@ fn combine_in<S: Storage>(
     storage.store_in(target, to, made);
 }
 
-/// Does NC, OC, XC, MVN or MVZ of two strings that each lie in a block that was found.
+/// Combines as [`combine_straight`] does, through buffers.
 ///
 /// A short string goes through short buffers, which take no time to make.
-#[inline(always)]
-pub fn combine_straight<S: Storage>(
+#[inline(never)]
+fn combine_long<S: Storage>(
     operation: Combine,
     cpu: &mut Cpu,
     storage: &mut S,
@@ -260,6 +262,123 @@ pub fn combine_straight<S: Storage>(
         );
         set_combined_condition(operation, cpu, made);
     }
+}
+
+/// Combines the first bytes of eight with those of another eight.
+#[inline(always)]
+fn combine_front(operation: Combine, target: &mut [u8; 8], source: &[u8; 8], count: usize)
+    requires { count ≤ 8 }
+    ensures each { (k : ℕ) → k < count
+        → slice_index target.new k
+        ≡ combined operation (slice_index target.old k) (slice_index source.now k) }
+    ensures rest { (k : ℕ) → count ≤ k → slice_index target.new k ≡ slice_index target.old k }
+{
+    for k in 0..count {
+        target[k] = operation.byte(target[k], source[k]);
+    }
+}
+
+/// Sets the condition code of what was made, which are the first bytes of eight.
+#[inline(always)]
+fn set_front_condition(operation: Combine, cpu: &mut Cpu, made: [u8; 8], count: u32)
+    requires some { 0 < count }
+    requires few { count ≤ 8 }
+    ensures { cpu.new ≡ combined_condition operation cpu.old (take count made) }
+{
+    match operation {
+        Combine::And | Combine::Or | Combine::ExclusiveOr => {
+            let condition = if front_number(made, count) == 0 {
+                ConditionCode::ZERO
+            } else {
+                ConditionCode::ONE
+            };
+            cpu.psw.set_condition(condition);
+        }
+        Combine::Move | Combine::MoveNumerics | Combine::MoveZones => {}
+    }
+}
+
+/// Combines as [`combine_straight`] does, at most eight bytes, none of which is read after it was
+/// made. Eight bytes are loaded and stored, of which the others stay as they are.
+#[inline(always)]
+fn combine_short<S: Storage>(
+    operation: Combine,
+    cpu: &mut Cpu,
+    storage: &mut S,
+    target: Block,
+    to: u32,
+    source: Block,
+    from: u32,
+    count: u32,
+)
+    requires some { 0 < count }
+    requires few { count ≤ 8 }
+    requires apart { lag_of to from count ≡ count }
+    requires source_room { from + 8 ≤ source.first + 2048 }
+    requires target_room { to + 8 ≤ target.first + 2048 }
+    requires source_placed { S.IsPlaced storage.old source }
+    requires source_inside { from + count ≤ length (S.memory storage.old).bytes }
+    requires source_begins { source.first ≤ from }
+    requires source_ends { from + count ≤ source.first + 2048 }
+    requires target_placed { S.IsPlaced storage.old target }
+    requires target_inside { to + count ≤ length (S.memory storage.old).bytes }
+    requires target_begins { target.first ≤ to }
+    requires target_ends { to + count ≤ target.first + 2048 }
+    ensures stored { S.memory storage.new
+        ≡ with_stored (S.memory storage.old) to
+        (made_of operation (S.memory storage.old).bytes to from count) }
+    ensures condition { cpu.new
+        ≡ combined_condition operation cpu.old
+        (made_of operation (S.memory storage.old).bytes to from count) }
+    ensures rest { S.Keeps storage.old storage.new }
+{
+    let mut made = [0u8; 8];
+    let mut other = [0u8; 8];
+    storage.load_in(target, to, &mut made);
+    storage.load_in(source, from, &mut other);
+    combine_front(operation, &mut made, &other, count as usize);
+    storage.store_in(target, to, &made);
+    set_front_condition(operation, cpu, made, count);
+}
+
+/// Does NC, OC, XC, MVN or MVZ of two strings that each lie in a block that was found.
+#[inline(always)]
+pub fn combine_straight<S: Storage>(
+    operation: Combine,
+    cpu: &mut Cpu,
+    storage: &mut S,
+    target: Block,
+    to: u32,
+    source: Block,
+    from: u32,
+    count: u32,
+)
+    requires some { 0 < count }
+    requires short { count ≤ 256 }
+    requires source_placed { S.IsPlaced storage.old source }
+    requires source_inside { from + count ≤ length (S.memory storage.old).bytes }
+    requires source_begins { source.first ≤ from }
+    requires source_ends { from + count ≤ source.first + 2048 }
+    requires target_placed { S.IsPlaced storage.old target }
+    requires target_inside { to + count ≤ length (S.memory storage.old).bytes }
+    requires target_begins { target.first ≤ to }
+    requires target_ends { to + count ≤ target.first + 2048 }
+    ensures stored { S.memory storage.new
+        ≡ with_stored (S.memory storage.old) to
+        (made_of operation (S.memory storage.old).bytes to from count) }
+    ensures condition { cpu.new
+        ≡ combined_condition operation cpu.old
+        (made_of operation (S.memory storage.old).bytes to from count) }
+    ensures rest { S.Keeps storage.old storage.new }
+{
+    if count <= 8
+        && lag_of(to, from, count) == count
+        && holds_eight(target, to)
+        && holds_eight(source, from)
+    {
+        return combine_short(operation, cpu, storage, target, to, source, from, count);
+    }
+    combine_long(operation, cpu, storage, target, to, source, from, count)
 }
 
 /// D1 MVN, D3 MVZ, D4 NC, D6 OC, D7 XC: combine a string with another; left to right.

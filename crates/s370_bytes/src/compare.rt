@@ -1,9 +1,11 @@
 //! Strings of bytes against each other.
 ghost use Rattle.std.specs.Prelude.{◌≡◌, ◌≢◌, ℕ, ◌+◌, ◌<◌, ◌≤◌, true, length, slice_index};
-ghost use Rattle.std.specs.Prelude.{slice_range};
+ghost use Rattle.std.specs.Prelude.{slice_range, take};
 ghost use Rattle.s370_rows.specs.State.{state_of};
 ghost use Rattle.s370_rows.specs.Rows.{MeetsRow};
+ghost use Rattle.s370_rows.specs.Arithmetic.{order_code};
 ghost use Rattle.s370_bytes.specs.Compare.{equal_pairs, string_order, strings_compared};
+ghost use Rattle.s370_bytes.specs.Strings.{number};
 
 use s370_num::ConditionCode;
 use s370_rows::{Completion, Cpu, Instruction, Refusal, grant_two, order_of};
@@ -134,11 +136,11 @@ fn order_in<S: Storage>(
     string_order(xs, ys)
 }
 
-/// Compares two strings as [`string_order`] does, if each lies in a block that was found.
+/// Compares as [`compare_straight`] does, through buffers.
 ///
 /// Short strings go through short buffers, which take no time to make.
-#[inline(always)]
-pub fn compare_straight<S: Storage>(
+#[inline(never)]
+fn compare_long<S: Storage>(
     storage: &S,
     left: Block,
     first: u32,
@@ -185,4 +187,86 @@ pub fn compare_straight<S: Storage>(
             &mut ys[..count],
         )
     }
+}
+
+/// Returns the condition code of two numbers.
+#[inline(always)]
+pub fn number_order(a: u64, b: u64) -> ConditionCode
+    ensures { result ≡ order_code a b }
+{
+    if a == b {
+        ConditionCode::ZERO
+    } else if a < b {
+        ConditionCode::ONE
+    } else {
+        ConditionCode::TWO
+    }
+}
+
+/// Returns the number that the first bytes of eight are.
+#[inline(always)]
+pub fn front_number(bytes: [u8; 8], count: u32) -> u64
+    requires some { 0 < count }
+    requires few { count ≤ 8 }
+    ensures { result ≡ number (take count bytes) }
+{
+    u64::from_be_bytes(bytes) >> (64 - 8 * count)
+}
+
+/// Returns the number that at most eight bytes are which lie in a block that was found, where eight
+/// bytes lie in it.
+#[inline(always)]
+pub fn number_in<S: Storage>(storage: &S, block: Block, start: u32, count: u32) -> u64
+    requires some { 0 < count }
+    requires few { count ≤ 8 }
+    requires placed { S.IsPlaced storage.now block }
+    requires begins { block.first ≤ start }
+    requires ends { start + 8 ≤ block.first + 2048 }
+    ensures { result ≡ number (slice_range (S.memory storage.now).bytes start (start + count)) }
+{
+    let mut bytes = [0u8; 8];
+    storage.load_in(block, start, &mut bytes);
+    front_number(bytes, count)
+}
+
+/// Returns whether eight bytes from an address on lie in a block in which that address lies.
+#[inline(always)]
+pub fn holds_eight(block: Block, start: u32) -> bool
+    requires { block.first ≤ start }
+    ensures { result ≡ true → start + 8 ≤ block.first + 2048 }
+{
+    start - block.first <= 2040
+}
+
+/// Compares two strings as [`string_order`] does, if each lies in a block that was found.
+///
+/// Strings of at most eight bytes are compared as numbers, if eight bytes can be loaded.
+#[inline(always)]
+pub fn compare_straight<S: Storage>(
+    storage: &S,
+    left: Block,
+    first: u32,
+    right: Block,
+    second: u32,
+    count: u32,
+) -> ConditionCode
+    requires some { 0 < count }
+    requires short { count ≤ 256 }
+    requires left_placed { S.IsPlaced storage.now left }
+    requires left_inside { first + count ≤ length (S.memory storage.now).bytes }
+    requires left_begins { left.first ≤ first }
+    requires left_ends { first + count ≤ left.first + 2048 }
+    requires right_placed { S.IsPlaced storage.now right }
+    requires right_inside { second + count ≤ length (S.memory storage.now).bytes }
+    requires right_begins { right.first ≤ second }
+    requires right_ends { second + count ≤ right.first + 2048 }
+    ensures { result ≡ string_order (slice_range (S.memory storage.now).bytes first (first + count))
+        (slice_range (S.memory storage.now).bytes second (second + count)) }
+{
+    if count <= 8 && holds_eight(left, first) && holds_eight(right, second) {
+        let x = number_in(storage, left, first, count);
+        let y = number_in(storage, right, second, count);
+        return number_order(x, y);
+    }
+    compare_long(storage, left, first, right, second, count)
 }

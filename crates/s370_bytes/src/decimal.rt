@@ -111,6 +111,10 @@ fn decimal_digits(number: u64) -> u64
     let mut value = 0;
     let mut scale = 1;
     for _k in 0..15u32 {
+        // The other digits are zero.
+        if rest == 0 {
+            return value;
+        }
         value += rest % 10 * scale;
         scale *= 16;
         rest /= 10;
@@ -121,7 +125,7 @@ fn decimal_digits(number: u64) -> u64
 /// Returns the decimal digits and the sign of the signed number that a word is.
 #[inline]
 #[tactic(auto, unfolding(crate::specs::Decimal::decimal_of))]
-fn decimal_of(word: u32) -> u64
+pub fn decimal_of(word: u32) -> u64
     ensures { result ≡ decimal_of word }
 {
     let number = word.cast_signed();

@@ -8,7 +8,7 @@
 //! ```
 //! use s370_bytes::{Combine, combine_row};
 //! use s370_psw::Psw;
-//! use s370_rows::{Cpu, Completion, Instruction};
+//! use s370_rows::{Completion, Cpu, Instruction};
 //! use s370_store::{PlainStorage, Storage, load_word};
 //!
 //! let mut cpu = Cpu { general: [0; 16], control: [0; 16], psw: Psw::from_word(0) };
@@ -34,11 +34,14 @@ mod straight;
 mod translate;
 
 pub use combine::{Combine, combine_row, combine_straight, move_row};
-pub use compare::{compare_row, compare_straight};
-pub use decimal::{binary_row, decimal_row};
+pub use compare::{compare_row, compare_straight, holds_eight};
+pub use decimal::{binary_row, decimal_of, decimal_row};
 pub use digits::{Layout, layout_row};
 pub use long::{compare_long_row, move_long_quickly, move_long_row};
-pub use masks::{compare_characters_row, insert_characters_row, store_characters_row};
+pub use masks::{
+    characters_order_in, chosen_count, compare_characters_row, insert_characters_row,
+    store_characters_in, store_characters_row,
+};
 pub use multiple::{
     load_multiple_row, load_registers, load_registers_in, store_multiple_row, store_registers,
     store_registers_in, words_range,

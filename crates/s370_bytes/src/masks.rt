@@ -1,19 +1,22 @@
 //! Characters of a register that a mask chooses.
 ghost use Rattle.std.specs.Prelude.{◌≡◌, ℕ, ◌+◌, ◌<◌, ◌≤◌, length, slice_range, take};
 ghost use Rattle.s370_store.specs.Access.{IsGranted};
+ghost use Rattle.s370_store.specs.Memory.{with_stored};
+ghost use Rattle.s370_rows.specs.Formats.{r1_of, r2_of};
 ghost use Rattle.s370_rows.specs.State.{state_of};
 ghost use Rattle.s370_rows.specs.Rows.{MeetsRow};
 ghost use Rattle.s370_bytes.specs.Compare.{string_order};
+ghost use Rattle.s370_bytes.specs.Strings.{number};
 ghost use Rattle.s370_bytes.specs.Masks.{is_chosen, chosen_count, chosen, inserted, bytes_of};
 ghost use Rattle.s370_bytes.specs.Masks.{tested_count, inserted_code, with_inserted};
 ghost use Rattle.s370_bytes.specs.Masks.{characters_inserted, characters_stored};
 ghost use Rattle.s370_bytes.specs.Masks.{characters_compared};
 
 use crate::combine::is_zero;
-use crate::compare::string_order;
+use crate::compare::{front_number, number_in, number_order, string_order};
 use s370_num::{ConditionCode, Register};
 use s370_rows::{Completion, Cpu, Instruction, Refusal, grant};
-use s370_store::{Access, Range, Storage};
+use s370_store::{Access, Block, Range, Storage};
 
 /// Returns whether a mask has the bit that stands for a byte of a register, from the left.
 #[inline(always)]
@@ -26,7 +29,7 @@ fn is_chosen(mask: u8, place: u32) -> bool
 
 /// Returns how many bytes a mask chooses.
 #[tactic(auto, unfolding(crate::specs::Masks::chosen_count))]
-fn chosen_count(mask: u8) -> u32
+pub fn chosen_count(mask: u8) -> u32
     ensures value { result ≡ chosen_count mask }
     ensures few { result ≤ 4 }
 {
@@ -151,6 +154,31 @@ pub fn insert_characters_row<S: Storage>(
     Ok(Completion::Done)
 }
 
+/// Does STCM into a range that lies in a block that was found, if the mask chooses some bytes.
+#[inline(always)]
+pub fn store_characters_in<S: Storage>(
+    cpu: &Cpu,
+    storage: &mut S,
+    block: Block,
+    start: u32,
+    i: Instruction,
+)
+    requires some { 0 < chosen_count (r2_of i) }
+    requires placed { S.IsPlaced storage.old block }
+    requires begins { block.first ≤ start }
+    requires ends { start + chosen_count (r2_of i) ≤ block.first + 2048 }
+    ensures stored { S.memory storage.new
+        ≡ with_stored (S.memory storage.old) start
+        (chosen (r2_of i) (bytes_of cpu.now (r1_of i))) }
+    ensures rest { S.Keeps storage.old storage.new }
+{
+    let mask = i.r2().number();
+    let count = chosen_count(mask);
+    let mut made = [0u8; 4];
+    gather(mask, &cpu.general[i.r1().index()].to_be_bytes(), &mut made);
+    storage.store_in(block, start, &made[..count as usize]);
+}
+
 /// BE STCM: store characters under mask.
 ///
 /// # Errors
@@ -207,6 +235,45 @@ fn order_at<S: Storage>(
     );
     storage.load(start, right);
     string_order(&left[..right.len()], right)
+}
+
+/// Returns the number that the bytes of a register are which a mask chooses, where it chooses some.
+#[inline(always)]
+fn chosen_number(cpu: &Cpu, register: Register, mask: u8) -> u64
+    requires some { 0 < chosen_count mask }
+    ensures { result ≡ number (chosen mask (bytes_of cpu.now register)) }
+{
+    let mut left = [0u8; 4];
+    gather(
+        mask,
+        &cpu.general[register.index()].to_be_bytes(),
+        &mut left,
+    );
+    let [a, b, c, d] = left;
+    front_number([a, b, c, d, 0, 0, 0, 0], chosen_count(mask))
+}
+
+/// Returns the condition code that CLM sets, where eight bytes from its operand on lie in a block
+/// that was found, and the mask chooses some.
+#[inline(always)]
+pub fn characters_order_in<S: Storage>(
+    cpu: &Cpu,
+    storage: &S,
+    block: Block,
+    start: u32,
+    i: Instruction,
+) -> ConditionCode
+    requires some { 0 < chosen_count (r2_of i) }
+    requires placed { S.IsPlaced storage.now block }
+    requires begins { block.first ≤ start }
+    requires ends { start + 8 ≤ block.first + 2048 }
+    ensures { result ≡ string_order (chosen (r2_of i) (bytes_of cpu.now (r1_of i)))
+        (slice_range (S.memory storage.now).bytes start (start + chosen_count (r2_of i))) }
+{
+    let mask = i.r2().number();
+    let left = chosen_number(cpu, i.r1(), mask);
+    let right = number_in(storage, block, start, chosen_count(mask));
+    number_order(left, right)
 }
 
 /// BD CLM: compare logical characters under mask.

@@ -8,9 +8,10 @@ ghost use Rattle.s370_rows.specs.Rows.{MeetsRow};
 ghost use Rattle.s370_bytes.specs.Translate.{is_apart, translation, string_translated, zeros};
 ghost use Rattle.s370_bytes.specs.Translate.{scanned, string_scanned};
 
+use crate::compare::holds_eight;
 use s370_num::{Addr24, ConditionCode};
 use s370_rows::{Completion, Cpu, Instruction, Refusal, grant_two};
-use s370_store::{Access, Block, Range, Storage, load_byte, store_byte};
+use s370_store::{Access, Block, Range, Storage, load_byte, load_byte_in, store_byte};
 
 /// Returns all bytes of a table: an access to it is tested whole, whichever of them are named.
 #[inline(always)]
@@ -104,6 +105,119 @@ fn translate_in<S: Storage>(
     storage.store_in(target, to, bytes);
 }
 
+/// Translates as [`translate_straight`] does, through buffers.
+#[inline(never)]
+fn translate_long<S: Storage>(
+    storage: &mut S,
+    target: Block,
+    to: u32,
+    source: Block,
+    from: u32,
+    count: u32,
+)
+    requires to { to < 2 ^ 24 }
+    requires table { from < 2 ^ 24 }
+    requires apart { is_apart to count from ≡ true }
+    requires some { 0 < count }
+    requires short { count ≤ 256 }
+    requires source_placed { S.IsPlaced storage.old source }
+    requires source_begins { source.first ≤ from }
+    requires source_ends { from + 256 ≤ source.first + 2048 }
+    requires target_placed { S.IsPlaced storage.old target }
+    requires target_inside { to + count ≤ length (S.memory storage.old).bytes }
+    requires target_begins { target.first ≤ to }
+    requires target_ends { to + count ≤ target.first + 2048 }
+    ensures translated { S.memory storage.new
+        ≡ with_stored (S.memory storage.old) to
+        (translation (S.memory storage.old).bytes to from count) }
+    ensures rest { S.Keeps storage.old storage.new }
+{
+    let mut table = [0u8; 256];
+    if count <= 16 {
+        let mut bytes = [0u8; 16];
+        translate_in(
+            storage,
+            target,
+            to,
+            source,
+            from,
+            &mut bytes[..count as usize],
+            &mut table,
+        );
+    } else {
+        let mut bytes = [0u8; 256];
+        translate_in(
+            storage,
+            target,
+            to,
+            source,
+            from,
+            &mut bytes[..count as usize],
+            &mut table,
+        );
+    }
+}
+
+/// Translates the first bytes of eight by a table that lies in a block that was found.
+#[inline(always)]
+fn translate_front<S: Storage>(
+    storage: &S,
+    source: Block,
+    from: u32,
+    bytes: &mut [u8; 8],
+    count: usize,
+)
+    requires few { count ≤ 8 }
+    requires source_placed { S.IsPlaced storage.now source }
+    requires source_begins { source.first ≤ from }
+    requires source_ends { from + 256 ≤ source.first + 2048 }
+    requires table { from < 2 ^ 24 }
+    ensures each { (k : ℕ) → k < count
+        → slice_index bytes.new k
+        ≡ slice_index (S.memory storage.now).bytes (from + slice_index bytes.old k) }
+    ensures rest { (k : ℕ) → count ≤ k → slice_index bytes.new k ≡ slice_index bytes.old k }
+    ensures names { (k : ℕ) → slice_index bytes.old k < 256 }
+{
+    for k in 0..count {
+        bytes[k] = load_byte_in(storage, source, from + bytes[k] as u32);
+    }
+}
+
+/// Translates as [`translate_straight`] does, at most eight bytes that are no part of the table.
+/// Eight bytes are loaded and stored, of which the others stay as they are.
+#[inline(always)]
+fn translate_short<S: Storage>(
+    storage: &mut S,
+    target: Block,
+    to: u32,
+    source: Block,
+    from: u32,
+    count: u32,
+)
+    requires to { to < 2 ^ 24 }
+    requires table { from < 2 ^ 24 }
+    requires apart { is_apart to count from ≡ true }
+    requires some { 0 < count }
+    requires few { count ≤ 8 }
+    requires target_room { to + 8 ≤ target.first + 2048 }
+    requires source_placed { S.IsPlaced storage.old source }
+    requires source_begins { source.first ≤ from }
+    requires source_ends { from + 256 ≤ source.first + 2048 }
+    requires target_placed { S.IsPlaced storage.old target }
+    requires target_inside { to + count ≤ length (S.memory storage.old).bytes }
+    requires target_begins { target.first ≤ to }
+    requires target_ends { to + count ≤ target.first + 2048 }
+    ensures translated { S.memory storage.new
+        ≡ with_stored (S.memory storage.old) to
+        (translation (S.memory storage.old).bytes to from count) }
+    ensures rest { S.Keeps storage.old storage.new }
+{
+    let mut bytes = [0u8; 8];
+    storage.load_in(target, to, &mut bytes);
+    translate_front(storage, source, from, &mut bytes, count as usize);
+    storage.store_in(target, to, &bytes);
+}
+
 /// Does TR of a string and a table that each lie in a block that was found, if they have no byte in
 /// common. Else nothing changes.
 #[inline(always)]
@@ -136,29 +250,10 @@ pub fn translate_straight<S: Storage>(
     if !is_apart(to, count, from) {
         return false;
     }
-    let mut table = [0u8; 256];
-    if count <= 16 {
-        let mut bytes = [0u8; 16];
-        translate_in(
-            storage,
-            target,
-            to,
-            source,
-            from,
-            &mut bytes[..count as usize],
-            &mut table,
-        );
+    if count <= 8 && holds_eight(target, to) {
+        translate_short(storage, target, to, source, from, count);
     } else {
-        let mut bytes = [0u8; 256];
-        translate_in(
-            storage,
-            target,
-            to,
-            source,
-            from,
-            &mut bytes[..count as usize],
-            &mut table,
-        );
+        translate_long(storage, target, to, source, from, count);
     }
     true
 }

@@ -9,24 +9,30 @@ ghost use Rattle.s370_store.specs.Access.{test_of};
 ghost use Rattle.s370_store.specs.declared.Access.TheVariants.{Fetch, Store};
 ghost use Rattle.s370_rows.specs.State.{state_of};
 ghost use Rattle.s370_rows.specs.Rows.{Grants, fetch_test};
+ghost use Rattle.s370_bytes.specs.Decimal.{decimal_stored};
+ghost use Rattle.s370_bytes.specs.Masks.{characters_compared, characters_stored};
 ghost use Rattle.s370_bytes.specs.Multiple.{multiple_loaded, multiple_stored};
 ghost use Rattle.s370_cpu.specs.FetchRows.{MeetsOperand, byte_tested, character_inserted};
 ghost use Rattle.s370_cpu.specs.FetchRows.{fetch_row, half_of, halfword_multiplied};
 ghost use Rattle.s370_cpu.specs.FetchRows.{halfword_operation, operand_of, word_divided};
 ghost use Rattle.s370_cpu.specs.FetchRows.{word_multiplied, word_of, word_operation};
-ghost use Rattle.s370_cpu.specs.StoreRows.{byte_changed, character_stored, halfword_stored};
+ghost use Rattle.s370_cpu.specs.StoreRows.{byte_changed, character_stored, doubleword_swapped};
+ghost use Rattle.s370_cpu.specs.StoreRows.{halfword_stored};
 ghost use Rattle.s370_cpu.specs.StoreRows.{store_row, word_stored, word_swapped};
 ghost use Rattle.s370_quick.specs.Quick.{AreHeld, MeetsAtOnce, done_of};
 
 use crate::held::{HeldBlock, operand_block};
 use crate::strings::{combine_quickly, compare_quickly, move_quickly, translate_quickly};
-use s370_bytes::{Combine, load_registers_in, store_registers_in, words_range};
+use s370_bytes::{
+    Combine, characters_order_in, chosen_count, compare_characters_row, decimal_of, holds_eight,
+    load_registers_in, store_characters_in, store_characters_row, store_registers_in, words_range,
+};
 use s370_cpu::{FetchRow, StoreRow, fetch_row, store_row};
 use s370_num::Addr24;
 use s370_rows::{
     Arithmetic, ByteChange, ByteTest, Completion, Cpu, Instruction, Refusal, arithmetic_row,
-    change_byte, compare_and_swap, divide_row, halfword_operand, insert_byte_row,
-    multiply_halfword_row, multiply_row, test_byte,
+    change_byte, compare_and_swap, compare_and_swap_pair, divide_row, halfword_operand,
+    insert_byte_row, multiply_halfword_row, multiply_row, test_byte,
 };
 use s370_store::{Access, Block, Storage, load_byte_in, load_word_in, store_word_in};
 
@@ -355,6 +361,39 @@ fn load_multiple_quickly<S: Storage>(
     }
 }
 
+/// BD CLM: compare logical characters under mask.
+#[inline(always)]
+fn compare_characters_quickly<S: Storage>(
+    cpu: &mut Cpu,
+    storage: &S,
+    i: Instruction,
+    held: &mut HeldBlock,
+) -> Option<Completion>
+    requires operands { AreHeld (S.IsPlaced storage.now) (S.memory storage.now)
+        (S.present storage.now) cpu.old.psw.key held.old }
+    ensures row { let before = state_of cpu.old (S.memory storage.now) in
+        let after = state_of cpu.new (S.memory storage.now) in
+        MeetsAtOnce (characters_compared before i) (S.present storage.now) before result after }
+    ensures operands { AreHeld (S.IsPlaced storage.now) (S.memory storage.now)
+        (S.present storage.now) cpu.old.psw.key held.new }
+{
+    let start = cpu.based(i.second_half);
+    let count = chosen_count(i.r2().number());
+    if count == 0 {
+        return done_of(compare_characters_row(cpu, storage, i));
+    }
+    match source_block(cpu, storage, held, start, count) {
+        Some(found) => if holds_eight(found, start.get()) {
+            let condition = characters_order_in(cpu, storage, found, start.get(), i);
+            cpu.psw.set_condition(condition);
+            Some(Completion::Done)
+        } else {
+            done_of(compare_characters_row(cpu, storage, i))
+        },
+        None => None,
+    }
+}
+
 /// 50 ST: the store of a register.
 #[inline(always)]
 fn store_word_quickly<S: Storage>(
@@ -530,6 +569,100 @@ fn swap_word_quickly<S: Storage>(
     }
 }
 
+/// BB CDS: the swap of a doubleword.
+#[inline(always)]
+fn swap_doubleword_quickly<S: Storage>(
+    cpu: &mut Cpu,
+    storage: &mut S,
+    i: Instruction,
+    held: &mut HeldBlock,
+) -> Option<Completion>
+    requires operands { AreHeld (S.IsPlaced storage.old) (S.memory storage.old)
+        (S.present storage.old) cpu.old.psw.key held.old }
+    ensures row { let before = state_of cpu.old (S.memory storage.old) in
+        let after = state_of cpu.new (S.memory storage.new) in
+        MeetsAtOnce (doubleword_swapped before i) (S.present storage.old) before result after }
+    ensures rest { S.Keeps storage.old storage.new }
+    ensures operands { AreHeld (S.IsPlaced storage.old) (S.memory storage.old)
+        (S.present storage.old) cpu.old.psw.key held.new }
+{
+    let start = cpu.based(i.second_half);
+    if i.r1().number() % 2 != 0 || i.r2().number() % 2 != 0 || start.get() % 8 != 0 {
+        return None;
+    }
+    match target_block(cpu, storage, held, start, 8) {
+        Some(found) => {
+            let mut bytes = [0u8; 8];
+            storage.load_in(found, start.get(), &mut bytes);
+            match compare_and_swap_pair(cpu, i.r1(), i.r2(), u64::from_be_bytes(bytes)) {
+                Some(taken) => storage.store_in(found, start.get(), &taken.to_be_bytes()),
+                None => {}
+            }
+            Some(Completion::Done)
+        }
+        None => None,
+    }
+}
+
+/// 4E CVD: the store of 15 decimal digits and a sign.
+#[inline(always)]
+fn store_decimal_quickly<S: Storage>(
+    cpu: &Cpu,
+    storage: &mut S,
+    i: Instruction,
+    held: &mut HeldBlock,
+) -> Option<Completion>
+    requires operands { AreHeld (S.IsPlaced storage.old) (S.memory storage.old)
+        (S.present storage.old) cpu.now.psw.key held.old }
+    ensures row { let before = state_of cpu.now (S.memory storage.old) in
+        let after = state_of cpu.now (S.memory storage.new) in
+        MeetsAtOnce (decimal_stored before i) (S.present storage.old) before result after }
+    ensures rest { S.Keeps storage.old storage.new }
+    ensures operands { AreHeld (S.IsPlaced storage.old) (S.memory storage.old)
+        (S.present storage.old) cpu.now.psw.key held.new }
+{
+    let start = cpu.indexed(i.r2(), i.second_half);
+    match target_block(cpu, storage, held, start, 8) {
+        Some(found) => {
+            let decimal = decimal_of(cpu.general[i.r1().index()]);
+            storage.store_in(found, start.get(), &decimal.to_be_bytes());
+            Some(Completion::Done)
+        }
+        None => None,
+    }
+}
+
+/// BE STCM: store characters under mask.
+#[inline(always)]
+fn store_characters_quickly<S: Storage>(
+    cpu: &Cpu,
+    storage: &mut S,
+    i: Instruction,
+    held: &mut HeldBlock,
+) -> Option<Completion>
+    requires operands { AreHeld (S.IsPlaced storage.old) (S.memory storage.old)
+        (S.present storage.old) cpu.now.psw.key held.old }
+    ensures row { let before = state_of cpu.now (S.memory storage.old) in
+        let after = state_of cpu.now (S.memory storage.new) in
+        MeetsAtOnce (characters_stored before i) (S.present storage.old) before result after }
+    ensures rest { S.Keeps storage.old storage.new }
+    ensures operands { AreHeld (S.IsPlaced storage.old) (S.memory storage.old)
+        (S.present storage.old) cpu.now.psw.key held.new }
+{
+    let start = cpu.based(i.second_half);
+    let count = chosen_count(i.r2().number());
+    if count == 0 {
+        return done_of(store_characters_row(cpu, storage, i));
+    }
+    match target_block(cpu, storage, held, start, count) {
+        Some(found) => {
+            store_characters_in(cpu, storage, found, start.get(), i);
+            Some(Completion::Done)
+        }
+        None => None,
+    }
+}
+
 /// Carries out a row that fetches its operands, but for the address.
 #[inline(always)]
 pub fn fetch_held<S: Storage, const CODE: u8, const WAY: u8>(
@@ -557,6 +690,7 @@ pub fn fetch_held<S: Storage, const CODE: u8, const WAY: u8>(
         FetchRow::LoadMultiple => load_multiple_quickly(cpu, storage, i, held),
         FetchRow::TestByte(test) => test_byte_quickly(test, cpu, storage, i, held),
         FetchRow::CompareStrings => compare_quickly(cpu, storage, i, held),
+        FetchRow::CompareCharacters => compare_characters_quickly(cpu, storage, i, held),
         _ => done_of(fetch_row::<S, CODE>(row, cpu, storage, i)),
     }
 }
@@ -586,6 +720,9 @@ pub fn store_held<S: Storage, const CODE: u8, const WAY: u8>(
         StoreRow::StoreMultiple => store_multiple_quickly(cpu, storage, i, held),
         StoreRow::ChangeByte(change) => change_byte_quickly(change, cpu, storage, i, held),
         StoreRow::SwapWord => swap_word_quickly(cpu, storage, i, held),
+        StoreRow::SwapDoubleword => swap_doubleword_quickly(cpu, storage, i, held),
+        StoreRow::ConvertToDecimal => store_decimal_quickly(cpu, storage, i, held),
+        StoreRow::StoreCharacters => store_characters_quickly(cpu, storage, i, held),
         StoreRow::CombineStrings(Combine::Move) => move_quickly(cpu, storage, i, held),
         StoreRow::CombineStrings(operation) => { combine_quickly(operation, cpu, storage, i, held) }
         StoreRow::Translate => translate_quickly(cpu, storage, i, held),

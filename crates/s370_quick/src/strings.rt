@@ -127,7 +127,7 @@ fn move_apart<S: Storage>(
 }
 
 /// D1 MVN, D3 MVZ, D4 NC, D6 OC, D7 XC: between two blocks, or else by the row.
-#[inline(never)]
+#[inline(always)]
 pub fn combine_quickly<S: Storage>(
     operation: Combine,
     cpu: &mut Cpu,
@@ -170,7 +170,7 @@ pub fn combine_quickly<S: Storage>(
 }
 
 /// DC TR: between two blocks, or else by the row.
-#[inline(never)]
+#[inline(always)]
 pub fn translate_quickly<S: Storage>(
     cpu: &Cpu,
     storage: &mut S,
@@ -204,7 +204,7 @@ pub fn translate_quickly<S: Storage>(
 }
 
 /// D5 CLC: between two blocks, or else by the row.
-#[inline(never)]
+#[inline(always)]
 pub fn compare_quickly<S: Storage>(
     cpu: &mut Cpu,
     storage: &S,

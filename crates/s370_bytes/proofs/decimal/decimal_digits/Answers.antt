@@ -1,6 +1,6 @@
-use Rattle.std.proofs.Common.{rules, arith, ◌≡◌, ℕ, ◌+◌, ◌*◌, ◌%◌, ◌^◌, ◌<◌, ◌∙◌, sym, ap}
+use Rattle.std.proofs.Common.{rules, arith, ◌≡◌, ℕ, ◌+◌, ◌-◌, ◌*◌, ◌%◌, ◌^◌, ◌<◌, ◌∙◌, sym, ap}
 use Rattle.std.proofs.lemmas.Nat.{mul-le}
-use Rattle.s370_bytes.proofs.Bases.{sixteens, number_more, all_number, below_more, power_next}
+use Rattle.s370_bytes.proofs.Bases.{sixteens, number_more, all_number, below_more, power_next, rebased_zero}
 use Rattle.s370_bytes.proofs.decimal.decimal_digits.Goals as goal
 
 pub overflow_mul-value : goal.overflow_mul-value
@@ -37,3 +37,13 @@ returns c =
     let k : c.loop-k._k ≡ 15 = omega arith in
     let s : c.loop-k.scale ≡ 16 ^ 15 = c.loop-k.invariant.scaled ∙ ap (λ (i : ℕ). 16 ^ i) k in
     record { value = n; below = omega (arith, s) }
+
+pub returns-then-rest-eq0-clause-value : goal.returns-then-rest-eq0-clause-value
+returns-then-rest-eq0-clause-value c =
+    let some : 0 < 10 = omega arith in
+    let n = rw (c.if-rest-eq0.true, rebased_zero 16 10 (15 - c.loop-k._k) some) at c.loop-k.invariant.number in
+    omega (arith, n)
+
+pub returns-then-rest-eq0-clause-below : goal.returns-then-rest-eq0-clause-below
+returns-then-rest-eq0-clause-below c =
+    omega (arith, sixteens c.loop-k._k c.loop-k-test.true, c.loop-k.invariant.scaled, c.loop-k.invariant.below)
