@@ -423,7 +423,7 @@ def try_kept_machines(check: Check, site: Site, program: str) -> None:
     check("the next session has the machines", holds, *lines)
     check("from the state", begun_with(site) == f"{site.record}.begin", *site.findings)
     site.operate("frames")
-    check("frames are not looked for", site.await_message("frames are not looked for"))
+    check("frames are those of the state", site.await_message("PAGE INS"), *site.findings)
     site.kill(is_all=True)
     site.online()
     check("also after a kill", value_in(run(shown(site))) == 5, *site.findings)
@@ -503,7 +503,7 @@ def try_replays(check: Check, site: Site, repository: str) -> None:
     words = [f"{repository}/bin/report", "--looks", "1", site.record, out]
     done = subprocess.run(words, capture_output=True, text=True)
     text = read(out).decode() if done.returncode == 0 else ""
-    holds = "GPR 1 = 00000000" in text and "without frames" in done.stderr
+    holds = "GPR 1 = 00000000" in text and "Frames at the end" in text
     check("and has a page", holds, done.stderr)
     os.rename(f"{site.record}.begin", f"{site.record}.away")
     done = subprocess.run(words, capture_output=True, text=True)

@@ -85,6 +85,26 @@ def try_script(check: Check, command: str, folder: str, name: str, place: int) -
     check(f"{name} in two runs: its volumes", list(map(read, volumes)) == images)
 
 
+def try_map(check: Check, repository: str, folder: str) -> None:
+    """The map of frames after a script in two runs is that after the whole, and what is refused is reported with a reason."""
+    folder = f"{folder}/more-pages-than-frames"
+    sizes, state = example("more-pages-than-frames").sizes, f"{folder}/mapped"
+    command, named = [f"{repository}/bin/framemap", *sizes], f"{folder}/directory"
+    first = done(f"{repository}/bin/vm370", *sizes, "--save-state", state, named, f"{folder}/one")
+    whole = done(*command, named, f"{folder}/whole")
+    found = done(*command, "--state", state, named, f"{folder}/two")
+    holds = first.returncode == found.returncode == 0 and found.stdout == whole.stdout != b""
+    check("a map from a state", holds, *findings_of(first), *findings_of(found))
+    write(f"{folder}/bad", b"BAD")
+    found = done(*command, f"--state={state}", named, f"{folder}/bad")
+    holds = found.returncode == 1 and b"fault: script Line 1\n" in found.stderr
+    check("a map of a script that is refused", holds, *findings_of(found))
+    write(f"{folder}/other", b"USER B PW 8K\n")
+    found = done(*command, "--state", state, f"{folder}/other", f"{folder}/two")
+    holds = found.returncode == 1 and b"it is of another directory" in found.stderr
+    check("a map from a state of another directory", holds, *findings_of(found))
+
+
 def refuse_states(check: Check, command: str, folder: str) -> None:
     """What is no state of these machines is refused, with a reason, and a script that is refused leaves none."""
     os.makedirs(folder)
@@ -189,6 +209,7 @@ def try_commands(check: Check, repository: str, programs: tuple[str, str], folde
     os.makedirs(folder)
     for name, place in EXAMPLES.items():
         try_script(check, f"{repository}/bin/vm370", f"{folder}/{name}", name, place)
+    try_map(check, repository, folder)
     refuse_states(check, f"{repository}/bin/vm370", f"{folder}/refused")
     type_states(check, repository, f"{folder}/typed")
     refuse_words(check, *programs, folder)

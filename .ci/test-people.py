@@ -36,6 +36,7 @@ import installation_operators
 import installation_states
 import page_tables
 import state_commands
+import typed_lines
 import watching
 
 if TYPE_CHECKING:
@@ -1290,6 +1291,7 @@ def try_states(repository: str, folder: str) -> None:
     broken.try_broken(check, programs[0], broken.EVERY, broken.SCRIPTS, 1)
     broken.try_tables(check, programs[0], broken.ONE_OF, 1)
     broken.try_spoiled(check, programs[0], broken.STATES, 1)
+    typed_lines.try_typed(check, programs[0], 50)
 
 
 def main() -> None:

@@ -159,7 +159,7 @@ run_program() {
     trap 'stop_program 130' INT
     trap 'stop_program 143' TERM
     if [ -n "${states-}" ]; then
-        PYTHONDONTWRITEBYTECODE=1 python3 "$root/bin/lib/run.py" state_runs "$name" "$program" "$@" <&4 2> "$errors" &
+        PYTHONDONTWRITEBYTECODE=1 python3 "$root/bin/lib/run.py" "${state_runner-state_runs}" "$name" "$program" "$@" <&4 2> "$errors" &
     elif [ -n "${watches-}" ] && [ -t 2 ] && [ -z "${option_follow-}" ] && command -v python3 > /dev/null; then
         PYTHONDONTWRITEBYTECODE=1 python3 "$root/bin/lib/run.py" watched "$name" "$script" "$program" "$@" <&4 3>&2 2> "$errors" &
     else

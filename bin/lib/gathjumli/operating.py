@@ -142,10 +142,6 @@ class Operator:
 
     def frames(self, reply: Any, end: Any) -> None:
         """Has bin/framemap do the recording as it is now, in parallel to all else."""
-        if self.engine.recording.beginning:
-            reply("frames are not looked for: the session goes on with the machines of another one")
-            end(NOT_DONE)
-            return
         if self.mapping and self.mapping.is_alive():
             reply("the frames are being looked for")
             end(NOT_DONE)
@@ -161,12 +157,18 @@ class Operator:
             reply("the program frame_map is not built: run bin/framemap once by hand")
             end(NOT_DONE)
             return
-        done = subprocess.run(self.framemap, input=script, capture_output=True)
+        done = subprocess.run(self.framemap_words(), input=script, capture_output=True)
         for line in (
             (done.stderr if done.returncode else done.stdout).decode(errors="replace").splitlines()
         ):
             reply(line)
         end(NOT_DONE if done.returncode else DONE)
+
+    def framemap_words(self) -> list[str]:
+        """The words of bin/framemap, with the state with which the session began, if it began with one."""
+        beginning, place = self.engine.recording.beginning, self.framemap.index("--")
+        path = beginning and self.engine.states.path(beginning.name)
+        return [*self.framemap[:place], *(["--state", path] if path else []), *self.framemap[place:]]
 
     def message(self, text: str, reply: Any) -> None:
         """A line for the user whose name is the first word, else for each terminal."""

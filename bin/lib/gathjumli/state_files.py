@@ -170,6 +170,13 @@ def restore(program: Program, state: StateFile) -> None:
         raise StateRefused(refused.status, *refused.lines, OTHER_VOLUMES) from None
 
 
+def write_bytes(state: StateFile, path: str) -> None:
+    """Writes the bytes of a state alone, as programs read them, for their owner only."""
+    handle = os.open(path, os.O_WRONLY | os.O_CREAT | os.O_EXCL, 0o600)
+    with open(handle, "wb") as file:
+        file.writelines(state.pieces())
+
+
 def save_state(program: Program, path: str, machines: Machines, notes: dict[str, Any]) -> None:
     """Writes the state of a program into a file."""
     base, saved = base_of(machines), program.save()

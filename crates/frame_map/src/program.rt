@@ -1,16 +1,19 @@
-//! The program `framemap [--frames N] [--slots N] [--save] DIRECTORY SCRIPT [VOLUME]...`: the
-//! script is done as `vm370` does it, and then the map of frames and slots is printed.
+//! The program `framemap [--frames N] [--slots N] [--save] [--state FILE] DIRECTORY SCRIPT
+//! [VOLUME]...`: the script is done as `vm370` does it, from a state if one is named, and then the
+//! map of frames and slots is printed.
 //!
-//! Its words, its refusals and its exit statuses are those of `vm370`; what that would print is not
-//! kept.
+//! Its refusals and its exit statuses are those of `vm370`; what that would print is not kept.
+use crate::arguments::{MapOptions, arguments};
 use crate::map::frame_map;
 use crate::nowhere::Nowhere;
 use programs::program::{output, words, wrong_use};
 use programs::{Failure, FileStore, HostFiles, ProgramEnd, finish, save_images, saved_paths};
-use s370_num::host::{HostWriter, write_all};
+use s370_num::host::{HostWriter, read_all, write_all};
 use sessions::session::session;
+use sessions::{Detail, Follower, Part};
+use std::alloc::Global;
 use std::rt::{Env, Files};
-use vm370::arguments::arguments;
+use vm370::SharedMachines;
 use vm370::runs::read_system;
 
 /// The program's name, as it says it.
@@ -19,6 +22,7 @@ const PROGRAM: &str = "framemap";
 /// What is reported after a usage text: what is printed, an example, and the exit statuses.
 const USAGE_NOTE: &str = "
 Prints who has which frame and which slot after the script, in place of what the terminals show.
+A state has the bytes that vm370 answers to SAVE.
 
 Example:
   printf 'USER A PW 8K\\n' > users
@@ -27,7 +31,7 @@ Example:
 
 The map goes to standard output, a fault as one line to standard error. Exit statuses:
   0  the script was done to its end, and the map is printed
-  1  the directory, an image, the boot or the script was refused; the line tells where
+  1  the directory, an image, the boot, the script or the state was refused; the line tells where
   2  wrong words, or --help
   3  a file could not be opened, read or written
   4  there was not memory enough
@@ -48,19 +52,68 @@ fn run<R: AllocGlobal + Files + Env + Print + Eprint>(rt: &R) -> Result<(), Fail
         Ok(options) => options,
         Err(error) => return Err(wrong_use(rt, &error, USAGE_NOTE)),
     };
-    let volumes = options.volumes.as_slice();
+    let run = &options.run;
+    let volumes = run.volumes.as_slice();
     let mut files = HostFiles::new(rt);
-    let mut machines = read_system(alloc, &mut files, options.directory, volumes, options.sizes)?;
-    let mut script = files.open(options.script)?;
-    session(alloc, &mut machines, &mut script, &mut Nowhere)?;
-    let map = frame_map(alloc, machines.system(), options.sizes)?;
+    let machines = read_system(alloc, &mut files, run.directory, volumes, run.sizes)?;
+    let machines = run_script(alloc, &mut files, machines, &options)?;
+    let map = frame_map(alloc, machines.system(), run.sizes)?;
     let mut output = output(rt, false)?;
     write_all(&mut output, &map)?;
     output.flush()?;
-    save_images(
-        alloc,
-        &mut files,
-        &machines,
-        saved_paths(options.save, volumes),
-    )
+    save_images(alloc, &mut files, &machines, saved_paths(run.save, volumes))
+}
+
+/// Does the script, from the state if one is named, and returns what it leaves.
+fn run_script<F: FileStore>(
+    alloc: Global,
+    files: &mut F,
+    machines: SharedMachines,
+    options: &MapOptions<'_>,
+) -> Result<SharedMachines, Failure> {
+    if let Some(state) = options.state {
+        let begun = Follower::begin(alloc, machines, Detail::Whole)?;
+        let follower = restored(alloc, files, begun, state)?;
+        return follow(alloc, files, follower, options.run.script);
+    }
+    let mut machines = machines;
+    let mut script = files.open(options.run.script)?;
+    session(alloc, &mut machines, &mut script, &mut Nowhere)?;
+    Ok(machines)
+}
+
+/// Returns what the state at this path restores.
+fn restored<F: FileStore>(
+    alloc: Global,
+    files: &mut F,
+    follower: Follower<SharedMachines>,
+    state: &str,
+) -> Result<Follower<SharedMachines>, Failure> {
+    let mut file = files.open(state)?;
+    let bytes = read_all(alloc, &mut file)?;
+    match follower.restored(alloc, &bytes)? {
+        Some(follower) => Ok(follower),
+        None => Err(Failure::State),
+    }
+}
+
+/// Does the script at this path as one part, and returns what it leaves. Its last line need not be
+/// ended.
+fn follow<F: FileStore>(
+    alloc: Global,
+    files: &mut F,
+    follower: Follower<SharedMachines>,
+    script: &str,
+) -> Result<SharedMachines, Failure> {
+    let mut file = files.open(script)?;
+    let mut text = read_all(alloc, &mut file)?;
+    if !text.is_empty() && text.last() != Some(&b'\n') {
+        let Ok(()) = text.push(b'\n') else {
+            return Err(Failure::Memory);
+        };
+    }
+    match follower.part(alloc, &text, &mut Nowhere)? {
+        Part::Done(follower) => Ok(follower.close(alloc, &mut Nowhere)?),
+        Part::Refused(_, line) => Err(Failure::Script(line)),
+    }
 }

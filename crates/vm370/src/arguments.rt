@@ -60,16 +60,30 @@ pub fn arguments<'a, S: AsStr>(
         IfErr result (λ error. error ≡ UsageError.Memory) }
 {
     let matches = matched(alloc, program, words)?;
-    let Some(sizes) = sizes_in(&matches) else {
+    options_of(alloc, &matches)
+}
+
+/// Returns what words name that `clap` has read for a command with the arguments of [`command`].
+///
+/// # Errors
+///
+/// A `UsageError`: the text that says what is wrong with the arguments, or refused memory.
+pub fn options_of<'a>(alloc: Global, matches: &ArgMatches<'a>) -> Result<Options<'a>, UsageError>
+    ensures ok { IfOk result (IsNamed (rows_of (found_of matches.now))) }
+    ensures err { (sizes : SystemSizes) → gives_paths (rows_of (found_of matches.now)) ≡ true →
+        IsSized (rows_of (found_of matches.now)) sizes →
+        IfErr result (λ error. error ≡ UsageError.Memory) }
+{
+    let Some(sizes) = sizes_in(matches) else {
         return Err(wrong_sizes(alloc));
     };
-    let Some((directory, script)) = paths_in(&matches) else {
+    let Some((directory, script)) = paths_in(matches) else {
         return Err(usage(alloc, "a path is missing\n"));
     };
-    let volumes = paths_of(alloc, &matches, "VOLUME")?;
+    let volumes = paths_of(alloc, matches, "VOLUME")?;
     Ok(Options {
         sizes,
-        save: is_given(&matches, "save"),
+        save: is_given(matches, "save"),
         directory,
         script,
         volumes,
@@ -138,8 +152,12 @@ fn matched<'a, S: AsStr>(
     }
 }
 
-/// Returns the program's words, as they are described to `clap`.
-fn command<'a>(alloc: Global, program: &'a str) -> Result<Command<'a>, AllocError>
+/// Returns the arguments of the program, as they are described to `clap`.
+///
+/// # Errors
+///
+/// `AllocError` if memory is refused.
+pub fn command<'a>(alloc: Global, program: &'a str) -> Result<Command<'a>, AllocError>
     ensures { IfOk result (λ c. app_of c ≡ command_of program.entry.now) }
 {
     let command = Command::new(alloc, program)
