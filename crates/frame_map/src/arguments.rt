@@ -75,7 +75,9 @@ fn matched<'a, S: AsStr>(
 fn command<'a>(alloc: Global, program: &'a str) -> Result<Command<'a>, AllocError>
     ensures { IfOk result (λ c. app_of c ≡ command_of program.entry.now) }
 {
-    vm370::arguments::command(alloc, program)?.arg(state(alloc))
+    let known = vm370::arguments::command(alloc, program)?;
+    let command = known.arg(state(alloc))?;
+    Ok(command)
 }
 
 /// Returns the argument `--state FILE`.

@@ -114,6 +114,6 @@ fn follow<F: FileStore>(
     }
     match follower.part(alloc, &text, &mut Nowhere)? {
         Part::Done(follower) => Ok(follower.close(alloc, &mut Nowhere)?),
-        Part::Refused(_, line) => Err(Failure::Script(line)),
+        Part::Refused(_same, line) => Err(Failure::Script(line)),
     }
 }

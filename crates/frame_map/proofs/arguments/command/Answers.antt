@@ -3,4 +3,5 @@ use Rattle.frame_map.proofs.arguments.command.Goals as goal
 
 pub returns : goal.returns
 returns c =
-    one_more _ _ _ _ _ (c.in_ok-arg.ensures.shape c.state.ensures.local) c.in_ok-command.ensures c.state.ensures.rule
+    one_more _ _ _ _ _ (c.in_ok-command.ensures.shape c.state.ensures.local) c.in_ok-known.ensures
+    c.state.ensures.rule
