@@ -11,6 +11,7 @@ returns-in-Some-clause-row g c =
     let number = λ (r : ℕ). decimal_of (slice_index c.args.cpu.now.general r) in
     wrote c.args.cpu.now before _ _ _ _ c.indexed-start.result 8
     (search rules)
-    (c.to_be_bytes.ensures ∙ ap (λ (n : ℕ). to_be_bytes w64 n) (c.decimal_of-decimal.ensures ∙ ap number (c.index.ensures.value ∙ c.r1.ensures)))
+    (c.to_be_bytes.ensures ∙ ap (λ (n : ℕ). to_be_bytes w64 n) (c.decimal_of-decimal.ensures
+    ∙ ap number (c.index.ensures.value ∙ c.r1.ensures)))
     c.in-Some.ensures.granted.0
     (c.store_in.ensures.stored ∙ ap (λ (a : ℕ). with_stored before a c.to_be_bytes.result) c.get.ensures.value)
