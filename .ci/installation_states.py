@@ -404,7 +404,7 @@ def add_volume(site: Site) -> str:
     return site.paths[-1]
 
 
-def try_kept_machines(check: Check, site: Site, program: str) -> None:
+def try_kept_machines(check: Check, site: Site, program: str, has_frames: bool = False) -> None:
     """An end saves the volumes, and the next session goes on with all machines."""
     volume, before = add_volume(site), image_of("V1", 1)
     site.online()
@@ -422,8 +422,9 @@ def try_kept_machines(check: Check, site: Site, program: str) -> None:
     holds = value_in(lines) == 5 and "RECONNECTED" in lines and "STORE G1 00000005" in lines
     check("the next session has the machines", holds, *lines)
     check("from the state", begun_with(site) == f"{site.record}.begin", *site.findings)
-    site.operate("frames")
-    check("frames are those of the state", site.await_message("PAGE INS"), *site.findings)
+    if has_frames:
+        site.operate("frames")
+        check("frames are those of the state", site.await_message("PAGE INS"), *site.findings)
     site.kill(is_all=True)
     site.online()
     check("also after a kill", value_in(run(shown(site))) == 5, *site.findings)
@@ -442,7 +443,9 @@ def try_kept_machines(check: Check, site: Site, program: str) -> None:
     check("it is suspended", site.stop() == 0)
 
 
-def try_kept_files(check: Check, site: Site, prints: tuple, repository: str) -> None:
+def try_kept_files(
+    check: Check, site: Site, prints: tuple, repository: str, looks: int = 0
+) -> None:
     """Files that are open or closed at an end: each is printed once, and numbers go on; what the next session did replays."""
 
     async def does(*steps: tuple[tuple, str]) -> None:
@@ -483,10 +486,10 @@ def try_kept_files(check: Check, site: Site, prints: tuple, repository: str) -> 
     if close:
         run(does((("QUERY FILES",), "FILE 0002 FROM SYSTEM CARDS 2")))
     check("it is suspended", site.stop() == 0)
-    try_replays(check, site, repository)
+    try_replays(check, site, repository, looks)
 
 
-def try_replays(check: Check, site: Site, repository: str) -> None:
+def try_replays(check: Check, site: Site, repository: str, looks: int) -> None:
     """A session that went on from another one replays from its state, and has a page."""
     words = [
         *sizes_of(site.record),
@@ -500,10 +503,10 @@ def try_replays(check: Check, site: Site, repository: str) -> None:
     holds = "ALICE: GPR 1 = 00000000\n" in done.stdout and "LOGON OK" not in done.stdout
     check("the session replays from its state", done.returncode == 0 and holds, done.stderr)
     out = f"{site.folder}/page.html"
-    words = [f"{repository}/bin/report", "--looks", "1", site.record, out]
+    words = [f"{repository}/bin/report", "--looks", str(looks), site.record, out]
     done = subprocess.run(words, capture_output=True, text=True)
     text = read(out).decode() if done.returncode == 0 else ""
-    holds = "GPR 1 = 00000000" in text and "Frames at the end" in text
+    holds = "GPR 1 = 00000000" in text and ("Frames at the end" in text) == (looks > 0)
     check("and has a page", holds, done.stderr)
     os.rename(f"{site.record}.begin", f"{site.record}.away")
     done = subprocess.run(words, capture_output=True, text=True)
@@ -847,10 +850,10 @@ def try_over_program(check: Check, command: str, program: str, folder: str) -> N
     try_seconds(check, make_site(command, f"{folder}/seconds"))
     try_wrong_states(check, make_site(command, f"{folder}/wrong"))
     try_steps(check, killed_site(command, f"{folder}/steps"))
-    try_kept_machines(check, make_site(command, f"{folder}/kept"), program)
+    try_kept_machines(check, make_site(command, f"{folder}/kept"), program, has_frames=True)
     repository = os.path.dirname(os.path.dirname(command))
     files = make_site(command, f"{folder}/kept files")
-    try_kept_files(check, files, (PRINTS, ("CLOSE 00E",)), repository)
+    try_kept_files(check, files, (PRINTS, ("CLOSE 00E",)), repository, looks=1)
     try_end_steps(check, killed_site(command, f"{folder}/end steps"))
 
 
