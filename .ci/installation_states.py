@@ -850,10 +850,11 @@ def try_over_program(check: Check, command: str, program: str, folder: str) -> N
     try_seconds(check, make_site(command, f"{folder}/seconds"))
     try_wrong_states(check, make_site(command, f"{folder}/wrong"))
     try_steps(check, killed_site(command, f"{folder}/steps"))
-    try_kept_machines(check, make_site(command, f"{folder}/kept"), program, has_frames=True)
     repository = os.path.dirname(os.path.dirname(command))
     files = make_site(command, f"{folder}/kept files")
     try_kept_files(check, files, (PRINTS, ("CLOSE 00E",)), repository, looks=1)
+    # the report has the program for frames built
+    try_kept_machines(check, make_site(command, f"{folder}/kept"), program, has_frames=True)
     try_end_steps(check, killed_site(command, f"{folder}/end steps"))
 
 

@@ -46,7 +46,7 @@ COMMANDS = (
     "terminal trace370 turns deck2script printouts img2vol vol2img vol2text framepicture trackpicture installation operator "
     "report"
 ).split()
-PROGRAMS = ["bare370_cli", "logon_desk_cli", "vm370_cli"]
+PROGRAMS = ["bare370_cli", "frame_map", "logon_desk_cli", "vm370_cli"]
 BUILDING = ["terminal", "trace370", "turns"]
 # words before a file that is not there
 WORDS = {"installation": ["--record", "r"], "report": ["none"]} | {
