@@ -13,3 +13,4 @@ mod OneLife
 mod Working
 pub mod DeviceCodes
 pub mod Forgotten
+pub mod Written

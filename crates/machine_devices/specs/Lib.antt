@@ -21,3 +21,4 @@ pub mod OneLife
 pub mod Working
 pub mod Saved
 pub mod Forgotten
+pub mod Written

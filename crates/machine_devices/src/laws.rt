@@ -3,6 +3,7 @@ ghost use Rattle.machine_devices.specs.Forgotten.{PrintedLinesDoNotMatter};
 ghost use Rattle.machine_devices.specs.OneLife.{LinesAreOne, LivesAreApart, LivesAreOne};
 ghost use Rattle.machine_devices.specs.Working.{AllGoOnHavingPrograms, DevicesStay};
 ghost use Rattle.machine_devices.specs.Working.{NoneWorksAtFirst, WorksWithProgram};
+ghost use Rattle.machine_devices.specs.Written.{ClosedFilesStay, WrittenFilesDoNotMatter};
 ghost use Rattle.machine_devices.specs.Attention.{AttentionAgreesAtFirst, AttentionGoesOnAgreeing};
 
 /// States that attention agrees with the lines that wait: whatever happened to a machine with
@@ -34,4 +35,11 @@ pub fn what_works_has_a_program()
 /// happens to it, it does the same without them.
 pub fn printed_lines_do_not_matter()
     ensures { PrintedLinesDoNotMatter }
+{}
+
+/// States that entries of closed files that were written elsewhere do not matter to a machine with
+/// devices: whatever happens to it, it does the same without them, and its closed files stay.
+pub fn written_files_do_not_matter()
+    ensures lives { WrittenFilesDoNotMatter }
+    ensures stays { ClosedFilesStay }
 {}
