@@ -365,7 +365,7 @@ pub line_refused : (old new : SystemView) (user : ℕ) (typed : Bor (List ℕ))
     → IsCutShort old (Line user typed) new
 line_refused old new user typed h lent rest between = record {
   may = h.leaves.1;
-  roomy = λ ipl. h.roomy ipl refl;
+  roomy = h.roomy refl;
   supplied = record {
     between_before = rest;
     between = between;
@@ -390,7 +390,9 @@ line_cut old middle new user typed reported h lent rest between needs users supp
     let q = requested typed.now e in
     record {
       may = follow_may w typed.now e reported (user_at middle user) h.leaves needs;
-      roomy = λ ipl. absurd (load_needs_none w typed.now e reported (user_at middle user) ipl h.leaves needs);
+      roomy = record {
+        loading = λ ipl. absurd (load_needs_none w typed.now e reported (user_at middle user) ipl h.leaves needs);
+      };
       supplied = record {
         between_before = rest;
         between = subst IsBetweenUnits (sym supply) between;

@@ -199,7 +199,7 @@ plainly_lent typed before old between new r rest taken frames cleared not_cleare
       ));
       between = between_again (lent_pool old).supply (lent_pool between).supply (lent_pool new).supply rest owners pins
           taken.supply;
-      roomy = λ ipl. absurd (false≢true (sym plain ∙ ipl));
+      roomy = λ refused. record { loading = λ ipl. absurd (false≢true (sym plain ∙ ipl)) };
     }
 
 -- and so does a line that loads the machine: it is ready then, so there are no pins to take away
@@ -245,13 +245,15 @@ loading_lent typed before old middle new r ipl stored size between taken out bro
         subst (λ (b : Bool). LineBrings b needs brought.0) (sym ipl) (each_for loads needs more brought.0 brought.2),
       );
       between = subst (λ (s : FrameSupply). IsBetweenUnits s) (sym same) between;
-      roomy = λ load refused. record {
-        old = old;
-        new = middle;
-        lent = record { whose = refl; memory = stored; frames = refl };
-        whose = paged_in.kept.same_user;
-        frames = sym same;
-        had = roomy refused;
+      roomy = λ refused. record {
+        loading = λ load. record {
+          old = old;
+          new = middle;
+          lent = record { whose = refl; memory = stored; frames = refl };
+          whose = paged_in.kept.same_user;
+          frames = sym same;
+          had = roomy refused;
+        };
       };
     }
 
@@ -300,9 +302,9 @@ typed_work world user typed before after old new r u lent ok out kept memory =
         subst (λ (n : ℕ). IsBroughtInUnits n s.0 (lent_pool old).supply (lent_pool new).supply) u s.1.brought,
         s.2,
       ));
-      roomy = λ load refused. subst
+      roomy = λ refused. subst
           (λ (n : ℕ). LineHadFrames typed n before (lent_pool old).supply (lent_pool new).supply) u
-          (lent.roomy load refused);
+          (lent.roomy refused);
     }
 
 -- ---- what a serve leaves

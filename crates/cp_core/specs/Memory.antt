@@ -1,7 +1,7 @@
 -- Where memory may be refused, and what is left then.
 use Rattle.std.specs.Prelude.{◌≡◌, ℕ, ◌<◌, ◌==◌, ◌&&◌, Bool, true, false, length, IsSome}
 use Rattle.s370_subchannels.specs.Programs.{program_of}
-use Rattle.machine_devices.specs.Comes.{LineMay, is_cut, is_ipl}
+use Rattle.machine_devices.specs.Comes.{LineMay, is_cut}
 use Rattle.machine_devices.specs.Lines.{requested}
 use Rattle.cp_core.specs.Room.{LineHadFrames, ServeHadFrames}
 use Rattle.cp_core.specs.Supply.{IsSuppliedInPart}
@@ -33,8 +33,7 @@ is_cut_short old (Serve named device) user = named == user
 -- is out of frames
 abbrev pub HadRoomFor : SystemView → Event → SystemView → Type 0
 HadRoomFor old (Line user typed) new =
-    is_ipl (requested typed.now (user_at old user)) ≡ true
-    → LineHadFrames typed.now user (user_at old user) old.supply new.supply
+    LineHadFrames typed.now user (user_at old user) old.supply new.supply
 HadRoomFor old (Serve user device) new =
     ServeHadFrames device user (user_at old user) old.supply new.supply
 HadRoomFor old (Run user asked) new = Unit {0}

@@ -1,11 +1,11 @@
 -- Memory was refused to an event with room for the pages that it needs.
-use Rattle.std.specs.Prelude.{◌≡◌, ℕ, List}
+use Rattle.std.specs.Prelude.{◌≡◌, ℕ, List, true}
 use Rattle.s370_channel.specs.Reading.{as_reached}
 use Rattle.cp_frames.specs.Layout.{FrameSupply}
 use Rattle.cp_dat.specs.declared.dat.Dat.{Dat}
 use Rattle.cp_dat.specs.Lent.{lent_pool, user_of}
 use Rattle.cp_trial.specs.DryRun.{HadRoomAfterFirst}
-use Rattle.machine_devices.specs.Comes.{LineHadRoom}
+use Rattle.machine_devices.specs.Comes.{LineHadRoom, is_ipl}
 use Rattle.machine_devices.specs.Equipped.{Equipped}
 use Rattle.machine_devices.specs.Lines.{requested}
 use Rattle.machine_devices.specs.Stopped.{ServeHadRoom}
@@ -29,8 +29,9 @@ abbrev pub ServeHadFrames : ℕ → ℕ → Equipped → FrameSupply → FrameSu
 ServeHadFrames device user e before after =
     HadFrames user e before after (λ old new. ServeHadRoom as_reached HadRoom old new device e)
 
--- the same for an IPL, but that page 0 may have come before
-abbrev pub LineHadFrames : List ℕ → ℕ → Equipped → FrameSupply → FrameSupply → Type 0
-LineHadFrames typed user e before after =
-    HadFrames user e before after (λ old new. LineHadRoom HadRoomAfterFirst old new
-    (requested typed e) e)
+-- the same for a line, if it is an IPL, but that page 0 may have come before
+pub record LineHadFrames (typed : List ℕ) (user : ℕ) (e : Equipped)
+    (before after : FrameSupply) : Type 0 where
+  pub loading : is_ipl (requested typed e) ≡ true
+      → HadFrames user e before after
+      (λ old new. LineHadRoom HadRoomAfterFirst old new (requested typed e) e)

@@ -31,5 +31,5 @@ pub record IsLineLent (typed : List ℕ) (before : Equipped) (old new : Dat)
       → (units : List (List ℕ)) × SuppliedUnits old units new
       × LineBrings (is_ipl (requested typed before)) (LineWants typed before) units
   pub between : IsBetweenUnits (lent_pool new).supply
-  pub roomy : is_ipl (requested typed before) ≡ true → r ≡ Err errors.Memory
+  pub roomy : r ≡ Err errors.Memory
       → LineHadFrames typed (user_of old) before (lent_pool old).supply (lent_pool new).supply

@@ -87,8 +87,7 @@ pub record HasTyped (world : UserDirectory) (user : ℕ) (typed : List ℕ) (old
   pub brought : switches (requested typed old) ≡ false
       → (units : List (List ℕ)) × IsBroughtInUnits user units before after
       × LineBrings (is_ipl (requested typed old)) (LineWants typed old) units
-  pub roomy : is_ipl (requested typed old) ≡ true → result ≡ Err errors.Memory
-      → LineHadFrames typed user old before after
+  pub roomy : result ≡ Err errors.Memory → LineHadFrames typed user old before after
 
 -- ---- a serve
 

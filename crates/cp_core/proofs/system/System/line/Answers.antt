@@ -8,7 +8,7 @@ use Rattle.cp_core.specs.UserOp.{HasTyped}
 use Rattle.cp_core.specs.declared.events.Event.TheVariants.{Line}
 use Rattle.machine_devices.specs.declared.reply.Reply.{Reply}
 use Rattle.cp_core.proofs.Keeping.{kept_on}
-use Rattle.cp_core.proofs.Steps.{if_err, line_cut, line_done, line_out}
+use Rattle.cp_core.proofs.Steps.{if_err, line_cut, line_done, line_out, line_refused}
 use Rattle.cp_core.proofs.system.System.line.Goals as goal
 
 pub returns-in_err-delivered-in-Ok-clause-cut : goal.returns-in_err-delivered-in-Ok-clause-cut
@@ -43,6 +43,16 @@ returns-in-Err-FramesOut-clause-step c =
     (user_at c.args.self.now c.args.user) c.args.self.now.supply (Err e) (user_at c.type_line.new.self c.args.user)
     c.type_line.new.self.supply) c.in-Err-FramesOut.field-0-is c.in-Err-FramesOut.ensures.typed) t.rest
     t.between_before t.between)
+
+pub returns-in-Err-Memory-clause-cut : goal.returns-in-Err-Memory-clause-cut
+returns-in-Err-Memory-clause-cut c =
+    let t = c.type_line.ensures in
+    line_refused c.args.self.now c.type_line.new.self c.args.user c.args.typed
+    (subst (λ (e : LineError).
+    HasTyped (world_of c.args.self.now c.args.user) c.args.user c.args.typed.now
+    (user_at c.args.self.now c.args.user) c.args.self.now.supply (Err e) (user_at c.type_line.new.self c.args.user)
+    c.type_line.new.self.supply) c.in-Err-Memory.field-0-is c.in-Err-Memory.ensures.typed) t.rest t.between_before
+    t.between
 
 pub returns-in_err-delivered-in-Ok-clause-kept_without_memory :
     goal.returns-in_err-delivered-in-Ok-clause-kept_without_memory
