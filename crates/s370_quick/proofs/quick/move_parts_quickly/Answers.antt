@@ -9,21 +9,21 @@ returns-clause-done g c =
     let m = state_of c.args.cpu.now (g.S.Storage.memory c.args.storage.now) in
     let m' = state_of c.move_long_quickly.new.cpu (g.S.Storage.memory c.move_long_quickly.new.storage) in
     (parts_done c.move_long_quickly.result c.args.start c.args.second_byte (g.S.Storage.present c.args.storage.now) m m'
-    (search rules) c.requires.here c.requires.stands c.move_long_quickly.ensures.parts).units
+    (search rules) c.requires.same_start c.requires.stands c.move_long_quickly.ensures.parts).units
 
 pub returns-clause-same_start : goal.returns-clause-same_start
 returns-clause-same_start g c =
     let m = state_of c.args.cpu.now (g.S.Storage.memory c.args.storage.now) in
     let m' = state_of c.move_long_quickly.new.cpu (g.S.Storage.memory c.move_long_quickly.new.storage) in
     (parts_done c.move_long_quickly.result c.args.start c.args.second_byte (g.S.Storage.present c.args.storage.now) m m'
-    (search rules) c.requires.here c.requires.stands c.move_long_quickly.ensures.parts).here
+    (search rules) c.requires.same_start c.requires.stands c.move_long_quickly.ensures.parts).here
 
 pub returns-clause-stands : goal.returns-clause-stands
 returns-clause-stands g c =
     let m = state_of c.args.cpu.now (g.S.Storage.memory c.args.storage.now) in
     let m' = state_of c.move_long_quickly.new.cpu (g.S.Storage.memory c.move_long_quickly.new.storage) in
     let done = parts_done c.move_long_quickly.result c.args.start c.args.second_byte
-    (g.S.Storage.present c.args.storage.now) m m' (search rules) c.requires.here c.requires.stands
+    (g.S.Storage.present c.args.storage.now) m m' (search rules) c.requires.same_start c.requires.stands
     c.move_long_quickly.ensures.parts in
     subst (λ (p : ℕ → Bool). IsLongMoveAt m' p c.args.start c.args.second_byte)
     (sym (g.met.S.Storage.keeps_present _ _ c.move_long_quickly.ensures.rest)) done.stands
