@@ -17,8 +17,8 @@ use Rattle.s370_walk.specs.declared.parts.Direction.TheVariants.{Gives, Takes, T
 use Rattle.s370_walk.specs.declared.parts.Transfer.{Transfer}
 use Rattle.s370_walk.specs.declared.parts.NextCcw.{NextCcw}
 use Rattle.s370_walk.specs.declared.parts.Position.{Position}
-use Rattle.s370_walk.specs.declared.parts.ReaderProgress.{ReaderProgress}
-use Rattle.s370_walk.specs.declared.parts.ReaderProgress.TheVariants.{At, Ended}
+use Rattle.s370_walk.specs.declared.parts.Progress.{Progress}
+use Rattle.s370_walk.specs.declared.parts.Progress.TheVariants.{At, Ended}
 use Rattle.s370_walk.specs.declared.parts.Ccw.{Ccw}
 use Rattle.s370_store.specs.Memory.{Memory}
 use Rattle.s370_walk.specs.Hardware.{Machine, put_byte, fault_of, area}
@@ -62,7 +62,7 @@ module _ {D E : Type 0} (m : Machine D) (n : Machine E) (seen : D → E) (is : I
   fails_alike None at s d = refl
   fails_alike (Some transfer) at s d = rw (is.status d, is.finished d) refl
 
-  state_alike : (p : ReaderProgress) (s : Memory) (d : D) → state_of p s (seen d) ≡ state_seen (state_of p s d)
+  state_alike : (p : Progress) (s : Memory) (d : D) → state_of p s (seen d) ≡ state_seen (state_of p s d)
   state_alike (At spot) s d = refl
   state_alike (Ended e) s d = refl
 
@@ -223,7 +223,7 @@ module _ {D X : Type 0} (h : Setting D) (p : D → X) (is : IsKept h.machine p) 
   fails_kept None at s d = refl
   fails_kept (Some transfer) at s d = is.finished d
 
-  state_kept : (q : ReaderProgress) (s : Memory) (d : D) → kept_in (state_of q s d) ≡ p d
+  state_kept : (q : Progress) (s : Memory) (d : D) → kept_in (state_of q s d) ≡ p d
   state_kept (At spot) s d = refl
   state_kept (Ended e) s d = refl
 
