@@ -59,7 +59,7 @@ class Site:
         return self
 
     def await_message(self, text: str, seconds: object = PATIENCE) -> bool:
-        """Waits until the operator is reported a text since the last start; whether that came. Told progress makes it patient."""
+        """Waits until a text was shown to the operator since the last start; whether that came. Progress makes it patient."""
         until = time.monotonic() + seconds
         output = self.process.stdout
         while text not in self.since_start():
@@ -197,7 +197,8 @@ def replayed(program: str, directory: str, record: object, volumes: tuple = ()) 
             is_over = is_over or line.startswith(b"== ")
             name, colon, text = line.decode("latin-1").partition(": ")
             if colon and not is_over:
-                shown.setdefault(name, []).append(text)
+                # a guest that prints for ever prints the same lines: each is kept once
+                shown.setdefault(name, []).append(sys.intern(text))
         status = run_again.wait()
         errors.seek(0)
         done = subprocess.CompletedProcess(words, status, stderr=errors.read())
@@ -936,7 +937,7 @@ def try_computing(check: Callable, site: object) -> None:
     check("who runs has ticks", b"\nTICK ALICE\n" in recording and b"TICK BOB" not in recording)
     site.operate("status")
     check(
-        "the operator is reported",
+        "the operator hears of it",
         site.await_message("2 on, 0 about to log on") and "all wait" in site.since_start(),
         *site.findings,
     )

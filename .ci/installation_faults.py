@@ -538,7 +538,7 @@ def try_killed_program(check: Callable, site: object, program: str) -> None:
         *site.findings,
     )
     check(
-        "the operator is reported",
+        "the operator hears of it",
         site.await_message("ended by signal 9: it is started again"),
         *site.findings,
     )

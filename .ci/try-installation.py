@@ -192,10 +192,20 @@ def run_bare(town: object, user: Account, script: str) -> tuple:
     """A machine of its own that is given a script, and the lines that it shows."""
     path = f"{town.folder}/bare-{user}"
     write(path, b"".join(script))
-    done = subprocess.run([BARE, "--", "64K", path], capture_output=True)
+    words, lines, is_over = [BARE, "--", "64K", path], [], False
+    with tempfile.TemporaryFile() as errors, subprocess.Popen(
+        words, stdout=subprocess.PIPE, stderr=errors
+    ) as run:
+        for line in run.stdout:
+            is_over = is_over or line.startswith(b"== ")
+            if not is_over and line.startswith(b"BARE: "):
+                # each line is kept once: a guest that prints for ever has ten minutes of them
+                lines.append(sys.intern(line[6:].decode("latin-1").removesuffix("\n")))
+        status = run.wait()
+        errors.seek(0)
+        done = subprocess.CompletedProcess(words, status, stderr=errors.read())
     os.unlink(path)
-    lines = done.stdout.decode("latin-1").split("\n== ")[0].splitlines()
-    return done, [line[6:] for line in lines if line.startswith("BARE: ")]
+    return done, lines
 
 
 class BareScripts:

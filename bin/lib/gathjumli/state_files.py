@@ -171,7 +171,7 @@ def restore(program: Program, state: StateFile) -> None:
 
 
 def write_bytes(state: StateFile, path: str) -> None:
-    """Writes the bytes of a state alone, as programs read them, for their owner only."""
+    """Writes the bytes of a state, as programs read them, into a file that only its owner may read."""
     handle = os.open(path, os.O_WRONLY | os.O_CREAT | os.O_EXCL, 0o600)
     with open(handle, "wb") as file:
         file.writelines(state.pieces())
