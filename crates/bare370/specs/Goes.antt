@@ -59,7 +59,8 @@ pub record MayLack (old : Alone) (said : EventValue) (new : Alone) : Type 0 wher
 -- what was said may want memory: such lines, a program that does, and a deck, whose cards are made
 abbrev pub MayRefuse : Alone → EventValue → Type 0
 MayRefuse old (Run user units) = ⊥
-MayRefuse old (Line user text) = LineMay text old.machine.equipped
+MayRefuse old (Line user text) =
+    LineMay (world_of old.machine) text old.machine.equipped
 MayRefuse old (Tick user) = ⊥
 MayRefuse old (Serve user device) = LacksMemory device old.machine
 MayRefuse old (Deck user cards) = Unit {0}

@@ -96,7 +96,8 @@ LacksMemory device old = StopsAt as_reached (λ page. true) device old.equipped 
 -- and cards where there are any
 abbrev pub MayLackMemory : Bare → MachineEvent → Type 0
 MayLackMemory old (happenings.Run count) = ⊥
-MayLackMemory old (happenings.Line typed) = LineMay typed.now old.equipped
+MayLackMemory old (happenings.Line typed) =
+    LineMay (world_of old) typed.now old.equipped
 MayLackMemory old (happenings.Serve device) = LacksMemory device old
 MayLackMemory old happenings.Tick = ⊥
 MayLackMemory old (happenings.Deck cards) = 0 < length cards.now

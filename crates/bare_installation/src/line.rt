@@ -39,7 +39,7 @@ impl Bare {
         ensures lines { IfOk result
             (λ reply. reply.lines
             ≡ length self.new.equipped.machine.output - length self.old.equipped.machine.output) }
-        ensures memory { OnErr result (LineMay typed.now self.old.equipped) }
+        ensures memory { OnErr result (LineMay (world_of self.old) typed.now self.old.equipped) }
     {
         let printed = self.printed();
         let number = self.next_file();
@@ -75,7 +75,8 @@ impl Bare {
             (λ reported. IsLine (W.known world.now) typed.now self.old.equipped reported
             self.new.equipped) }
         ensures files { self.new.files ≡ self.old.files }
-        ensures memory { OnErr result (LineMay typed.now self.old.equipped) }
+        ensures memory { OnErr result
+            (LineMay (W.known world.now) typed.now self.old.equipped) }
     {
         let reported = self.devices.line(
             alloc,

@@ -6,12 +6,12 @@ use Rattle.s370_store.specs.Access.{Touches}
 use Rattle.s370_channel.specs.Reading.{as_reached}
 use Rattle.s370_channel.specs.declared.words.Caw.{Caw}
 use Rattle.s370_subchannels.specs.Programs.{program_of}
-use Rattle.s370_channel.specs.Supplied.{EachSuch}
 use Rattle.s370_intr.specs.Run.{IsLacking}
 use Rattle.s370_intr.specs.declared.run.Ran.{Ran as RanUnits}
 use Rattle.cp_hold.specs.Holding.{HoldNeeds}
 use Rattle.cp_dat.specs.Supplied.{HasNoRoom}
 use Rattle.cp_resident.specs.Reuse.{ReuseValue}
+use Rattle.machine_channels.specs.Channels.{serve_times}
 use Rattle.machine_panel.specs.Machine.{Machine}
 use Rattle.machine_panel.specs.Run.{MachineRun, TellsRun, notice_of}
 use Rattle.machine_panel.specs.Tick.{TickNeeds}
@@ -51,7 +51,7 @@ use Rattle.cp_core.specs.Histories.{IsStep}
 use Rattle.cp_core.specs.Local.{IsApplied, Step, comes_to, coming, deck_by, local, local_event}
 use Rattle.cp_core.specs.Saved.{AgreeButKept, SeatBase, base_of}
 use Rattle.cp_core.specs.Supply.{IsBroughtBy, IsShort, IsSupplied, LineBrings, MayBring, OneBrings, RunBrings}
-use Rattle.cp_core.specs.Supply.{gives_back}
+use Rattle.cp_core.specs.Supply.{AreNeeded, gives_back}
 use Rattle.cp_core.specs.System.{SystemView, kept_of, logged_on_of, machine_at, placements_among, user_at, users_of}
 use Rattle.cp_core.specs.System.{world_among}
 use Rattle.cp_core.specs.UserMachines.{SeatParts, seat_on, seats_on, user_with as user_with_volumes}
@@ -390,9 +390,9 @@ module _ (gone : List (List (List ℕ))) (s : SystemView) (kept : List ReuseValu
       (of_old user (λ (e : Equipped). OneBrings (TickNeeds e.machine) units) may.0, may.1)
   brings_too (Deck user cards) ended units may = may
   brings_too (Serve user device) ended units may =
-      let brings = λ (needs : ℕ → Type 0). EachSuch needs units in
+      let brings = λ (needs : ℕ → Type 0). AreNeeded needs serve_times units in
       let here = device_needs_same (gone_of user) (user_at s user) device brings may in
-      of_old user (λ (e : Equipped). EachSuch (DeviceNeeds device e) units) here
+      of_old user (λ (e : Equipped). AreNeeded (DeviceNeeds device e) serve_times units) here
 
   brought_too : (event : Event) (ended : Ended) → IsBroughtBy s event ended t → IsBroughtBy whole event ended left
   brought_too event ended (units, paged_in, may) = (units, paged_in, brings_too event ended units may)

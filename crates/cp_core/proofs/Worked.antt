@@ -22,7 +22,7 @@ use Rattle.cp_dat.specs.Supplied.{SuppliedUnits, TakesPins, unpinned}
 use Rattle.machine_panel.specs.declared.line.LineError.{LineError}
 use Rattle.machine_panel.specs.declared.line.LineError.TheVariants as errors
 use Rattle.machine_devices.specs.Requests.{needs_of, switches}
-use Rattle.machine_channels.specs.Channels.{Brings, IsOutOfFrames, NoRoom}
+use Rattle.machine_channels.specs.Channels.{Brings, IsOutOfFrames, NoRoom, load_times, serve_times}
 use Rattle.machine_devices.specs.declared.line.LineOutcome.{LineOutcome}
 use Rattle.machine_devices.specs.Equipped.{Equipped, storage_in}
 use Rattle.machine_devices.specs.Lines.{IsLine, requested}
@@ -96,10 +96,6 @@ short_for supply user P Q page more short = record {
 
 -- ---- what came
 
-such_all : (needs : ℕ → Type 0) (pages : List ℕ) → AllNeeded needs pages → AllSuch needs pages
-such_all needs [] all = tt
-such_all needs (page ∷ pages) all = (all.0, such_all needs pages all.1)
-
 such_for : (P Q : ℕ → Type 0) → ((page : ℕ) → P page → Q page) → (pages : List ℕ) → AllSuch P pages → AllSuch Q pages
 such_for P Q more [] all = tt
 such_for P Q more (page ∷ pages) all = (more page all.0, such_for P Q more pages all.1)
@@ -109,9 +105,9 @@ each_for : (P Q : ℕ → Type 0) → ((page : ℕ) → P page → Q page) → (
 each_for P Q more [] all = tt
 each_for P Q more (pages ∷ units) all = (such_for P Q more pages all.0, each_for P Q more units all.1)
 
-one_brings : (b : Bool) (needs : ℕ → Type 0) (pages : List ℕ) → AllNeeded needs pages → LineBrings b needs (pages ∷ [])
-one_brings true needs pages all = (such_all needs pages all, tt)
-one_brings false needs pages all = (pages, refl, all)
+one_brings : (b : Bool) (needs : ℕ → Type 0) (pages : List ℕ) → b ≡ false → AllNeeded needs pages
+    → LineBrings b needs (pages ∷ [])
+one_brings b needs pages plain all = subst (λ (c : Bool). LineBrings c needs (pages ∷ [])) (sym plain) (pages, refl, all)
 
 -- where no frame is pinned, nothing is taken away with the pins
 still : (supply : FrameSupply) → IsBetweenUnits supply → unpinned supply ≡ supply
@@ -195,7 +191,7 @@ plainly_lent typed before old between new r rest taken frames cleared not_cleare
       supply = λ off. (let s = supply off in (
         s.0 ∷ [],
         let_go_came old between new s.0 s.1 taken,
-        one_brings (is_ipl (requested typed before)) needs s.0 (all_wanted typed before s.0 s.2),
+        one_brings (is_ipl (requested typed before)) needs s.0 plain (all_wanted typed before s.0 s.2),
       ));
       between = between_again (lent_pool old).supply (lent_pool between).supply (lent_pool new).supply rest owners pins
           taken.supply;
@@ -210,7 +206,7 @@ pub loading_lent : (typed : List ℕ) (before : Equipped) (old middle new : Dat)
     → (r ≡ Err errors.FramesOut
     → IsOutOfFrames (length (lent_bytes old)) (LoadWants (requested typed before) before)
     (no_room middle (LoadWants (requested typed before) before)))
-    → Brings PagedIn old (LoadWants (requested typed before) before) middle
+    → Brings (PagedIn load_times) old (LoadWants (requested typed before) before) middle
     → (r ≡ Err errors.Memory → LineHadRoom HadRoomAfterFirst old middle (requested typed before) before)
     → IsLineLent typed before old new r
 loading_lent typed before old middle new r ipl stored size between taken out brought roomy =
@@ -242,7 +238,8 @@ loading_lent typed before old middle new r ipl stored size between taken out bro
           brought = subst (λ (s : FrameSupply). IsBroughtInUnits (user_of old) brought.0 (lent_pool old).supply s)
               (sym same) paged_in.brought;
         },
-        subst (λ (b : Bool). LineBrings b needs brought.0) (sym ipl) (each_for loads needs more brought.0 brought.2),
+        subst (λ (b : Bool). LineBrings b needs brought.0) (sym ipl)
+            (record { such = each_for loads needs more brought.0 brought.2; often = brought.1.often }),
       );
       between = subst (λ (s : FrameSupply). IsBetweenUnits s) (sym same) between;
       roomy = λ refused. record {
@@ -263,7 +260,7 @@ leaves_where : (world : UserDirectory) (user : ℕ) (typed : List ℕ) (before a
     (r : Result LineOutcome LineError) (supply : FrameSupply)
     → IfOk r (λ reported. IsLine world typed before reported after) → (r ≡ Err errors.FramesOut → after ≡ before)
     → (r ≡ Err errors.Memory → is_ipl (requested typed before) ≡ false → after ≡ before)
-    → (r ≡ Err errors.Memory → LineMay typed before)
+    → (r ≡ Err errors.Memory → LineMay world typed before)
     → (r ≡ Err errors.FramesOut
     → IsLacking (LineWants typed before) (length before.machine.core.processor.bytes)
     (IsShort supply user (LineWants typed before)))
@@ -285,7 +282,7 @@ pub typed_work : (world : UserDirectory) (user : ℕ) (typed : List ℕ) (before
     → user_of old ≡ user → IsLineLent typed before old new r
     → IfOk r (λ reported. IsLine world typed before reported after) → (r ≡ Err errors.FramesOut → after ≡ before)
     → (r ≡ Err errors.Memory → is_ipl (requested typed before) ≡ false → after ≡ before)
-    → (r ≡ Err errors.Memory → LineMay typed before)
+    → (r ≡ Err errors.Memory → LineMay world typed before)
     → HasTyped world user typed before (lent_pool old).supply r after (lent_pool new).supply
 typed_work world user typed before after old new r u lent ok out kept memory =
     let needs : ℕ → Type 0 = LineWants typed before in
@@ -322,7 +319,7 @@ serve_leaves device user before after (Err errors.FramesOut) supply ok same fram
 
 -- A serve that was lent the machine and the frames leaves what a serve leaves.
 pub serve_work : (device user : ℕ) (before after : Equipped) (old new : Dat) (r : Result Bool LineError)
-    → user_of old ≡ user → Brings PagedIn old (DeviceNeeds device before) new
+    → user_of old ≡ user → Brings (PagedIn serve_times) old (DeviceNeeds device before) new
     → IfOk r (λ done. IsServedAt as_reached device before done after) → (r ≡ Err errors.FramesOut → after ≡ before)
     → (r ≡ Err errors.FramesOut
     → IsOutOfFrames (length before.machine.core.processor.bytes) (DeviceNeeds device before)
@@ -350,7 +347,7 @@ serve_work device user before after old new r u brought ok same out memory store
         subst
             (λ (n : ℕ). IsBroughtInUnits n brought.0 (lent_pool old).supply (lent_pool new).supply) u
             brought.1.paged_in.brought,
-        brought.2,
+        record { such = brought.2; often = brought.1.often },
       );
       roomy = λ refused. record {
         old = old;

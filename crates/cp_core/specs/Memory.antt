@@ -5,7 +5,7 @@ use Rattle.machine_devices.specs.Comes.{LineMay, is_cut}
 use Rattle.machine_devices.specs.Lines.{requested}
 use Rattle.cp_core.specs.Room.{LineHadFrames, ServeHadFrames}
 use Rattle.cp_core.specs.Supply.{IsSuppliedInPart}
-use Rattle.cp_core.specs.System.{SystemView, machine_at, user_at}
+use Rattle.cp_core.specs.System.{SystemView, machine_at, user_at, world_of}
 use Rattle.cp_core.specs.declared.events.Event.{Event}
 use Rattle.cp_core.specs.declared.events.Event.TheVariants.{Run, Line, Tick, Deck, Serve}
 
@@ -13,7 +13,7 @@ use Rattle.cp_core.specs.declared.events.Event.TheVariants.{Run, Line, Tick, Dec
 -- is served and works on a program
 abbrev pub MayTakeMemory : SystemView → Event → Type 0
 MayTakeMemory old (Run user asked) = ⊥
-MayTakeMemory old (Line user typed) = LineMay typed.now (user_at old user)
+MayTakeMemory old (Line user typed) = LineMay (world_of old user) typed.now (user_at old user)
 MayTakeMemory old (Tick user) = ⊥
 MayTakeMemory old (Deck user cards) = 0 < length cards.now
 MayTakeMemory old (Serve user device) =

@@ -7,7 +7,9 @@ use Rattle.s370_channel.specs.Supplied.{EachSuch}
 use Rattle.s370_intr.specs.Run.{AllNeeded, EachBrings}
 use Rattle.s370_intr.specs.Laws.{begun}
 use Rattle.cp_frames.specs.Layout.{FrameSupply, cleared_of, is_there}
+use Rattle.cp_dat.specs.Copies.{times_in}
 use Rattle.cp_dat.specs.Supplied.{HasSuch, IsBetweenUnits, IsBroughtInUnits}
+use Rattle.machine_channels.specs.Channels.{load_times, serve_times}
 use Rattle.machine_panel.specs.Machine.{Machine}
 use Rattle.machine_devices.specs.Requests.{switches}
 use Rattle.machine_panel.specs.Tick.{TickNeeds}
@@ -75,15 +77,21 @@ RunBrings m FramesOut units = ⊥
 abbrev pub OneBrings : (ℕ → Type 0) → List (List ℕ) → Type 0
 OneBrings needs units = (pages : List ℕ) × (units ≡ pages ∷ []) × AllNeeded needs pages
 
--- a line brings as one unit what it needs, but that a loading brings it in units
+-- the units bring what is needed, each page at most so often
+pub record AreNeeded (needs : ℕ → Type 0) (most : ℕ) (units : List (List ℕ)) : Type 0 where
+  pub such : EachSuch needs units
+  pub often : (page : ℕ) → times_in page units ≤ most
+
+-- a line brings as one unit what it needs, but that a loading brings it in units, each page at most
+-- four times
 abbrev pub LineBrings : Bool → (ℕ → Type 0) → List (List ℕ) → Type 0
-LineBrings true needs units = EachSuch needs units
+LineBrings true needs units = AreNeeded needs load_times units
 LineBrings false needs units = OneBrings needs units
 
 -- what the units of an event may bring: each unit of a run, and the one that lacked a page, nine
 -- pages that it needs; a line those of the bytes that it shows or changes, and of a loading page 0
 -- and those that its program touches; a tick the page of the timer, of a machine that runs; a deck
--- none; a serve those that the program of the device needs
+-- none; a serve those that the program of the device needs, each at most twice
 abbrev pub MayBring : SystemView → Event → Ended → List (List ℕ) → Type 0
 MayBring old (Run user asked) ended units = RunBrings (machine_at old user) ended units
 MayBring old (Line user typed) ended units =
@@ -93,7 +101,7 @@ MayBring old (Tick user) ended units = OneBrings (TickNeeds (machine_at old user
     × (length (concat units) ≤ 1)
 MayBring old (Deck user cards) ended units = units ≡ []
 MayBring old (Serve user device) ended units =
-    EachSuch (DeviceNeeds device (user_at old user)) units
+    AreNeeded (DeviceNeeds device (user_at old user)) serve_times units
 
 -- pages came as an event's units may bring them, and no others
 abbrev pub IsBroughtBy : SystemView → Event → Ended → SystemView → Type 0

@@ -5,13 +5,13 @@ use Rattle.std.specs.Prelude.{◌≡◌, ℕ, ◌≤◌, Bool, List, [], ◌∷�
 use Rattle.std.specs.Prelude.{Ok, Err}
 use Rattle.s370_store.specs.declared.supply.FramesOut.{FramesOut}
 use Rattle.s370_channel.specs.Reading.{as_reached}
-use Rattle.s370_channel.specs.Supplied.{EachSuch}
 use Rattle.s370_intr.specs.declared.run.Ran.{Ran}
 use Rattle.s370_intr.specs.Laws.{begun}
 use Rattle.s370_intr.specs.Run.{AllNeeded, EachBrings, IsLacking}
 use Rattle.s370_subchannels.specs.Programs.{program_of}
 use Rattle.cp_frames.specs.Layout.{FrameSupply}
 use Rattle.cp_dat.specs.Supplied.{HasNoRoom, IsBroughtInUnits}
+use Rattle.machine_channels.specs.Channels.{serve_times}
 use Rattle.machine_panel.specs.declared.line.LineError.{LineError}
 use Rattle.machine_panel.specs.declared.line.LineError.TheVariants as errors
 use Rattle.machine_panel.specs.Run.{TellsRun, notice_of}
@@ -22,7 +22,7 @@ use Rattle.machine_devices.specs.Lines.{IsLine, requested}
 use Rattle.machine_devices.specs.Requests.{switches}
 use Rattle.machine_devices.specs.Serve.{IsServedAt}
 use Rattle.machine_devices.specs.UserDirectory.{UserDirectory}
-use Rattle.cp_core.specs.Supply.{IsGivenBack, IsShort, LineBrings}
+use Rattle.cp_core.specs.Supply.{AreNeeded, IsGivenBack, IsShort, LineBrings}
 use Rattle.machine_devices.specs.Comes.{LineMay, is_ipl}
 use Rattle.cp_core.specs.Room.{LineHadFrames, ServeHadFrames}
 use Rattle.cp_core.specs.Wants.{DeviceNeeds, LineWants}
@@ -68,7 +68,7 @@ abbrev pub LineLeaves : UserDirectory → ℕ → List ℕ → Equipped → Resu
     → Equipped → FrameSupply → Type 0
 LineLeaves world user typed old (Ok reported) new after = IsLine world typed old reported new
 LineLeaves world user typed old (Err errors.Memory) new after =
-    (is_ipl (requested typed old) ≡ false → new ≡ old) × LineMay typed old
+    (is_ipl (requested typed old) ≡ false → new ≡ old) × LineMay world typed old
 LineLeaves world user typed old (Err errors.FramesOut) new after =
     (new ≡ old) × IsLacking (LineWants typed old) (length old.machine.core.processor.bytes)
     (IsShort after user (LineWants typed old))
@@ -100,10 +100,10 @@ ServeLeaves device user old (Err errors.FramesOut) new after =
     (new ≡ old) × IsLacking (DeviceNeeds device old) (length old.machine.core.processor.bytes)
     (IsShort after user (DeviceNeeds device old))
 
--- it brings pages that the program needs
+-- it brings pages that the program needs, each at most twice
 pub record HasServed (device user : ℕ) (old : Equipped) (before : FrameSupply)
     (result : Result Bool LineError) (new : Equipped) (after : FrameSupply) : Type 0 where
   pub leaves : ServeLeaves device user old result new after
   pub brought : (units : List (List ℕ)) × IsBroughtInUnits user units before after
-      × EachSuch (DeviceNeeds device old) units
+      × AreNeeded (DeviceNeeds device old) serve_times units
   pub roomy : result ≡ Err errors.Memory → ServeHadFrames device user old before after

@@ -2,7 +2,7 @@
 ghost use Rattle.std.specs.Prelude.{◌≡◌, ◌<◌, ◌≤◌, Bool, Err, IfOk, IsSome, OnErr, OnOk, false};
 ghost use Rattle.std.specs.Prelude.{length, true};
 ghost use Rattle.s370_subchannels.specs.Programs.{program_of};
-ghost use Rattle.machine_channels.specs.Channels.{Brings, IsOutOfFrames, NoRoom};
+ghost use Rattle.machine_channels.specs.Channels.{Brings, IsOutOfFrames, NoRoom, serve_times};
 ghost use Rattle.machine_devices.specs.Equipped.{equipped};
 ghost use Rattle.machine_devices.specs.Lent.{KeepsOtherUsers, devices_on};
 ghost use Rattle.machine_devices.specs.Serve.{IsServedAt, ServeNeeds};
@@ -72,7 +72,7 @@ pub(crate) fn serve_supplied<S: Storage, C: Channels<S>>(
     ensures paged_in { let before = equipped machine.old (devices_on devices.old queues.old)
         (C.Disks.disks channels.old)
         (S.memory storage.old) in
-        Brings C.Came storage.old (ServeNeeds C.holds device before) storage.new }
+        Brings (C.Came serve_times) storage.old (ServeNeeds C.holds device before) storage.new }
     ensures ready { C.IsReady storage.new }
     ensures others { C.Disks.KeepsOthers channels.old channels.new }
     ensures other_users { KeepsOtherUsers devices.old queues.old devices.new queues.new }
@@ -137,7 +137,7 @@ pub(crate) fn type_supplied<W: UserDirectory>(
     ensures memory { let before = equipped machine.old (devices_on devices.old queues.old)
         (disks_on channels.old)
         (lent_memory storage.old) in
-        result ≡ Err errors.Memory → LineMay typed.now before }
+        result ≡ Err errors.Memory → LineMay (W.known world.now) typed.now before }
     ensures lent { let before = equipped machine.old (devices_on devices.old queues.old)
         (disks_on channels.old)
         (lent_memory storage.old) in

@@ -1,11 +1,11 @@
 -- Bytes that are copied out and put back, and pages that come for that.
-use Rattle.std.proofs.Common.{ℕ, ◌+◌, ◌-◌, ◌/◌, ◌%◌, ◌<◌, ◌≤◌, ◌≡◌, ◌++◌, List, [], ◌∷◌, Bool, true, false, Result, Ok}
+use Rattle.std.proofs.Common.{ℕ, ◌+◌, ◌-◌, ◌*◌, ◌/◌, ◌%◌, ◌<◌, ◌≤◌, ◌≡◌, ◌≢◌, ◌==◌, ◌⊎◌, ◌++◌, List, [], ◌∷◌, Bool, true, false, Result, Ok}
 use Rattle.std.proofs.Common.{Err, OnOk, OnErr, length, get_or, take, drop, replicate, refl, sym, ap, subst, ◌∙◌, inl}
 use Rattle.std.proofs.Common.{inr, arith}
 use Rattle.std.specs.Prelude.{slice_range, slice_index_or}
 use Rattle.std.specs.Bool.{⊤}
 use Rattle.std.proofs.Math.Seq.{take-add}
-use Rattle.std.proofs.lemmas.Bool.{cases_lt}
+use Rattle.std.proofs.lemmas.Bool.{cases_eq, cases_lt}
 use Rattle.std.proofs.lemmas.List.{ext_get_or, get_or-append_right, get_or_append_left, length-take-le}
 use Rattle.std.proofs.lemmas.List.{get_or-replicate}
 use Rattle.std.proofs.lemmas.Grind.{common_steps}
@@ -16,9 +16,11 @@ use Rattle.s370_store.proofs.Puts.{length-put, put_before, put_after}
 use Rattle.cp_frames.specs.Layout.{IsZeroPage}
 use Rattle.cp_frames.specs.Paging.{IsRefused}
 use Rattle.cp_dat.specs.declared.dat.Dat.{Dat}
-use Rattle.cp_dat.specs.Copies.{AllAre, EachAre, CameOnly, StandAll, SameBeside, is_wanted}
+use Rattle.cp_dat.specs.Copies.{AllAre, EachAre, CameOnly, StandAll, SameBeside, counted, is_wanted, times_among}
+use Rattle.cp_dat.specs.Copies.{times_in}
 use Rattle.cp_dat.specs.Lent.{KeepsStored, is_lent_page, lent_bytes, lent_keys, lent_memory, lent_pool, user_of}
-use Rattle.cp_dat.specs.Lent.{keeps_stored_same}
+use Rattle.cp_dat.specs.Lent.{keeps_rest_present, keeps_stored_same}
+use Rattle.cp_dat.proofs.Counted.{apart_test, counted_once}
 use Rattle.cp_dat.specs.Letting.{between_kept, came_none, came_on, let_go_came, let_go_out}
 use Rattle.cp_dat.specs.Supplied.{HasNoRoom, IsBetweenUnits, Stands, Supplied, TakesPins}
 
@@ -117,6 +119,50 @@ unwanted_same wanted start old from aligned away other_users a low high =
     other_users a (ap (λ k. slice_index_or wanted k false) page ∙ away)
 
 -- ---- pages
+
+-- what came in some units and then in others came as often as in both
+times_on : (page : ℕ) (before after : List (List ℕ))
+    → times_in page (before ++ after) ≡ times_in page before + times_in page after
+times_on page [] after = (let none : times_in page [] ≡ 0 = refl in omega (arith, none))
+times_on page (pages ∷ before) after =
+    let rest : times_in page (before ++ after) ≡ times_in page before + times_in page after =
+    times_on page before after in
+    omega (arith, rest)
+
+never_among : (P : ℕ → Type 0) (page : ℕ) (pages : List ℕ) → AllAre P pages → (P page → ⊥)
+    → times_among page pages ≡ 0
+never_among P page [] all none = refl
+never_among P page (other ∷ pages) all none =
+    let this : counted (other == page) ≡ 0 =
+    apart_test (other == page) other page refl (λ same. none (subst P same all.0)) in
+    let rest : times_among page pages ≡ 0 = never_among P page pages all.1 none in
+    omega (arith, this, rest)
+
+-- a page that is not such never came
+never : (P : ℕ → Type 0) (page : ℕ) (units : List (List ℕ)) → EachAre P units → (P page → ⊥)
+    → times_in page units ≡ 0
+never P page [] each none = refl
+never P page (pages ∷ units) each none =
+    let this : times_among page pages ≡ 0 = never_among P page pages each.0 none in
+    let rest : times_in page units ≡ 0 = never P page units each.1 none in
+    omega (arith, this, rest)
+
+such_among : (P : ℕ → Type 0) (page : ℕ) (pages : List ℕ) → AllAre P pages → 0 < times_among page pages → P page
+such_among P page [] all some = absurd (omega (arith, some))
+such_among P page (other ∷ pages) all some = elim (cases_eq other page) [
+  | inl same ↦ subst P same all.0
+  | inr apart ↦ (let this : counted (other == page) ≡ 0 = apart_test (other == page) other page refl apart in
+      such_among P page pages all.1 (omega (arith, this, some)))
+]
+
+-- a page that came is such
+some_such : (P : ℕ → Type 0) (page : ℕ) (units : List (List ℕ)) → EachAre P units → 0 < times_in page units → P page
+some_such P page [] each some = absurd (omega (arith, some))
+some_such P page (pages ∷ units) each some = elim (cases_lt 0 (times_among page pages)) [
+  | inl here ↦ such_among P page pages each.0 here
+  | inr none ↦ some_such P page units each.1 (omega (arith, none, some))
+]
+
 module _ (s t u : Dat) (page : ℕ) where
   pub out_told : (r : Result ⊤ FramesOut) → IsBetweenUnits (lent_pool s).supply → OnErr r (Supplied s [] t)
       → OnErr r (IsRefused (lent_pool t).supply (user_of t) page) → TakesPins t u
@@ -125,22 +171,35 @@ module _ (s t u : Dat) (page : ℕ) where
   out_told (Err e) between refused short let_go = let_go_out s t u [] page between refused (omega arith) short let_go
 
   pub came_told : (r : Result ⊤ FramesOut) → OnOk r (Supplied s (page ∷ []) t) → OnErr r (Supplied s [] t)
-      → TakesPins t u → lent_keys u ≡ lent_keys s → CameOnly s (λ other. other ≡ page) u
+      → TakesPins t u → lent_keys u ≡ lent_keys s → CameOnly s (λ other. other ≡ page) 1 u
   came_told (Ok _) brought refused let_go keys =
       record {
         units = (page ∷ []) ∷ [];
         paged_in = let_go_came s t u (page ∷ []) brought let_go;
         only = ((refl, tt), tt);
+        often = λ other. (let once : counted (page == other) ≤ 1 = counted_once (page == other) in
+            omega (arith, once));
         keys = keys;
       }
   came_told (Err e) brought refused let_go keys =
-      record { units = [] ∷ []; paged_in = let_go_came s t u [] refused let_go; only = (tt, tt); keys = keys }
+      record {
+        units = [] ∷ [];
+        paged_in = let_go_came s t u [] refused let_go;
+        only = (tt, tt);
+        often = λ other. omega arith;
+        keys = keys;
+      }
 
 -- If storage stays, no page came.
-pub came_nothing : (s t : Dat) (is_such : ℕ → Type 0) → IsBetweenUnits (lent_pool s).supply → KeepsStored s t
-    → CameOnly s is_such t
-came_nothing s t is_such between kept =
-    record { units = []; paged_in = came_none s t 0 between kept.rest; only = tt; keys = kept.keys }
+pub came_nothing : (s t : Dat) (is_such : ℕ → Type 0) (n : ℕ) → IsBetweenUnits (lent_pool s).supply → KeepsStored s t
+    → CameOnly s is_such n t
+came_nothing s t is_such n between kept = record {
+  units = [];
+  paged_in = came_none s t 0 between kept.rest;
+  only = tt;
+  often = λ page. omega arith;
+  keys = kept.keys;
+}
 
 all_such : (P Q : ℕ → Type 0) → ((page : ℕ) → P page → Q page) → (pages : List ℕ) → AllAre P pages → AllAre Q pages
 all_such P Q more [] all = tt
@@ -156,20 +215,58 @@ each_on : (P : ℕ → Type 0) (before after : List (List ℕ)) → EachAre P be
 each_on P [] after a b = b
 each_on P (pages ∷ before) after a b = (a.0, each_on P before after a.1 b)
 
--- Pages that come after others are all such pages.
-pub came_more : (s t u : Dat) (P Q : ℕ → Type 0) → ((page : ℕ) → P page → Q page) → CameOnly s Q t → CameOnly t P u
-    → CameOnly s Q u
-came_more s t u P Q more a b = record {
+-- Pages that come after others are all such pages, and each comes as often as both say.
+pub came_more : (s t u : Dat) (P Q : ℕ → Type 0) (n m : ℕ) → ((page : ℕ) → P page → Q page) → CameOnly s Q n t
+    → CameOnly t P m u → CameOnly s Q (n + m) u
+came_more s t u P Q n m more a b = record {
   units = a.units ++ b.units;
   paged_in = came_on s t u a.units b.units a.paged_in b.paged_in;
   only = each_on Q a.units b.units a.only (each_such P Q more b.units b.only);
+  often = λ page. (let both = times_on page a.units b.units in
+      let first = a.often page in
+      let second = b.often page in
+      omega (arith, both, first, second));
+  keys = b.keys ∙ a.keys;
+}
+
+-- What came at most so often came at most more often.
+pub came_fewer : (s t : Dat) (P Q : ℕ → Type 0) (n m : ℕ) → ((page : ℕ) → P page → Q page) → n ≤ m
+    → CameOnly s P n t → CameOnly s Q m t
+came_fewer s t P Q n m more few a = record {
+  units = a.units;
+  paged_in = a.paged_in;
+  only = each_such P Q more a.units a.only;
+  often = λ page. (let once = a.often page in omega (arith, few, once));
+  keys = a.keys;
+}
+
+few_of_one : (n m k : ℕ) → n ≤ 1 → m ≤ 1 → (n ≡ 0) ⊎ (m ≡ 0) → k ≡ n + m → k ≤ 1
+few_of_one n m k first second (inl none) both = omega (arith, none, second, both)
+few_of_one n m k first second (inr none) both = omega (arith, none, first, both)
+
+-- pages that came once, and others than these that came once after them
+came_apart : (s t u : Dat) (P R Q : ℕ → Type 0) → ((page : ℕ) → P page → Q page) → ((page : ℕ) → R page → Q page)
+    → ((page : ℕ) → P page → R page → ⊥) → CameOnly s P 1 t → CameOnly t R 1 u → CameOnly s Q 1 u
+came_apart s t u P R Q first second apart a b = record {
+  units = a.units ++ b.units;
+  paged_in = came_on s t u a.units b.units a.paged_in b.paged_in;
+  only = each_on Q a.units b.units (each_such P Q first a.units a.only) (each_such R Q second b.units b.only);
+  often = λ page. (let both = times_on page a.units b.units in
+      let before = a.often page in
+      let after = b.often page in
+      few_of_one (times_in page a.units) (times_in page b.units) (times_in page (a.units ++ b.units)) before after
+      (elim (cases_lt 0 (times_in page a.units)) [
+        | inl some ↦ inr (never R page b.units b.only
+            (λ such. apart page (some_such P page a.units a.only some) such))
+        | inr none ↦ inl (omega (arith, none))
+      ]) both);
   keys = b.keys ∙ a.keys;
 }
 
 -- what is somewhere goes on standing somewhere
-pub stands_on : (s t : Dat) (is_such : ℕ → Type 0) (page : ℕ) → CameOnly s is_such t
+pub stands_on : (s t : Dat) (is_such : ℕ → Type 0) (n page : ℕ) → CameOnly s is_such n t
     → Stands (lent_pool s).supply (user_of s) page → Stands (lent_pool t).supply (user_of t) page
-stands_on s t is_such page c stands =
+stands_on s t is_such n page c stands =
     subst (λ (user : ℕ). Stands (lent_pool t).supply user page) (sym c.paged_in.kept.same_user)
     (c.paged_in.brought.brought.kept (user_of s) page stands)
 
@@ -179,27 +276,31 @@ pub wanted_page : (wanted : List Bool) (page : ℕ) → slice_index_or wanted pa
 wanted_page wanted page it other same = ap (λ k. slice_index_or wanted k false) same ∙ it
 
 -- one more page has its place
-pub placed_on : (s t : Dat) (is_such : ℕ → Type 0) (wanted : List Bool) (page : ℕ) → CameOnly s is_such t
+pub placed_on : (s t : Dat) (is_such : ℕ → Type 0) (wanted : List Bool) (n page : ℕ) → CameOnly s is_such n t
     → ((k : ℕ) → k < page → is_wanted wanted k → Stands (lent_pool s).supply (user_of s) k)
     → (is_wanted wanted page → Stands (lent_pool t).supply (user_of t) page) → (k : ℕ) → k < page + 1
     → is_wanted wanted k → Stands (lent_pool t).supply (user_of t) k
-placed_on s t is_such wanted page paged_in before this k low it =
+placed_on s t is_such wanted n page paged_in before this k low it =
     elim (cases_lt k page) [
-      | inl under ↦ stands_on s t is_such k paged_in (before k under it)
+      | inl under ↦ stands_on s t is_such n k paged_in (before k under it)
       | inr over ↦ (let same : k ≡ page = omega (arith, low, over) in
           subst (λ (i : ℕ). Stands (lent_pool t).supply (user_of t) i) (sym same)
           (this (ap (λ i. slice_index_or wanted i false) (sym same) ∙ it)))
     ]
 
-pub stand_on : (s t : Dat) (is_such : ℕ → Type 0) (wanted : List Bool) → CameOnly s is_such t → StandAll s wanted
-    → StandAll t wanted
-stand_on s t is_such wanted paged_in all page it = stands_on s t is_such page paged_in (all page it)
+pub stand_on : (s t : Dat) (is_such : ℕ → Type 0) (wanted : List Bool) (n : ℕ) → CameOnly s is_such n t
+    → StandAll s wanted → StandAll t wanted
+stand_on s t is_such wanted n paged_in all page it = stands_on s t is_such n page paged_in (all page it)
 
--- each wanted page below this one has its place
+-- a wanted page below this one
+abbrev pub wanted_below : List Bool → ℕ → ℕ → Type 0
+wanted_below wanted page other = is_wanted wanted other × other < page
+
+-- each wanted page below this one has its place, and only such have come, each once
 pub record IsPlacedTo (old : Dat) (wanted : List Bool) (page : ℕ) (new : Dat) : Type 0 where
   pub few : page ≤ length wanted
   pub stand : (k : ℕ) → k < page → is_wanted wanted k → Stands (lent_pool new).supply (user_of new) k
-  pub paged_in : CameOnly old (is_wanted wanted) new
+  pub paged_in : CameOnly old (wanted_below wanted page) 1 new
   pub between : IsBetweenUnits (lent_pool new).supply
   pub memory : lent_memory new ≡ lent_memory old
 
@@ -208,21 +309,37 @@ pub placed_none : (old : Dat) (wanted : List Bool) → IsBetweenUnits (lent_pool
 placed_none old wanted between = record {
   few = omega arith;
   stand = λ k low it. absurd (omega (arith, low));
-  paged_in = came_nothing old old (is_wanted wanted) between (keeps_stored_same old);
+  paged_in = came_nothing old old (wanted_below wanted 0) 1 between (keeps_stored_same old);
   between = between;
   memory = refl;
 }
 
+-- one more wanted page has come, once
+pub placed_once : (old : Dat) (wanted : List Bool) (page : ℕ) (middle new : Dat)
+    → slice_index_or wanted page false ≡ true → IsPlacedTo old wanted page middle
+    → CameOnly middle (λ other. other ≡ page) 1 new → CameOnly old (wanted_below wanted (page + 1)) 1 new
+placed_once old wanted page middle new it before paged_in =
+    came_apart old middle new (wanted_below wanted page) (λ other. other ≡ page) (wanted_below wanted (page + 1))
+    (λ other below. (below.0, (let under = below.1 in omega (arith, under))))
+    (λ other same. (wanted_page wanted page it other same, omega (arith, same)))
+    (λ other below same. (let under = below.1 in omega (arith, under, same))) before.paged_in paged_in
+
+-- the wanted pages below one are wanted pages
+pub placed_wanted : (old : Dat) (wanted : List Bool) (page : ℕ) (new : Dat)
+    → CameOnly old (wanted_below wanted page) 1 new → CameOnly old (is_wanted wanted) 1 new
+placed_wanted old wanted page new paged_in =
+    came_fewer old new (wanted_below wanted page) (is_wanted wanted) 1 1 (λ other below. below.0) (omega arith) paged_in
+
 -- One more wanted page that was brought is placed.
 pub placed_page : (old : Dat) (wanted : List Bool) (page : ℕ) (middle new : Dat) → page < length wanted
     → slice_index_or wanted page false ≡ true → IsPlacedTo old wanted page middle
-    → is_lent_page new page ≡ true → CameOnly middle (λ other. other ≡ page) new → IsBetweenUnits (lent_pool new).supply
+    → is_lent_page new page ≡ true → CameOnly middle (λ other. other ≡ page) 1 new
+    → IsBetweenUnits (lent_pool new).supply
     → lent_memory new ≡ lent_memory middle → IsPlacedTo old wanted (page + 1) new
 placed_page old wanted page middle new low it before there paged_in between memory = record {
   few = omega (arith, low);
-  stand = placed_on middle new (λ other. other ≡ page) wanted page paged_in before.stand (λ _. inl there);
-  paged_in = came_more old middle new (λ other. other ≡ page) (is_wanted wanted) (wanted_page wanted page it)
-      before.paged_in paged_in;
+  stand = placed_on middle new (λ other. other ≡ page) wanted 1 page paged_in before.stand (λ _. inl there);
+  paged_in = placed_once old wanted page middle new it before paged_in;
   between = between;
   memory = memory ∙ before.memory;
 }
@@ -240,18 +357,24 @@ placed_by old wanted page new low away before = record {
     | inr over ↦ (let same : k ≡ page = omega (arith, under, over) in
         absurd (differ away (ap (λ i. slice_index_or wanted i false) (sym same) ∙ it)))
   ]);
-  paged_in = before.paged_in;
+  paged_in = came_fewer old new (wanted_below wanted page) (wanted_below wanted (page + 1)) 1 1
+      (λ other below. (below.0, (let under = below.1 in omega (arith, under)))) (omega arith) before.paged_in;
   between = before.between;
   memory = before.memory;
 }
 
--- the bytes below this address are put back
+-- a wanted page below this address
+abbrev pub put_below : List Bool → ℕ → ℕ → Type 0
+put_below wanted start page = is_wanted wanted page × page * 4096 < start
+
+-- the bytes below this address are put back, and only wanted pages below it have come, each once
 pub record IsBackTo (old : Dat) (from : List ℕ) (wanted : List Bool) (start : ℕ) (new : Dat) : Type 0 where
   pub aligned : start % 256 ≡ 0
   pub few : start ≤ length (lent_bytes old)
   pub put : IsPutTo start from (lent_bytes old) (lent_bytes new)
   pub stand : StandAll new wanted
-  pub paged_in : CameOnly old (is_wanted wanted) new
+  pub there : start % 4096 ≢ 0 → is_wanted wanted (start / 4096) → is_lent_page new (start / 4096) ≡ true
+  pub paged_in : CameOnly old (put_below wanted start) 1 new
   pub between : IsBetweenUnits (lent_pool new).supply
 
 -- Before the first page none is copied back.
@@ -262,15 +385,34 @@ back_none old from wanted stand between = record {
   few = omega arith;
   put = put_none from (lent_bytes old);
   stand = stand;
-  paged_in = came_nothing old old (is_wanted wanted) between (keeps_stored_same old);
+  there = λ inner. absurd (inner refl);
+  paged_in = came_nothing old old (put_below wanted 0) 1 between (keeps_stored_same old);
   between = between;
 }
+
+-- the wanted pages below an address are wanted pages
+pub back_wanted : (old : Dat) (wanted : List Bool) (start : ℕ) (new : Dat)
+    → CameOnly old (put_below wanted start) 1 new → CameOnly old (is_wanted wanted) 1 new
+back_wanted old wanted start new paged_in =
+    came_fewer old new (put_below wanted start) (is_wanted wanted) 1 1 (λ page below. below.0) (omega arith) paged_in
+
+put_further : (wanted : List Bool) (start page : ℕ) → put_below wanted start page → put_below wanted (start + 256) page
+put_further wanted start page below = (below.0, (let under = below.1 in omega (arith, under)))
+
+put_first : (wanted : List Bool) (start : ℕ) → is_wanted wanted (start / 4096) → (page : ℕ) → page * 4096 ≡ start
+    → put_below wanted (start + 256) page
+put_first wanted start it page same =
+    let here : page ≡ start / 4096 = omega (arith, same) in
+    (ap (λ k. slice_index_or wanted k false) here ∙ it, omega (arith, same))
 
 module _ (old : Dat) (from : List ℕ) (wanted : List Bool) (start : ℕ) (middle : Dat)
     (whole : length (lent_bytes old) % 4096 ≡ 0) (low : start < length (lent_bytes old))
     (long : length from ≡ length (lent_bytes old)) (before : IsBackTo old from wanted start middle) where
   pub inside : start + 256 ≤ length (lent_bytes old)
   inside = let aligned = before.aligned in omega (arith, aligned, whole, low)
+
+  same_page : (start + 256) % 4096 ≢ 0 → (start + 256) / 4096 ≡ start / 4096
+  same_page inner = let aligned = before.aligned in omega (arith, aligned, inner)
 
   pub back_by : SameBeside wanted (lent_bytes old) from → slice_index_or wanted (start / 4096) false ≡ false
       → IsBackTo old from wanted (start + 256) middle
@@ -280,28 +422,36 @@ module _ (old : Dat) (from : List ℕ) (wanted : List Bool) (start : ℕ) (middl
     put = put_same start from (lent_bytes old) (lent_bytes middle) before.put
         (unwanted_same wanted start (lent_bytes old) from before.aligned away other_users);
     stand = before.stand;
-    paged_in = before.paged_in;
+    there = λ inner it. absurd (differ away (ap (λ k. slice_index_or wanted k false) (sym (same_page inner)) ∙ it));
+    paged_in = came_fewer old middle (put_below wanted start) (put_below wanted (start + 256)) 1 1
+        (put_further wanted start) (omega arith) before.paged_in;
     between = before.between;
   }
 
   pub back_on : (fetched new : Dat) → slice_index_or wanted (start / 4096) false ≡ true
-      → CameOnly middle (λ other. other ≡ start / 4096) fetched → IsBetweenUnits (lent_pool fetched).supply
+      → CameOnly middle (λ page. page * 4096 ≡ start) 1 fetched → is_lent_page fetched (start / 4096) ≡ true
+      → IsBetweenUnits (lent_pool fetched).supply
       → lent_memory fetched ≡ lent_memory middle
       → KeepsStored fetched new
       → lent_memory new ≡ with_stored (lent_memory fetched) start (slice_range from start (start + 256))
       → IsBackTo old from wanted (start + 256) new
-  back_on fetched new it paged_in between same kept stored =
-      let all : CameOnly middle (λ other. other ≡ start / 4096) new =
-      came_more middle fetched new (λ other. ⊥) (λ other. other ≡ start / 4096) (λ page none. absurd none) paged_in
-      (came_nothing fetched new (λ other. ⊥) between kept) in
+  back_on fetched new it paged_in here between same kept stored =
+      let First : ℕ → Type 0 = λ page. page * 4096 ≡ start in
+      let all : CameOnly middle First 1 new =
+      came_more middle fetched new (λ page. ⊥) First 1 0 (λ page none. absurd none) paged_in
+      (came_nothing fetched new (λ page. ⊥) 0 between kept) in
+      let aligned = before.aligned in
       record {
-        aligned = (let aligned = before.aligned in omega (arith, aligned));
+        aligned = omega (arith, aligned);
         few = inside;
         put = put_part start from (lent_bytes old) (lent_bytes middle) (lent_bytes new) long inside before.put
             (ap (λ (m : Memory). m.bytes)
             (stored ∙ ap (λ (m : Memory). with_stored m start (slice_range from start (start + 256))) same));
-        stand = stand_on middle new (λ other. other ≡ start / 4096) wanted all before.stand;
-        paged_in = came_more old middle new (λ other. other ≡ start / 4096) (is_wanted wanted)
-            (wanted_page wanted (start / 4096) it) before.paged_in all;
+        stand = stand_on middle new First wanted 1 all before.stand;
+        there = λ inner wants. ap (λ k. is_lent_page new k) (same_page inner) ∙
+            ap (λ (is : ℕ → Bool). is (start / 4096)) (keeps_rest_present fetched new kept.rest) ∙ here;
+        paged_in = came_apart old middle new (put_below wanted start) First (put_below wanted (start + 256))
+            (put_further wanted start) (put_first wanted start it)
+            (λ page below is. (let under = below.1 in omega (arith, is, under))) before.paged_in all;
         between = between_kept fetched new kept.rest between;
       }

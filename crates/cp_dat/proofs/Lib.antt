@@ -1,5 +1,6 @@
 pub mod Pages
 mod Placed
 pub mod Brought
+mod Counted
 pub mod Once
 pub mod Copying

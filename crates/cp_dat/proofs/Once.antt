@@ -1,11 +1,14 @@
 -- A page that has come for a unit is held until the unit ends, and so doesn't come again.
-use Rattle.std.proofs.Common.{◌≡◌, ℕ, zero, suc, ◌∙◌, List, [], ◌∷◌, Option, true, refl, sym, ap, subst, arith}
+use Rattle.std.proofs.Common.{◌≡◌, ◌≤◌, ◌==◌, ◌+◌, inl, inr, Bool, ℕ, zero, suc, ◌∙◌, List, [], ◌∷◌, Option, true, refl, sym, ap, subst, arith}
+use Rattle.std.proofs.lemmas.Bool.{cases_eq}
 use Rattle.std.specs.Prelude.{Contains, is_some}
 use Rattle.cp_frames.specs.Layout.{FrameSupply, is_there}
 use Rattle.cp_dat.specs.Supplied.{ArePageIns, IsHeld, IsPageIn}
 use Rattle.cp_dat.specs.Bringing.{differ}
+use Rattle.cp_dat.specs.Copies.{counted, times_among}
 use Rattle.cp_dat.specs.Laws.{AreDistinct}
 use Rattle.cp_dat.proofs.Brought.{at_there, one_for}
+use Rattle.cp_dat.proofs.Counted.{apart_test, counted_once}
 
 first_held : (user page : ℕ) (old new : FrameSupply) → IsPageIn user old page new → IsHeld new user page
 first_held user page old new step = (one_for user page old new step).held page (0, omega arith, refl)
@@ -38,6 +41,30 @@ comes_once user (page ∷ pages) old held (next, step, rest) = (
   λ listed. not_again user page pages next held (first_held user page old next step) rest listed,
   comes_once user pages next held rest,
 )
+
+-- what is not in a list is in it no time
+none_among : (page : ℕ) (pages : List ℕ) → (Contains pages page → ⊥) → times_among page pages ≡ 0
+none_among page [] none = refl
+none_among page (other ∷ pages) none =
+    let this : counted (other == page) ≡ 0 =
+    apart_test (other == page) other page refl (λ same. none (0, omega arith, same)) in
+    let rest : times_among page pages ≡ 0 = none_among page pages (λ at. none (suc at.0, omega (arith, at.1), at.2)) in
+    omega (arith, this, rest)
+
+-- Of pages that are distinct each is there at most once.
+pub distinct_once : (page : ℕ) (pages : List ℕ) → AreDistinct pages → times_among page pages ≤ 1
+distinct_once page [] distinct = omega arith
+distinct_once page (other ∷ pages) distinct =
+    let before : times_among page pages ≤ 1 = distinct_once page pages distinct.1 in
+    elim (cases_eq other page) [
+      | inl same ↦ (let none : times_among page pages ≡ 0 =
+          none_among page pages (λ at. distinct.0 (subst (λ (p : ℕ). Contains pages p) (sym same) at)) in
+          let few : counted (other == page) ≤ 1 = counted_once (other == page) in
+          omega (arith, none, few))
+      | inr apart ↦ (let this : counted (other == page) ≡ 0 =
+          apart_test (other == page) other page refl apart in
+          omega (arith, this, before))
+    ]
 
 -- what is held stays so until the unit ends
 held_on : (user other : ℕ) (pages : List ℕ) (old held : FrameSupply) → IsHeld old user other

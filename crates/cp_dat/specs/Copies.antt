@@ -1,5 +1,5 @@
 -- A user's storage as bytes, of which pages are put back.
-use Rattle.std.specs.Prelude.{◌≡◌, ℕ, ◌/◌, Bool, true, false, List, [], ◌∷◌, slice_index}
+use Rattle.std.specs.Prelude.{◌≡◌, ℕ, ◌+◌, ◌/◌, ◌≤◌, ◌==◌, Bool, true, false, List, [], ◌∷◌, slice_index}
 use Rattle.std.specs.Prelude.{slice_index_or}
 use Rattle.cp_dat.specs.declared.dat.Dat.{Dat}
 use Rattle.cp_dat.specs.Lent.{lent_keys, lent_pool, user_of}
@@ -19,12 +19,28 @@ abbrev pub EachAre : (ℕ → Type 0) → List (List ℕ) → Type 0
 EachAre is_such [] = Unit {0}
 EachAre is_such (pages ∷ units) = AllAre is_such pages × EachAre is_such units
 
--- just such pages of the user came, in units, and no key was set: the same user of the same frames,
--- with as many bytes, where each other user has the bytes he had
-pub record CameOnly (old : Dat) (is_such : ℕ → Type 0) (new : Dat) : Type 0 where
+-- one for what is so
+abbrev pub counted : Bool → ℕ
+counted true = 1
+counted false = 0
+
+-- how often a page is among these
+abbrev pub times_among : ℕ → List ℕ → ℕ
+times_among page [] = 0
+times_among page (other ∷ pages) = counted (other == page) + times_among page pages
+
+-- how often a page came in these units
+abbrev pub times_in : ℕ → List (List ℕ) → ℕ
+times_in page [] = 0
+times_in page (pages ∷ units) = times_among page pages + times_in page units
+
+-- just such pages of the user came, in units, each at most so often, and no key was set: the same
+-- user of the same frames, with as many bytes, where each other user has the bytes he had
+pub record CameOnly (old : Dat) (is_such : ℕ → Type 0) (most : ℕ) (new : Dat) : Type 0 where
   pub units : List (List ℕ)
   pub paged_in : SuppliedUnits old units new
   pub only : EachAre is_such units
+  pub often : (page : ℕ) → times_in page units ≤ most
   pub keys : lent_keys new ≡ lent_keys old
 
 -- each wanted page is in a frame or in a slot

@@ -3,7 +3,7 @@
 //! So a program can be tried on a copy: no page is brought for that. The pages that it needs are
 //! placed then, for which there may be no room; and only once they are somewhere are the bytes put
 //! back, which nothing refuses.
-ghost use Rattle.std.specs.Prelude.{◌≡◌, ℕ, ◌+◌, ◌*◌, ◌/◌, ◌%◌, ◌<◌, ◌≤◌, true, length};
+ghost use Rattle.std.specs.Prelude.{◌≡◌, ◌≢◌, ℕ, ◌+◌, ◌*◌, ◌/◌, ◌%◌, ◌<◌, ◌≤◌, true, length};
 ghost use Rattle.std.specs.Prelude.{slice_range, IfOk, IfErr, OnOk, OnErr};
 ghost use Rattle.s370_store.specs.Access.{put};
 
@@ -103,7 +103,7 @@ impl<'a> Dat<'a> {
             (HasNoRoom (lent_pool self.new).supply (user_of self.new) page.0) }
         ensures nowhere { OnErr result
             (Stands (lent_pool self.old).supply (user_of self.old) page.0 → ⊥) }
-        ensures paged_in { CameOnly self.old (λ other. other ≡ page.0) self.new }
+        ensures paged_in { CameOnly self.old (λ other. other ≡ page.0) 1 self.new }
         ensures between { IsBetweenUnits (lent_pool self.new).supply }
         ensures memory { lent_memory self.new ≡ lent_memory self.old }
     {
@@ -127,7 +127,7 @@ impl<'a> Dat<'a> {
         ensures stand { OnOk result (StandAll self.new wanted.now) }
         ensures out { OnErr result ((page : ℕ) × is_wanted wanted.now page
             × HasNoRoom (lent_pool self.new).supply (user_of self.new) page) }
-        ensures paged_in { CameOnly self.old (is_wanted wanted.now) self.new }
+        ensures paged_in { CameOnly self.old (is_wanted wanted.now) 1 self.new }
         ensures between { IsBetweenUnits (lent_pool self.new).supply }
         ensures memory { lent_memory self.new ≡ lent_memory self.old }
     {
@@ -141,6 +141,28 @@ impl<'a> Dat<'a> {
         Ok(())
     }
 
+    /// Brings the page that begins at an address into a frame, if it is in none; at an address
+    /// within a page, which is in a frame then, it does nothing.
+    fn fetch_first(&mut self, start: u32)
+        requires inside { start < length (lent_bytes self.old) }
+        requires stands { Stands (lent_pool self.old).supply (user_of self.old) (start / 4096) }
+        requires within { start % 4096 ≢ 0 → is_lent_page self.old (start / 4096) ≡ true }
+        requires between { IsBetweenUnits (lent_pool self.old).supply }
+        ensures there { is_lent_page self.new (start / 4096) ≡ true }
+        ensures paged_in { CameOnly self.old (λ page. page * 4096 ≡ start) 1 self.new }
+        ensures between { IsBetweenUnits (lent_pool self.new).supply }
+        ensures memory { lent_memory self.new ≡ lent_memory self.old }
+    {
+        if start % PAGE_SIZE != 0 {
+            return;
+        }
+        match self.fetch(Page(start / PAGE_SIZE)) {
+            Ok(()) => {}
+            // It is somewhere.
+            Err(FramesOut) => unreachable!(),
+        }
+    }
+
     /// Puts bytes into the wanted pages, which are somewhere; the others have these bytes. Nothing
     /// refuses it.
     pub fn put_back(&mut self, from: &[u8], wanted: &[bool])
@@ -150,17 +172,13 @@ impl<'a> Dat<'a> {
         requires stand { StandAll self.old wanted.now }
         requires between { IsBetweenUnits (lent_pool self.old).supply }
         ensures bytes { lent_bytes self.new ≡ from.now }
-        ensures paged_in { CameOnly self.old (is_wanted wanted.now) self.new }
+        ensures paged_in { CameOnly self.old (is_wanted wanted.now) 1 self.new }
         ensures between { IsBetweenUnits (lent_pool self.new).supply }
     {
         let mut start = 0u32;
         while start < self.size {
             if wanted[(start / PAGE_SIZE) as usize] {
-                match self.fetch(Page(start / PAGE_SIZE)) {
-                    Ok(()) => {}
-                    // It is somewhere.
-                    Err(FramesOut) => unreachable!(),
-                }
+                self.fetch_first(start);
                 let first = start as usize;
                 self.store(start, &from[first..first + 256]);
             }

@@ -1,5 +1,5 @@
 -- What programs of a user's devices leave: those whose pages are held, and those that were tried.
-use Rattle.std.proofs.Common.{◌≡◌, ◌∙◌, ap, sym, subst, ℕ, ◌*◌, ◌<◌, List, [], ◌∷◌, ◌++◌, length, refl, Option, None}
+use Rattle.std.proofs.Common.{◌≡◌, ◌∙◌, ap, sym, subst, ℕ, ◌*◌, ◌<◌, ◌≤◌, List, [], ◌∷◌, ◌++◌, length, refl, Option, None}
 use Rattle.std.proofs.Common.{Some, Result, Ok, Err, arith, inl, inr}
 use Rattle.std.specs.Prelude.{IfErr, IfOk, OnOk, slice_get}
 use Rattle.std.proofs.lemmas.Option.{slice_get_cases}
@@ -17,10 +17,11 @@ use Rattle.s370_walk.specs.declared.parts.Ending.{Ending}
 use Rattle.machine_channels.specs.Channels.{Brings, DiskLoads, DiskNeeds, WhereOut}
 use Rattle.cp_dat.specs.declared.dat.Dat.{Dat}
 use Rattle.cp_dat.specs.Bringing.{supplied_none, supplied_on}
-use Rattle.cp_dat.specs.Copies.{CameOnly}
+use Rattle.cp_dat.specs.Copies.{CameOnly, times_among, times_in}
 use Rattle.cp_dat.specs.Lent.{KeepsStored, is_lent_page, lent_bytes, lent_memory, lent_pool, user_of}
 use Rattle.cp_dat.specs.Letting.{let_go_between, let_go_came}
 use Rattle.cp_dat.specs.Supplied.{IsBetweenUnits, Supplied, TakesPins}
+use Rattle.cp_dat.proofs.Once.{comes_once, distinct_once}
 use Rattle.cp_frames.specs.Paging.{IsRefused}
 use Rattle.cp_trial.specs.declared.DryRunError.{DryRunError}
 use Rattle.cp_trial.specs.declared.DryRunError.TheVariants as tries
@@ -39,11 +40,19 @@ memory_whole (Err error) size Needs Out P is = subst (λ (e : ChannelError). Whe
 -- ---- nothing was brought
 
 -- If storage stays, no page is brought.
-pub still_came : (d0 d1 : Dat) (Needs : ℕ → Type 0) → IsBetweenUnits (lent_pool d0).supply → KeepsStored d0 d1
-    → Brings PagedIn d0 Needs d1
-still_came d0 d1 Needs between kept = ([], came_further d0 d0 d1 [] (came_nowhere d0 between) kept, tt)
+pub still_came : (n : ℕ) (d0 d1 : Dat) (Needs : ℕ → Type 0) → IsBetweenUnits (lent_pool d0).supply
+    → KeepsStored d0 d1 → Brings (PagedIn n) d0 Needs d1
+still_came n d0 d1 Needs between kept = ([], came_further n d0 d0 d1 [] (came_nowhere n d0 between) kept, tt)
 
 -- ---- pages that were held
+
+-- pages that came for one unit came once each
+once_in : (pages : List ℕ) (d0 d1 : Dat) → Supplied d0 pages d1 → (page : ℕ) → times_in page (pages ∷ []) ≤ 2
+once_in pages d0 d1 supplied page =
+    let once : times_among page pages ≤ 1 =
+    distinct_once page pages (comes_once (user_of d0) pages (lent_pool d0).supply (lent_pool d1).supply
+    supplied.paged.page_ins_are) in
+    omega (arith, once)
 
 such_on : (P : ℕ → Type 0) (first second : List ℕ) → AllSuch P first → AllSuch P second → AllSuch P (first ++ second)
 such_on P [] second a b = b
@@ -57,13 +66,14 @@ such_for P Q more (page ∷ pages) all = (more page all.0, such_for P Q more pag
 pub held_came : (d0 d1 d2 d3 : Dat) (Holds Needs : ℕ → Type 0) → ((page : ℕ) → Holds page → Needs page)
     → ((pages : List ℕ) × Supplied d0 pages d1 × AllSuch Holds pages) → lent_memory d1 ≡ lent_memory d0
     → KeepsStored d1 d2 → TakesPins d2 d3 → lent_memory d3 ≡ lent_memory d2
-    → Brings PagedIn d0 Needs d3
+    → Brings (PagedIn 2) d0 Needs d3
 held_came d0 d1 d2 d3 Holds Needs more held first kept taken last =
-    let pages = held.0 ++ [] in (
+    let pages = held.0 ++ [] in
+    let supplied : Supplied d0 pages d2 = supplied_on d0 d1 d2 held.0 [] held.1 (supplied_none d1 d2 kept.rest) in (
       pages ∷ [],
       record {
-        paged_in = let_go_came d0 d2 d3 pages (supplied_on d0 d1 d2 held.0 [] held.1 (supplied_none d1 d2 kept.rest))
-            taken;
+        paged_in = let_go_came d0 d2 d3 pages supplied taken;
+        often = once_in pages d0 d2 supplied;
         keys = ap (λ (m : Memory). m.keys) last ∙ kept.keys ∙ ap (λ (m : Memory). m.keys) first;
       },
       (such_on Needs held.0 [] (such_for Holds Needs more held.0 held.2) tt, tt),
@@ -83,11 +93,12 @@ held_between d0 d1 d2 d3 Holds held between kept taken =
 pub refused_came : (d0 d1 d2 : Dat) (Holds Needs : ℕ → Type 0) → ((page : ℕ) → Holds page → Needs page)
     → ((pages : List ℕ) × Supplied d0 pages d1 × AllSuch Holds pages) → lent_memory d1 ≡ lent_memory d0
     → TakesPins d1 d2 → lent_memory d2 ≡ lent_memory d1
-    → Brings PagedIn d0 Needs d2
+    → Brings (PagedIn 2) d0 Needs d2
 refused_came d0 d1 d2 Holds Needs more held first taken last = (
   held.0 ∷ [],
   record {
     paged_in = let_go_came d0 d1 d2 held.0 held.1 taken;
+    often = once_in held.0 d0 d1 held.1;
     keys = ap (λ (m : Memory). m.keys) (last ∙ first);
   },
   (such_for Holds Needs more held.0 held.2, tt),
@@ -121,11 +132,15 @@ refused_whole tries.FramesOut d0 d1 d2 Holds Needs P more inside between held ta
 -- ---- pages that were touched
 
 -- Pages that a dry run brought are pages that the program needs.
-pub tried_came : (d0 d1 : Dat) (Touched Needs : ℕ → Type 0) → ((page : ℕ) → Touched page → Needs page)
-    → CameOnly d0 Touched d1 → Brings PagedIn d0 Needs d1
-tried_came d0 d1 Touched Needs more paged_in = (
+pub tried_came : (n m : ℕ) (d0 d1 : Dat) (Touched Needs : ℕ → Type 0) → ((page : ℕ) → Touched page → Needs page)
+    → n ≤ m → CameOnly d0 Touched n d1 → Brings (PagedIn m) d0 Needs d1
+tried_came n m d0 d1 Touched Needs more few paged_in = (
   paged_in.units,
-  record { paged_in = paged_in.paged_in; keys = paged_in.keys },
+  record {
+    paged_in = paged_in.paged_in;
+    often = λ page. (let often = paged_in.often page in omega (arith, few, often));
+    keys = paged_in.keys;
+  },
   each_for Touched Needs more paged_in.units paged_in.only,
 )
 

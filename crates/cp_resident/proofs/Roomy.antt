@@ -125,7 +125,7 @@ first_untouched (Some disk) old new none same = inr (inl same)
 
 -- A loading had room for its pages after its first page came.
 pub after_first : (o : Option DiskAt) (old between new : Dat) → lent_memory between ≡ lent_memory old
-    → CameOnly old (λ page. page ≡ 0) between → is_lent_page between 0 ≡ true
+    → CameOnly old (λ page. page ≡ 0) 1 between → is_lent_page between 0 ≡ true
     → DiskHadRoomToLoad tried.HadRoomToLoad between o new → DiskHadRoomToLoad HadRoomAfterFirst old o new
 after_first None old between new same paged_in there had = had
 after_first (Some disk) old between new same paged_in there (inl is) =

@@ -1,6 +1,6 @@
 -- Channels of users, and the pages that come for them.
-use Rattle.std.specs.Prelude.{◌≡◌, ◌⊎◌, ℕ, ◌<◌, false, List, [], length, refl, Result, Ok, Err}
-use Rattle.std.proofs.Common.{◌∙◌, subst, sym}
+use Rattle.std.specs.Prelude.{◌≡◌, ◌⊎◌, ℕ, ◌<◌, ◌≤◌, false, List, [], length, refl, Result, Ok, Err}
+use Rattle.std.proofs.Common.{◌∙◌, arith, subst, sym}
 use Rattle.s370_channel.specs.declared.running.ChannelError.{ChannelError}
 use Rattle.s370_channel.specs.declared.running.ChannelError.TheVariants as errors
 use Rattle.s370_channel.specs.declared.words.Caw.{Caw}
@@ -9,6 +9,7 @@ use Rattle.s370_walk.specs.declared.parts.Ending.{Ending}
 use Rattle.s370_walk.specs.Hardware.{Machine}
 use Rattle.cp_frames.specs.Layout.{FrameSupply, is_there}
 use Rattle.cp_dat.specs.declared.dat.Dat.{Dat}
+use Rattle.cp_dat.specs.Copies.{times_in}
 use Rattle.cp_dat.specs.Lent.{KeepsStored, keeps_frames, keeps_frames_on, keeps_rest_same}
 use Rattle.cp_dat.specs.Lent.{lent_keys, lent_memory, lent_pool, user_of}
 use Rattle.cp_dat.specs.Letting.{came_none}
@@ -77,25 +78,30 @@ HadRoom D machine old start d new =
 
 -- ---- pages that come in units
 
--- just these pages came, in these units, and no key was set
-pub record PagedIn (old : Dat) (units : List (List ℕ)) (new : Dat) : Type 0 where
+-- just these pages came, in these units, each at most so often, and no key was set
+pub record PagedIn (most : ℕ) (old : Dat) (units : List (List ℕ)) (new : Dat) : Type 0 where
   pub paged_in : SuppliedUnits old units new
+  pub often : (page : ℕ) → times_in page units ≤ most
   pub keys : lent_keys new ≡ lent_keys old
 
 -- nothing is paged in where nothing happens
-pub came_nowhere : (d : Dat) → IsBetweenUnits (lent_pool d).supply → PagedIn d [] d
-came_nowhere d between =
-    record { paged_in = came_none d d 0 between (keeps_rest_same d); keys = refl }
+pub came_nowhere : (n : ℕ) (d : Dat) → IsBetweenUnits (lent_pool d).supply → PagedIn n d [] d
+came_nowhere n d between = record {
+  paged_in = came_none d d 0 between (keeps_rest_same d);
+  often = λ page. omega arith;
+  keys = refl;
+}
 
 -- a store after pages came in brings none
-pub came_further : (s t u : Dat) (units : List (List ℕ)) → PagedIn s units t → KeepsStored t u
-    → PagedIn s units u
-came_further s t u units c kept = record {
+pub came_further : (n : ℕ) (s t u : Dat) (units : List (List ℕ)) → PagedIn n s units t
+    → KeepsStored t u → PagedIn n s units u
+came_further n s t u units c kept = record {
   paged_in = record {
     kept = keeps_frames_on s t u c.paged_in.kept (keeps_frames t u kept.rest);
     brought = subst (λ (supply : FrameSupply).
         IsBroughtInUnits (user_of s) units (lent_pool s).supply supply) (sym kept.rest.same_supply)
         c.paged_in.brought;
   };
+  often = c.often;
   keys = kept.keys ∙ c.keys;
 }

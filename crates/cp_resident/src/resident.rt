@@ -245,9 +245,9 @@ impl<'a> Channels<Dat<'a>> for GuestChannels {
 
     ghost ready_kept = { λ s t k. laws.between_kept s t k.rest };
 
-    ghost came_size = { λ s t units paged_in. paged_in.paged_in.kept.same_size };
+    ghost came_size = { λ n s t units paged_in. paged_in.paged_in.kept.same_size };
 
-    ghost came_keys = { λ s t units paged_in. paged_in.keys };
+    ghost came_keys = { λ n s t units paged_in. paged_in.keys };
 }
 
 /// Returns the channel's error for that of a dry run.

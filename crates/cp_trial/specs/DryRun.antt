@@ -39,7 +39,7 @@ pub record IsPlaced {D : Type 0} (h : Setting D) (from : State D) (m : Memory)
 
 -- only the page of the PSW came, and it is in a frame
 pub record HasFirst (old new : Dat) : Type 0 where
-  pub paged_in : CameOnly old (λ page. page ≡ 0) new
+  pub paged_in : CameOnly old (λ page. page ≡ 0) 1 new
   pub there : is_lent_page new 0 ≡ true
 
 -- nothing has happened, or each page that the program touches has its place

@@ -145,7 +145,7 @@ pub fn run_tried<D: Device>(
     ensures lacking { result ≡ Err errors.FramesOut
         → LacksSuch (is_wanted (trial_flags tried.now)) storage.new }
     ensures roomy { result ≡ Err errors.Memory → StandAll storage.new (trial_flags tried.now) }
-    ensures paged_in { CameOnly storage.old (is_wanted (trial_flags tried.now)) storage.new }
+    ensures paged_in { CameOnly storage.old (is_wanted (trial_flags tried.now)) 2 storage.new }
     ensures between { IsBetweenUnits (lent_pool storage.new).supply }
 {
     match storage.place(tried.touched()) {
@@ -243,7 +243,7 @@ pub fn load_tried<D: Device>(
     ensures lacking { result ≡ Err errors.FramesOut
         → LacksSuch (is_wanted (trial_flags tried.now)) storage.new }
     ensures roomy { result ≡ Err errors.Memory → StandAll storage.new (trial_flags tried.now) }
-    ensures paged_in { CameOnly storage.old (is_wanted (trial_flags tried.now)) storage.new }
+    ensures paged_in { CameOnly storage.old (is_wanted (trial_flags tried.now)) 2 storage.new }
     ensures between { IsBetweenUnits (lent_pool storage.new).supply }
 {
     match storage.place(tried.touched()) {

@@ -46,7 +46,7 @@ pub fn run_open<D: DryRun>(
         → HadRoom _ D.Device.machine storage.old start device.old storage.new }
     ensures paged_in { CameOnly storage.old
         (IsTouched guest_written (limited D.Device.machine start)
-        (begun start (lent_memory storage.old) device.old)) storage.new }
+        (begun start (lent_memory storage.old) device.old)) 2 storage.new }
     ensures between { IsBetweenUnits (lent_pool storage.new).supply }
 {
     let again = Caw {
@@ -84,7 +84,7 @@ pub fn load_open<D: TriedLoading>(
     ensures roomy { result ≡ Err errors.Memory
         → HadRoomAfterFirst _ D.Device.machine storage.old device.old storage.new }
     ensures paged_in { CameOnly storage.old (LoadTouches D.Device.machine
-        (lent_memory storage.old) device.old) storage.new }
+        (lent_memory storage.old) device.old) 4 storage.new }
     ensures there { OnOk result (is_lent_page storage.new 0 ≡ true) }
     ensures between { IsBetweenUnits (lent_pool storage.new).supply }
 {
@@ -110,7 +110,7 @@ pub fn fetch_first(storage: &mut Dat<'_>) -> Result<(), DryRunError>
     ensures lacking { result ≡ Err errors.FramesOut → LacksSuch (λ page. page ≡ 0) storage.new }
     ensures roomy { result ≡ Err errors.Memory → lent_bytes storage.old ≡ [] }
     ensures untouched { result ≡ Err errors.Memory → storage.new ≡ storage.old }
-    ensures paged_in { CameOnly storage.old (λ page. page ≡ 0) storage.new }
+    ensures paged_in { CameOnly storage.old (λ page. page ≡ 0) 1 storage.new }
     ensures between { IsBetweenUnits (lent_pool storage.new).supply }
     ensures memory { lent_memory storage.new ≡ lent_memory storage.old }
 {
@@ -130,7 +130,7 @@ pub fn fetch_again(storage: &mut Dat<'_>)
     requires stands { Stands (lent_pool storage.old).supply (user_of storage.old) 0 }
     requires between { IsBetweenUnits (lent_pool storage.old).supply }
     ensures there { is_lent_page storage.new 0 ≡ true }
-    ensures paged_in { CameOnly storage.old (λ page. page ≡ 0) storage.new }
+    ensures paged_in { CameOnly storage.old (λ page. page ≡ 0) 1 storage.new }
     ensures between { IsBetweenUnits (lent_pool storage.new).supply }
     ensures memory { lent_memory storage.new ≡ lent_memory storage.old }
 {

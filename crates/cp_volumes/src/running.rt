@@ -71,7 +71,7 @@ pub(crate) fn run_mounted(
         → LacksSuch (is_wanted (trial_flags tried.now)) storage.new }
     ensures roomy { result ≡ Err errors.Memory → StandAll storage.new (trial_flags tried.now) }
     ensures volume { KeepsVolume mounted.old mounted.new }
-    ensures paged_in { CameOnly storage.old (is_wanted (trial_flags tried.now)) storage.new }
+    ensures paged_in { CameOnly storage.old (is_wanted (trial_flags tried.now)) 2 storage.new }
     ensures between { IsBetweenUnits (lent_pool storage.new).supply }
 {
     run_tried(alloc, storage, start, mounted, tried)
@@ -97,7 +97,7 @@ pub(crate) fn load_mounted(
         → LacksSuch (is_wanted (trial_flags tried.now)) storage.new }
     ensures roomy { result ≡ Err errors.Memory → StandAll storage.new (trial_flags tried.now) }
     ensures volume { KeepsVolume mounted.old mounted.new }
-    ensures paged_in { CameOnly storage.old (is_wanted (trial_flags tried.now)) storage.new }
+    ensures paged_in { CameOnly storage.old (is_wanted (trial_flags tried.now)) 2 storage.new }
     ensures between { IsBetweenUnits (lent_pool storage.new).supply }
 {
     load_tried(alloc, storage, mounted, tried)

@@ -126,7 +126,7 @@ impl UserDisks {
         ensures roomy { result ≡ Err errors.Memory → DiskHadRoom HadRoom storage.old start
             (slice_get (seen self.old) index) storage.new }
         ensures paged_in { CameOnly storage.old (DiskTouches start
-            (lent_memory storage.old) (slice_get (seen self.old) index)) storage.new }
+            (lent_memory storage.old) (slice_get (seen self.old) index)) 2 storage.new }
         ensures between { IsBetweenUnits (lent_pool storage.new).supply }
         ensures others { KeepsOtherDisks self.old self.new }
     {
@@ -168,7 +168,7 @@ impl UserDisks {
             (slice_get (map reset_disk (seen self.old)) index) storage.new }
         ensures paged_in { CameOnly storage.old (DiskLoadTouches
             (lent_memory storage.old) (slice_get (map reset_disk (seen self.old)) index))
-            storage.new }
+            2 storage.new }
         ensures between { IsBetweenUnits (lent_pool storage.new).supply }
         ensures others { KeepsOtherDisks self.old self.new }
     {

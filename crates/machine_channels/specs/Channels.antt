@@ -130,6 +130,13 @@ abbrev pub DiskHadRoomToLoad : {S : Type 0} → ((D : Type 0) → Machine D → 
 DiskHadRoomToLoad HadRoom old (Some disk) new = HadRoom Disk disk_machine old disk.unit new
 DiskHadRoomToLoad HadRoom old None new = ⊥
 
+-- how often a page may come for the program of a device that is served, and for a loading
+abbrev pub serve_times : ℕ
+serve_times = 2
+
+abbrev pub load_times : ℕ
+load_times = 4
+
 -- from one storage to the other pages were brought, in units, each of which is such
 abbrev pub Brings : {S : Type 0} → (S → List (List ℕ) → S → Type 0) → S → (ℕ → Type 0) → S → Type 0
 Brings Came old IsSuch new = (units : List (List ℕ)) × Came old units new × EachSuch IsSuch units

@@ -12,7 +12,7 @@ ghost use Rattle.s370_walk.specs.Hardware.{Machine};
 ghost use Rattle.machine_channels.specs.Channels.{Brings, DiskHadRoom, DiskHadRoomToLoad};
 ghost use Rattle.machine_channels.specs.Channels.{DiskLoads, DiskNeeds, LacksPage, LoadNeeds};
 ghost use Rattle.machine_channels.specs.Channels.{LoadsDisk, NoRoom, ProgramNeeds, StopsDisk};
-ghost use Rattle.machine_channels.specs.Channels.{WalksDisk, WalksLoading, WhereOut};
+ghost use Rattle.machine_channels.specs.Channels.{WalksDisk, WalksLoading, WhereOut, load_times, serve_times};
 ghost use Rattle.machine_channels.specs.Disks.{DiskAt, cleared_disk, is_disk_at, reset_disk};
 ghost use Rattle.machine_channels.specs.declared.channels.UnitRecord.{UnitRecord};
 ghost use Rattle.s370_channel.specs.declared.words.Caw.{Caw};
@@ -90,8 +90,9 @@ pub trait Channels<S: Storage>: Disks {
     /// This page is not present, and wherever one could be is one of this storage.
     ghost IsFilled: { S → ℕ → Type 0 };
 
-    /// From one storage to the other just these pages were brought, in these units.
-    ghost Came: { S → List (List ℕ) → S → Type 0 };
+    /// From one storage to the other just these pages were brought, in these units, each at most so
+    /// often.
+    ghost Came: { ℕ → S → List (List ℕ) → S → Type 0 };
 
     /// Memory was refused to a program of such a device with this start, with room for its pages:
     /// either no page has moved, or each that it needs has its place.
@@ -139,7 +140,7 @@ pub trait Channels<S: Storage>: Disks {
             ((S.memory storage.new ≡ S.memory storage.old) × (device.new ≡ device.old))) }
         ensures roomy { is_whole ≡ true → result ≡ Err errors.Memory
             → HadRoom _ D.Device.machine storage.old start device.old storage.new }
-        ensures paged_in { Brings Came storage.old (ProgramNeeds holds D.Device.machine start
+        ensures paged_in { Brings (Came serve_times) storage.old (ProgramNeeds holds D.Device.machine start
             (S.memory storage.old) device.old) storage.new }
         ensures ready { IsReady storage.new }
         ensures others { Self.KeepsOthers self.old self.new }
@@ -174,7 +175,7 @@ pub trait Channels<S: Storage>: Disks {
         ensures roomy { is_whole ≡ true → result ≡ Err errors.Memory
             → DiskHadRoom HadRoom storage.old start (slice_get (Self.disks self.old) index)
             storage.new }
-        ensures paged_in { Brings Came storage.old (DiskNeeds holds start (S.memory storage.old)
+        ensures paged_in { Brings (Came serve_times) storage.old (DiskNeeds holds start (S.memory storage.old)
             (slice_get (Self.disks self.old) index)) storage.new }
         ensures ready { IsReady storage.new }
         ensures others { Self.KeepsOthers self.old self.new }
@@ -211,7 +212,7 @@ pub trait Channels<S: Storage>: Disks {
             → HadRoomToLoad _ D.Device.machine storage.old device.old storage.new }
         ensures there { is_whole ≡ true → OnOk result (S.present storage.new 0 ≡ true) }
         ensures pages_unchanged { is_whole ≡ false → S.present storage.new ≡ S.present storage.old }
-        ensures paged_in { Brings Came storage.old (LoadNeeds D.Device.machine
+        ensures paged_in { Brings (Came load_times) storage.old (LoadNeeds D.Device.machine
             (S.memory storage.old) device.old) storage.new }
         ensures ready { IsReady storage.new }
         ensures others { Self.KeepsOthers self.old self.new };
@@ -246,7 +247,7 @@ pub trait Channels<S: Storage>: Disks {
             storage.new }
         ensures there { is_whole ≡ true → OnOk result (S.present storage.new 0 ≡ true) }
         ensures pages_unchanged { is_whole ≡ false → S.present storage.new ≡ S.present storage.old }
-        ensures paged_in { Brings Came storage.old (DiskLoads (S.memory storage.old)
+        ensures paged_in { Brings (Came load_times) storage.old (DiskLoads (S.memory storage.old)
             (slice_get (map reset_disk (Self.disks self.old)) index)) storage.new }
         ensures ready { IsReady storage.new }
         ensures others { Self.KeepsOthers self.old self.new }
@@ -254,20 +255,20 @@ pub trait Channels<S: Storage>: Disks {
         ensures kept { is_whole ≡ true → OnErr result (self.new ≡ self.old) };
 
     /// If nothing is done, nothing comes.
-    ghost came_none: { (s : S) → IsReady s → Came s [] s };
+    ghost came_none: { (n : ℕ) (s : S) → IsReady s → Came n s [] s };
 
     /// What an access keeps brings nothing.
-    ghost came_kept: { (s t u : S) (units : List (List ℕ)) → Came s units t → S.Keeps t u
-        → Came s units u };
+    ghost came_kept: { (n : ℕ) (s t u : S) (units : List (List ℕ)) → Came n s units t → S.Keeps t u
+        → Came n s units u };
 
     /// An access holds nothing.
     ghost ready_kept: { (s t : S) → S.Keeps s t → IsReady s → IsReady t };
 
     /// A storage has always as many bytes.
-    ghost came_size: { (s t : S) (units : List (List ℕ)) → Came s units t
+    ghost came_size: { (n : ℕ) (s t : S) (units : List (List ℕ)) → Came n s units t
         → length (S.memory t).bytes ≡ length (S.memory s).bytes };
 
     /// No program sets a key.
-    ghost came_keys: { (s t : S) (units : List (List ℕ)) → Came s units t
+    ghost came_keys: { (n : ℕ) (s t : S) (units : List (List ℕ)) → Came n s units t
         → (S.memory t).keys ≡ (S.memory s).keys };
 }

@@ -92,7 +92,7 @@ impl<S: Storage> Channels<S> for DedicatedChannels {
 
     ghost IsFilled = { λ _ _. ⊥ };
 
-    ghost Came = { λ s _ t. S.Keeps s t };
+    ghost Came = { λ n s _ t. S.Keeps s t };
 
     ghost HadRoom = { λ _ _ _ _ _ _. Unit {0} };
 
@@ -134,13 +134,13 @@ impl<S: Storage> Channels<S> for DedicatedChannels {
         self.disks[index].load(storage)
     }
 
-    ghost came_none = { λ s ready. S.keeps_same s };
+    ghost came_none = { λ n s ready. S.keeps_same s };
 
-    ghost came_kept = { λ s t u units paged_in kept. S.keeps_on s t u paged_in kept };
+    ghost came_kept = { λ n s t u units paged_in kept. S.keeps_on s t u paged_in kept };
 
     ghost ready_kept = { λ s t kept ready. tt };
 
-    ghost came_size = { λ s t units paged_in. S.keeps_size s t paged_in };
+    ghost came_size = { λ n s t units paged_in. S.keeps_size s t paged_in };
 
-    ghost came_keys = { λ s t units paged_in. S.keeps_keys s t paged_in };
+    ghost came_keys = { λ n s t units paged_in. S.keeps_keys s t paged_in };
 }

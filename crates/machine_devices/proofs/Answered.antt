@@ -42,7 +42,7 @@ use Rattle.machine_devices.specs.declared.files.FileKind.TheVariants as of_files
 use Rattle.machine_devices.specs.declared.files.FileNote.{FileNote}
 use Rattle.machine_devices.specs.declared.files.ClosedFiles.{ClosedFiles}
 use Rattle.machine_devices.specs.Comes.{HasClosed, HasOpen, MayTakeMemory, NeedsMemory, is_sent, closes, command_closes}
-use Rattle.machine_devices.specs.Comes.{is_cut, LineMay, is_ipl}
+use Rattle.machine_devices.specs.Comes.{CanReceive, is_cut, LineMay, is_ipl}
 
 -- a message that is sent leaves its sender's machine
 abbrev pub SentSame : Equipped → LineOutcome → Equipped → Type 0
@@ -399,10 +399,13 @@ closed_open (Some (kinds.Disk index)) old new reported is closed =
 closed_open None old new reported is closed =
     not_closed (files_closed reported) (ap (λ (o : Outcome). files_closed o.reported) is) closed
 
+not_both : {b : Bool} → b ≡ false → b ≡ true → ⊥
+not_both off on = cc
+
 -- a line that closed a file may take memory
 closing_may : (q : Request) (w : UserDirectory) (typed : List ℕ) (old : Equipped) (reported : LineOutcome)
     (new : Equipped) → closes q ≡ true → IsAnswered q w typed old reported new → HasClosed (files_closed reported)
-    → MayTakeMemory q old
+    → MayTakeMemory w q old
 closing_may LogsOff w typed old reported new closing is closed =
     subst HasClosed (ap (λ (o : Outcome). files_closed o.reported) is) closed
 closing_may (Asks (commands.Close device)) w typed old reported new closing is closed =
@@ -418,31 +421,44 @@ closing_may Types w typed old reported new closing is closed = cc
 closing_may (Loads device) w typed old reported new closing is closed = cc
 closing_may (Alone asked) w typed old reported new closing is closed = cc
 
--- and one that sends
-sending_may : (q : Request) (e : Equipped) → sends q ≡ true → MayTakeMemory q e
-sending_may (Asks (commands.Message name text)) e is = tt
-sending_may (Asks (commands.Close device)) e is = cc
-sending_may (Asks commands.QueryFiles) e is = cc
-sending_may (Asks commands.QueryUsers) e is = cc
-sending_may (Asks (commands.Spool device name)) e is = cc
-sending_may (Asks (commands.Purge file)) e is = cc
-sending_may LogsOn e is = cc
-sending_may LogsOff e is = cc
-sending_may Resets e is = cc
-sending_may Types e is = cc
-sending_may (Loads device) e is = cc
-sending_may (Alone asked) e is = cc
+-- what is sent is sent to a user who can receive it
+sent_where : (on : Bool) (user : ℕ) (w : UserDirectory) (text : List ℕ) (reported : LineOutcome)
+    → SendsWhere on user w text reported → is_sent reported ≡ true → on ≡ true
+sent_where true user w text reported is sent = refl
+sent_where false user w text reported is sent =
+    absurd (not_both {is_sent reported} (ap (λ (o : LineOutcome). is_sent o) is) sent)
 
-not_both : {b : Bool} → b ≡ false → b ≡ true → ⊥
-not_both off on = cc
+sent_to : (found : Option ℕ) (w : UserDirectory) (text : List ℕ) (reported : LineOutcome)
+    → SendsTo found w text reported → is_sent reported ≡ true → CanReceive found w
+sent_to None w text reported is sent =
+    absurd (not_both {is_sent reported} (ap (λ (o : LineOutcome). is_sent o) is) sent)
+sent_to (Some user) w text reported is sent = sent_where (is_on w user) user w text reported is sent
+
+-- and one that sends
+sending_may : (q : Request) (w : UserDirectory) (typed : List ℕ) (old : Equipped) (reported : LineOutcome)
+    (new : Equipped) → sends q ≡ true → IsAnswered q w typed old reported new → is_sent reported ≡ true
+    → MayTakeMemory w q old
+sending_may (Asks (commands.Message name text)) w typed old reported new sending is sent =
+    sent_to (user_of w.names name) w text reported is.1 sent
+sending_may (Asks (commands.Close device)) w typed old reported new sending is sent = cc
+sending_may (Asks commands.QueryFiles) w typed old reported new sending is sent = cc
+sending_may (Asks commands.QueryUsers) w typed old reported new sending is sent = cc
+sending_may (Asks (commands.Spool device name)) w typed old reported new sending is sent = cc
+sending_may (Asks (commands.Purge file)) w typed old reported new sending is sent = cc
+sending_may LogsOn w typed old reported new sending is sent = cc
+sending_may LogsOff w typed old reported new sending is sent = cc
+sending_may Resets w typed old reported new sending is sent = cc
+sending_may Types w typed old reported new sending is sent = cc
+sending_may (Loads device) w typed old reported new sending is sent = cc
+sending_may (Alone asked) w typed old reported new sending is sent = cc
 
 -- what closes or sends nothing takes none
 may_mild : (q : Request) (w : UserDirectory) (typed : List ℕ) (old : Equipped) (reported : LineOutcome) (new : Equipped)
     → IsAnswered q w typed old reported new → IsMild (closes q) (sends q) old (outcome new reported)
-    → NeedsMemory reported → MayTakeMemory q old
+    → NeedsMemory reported → MayTakeMemory w q old
 may_mild q w typed old reported new is mild h = elim h [
   | inl sent ↦ elim (true_or_false (sends q)) [
-    | inl sending ↦ sending_may q old sending
+    | inl sending ↦ sending_may q w typed old reported new sending is sent
     | inr silent ↦ absurd (not_both (mild.unsent silent) sent)
   ]
   | inr closed ↦ elim (true_or_false (closes q)) [
@@ -460,7 +476,7 @@ same_mild q old reported new none mild h = elim h [
 
 -- what comes of a line takes memory only where the line may
 pub follow_may : (w : UserDirectory) (typed : List ℕ) (old : Equipped) (reported : LineOutcome) (new : Equipped)
-    → IsLine w typed old reported new → NeedsMemory reported → LineMay typed old
+    → IsLine w typed old reported new → NeedsMemory reported → LineMay w typed old
 follow_may w typed old reported new h needs =
     let q = requested typed old in may_mild q w typed old reported new h (mild q w typed old reported new h) needs
 

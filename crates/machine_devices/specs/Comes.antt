@@ -3,6 +3,7 @@
 use Rattle.std.specs.Prelude.{◌≡◌, ℕ, ◌<◌, ◌⊎◌, ◌||◌, Bool, true, false, List, IsSome, Option, Some}
 use Rattle.std.specs.Prelude.{None}
 use Rattle.s370_walk.specs.Hardware.{Machine as Device}
+use Rattle.user_names.specs.Users.{user_of}
 use Rattle.cp_console.specs.declared.device_commands.DeviceCommand.{DeviceCommand}
 use Rattle.cp_console.specs.declared.device_commands.DeviceCommand.TheVariants as commands
 use Rattle.machine_devices.specs.declared.files.ClosedFiles.{ClosedFiles}
@@ -18,6 +19,7 @@ use Rattle.machine_devices.specs.Devices.{DevicesValue, kind_at, part_at}
 use Rattle.machine_devices.specs.Equipped.{Equipped}
 use Rattle.machine_devices.specs.Lines.{IplNeeds, LoadHadRoom, can_load, files_closed, requested}
 use Rattle.machine_devices.specs.Spooling.{open_files}
+use Rattle.machine_devices.specs.UserDirectory.{UserDirectory, is_on}
 use Rattle.machine_panel.specs.Panel.{line_room}
 
 -- ---- what a line asks for
@@ -105,26 +107,31 @@ HasOpen (Some kinds.Reader) d = ⊥
 HasOpen (Some (kinds.Disk index)) d = ⊥
 HasOpen None d = ⊥
 
+-- a message can be sent to a user who is known and logged on
+abbrev pub CanReceive : Option ℕ → UserDirectory → Type 0
+CanReceive (Some user) w = is_on w user ≡ true
+CanReceive None w = ⊥
+
 -- an open file that is closed takes memory, and a message that is sent
-abbrev pub CommandMayTakeMemory : DeviceCommand → DevicesValue → Type 0
-CommandMayTakeMemory (commands.Close device) d = HasOpen (part_at d device) d
-CommandMayTakeMemory (commands.Message name text) d = Unit {0}
-CommandMayTakeMemory commands.QueryFiles d = ⊥
-CommandMayTakeMemory commands.QueryUsers d = ⊥
-CommandMayTakeMemory (commands.Spool device name) d = ⊥
-CommandMayTakeMemory (commands.Purge file) d = ⊥
+abbrev pub CommandMayTakeMemory : UserDirectory → DeviceCommand → DevicesValue → Type 0
+CommandMayTakeMemory w (commands.Close device) d = HasOpen (part_at d device) d
+CommandMayTakeMemory w (commands.Message name text) d = CanReceive (user_of w.names name) w
+CommandMayTakeMemory w commands.QueryFiles d = ⊥
+CommandMayTakeMemory w commands.QueryUsers d = ⊥
+CommandMayTakeMemory w (commands.Spool device name) d = ⊥
+CommandMayTakeMemory w (commands.Purge file) d = ⊥
 
 -- and so do open files that LOGOFF closes, the answer to a reset, a line that waits for the
 -- console, a loading from a device that can be loaded from, and what a machine alone makes room for
-abbrev pub MayTakeMemory : Request → Equipped → Type 0
-MayTakeMemory LogsOn e = ⊥
-MayTakeMemory LogsOff e = HasClosed (open_files e.devices)
-MayTakeMemory Resets e = Unit {0}
-MayTakeMemory Types e = Unit {0}
-MayTakeMemory (Loads device) e = can_load (kind_at e.devices e.disks device) ≡ true
-MayTakeMemory (Asks command) e = CommandMayTakeMemory command e.devices
-MayTakeMemory (Alone asked) e = 0 < line_room asked
+abbrev pub MayTakeMemory : UserDirectory → Request → Equipped → Type 0
+MayTakeMemory w LogsOn e = ⊥
+MayTakeMemory w LogsOff e = HasClosed (open_files e.devices)
+MayTakeMemory w Resets e = Unit {0}
+MayTakeMemory w Types e = Unit {0}
+MayTakeMemory w (Loads device) e = can_load (kind_at e.devices e.disks device) ≡ true
+MayTakeMemory w (Asks command) e = CommandMayTakeMemory w command e.devices
+MayTakeMemory w (Alone asked) e = 0 < line_room asked
 
 -- the lines that may take memory
-abbrev pub LineMay : List ℕ → Equipped → Type 0
-LineMay typed e = MayTakeMemory (requested typed e) e
+abbrev pub LineMay : UserDirectory → List ℕ → Equipped → Type 0
+LineMay w typed e = MayTakeMemory w (requested typed e) e

@@ -5,7 +5,7 @@ ghost use Rattle.s370_channel.specs.Runs.{Walks};
 ghost use Rattle.unit_record.specs.Reader.{reader_machine};
 ghost use Rattle.machine_channels.specs.Channels.{Brings, LacksPage, LoadNeeds, NoRoom};
 ghost use Rattle.machine_channels.specs.Channels.{ProgramNeeds, StopsForPage, WalksLoading};
-ghost use Rattle.machine_channels.specs.Channels.{WhereOut};
+ghost use Rattle.machine_channels.specs.Channels.{WhereOut, load_times, serve_times};
 ghost use Rattle.machine_channels.specs.declared.channels.UnitRecord.TheVariants as units;
 ghost use Rattle.cp_spool.specs.Alike.{reader_of};
 ghost use Rattle.cp_spool.specs.Queues.{KeepsOthers, files_of};
@@ -55,7 +55,7 @@ pub(crate) fn feed<S: Storage, C: Channels<S>>(
     ensures roomy { C.is_whole ≡ true → result ≡ Err errors.Memory
         → ((feed : FeedState) × C.HadRoom FeedState feed_machine storage.old start feed
         storage.new) }
-    ensures paged_in { Brings C.Came storage.old (ProgramNeeds C.holds reader_machine start
+    ensures paged_in { Brings (C.Came serve_times) storage.old (ProgramNeeds C.holds reader_machine start
         (S.memory storage.old) (reader_of (files_of queues.old.users user) reader.old))
         storage.new }
     ensures ready { C.IsReady storage.new }
@@ -107,7 +107,7 @@ pub(crate) fn load_fed<S: Storage, C: Channels<S>>(
     ensures stays { OnErr result ((reader.new ≡ reader.old) × (queues.new ≡ queues.old)) }
     ensures there { C.is_whole ≡ true → OnOk result (S.present storage.new 0 ≡ true) }
     ensures pages_unchanged { C.is_whole ≡ false → S.present storage.new ≡ S.present storage.old }
-    ensures paged_in { Brings C.Came storage.old (LoadNeeds reader_machine
+    ensures paged_in { Brings (C.Came load_times) storage.old (LoadNeeds reader_machine
         (S.memory storage.old) (reader_of (files_of queues.old.users user) part_new)) storage.new }
     ensures ready { C.IsReady storage.new }
     ensures other_users { KeepsOthers user queues.old.users queues.new.users }

@@ -2,7 +2,7 @@
 ghost use Rattle.std.specs.Prelude.{◌≡◌, ◌<◌, ◌≤◌, ℕ, false, true, Err, IfOk, OnOk, Some, length};
 ghost use Rattle.std.specs.Prelude.{map, slice_get};
 ghost use Rattle.s370_store.specs.Access.{IsAbsent};
-ghost use Rattle.machine_channels.specs.Channels.{Brings, IsOutOfFrames, NoRoom};
+ghost use Rattle.machine_channels.specs.Channels.{Brings, IsOutOfFrames, NoRoom, load_times};
 ghost use Rattle.machine_channels.specs.Disks.{reset_disk};
 ghost use Rattle.machine_devices.specs.Devices.{kind_at, kind_in};
 ghost use Rattle.machine_devices.specs.Equipped.{equipped};
@@ -85,7 +85,7 @@ impl Devices {
         ensures paged_in { let before = equipped machine.old (devices_on self.old queues.old)
             (C.disks channels.old)
             (S.memory storage.old) in
-            Brings C.Came storage.old (IplNeeds device before) storage.new }
+            Brings (C.Came load_times) storage.old (IplNeeds device before) storage.new }
         ensures ready { C.IsReady storage.new }
         ensures others { C.KeepsOthers channels.old channels.new }
         ensures other_users { KeepsOtherUsers self.old queues.old self.new queues.new }
@@ -151,7 +151,7 @@ impl Devices {
         ensures paged_in { let before = equipped machine.old (devices_on self.old queues.old)
             (C.disks channels.old)
             (S.memory storage.old) in
-            Brings C.Came storage.old (KindLoads (Some kinds.Reader) before) storage.new }
+            Brings (C.Came load_times) storage.old (KindLoads (Some kinds.Reader) before) storage.new }
         ensures ready { C.IsReady storage.new }
         ensures others { C.KeepsOthers channels.old channels.new }
         ensures other_users { KeepsOtherUsers self.old queues.old self.new queues.new }
@@ -225,7 +225,7 @@ impl Devices {
         ensures paged_in { let before = equipped machine.old (devices_on self.old queues.now)
             (C.disks channels.old)
             (S.memory storage.old) in
-            Brings C.Came storage.old (KindLoads (Some (kinds.Disk index)) before) storage.new }
+            Brings (C.Came load_times) storage.old (KindLoads (Some (kinds.Disk index)) before) storage.new }
         ensures ready { C.IsReady storage.new }
         ensures others { C.KeepsOthers channels.old channels.new }
         ensures user { self.new.user ≡ self.old.user }

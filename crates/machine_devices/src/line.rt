@@ -3,7 +3,7 @@ ghost use Rattle.std.specs.Prelude.{◌≡◌, ◌<◌, ◌≤◌, ℕ, List, []
 ghost use Rattle.std.specs.Prelude.{true, length};
 ghost use Rattle.s370_store.specs.Memory.{Memory};
 ghost use Rattle.s370_store.specs.Access.{IsAbsent, Touches};
-ghost use Rattle.machine_channels.specs.Channels.{Brings, IsOutOfFrames, NoRoom};
+ghost use Rattle.machine_channels.specs.Channels.{Brings, IsOutOfFrames, NoRoom, load_times};
 ghost use Rattle.machine_channels.specs.Disks.{DiskAt};
 ghost use Rattle.s370_intr.specs.Run.{AllNeeded, IsLacking};
 ghost use Rattle.cp_spool.specs.Queues.{UserFiles};
@@ -117,7 +117,7 @@ impl Devices {
         ensures memory { let before = equipped machine.old (devices_on self.old queues.old)
             (C.disks channels.old)
             (S.Storage.memory storage.old) in
-            result ≡ Err LineError.Memory → LineMay typed.now before }
+            result ≡ Err LineError.Memory → LineMay (W.known world.now) typed.now before }
         ensures frames { let before = equipped machine.old (devices_on self.old queues.old)
             (C.disks channels.old)
             (S.Storage.memory storage.old) in
@@ -169,7 +169,7 @@ impl Devices {
             (S.Storage.memory storage.old) in
             let asked = requested typed.now before in
             is_ipl asked ≡ true
-            → Brings C.Came storage.old (LoadWants asked before) storage.new
+            → Brings (C.Came load_times) storage.old (LoadWants asked before) storage.new
             × C.IsReady storage.new }
         ensures others { C.KeepsOthers channels.old channels.new }
         ensures other_users { KeepsOtherUsers self.old queues.old self.new queues.new }

@@ -8,7 +8,7 @@ ghost use Rattle.unit_record.specs.Reader.{queued_at};
 ghost use Rattle.machine_channels.specs.Disks.{DiskAt};
 ghost use Rattle.cp_spool.specs.Queues.{UserFiles};
 ghost use Rattle.machine_devices.specs.Lent.{KeepsOtherUsers, devices_on, devices_with};
-ghost use Rattle.machine_devices.specs.Comes.{CommandMayTakeMemory, HasOpen};
+ghost use Rattle.machine_devices.specs.Comes.{CanReceive, CommandMayTakeMemory, HasOpen};
 ghost use Rattle.machine_devices.specs.Devices.{part_at};
 ghost use Rattle.machine_devices.specs.Lines.{IsObeyed, SendsTo, close_answered, files_told};
 ghost use Rattle.machine_devices.specs.Lines.{outcome, printer_answered, punch_answered};
@@ -53,6 +53,8 @@ fn send<W: UserDirectory>(
     ensures ok { IfOk result (λ reported.
         SendsTo (user_of (W.known world.now).names name.now) (W.known world.now) text.now
         reported) }
+    ensures asked { result ≡ Err LineError.Memory
+        → CanReceive (user_of (W.known world.now).names name.now) (W.known world.now) }
     ensures memory { result ≡ Err LineError.FramesOut → ⊥ }
 {
     let Some(user) = world.user_of(name) else {
@@ -85,7 +87,8 @@ impl Devices {
         ensures err { OnErr result
             (devices_on self.new queues.new ≡ devices_on self.old queues.old) }
         ensures memory { result ≡ Err LineError.Memory
-            → CommandMayTakeMemory command.now (devices_on self.old queues.old) }
+            → CommandMayTakeMemory (W.known world.now) command.now
+            (devices_on self.old queues.old) }
         ensures frames { result ≡ Err LineError.FramesOut → ⊥ }
         ensures other_users { KeepsOtherUsers self.old queues.old self.new queues.new }
     {

@@ -1,7 +1,7 @@
 //! The devices of a machine are served.
 ghost use Rattle.std.specs.Prelude.{◌≡◌, ◌<◌, ◌++◌, Bool, false, true, Err, IfErr, IfOk, OnErr};
 ghost use Rattle.std.specs.Prelude.{OnOk, is_ok, length};
-ghost use Rattle.machine_channels.specs.Channels.{Brings, NoRoom, WhereOut};
+ghost use Rattle.machine_channels.specs.Channels.{Brings, NoRoom, WhereOut, serve_times};
 ghost use Rattle.machine_channels.specs.declared.channels.UnitRecord.TheVariants as units;
 ghost use Rattle.s370_channel.specs.declared.running.ChannelError.TheVariants as errors;
 ghost use Rattle.s370_subchannels.specs.Programs.{program_of};
@@ -79,7 +79,7 @@ impl Devices {
         ensures paged_in { let before = equipped machine.old (devices_on self.old queues.old)
             (C.disks channels.old)
             (S.memory storage.old) in
-            Brings C.Came storage.old (ServeNeeds C.holds device before) storage.new }
+            Brings (C.Came serve_times) storage.old (ServeNeeds C.holds device before) storage.new }
         ensures ready { C.IsReady storage.new }
         ensures kept { let before = equipped machine.old (devices_on self.old queues.old)
             (C.disks channels.old)
@@ -151,7 +151,7 @@ impl Devices {
         ensures paged_in { let before = equipped machine.old (devices_on self.old queues.old)
             (C.disks channels.old)
             (S.memory storage.old) in
-            Brings C.Came storage.old (KindNeeds C.holds kind start before) storage.new }
+            Brings (C.Came serve_times) storage.old (KindNeeds C.holds kind start before) storage.new }
         ensures ready { C.IsReady storage.new }
         ensures kept { OnOk result
             (KindReuses C.Reuses C.ReusesDisk channels.old storage.old channels.new kind start
@@ -237,7 +237,7 @@ impl Devices {
         ensures paged_in { let before = equipped machine.old (devices_on self.old queues.old)
             (C.disks channels.old)
             (S.memory storage.old) in
-            Brings C.Came storage.old (KindNeeds C.holds kinds.Reader start before) storage.new }
+            Brings (C.Came serve_times) storage.old (KindNeeds C.holds kinds.Reader start before) storage.new }
         ensures ready { C.IsReady storage.new }
         ensures kept { C.Reuses channels.old storage.old start units.Reader (is_ok result)
             channels.new }
@@ -300,7 +300,7 @@ impl Devices {
         ensures paged_in { let before = equipped machine.old (devices_on self.old queues.now)
             (C.disks channels.old)
             (S.memory storage.old) in
-            Brings C.Came storage.old (KindNeeds C.holds kinds.Console start before) storage.new }
+            Brings (C.Came serve_times) storage.old (KindNeeds C.holds kinds.Console start before) storage.new }
         ensures ready { C.IsReady storage.new }
         ensures kept { OnOk result
             (C.Reuses channels.old storage.old start units.Console true channels.new) }

@@ -8,7 +8,7 @@ use Rattle.cp_core.specs.Supply.{IsSuppliedInPart}
 use Rattle.machine_devices.specs.Comes.{LineMay}
 use Rattle.s370_subchannels.specs.Programs.{program_of}
 use Rattle.cp_core.specs.Stated.{LacksDevice}
-use Rattle.cp_core.specs.System.{SystemView, machine_at, user_at}
+use Rattle.cp_core.specs.System.{SystemView, machine_at, user_at, world_of}
 use Rattle.cp_core.specs.declared.events.Event.{Event}
 use Rattle.cp_core.specs.declared.events.Event.TheVariants as events
 use Rattle.machine_devices.specs.declared.reply.Reply.{Reply}
@@ -63,7 +63,7 @@ pub record IsSpent (old : SystemView) (said : EventValue) (new : SystemView) : T
 -- deck, whose cards are made
 abbrev pub MayRefuse : SystemView → EventValue → Type 0
 MayRefuse old (Run user units) = ⊥
-MayRefuse old (Line user text) = LineMay text (user_at old user)
+MayRefuse old (Line user text) = LineMay (world_of old user) text (user_at old user)
 MayRefuse old (Tick user) = ⊥
 MayRefuse old (Serve user device) =
     IsSome (program_of device (machine_at old user).core.subchannels)

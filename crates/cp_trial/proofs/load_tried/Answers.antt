@@ -1,12 +1,12 @@
-use Rattle.std.proofs.Common.{ℕ, false, ap, ap₂, sym, ◌∙◌}
+use Rattle.std.proofs.Common.{ℕ, false, ap, ap₂, sym, ◌∙◌, arith}
 use Rattle.std.specs.Prelude.{slice_index_or}
 use Rattle.s370_channel.specs.Loading.{loading, loading_limits}
 use Rattle.s370_channel.specs.Progress.{setting}
 use Rattle.s370_store.specs.Memory.{Memory, memory_of}
 use Rattle.channel_trial.specs.Trial.{trial_bytes, trial_flags}
 use Rattle.cp_dat.specs.Copies.{is_wanted}
-use Rattle.cp_dat.specs.Lent.{keeps_stored_same, lent_memory}
-use Rattle.cp_dat.proofs.Copying.{came_more, came_nothing}
+use Rattle.cp_dat.specs.Lent.{lent_memory}
+use Rattle.cp_dat.proofs.Copying.{came_fewer, came_more}
 use Rattle.cp_trial.proofs.Trying.{walk_for}
 use Rattle.cp_trial.proofs.load_tried.Goals as goal
 
@@ -14,26 +14,26 @@ pub returns-in-Err-clause-paged_in : goal.returns-in-Err-clause-paged_in
 returns-in-Err-clause-paged_in g c =
     let old = c.args.storage.now in
     let Flagged : ℕ → Type 0 = is_wanted (trial_flags c.args.tried.now) in
-    came_more old old c.place.new.self (is_wanted c.touched.result.now) Flagged
-    (λ page it. ap (λ flags. slice_index_or flags page false) (sym c.touched.ensures.flags) ∙ it)
-    (came_nothing old old Flagged c.requires.between (keeps_stored_same old)) c.place.ensures.paged_in
+    came_fewer old c.place.new.self (is_wanted c.touched.result.now) Flagged 1 2
+    (λ page it. ap (λ flags. slice_index_or flags page false) (sym c.touched.ensures.flags) ∙ it) (omega arith)
+    c.place.ensures.paged_in
 
 pub returns-in_default-clause-paged_in : goal.returns-in_default-clause-paged_in
 returns-in_default-clause-paged_in g c =
     let old = c.args.storage.now in
     let Flagged : ℕ → Type 0 = is_wanted (trial_flags c.args.tried.now) in
-    came_more old old c.place.new.self (is_wanted c.touched.result.now) Flagged
-    (λ page it. ap (λ flags. slice_index_or flags page false) (sym c.touched.ensures.flags) ∙ it)
-    (came_nothing old old Flagged c.requires.between (keeps_stored_same old)) c.place.ensures.paged_in
+    came_fewer old c.place.new.self (is_wanted c.touched.result.now) Flagged 1 2
+    (λ page it. ap (λ flags. slice_index_or flags page false) (sym c.touched.ensures.flags) ∙ it) (omega arith)
+    c.place.ensures.paged_in
 
 pub returns-clause-paged_in : goal.returns-clause-paged_in
 returns-clause-paged_in g c =
     let old = c.args.storage.now in
     let Flagged : ℕ → Type 0 = is_wanted (trial_flags c.args.tried.now) in
-    let placed = came_more old old c.place.new.self (is_wanted c.touched.result.now) Flagged
-    (λ page it. ap (λ flags. slice_index_or flags page false) (sym c.touched.ensures.flags) ∙ it)
-    (came_nothing old old Flagged c.requires.between (keeps_stored_same old)) c.place.ensures.paged_in in
-    came_more old c.place.new.self c.put_back.new.self (is_wanted c.touched-2.result.now) Flagged
+    let placed = came_fewer old c.place.new.self (is_wanted c.touched.result.now) Flagged 1 1
+    (λ page it. ap (λ flags. slice_index_or flags page false) (sym c.touched.ensures.flags) ∙ it) (omega arith)
+    c.place.ensures.paged_in in
+    came_more old c.place.new.self c.put_back.new.self (is_wanted c.touched-2.result.now) Flagged 1 1
     (λ page it. ap (λ flags. slice_index_or flags page false) (sym c.touched-2.ensures.flags) ∙ it) placed
     c.put_back.ensures.paged_in
 

@@ -9,4 +9,4 @@ use Rattle.cp_core.proofs.Reused.{none_starts}
 use Rattle.cp_core.proofs.serving.serve_supplied.Goals as goal
 
 pub returns-then-is_none-clause-paged_in : goal.returns-then-is_none-clause-paged_in
-returns-then-is_none-clause-paged_in g c = ([], g.met.C.Channels.came_none c.args.storage.now c.requires.ready, tt)
+returns-then-is_none-clause-paged_in g c = ([], g.met.C.Channels.came_none _ c.args.storage.now c.requires.ready, tt)

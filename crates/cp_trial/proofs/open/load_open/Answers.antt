@@ -1,8 +1,8 @@
-use Rattle.std.proofs.Common.{◌≡◌, ℕ, ◌<◌, ap, subst, sym, inl, inr, Err}
+use Rattle.std.proofs.Common.{◌≡◌, ℕ, ◌<◌, ap, subst, sym, inl, inr, Err, arith}
 use Rattle.channel_trial.specs.Trial.{trial_bytes, trial_flags}
 use Rattle.cp_dat.specs.Copies.{is_wanted}
-use Rattle.cp_dat.specs.Lent.{keeps_stored_same, lent_memory}
-use Rattle.cp_dat.proofs.Copying.{came_more, came_nothing, stands_on}
+use Rattle.cp_dat.specs.Lent.{lent_memory}
+use Rattle.cp_dat.proofs.Copying.{came_fewer, came_more, stands_on}
 use Rattle.cp_trial.specs.DryRun.{LoadTouches}
 use Rattle.cp_trial.proofs.Opening.{loads_flagged, placed_before, refused_as}
 use Rattle.cp_trial.proofs.open.load_open.Goals as goal
@@ -11,23 +11,23 @@ pub returns-in_err-fetch_first-clause-paged_in : goal.returns-in_err-fetch_first
 returns-in_err-fetch_first-clause-paged_in g c =
     let old = c.args.storage.now in
     let Needs : ℕ → Type 0 = LoadTouches g.D.Device.machine (lent_memory old) c.args.device.now in
-    came_more old old c.fetch_first.new.storage (λ page. page ≡ 0) Needs (λ page it. inl it)
-    (came_nothing old old Needs c.requires (keeps_stored_same old)) c.fetch_first.ensures.paged_in
+    came_fewer old c.fetch_first.new.storage (λ page. page ≡ 0) Needs 1 4 (λ page it. inl it) (omega arith)
+    c.fetch_first.ensures.paged_in
 
 pub returns-in-Err-clause-paged_in : goal.returns-in-Err-clause-paged_in
 returns-in-Err-clause-paged_in g c =
     let old = c.args.storage.now in
     let Needs : ℕ → Type 0 = LoadTouches g.D.Device.machine (lent_memory old) c.args.device.now in
-    came_more old old c.fetch_first.new.storage (λ page. page ≡ 0) Needs (λ page it. inl it)
-    (came_nothing old old Needs c.requires (keeps_stored_same old)) c.fetch_first.ensures.paged_in
+    came_fewer old c.fetch_first.new.storage (λ page. page ≡ 0) Needs 1 4 (λ page it. inl it) (omega arith)
+    c.fetch_first.ensures.paged_in
 
 pub returns-in_err-ending-clause-paged_in : goal.returns-in_err-ending-clause-paged_in
 returns-in_err-ending-clause-paged_in g c =
     let old = c.args.storage.now in
     let Needs : ℕ → Type 0 = LoadTouches g.D.Device.machine (lent_memory old) c.args.device.now in
-    let first = came_more old old c.fetch_first.new.storage (λ page. page ≡ 0) Needs (λ page it. inl it)
-    (came_nothing old old Needs c.requires (keeps_stored_same old)) c.fetch_first.ensures.paged_in in
-    came_more old c.fetch_first.new.storage c.load_tried.new.storage (is_wanted (trial_flags c.in-Ok.tried)) Needs
+    let first = came_fewer old c.fetch_first.new.storage (λ page. page ≡ 0) Needs 1 2 (λ page it. inl it) (omega arith)
+    c.fetch_first.ensures.paged_in in
+    came_more old c.fetch_first.new.storage c.load_tried.new.storage (is_wanted (trial_flags c.in-Ok.tried)) Needs 2 2
     (loads_flagged g.D.Device.machine old c.fetch_first.new.storage c.args.device.now c.in-Ok.tried
     c.fetch_first.ensures.memory c.in-Ok.ensures) first c.load_tried.ensures.paged_in
 
@@ -38,20 +38,20 @@ fetch_again-requires-clause-some g c =
 
 pub fetch_again-requires-clause-stands : goal.fetch_again-requires-clause-stands
 fetch_again-requires-clause-stands g c =
-    stands_on c.fetch_first.new.storage c.load_tried.new.storage (is_wanted (trial_flags c.in-Ok.tried)) 0
+    stands_on c.fetch_first.new.storage c.load_tried.new.storage (is_wanted (trial_flags c.in-Ok.tried)) 2 0
     c.load_tried.ensures.paged_in (inl c.in_ok-fetch_first.ensures.there)
 
 pub returns-clause-paged_in : goal.returns-clause-paged_in
 returns-clause-paged_in g c =
     let old = c.args.storage.now in
     let Needs : ℕ → Type 0 = LoadTouches g.D.Device.machine (lent_memory old) c.args.device.now in
-    let first = came_more old old c.fetch_first.new.storage (λ page. page ≡ 0) Needs (λ page it. inl it)
-    (came_nothing old old Needs c.requires (keeps_stored_same old)) c.fetch_first.ensures.paged_in in
+    let first = came_fewer old c.fetch_first.new.storage (λ page. page ≡ 0) Needs 1 1 (λ page it. inl it) (omega arith)
+    c.fetch_first.ensures.paged_in in
     let second = came_more old c.fetch_first.new.storage c.load_tried.new.storage
-    (is_wanted (trial_flags c.in-Ok.tried)) Needs
+    (is_wanted (trial_flags c.in-Ok.tried)) Needs 1 2
     (loads_flagged g.D.Device.machine old c.fetch_first.new.storage c.args.device.now c.in-Ok.tried
     c.fetch_first.ensures.memory c.in-Ok.ensures) first c.load_tried.ensures.paged_in in
-    came_more old c.load_tried.new.storage c.fetch_again.new.storage (λ page. page ≡ 0) Needs (λ page it. inl it) second
+    came_more old c.load_tried.new.storage c.fetch_again.new.storage (λ page. page ≡ 0) Needs 3 1 (λ page it. inl it) second
     c.fetch_again.ensures.paged_in
 
 pub returns-in-Err-clause-roomy : goal.returns-in-Err-clause-roomy

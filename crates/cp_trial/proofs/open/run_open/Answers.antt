@@ -1,11 +1,11 @@
-use Rattle.std.proofs.Common.{ℕ, inr}
+use Rattle.std.proofs.Common.{ℕ, inr, arith}
 use Rattle.s370_channel.specs.Guest.{guest_written}
 use Rattle.s370_channel.specs.Runs.{begun, limited}
 use Rattle.s370_channel.specs.Supplied.{IsTouched}
 use Rattle.channel_trial.specs.Trial.{trial_bytes, trial_flags}
 use Rattle.cp_dat.specs.Copies.{is_wanted}
 use Rattle.cp_dat.specs.Lent.{keeps_stored_same, lent_memory}
-use Rattle.cp_dat.proofs.Copying.{came_more, came_nothing}
+use Rattle.cp_dat.proofs.Copying.{came_fewer, came_nothing}
 use Rattle.cp_trial.proofs.open.run_open.Goals as goal
 
 pub returns-in-Ok-clause-paged_in : goal.returns-in-Ok-clause-paged_in
@@ -14,15 +14,14 @@ returns-in-Ok-clause-paged_in g c =
     let Touched : ℕ → Type 0 =
     IsTouched guest_written (limited g.D.Device.machine c.args.start)
     (begun c.args.start (lent_memory old) c.args.device.now) in
-    came_more old old c.run_tried.new.storage (is_wanted (trial_flags c.in-Ok.tried)) Touched
-    (λ page it. c.in-Ok.ensures.touches page it) (came_nothing old old Touched c.requires (keeps_stored_same old))
-    c.run_tried.ensures.paged_in
+    came_fewer old c.run_tried.new.storage (is_wanted (trial_flags c.in-Ok.tried)) Touched 2 2
+    (λ page it. c.in-Ok.ensures.touches page it) (omega arith) c.run_tried.ensures.paged_in
 
 pub returns-in-Err-clause-paged_in : goal.returns-in-Err-clause-paged_in
 returns-in-Err-clause-paged_in g c =
     let old = c.args.storage.now in
     came_nothing old old (IsTouched guest_written (limited g.D.Device.machine c.args.start)
-    (begun c.args.start (lent_memory old) c.args.device.now)) c.requires (keeps_stored_same old)
+    (begun c.args.start (lent_memory old) c.args.device.now)) 2 c.requires (keeps_stored_same old)
 
 pub returns-in-Ok-clause-roomy : goal.returns-in-Ok-clause-roomy
 returns-in-Ok-clause-roomy g c =

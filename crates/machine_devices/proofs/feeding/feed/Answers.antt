@@ -3,6 +3,7 @@ use Rattle.cp_spool.specs.Queues.{files_of, read_on}
 use Rattle.cp_spool.specs.Reader.{FeedState, ReaderPart, fed_by}
 use Rattle.cp_spool.proofs.Others.{files_now}
 use Rattle.machine_devices.proofs.Fed.{came_fed, out_fed, read_is, same_fed, stops_fed, walks_fed}
+use Rattle.machine_channels.specs.Channels.{serve_times}
 use Rattle.machine_devices.proofs.feeding.feed.Goals as goal
 
 pub returns-clause-walk : goal.returns-clause-walk
@@ -37,7 +38,7 @@ returns-clause-paged_in g c =
     let is : c.new-fed.result ≡ fed_by files c.args.reader.now =
     c.new-fed.ensures ∙ ap (λ (p : ReaderPart). fed_by files p) c.replace.ensures.value in
     came_fed files c.args.reader.now c.new-fed.result is (g.S.Storage.memory c.args.storage.now) g.C.Channels.IsOut
-    g.C.Channels.IsFilled g.S.Storage.present g.C.Channels.Came c.args.storage.now c.run-ended.new.storage
+    g.C.Channels.IsFilled g.S.Storage.present (g.C.Channels.Came serve_times) c.args.storage.now c.run-ended.new.storage
     g.C.Channels.holds c.args.start c.run-ended.ensures.paged_in
 
 pub returns-clause-whole : goal.returns-clause-whole
@@ -53,7 +54,7 @@ returns-clause-whole g c = λ whole.
     ≡ read_on c.run-ended.new.device.ended c.run-ended.new.device.place files =
     read_is files _ _ _ _ _ c.into_parts-left.ensures.ended c.into_parts-left.ensures.place read in
     out_fed files c.args.reader.now c.new-fed.result is (g.S.Storage.memory c.args.storage.now) g.C.Channels.IsOut
-    g.C.Channels.IsFilled g.S.Storage.present g.C.Channels.Came c.args.storage.now c.run-ended.new.storage
+    g.C.Channels.IsFilled g.S.Storage.present (g.C.Channels.Came serve_times) c.args.storage.now c.run-ended.new.storage
     c.run-ended.result g.C.Channels.holds c.args.start _ _ _
     (λ same. (let stays = same_fed files c.args.reader.now c.new-fed.result c.run-ended.new.device
     (files_of c.take_back.new.self.users c.args.user) c.into_parts-left.result.0 is c.into_parts-left.ensures.reader

@@ -4,6 +4,7 @@ use Rattle.cp_spool.specs.Queues.{files_of, read_on}
 use Rattle.cp_spool.specs.Reader.{FeedState, ReaderPart, fed_by, feed_machine, part_new}
 use Rattle.cp_spool.proofs.Others.{files_now}
 use Rattle.machine_devices.proofs.Fed.{came_loaded, loaded_fed, out_loaded, read_is}
+use Rattle.machine_channels.specs.Channels.{load_times}
 use Rattle.machine_devices.proofs.feeding.load_fed.Goals as goal
 
 pub returns-in-Ok-clause-walk : goal.returns-in-Ok-clause-walk
@@ -29,7 +30,7 @@ returns-in-Ok-clause-paged_in g c =
     let is : c.new-fed.result ≡ fed_by files part_new =
     c.new-fed.ensures ∙ ap (λ (p : ReaderPart). fed_by files p) c.new.ensures in
     came_loaded files part_new c.new-fed.result is (g.S.Storage.memory c.args.storage.now) g.C.Channels.IsOut
-    g.C.Channels.IsFilled g.S.Storage.present g.C.Channels.Came c.args.storage.now c.load-ended.new.storage
+    g.C.Channels.IsFilled g.S.Storage.present (g.C.Channels.Came load_times) c.args.storage.now c.load-ended.new.storage
     c.load-ended.ensures.paged_in
 
 pub returns-in-Err-clause-paged_in : goal.returns-in-Err-clause-paged_in
@@ -38,7 +39,7 @@ returns-in-Err-clause-paged_in g c =
     let is : c.new-fed.result ≡ fed_by files part_new =
     c.new-fed.ensures ∙ ap (λ (p : ReaderPart). fed_by files p) c.new.ensures in
     came_loaded files part_new c.new-fed.result is (g.S.Storage.memory c.args.storage.now) g.C.Channels.IsOut
-    g.C.Channels.IsFilled g.S.Storage.present g.C.Channels.Came c.args.storage.now c.load-ended.new.storage
+    g.C.Channels.IsFilled g.S.Storage.present (g.C.Channels.Came load_times) c.args.storage.now c.load-ended.new.storage
     c.load-ended.ensures.paged_in
 
 pub returns-in-Err-clause-lacks : goal.returns-in-Err-clause-lacks
@@ -52,7 +53,7 @@ returns-in-Err-clause-whole g c = λ whole.
     let is : c.new-fed.result ≡ fed_by files part_new =
     c.new-fed.ensures ∙ ap (λ (p : ReaderPart). fed_by files p) c.new.ensures in
     out_loaded files part_new c.new-fed.result is (g.S.Storage.memory c.args.storage.now) g.C.Channels.IsOut
-    g.C.Channels.IsFilled g.S.Storage.present g.C.Channels.Came c.args.storage.now c.load-ended.new.storage
+    g.C.Channels.IsFilled g.S.Storage.present (g.C.Channels.Came load_times) c.args.storage.now c.load-ended.new.storage
     c.in-Err.error _ _ _ (λ same. same.0) (c.in-Err.ensures.whole whole)
 
 pub returns-in-Err-clause-roomy : goal.returns-in-Err-clause-roomy

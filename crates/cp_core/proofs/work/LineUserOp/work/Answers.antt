@@ -63,7 +63,7 @@ returns-clause-does c =
     × IfOk r (λ t. IsLine world typed (from d) t after)
     × (r ≡ Err errors.FramesOut → after ≡ from d)
     × (r ≡ Err errors.Memory → is_ipl (requested typed (from d)) ≡ false → after ≡ from d)
-    × (r ≡ Err errors.Memory → LineMay typed (from d)) in
+    × (r ≡ Err errors.Memory → LineMay world typed (from d)) in
     let facts : Facts start =
     subst Facts c.take-channels.ensures.hung (
       reported.ensures.lent,

@@ -16,7 +16,7 @@ use Rattle.machine_devices.specs.Stopped.{ServeHadRoom}
 use Rattle.machine_panel.specs.declared.line.LineError.TheVariants as errors
 use Rattle.cp_volumes.specs.Shared.{DisksValue, KeepsOtherDisks, seen}
 use Rattle.cp_resident.specs.GuestChannels.{HadRoom, PagedIn, disks_on, hung_on, reuse_of}
-use Rattle.machine_channels.specs.Channels.{Brings, IsOutOfFrames}
+use Rattle.machine_channels.specs.Channels.{Brings, IsOutOfFrames, serve_times}
 use Rattle.cp_core.specs.Wants.{DeviceNeeds}
 use Rattle.cp_core.specs.Lending.{disks_of}
 use Rattle.cp_core.proofs.Worked.{no_room, serve_work}
@@ -59,7 +59,7 @@ returns-clause-does c =
     let Facts : DisksValue → Type 0 = λ d.
     IfOk r (λ done. IsServedAt as_reached c.args.self.now.device (from d) done after)
     × (r ≡ Err errors.FramesOut → after ≡ from d)
-    × Brings PagedIn c.args.storage.now (DeviceNeeds c.args.self.now.device (from d)) served.new.storage
+    × Brings (PagedIn serve_times) c.args.storage.now (DeviceNeeds c.args.self.now.device (from d)) served.new.storage
     × (r ≡ Err errors.FramesOut
     → IsOutOfFrames (length (lent_bytes c.args.storage.now)) (DeviceNeeds c.args.self.now.device (from d))
     (no_room served.new.storage (DeviceNeeds c.args.self.now.device (from d))))

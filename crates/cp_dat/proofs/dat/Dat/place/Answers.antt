@@ -1,7 +1,6 @@
-use Rattle.std.proofs.Common.{◌≡◌, ◌<◌, true, false, length, rules}
+use Rattle.std.proofs.Common.{◌≡◌, ◌+◌, ◌<◌, true, false, length, rules}
 use Rattle.std.specs.Prelude.{slice_index_or}
-use Rattle.cp_dat.specs.Copies.{is_wanted}
-use Rattle.cp_dat.proofs.Copying.{came_more, placed_none, placed_page, placed_by, wanted_page}
+use Rattle.cp_dat.proofs.Copying.{placed_none, placed_page, placed_by, placed_once, placed_wanted}
 use Rattle.cp_dat.proofs.dat.Dat.place.Goals.{then-wanted-page+in_ok-fetch, else-wanted-page}
 use Rattle.cp_dat.proofs.dat.Dat.place.Goals as goal
 
@@ -11,9 +10,13 @@ loop-page-init c = placed_none c.args.self.now c.args.wanted.now c.requires.betw
 pub returns-in_err-fetch-clause-paged_in : goal.returns-in_err-fetch-clause-paged_in
 returns-in_err-fetch-clause-paged_in c =
     let it : slice_index_or c.args.wanted.now c.loop-page.page false ≡ true = search (rules, c.if-wanted-page.true) in
-    came_more c.args.self.now c.loop-page.self c.fetch.new.self (λ other. other ≡ c.loop-page.page)
-    (is_wanted c.args.wanted.now) (wanted_page c.args.wanted.now c.loop-page.page it) c.loop-page.invariant.paged_in
-    c.fetch.ensures.paged_in
+    placed_wanted c.args.self.now c.args.wanted.now (c.loop-page.page + 1) c.fetch.new.self
+    (placed_once c.args.self.now c.args.wanted.now c.loop-page.page c.loop-page.self c.fetch.new.self it
+    c.loop-page.invariant c.fetch.ensures.paged_in)
+
+pub returns-clause-paged_in : goal.returns-clause-paged_in
+returns-clause-paged_in c =
+    placed_wanted c.args.self.now c.args.wanted.now c.loop-page.page c.loop-page.self c.loop-page.invariant.paged_in
 
 pub loop-page-preserved : goal.loop-page-preserved
 loop-page-preserved c =

@@ -2,8 +2,8 @@ use Rattle.std.proofs.Common.{◌≡◌, ◌+◌, ◌/◌, ◌%◌, ◌<◌, ◌
 use Rattle.std.specs.Prelude.{slice_range}
 use Rattle.s370_store.specs.Memory.{Memory}
 use Rattle.cp_dat.specs.Lent.{lent_bytes, is_lent_page}
-use Rattle.cp_dat.proofs.Copying.{back_none, back_by, back_on, inside, put_all, length-chunk}
-use Rattle.cp_dat.proofs.dat.Dat.put_back.Goals.{then-wanted-start+in-Ok, else-wanted-start}
+use Rattle.cp_dat.proofs.Copying.{back_none, back_by, back_on, inside, put_all, length-chunk, back_wanted}
+use Rattle.cp_dat.proofs.dat.Dat.put_back.Goals.{then-wanted-start, else-wanted-start}
 use Rattle.cp_dat.proofs.dat.Dat.put_back.Goals as goal
 
 pub loop-start-init : goal.loop-start-init
@@ -21,8 +21,8 @@ store-requires-clause-granted c =
     inside c.args.self.now c.args.from.now c.args.wanted.now c.loop-start.start c.loop-start.self whole low
     c.requires.long before in
     let aligned = before.aligned in
-    let same : length (lent_bytes c.fetch.new.self) ≡ length (lent_bytes c.args.self.now) =
-    ap (λ (m : Memory). length m.bytes) c.fetch.ensures.memory ∙ size in
+    let same : length (lent_bytes c.fetch_first.new.self) ≡ length (lent_bytes c.args.self.now) =
+    ap (λ (m : Memory). length m.bytes) c.fetch_first.ensures.memory ∙ size in
     let long = c.requires.long in
     let count : length (slice_range c.args.from.now c.loop-start.start (c.loop-start.start + 256)) ≡ 256 =
     length-chunk c.args.from.now c.loop-start.start (omega (arith, long, within)) in
@@ -30,7 +30,7 @@ store-requires-clause-granted c =
       inside = omega (arith, count, same, within);
       here = λ k few. (let page : (c.loop-start.start + k) / 4096
           ≡ c.loop-start.start / 4096 = omega (arith, aligned, few, count) in
-          ap (λ i. is_lent_page c.fetch.new.self i) page ∙ c.in-Ok.ensures.there);
+          ap (λ i. is_lent_page c.fetch_first.new.self i) page ∙ c.fetch_first.ensures.there);
     }
 
 pub loop-start-preserved : goal.loop-start-preserved
@@ -42,10 +42,10 @@ loop-start-preserved c =
     let low : c.loop-start.start < length (lent_bytes c.args.self.now) =
     search (rules, c.loop-start-test.true, c.loop-start.self.sized, size) in
     elim c.if-wanted-start.branch [
-      | then-wanted-start+in-Ok w ↦ rw w.self-is
+      | then-wanted-start w ↦ rw w.self-is
           (back_on c.args.self.now c.args.from.now c.args.wanted.now c.loop-start.start c.loop-start.self whole low
-          c.requires.long before w.fetch.new.self w.store.new.self w.if-wanted-start.true w.fetch.ensures.paged_in
-          w.fetch.ensures.between w.fetch.ensures.memory w.store.ensures.rest w.store.ensures.stored)
+          c.requires.long before w.fetch_first.new.self w.store.new.self w.if-wanted-start.true w.fetch_first.ensures.paged_in w.fetch_first.ensures.there
+          w.fetch_first.ensures.between w.fetch_first.ensures.memory w.store.ensures.rest w.store.ensures.stored)
       | else-wanted-start w ↦ rw w.self-is
           (back_by c.args.self.now c.args.from.now c.args.wanted.now c.loop-start.start c.loop-start.self whole low
           c.requires.long before c.requires.other_users w.if-wanted-start.false)
@@ -59,3 +59,7 @@ returns-clause-bytes c =
     search (rules, c.loop-start-test.false, c.loop-start.self.sized, size) in
     put_all c.loop-start.start c.args.from.now (lent_bytes c.args.self.now) (lent_bytes c.loop-start.self)
     c.requires.long before.put all
+
+pub returns-clause-paged_in : goal.returns-clause-paged_in
+returns-clause-paged_in c =
+    back_wanted c.args.self.now c.args.wanted.now c.loop-start.start c.loop-start.self c.loop-start.invariant.paged_in

@@ -1,4 +1,4 @@
-use Rattle.std.proofs.Common.{◌≡◌, ◌∙◌, ℕ, subst, sym, length, Result, true}
+use Rattle.std.proofs.Common.{◌≡◌, ◌∙◌, ℕ, subst, sym, length, Result, true, arith}
 use Rattle.std.specs.Prelude.{IfErr, IfOk, OnOk}
 use Rattle.s370_channel.specs.declared.running.ChannelError.{ChannelError}
 use Rattle.s370_walk.specs.declared.parts.Ending.{Ending}
@@ -42,7 +42,7 @@ returns-clause-paged_in g c =
     let old = c.args.storage.now in
     let new = c.load_open.new.storage in
     let Needs : ℕ → Type 0 = LoadTouches g.D.Device.machine (lent_memory old) c.args.device.now in
-    tried_came old new Needs Needs (λ page it. it) c.load_open.ensures.paged_in
+    tried_came 4 4 old new Needs Needs (λ page it. it) (omega arith) c.load_open.ensures.paged_in
 
 pub returns-clause-roomy : goal.returns-clause-roomy
 returns-clause-roomy g c =

@@ -1,4 +1,4 @@
-use Rattle.std.proofs.Common.{◌≡◌, ◌∙◌, ℕ, ◌<◌, None, ap, refl, subst, sym, inl, length, Result, Err}
+use Rattle.std.proofs.Common.{◌≡◌, ◌∙◌, ℕ, ◌<◌, None, ap, refl, subst, sym, inl, length, Result, Err, arith}
 use Rattle.std.proofs.lemmas.List.{length-map}
 use Rattle.std.specs.Prelude.{OnErr, map, slice_get}
 use Rattle.s370_channel.specs.declared.running.ChannelError.{ChannelError}
@@ -6,8 +6,8 @@ use Rattle.s370_walk.specs.declared.parts.Ending.{Ending}
 use Rattle.s370_store.specs.Memory.{Memory}
 use Rattle.machine_channels.specs.Channels.{DiskLoads, WhereOut}
 use Rattle.machine_channels.specs.Disks.{reset_disk}
-use Rattle.cp_dat.specs.Lent.{keeps_stored_same, lent_bytes, lent_memory}
-use Rattle.cp_dat.proofs.Copying.{came_more, came_nothing, stands_on}
+use Rattle.cp_dat.specs.Lent.{lent_bytes, lent_memory}
+use Rattle.cp_dat.proofs.Copying.{came_fewer, came_more, stands_on}
 use Rattle.cp_trial.specs.declared.DryRunError.{DryRunError}
 use Rattle.cp_trial.specs.declared.DryRunError.TheVariants as tries
 use Rattle.cp_volumes.specs.Running.{DiskLoadTouches}
@@ -51,13 +51,13 @@ returns-in-Err-clause-paged_in c =
     Ran.disk_there (map reset_disk disks) c.args.index
     (subst (λ (n : ℕ). c.args.index < n) (sym (length-map disks reset_disk)) c.requires.inside) in
     let at_first : (page : ℕ) → page ≡ 0 → Needs page = λ page it. Ran.disk_first o m page there it in
-    Ran.tried_came old fetched (λ page. page ≡ 0) Needs at_first c.fetch_first.ensures.paged_in
+    Ran.tried_came 1 4 old fetched (λ page. page ≡ 0) Needs at_first (omega arith) c.fetch_first.ensures.paged_in
 
 pub fetch_again-requires-clause-stands : goal.fetch_again-requires-clause-stands
 fetch_again-requires-clause-stands c =
     stands_on c.fetch_first.new.storage c.load_disk.new.storage
     (DiskLoadTouches (lent_memory c.fetch_first.new.storage)
-    (slice_get (map reset_disk (disks_on c.args.self.now)) c.args.index)) 0 c.load_disk.ensures.paged_in
+    (slice_get (map reset_disk (disks_on c.args.self.now)) c.args.index)) 2 0 c.load_disk.ensures.paged_in
     (inl c.in-Ok.ensures.there)
 
 pub returns-in-Ok-load_disk-clause-paged_in : goal.returns-in-Ok-load_disk-clause-paged_in
@@ -77,12 +77,12 @@ returns-in-Ok-load_disk-clause-paged_in c =
     let same : lent_memory fetched ≡ m = c.fetch_first.ensures.memory in
     let touches : (page : ℕ) → Touched page
     → Needs page = λ page it. Ran.disk_loads o m page (subst (λ (n : Memory). DiskLoadTouches n o page) same it) in
-    let first = came_more old old fetched (λ page. page ≡ 0) Needs at_first
-    (came_nothing old old Needs c.requires.ready (keeps_stored_same old)) c.fetch_first.ensures.paged_in in
-    let second = came_more old fetched loaded Touched Needs touches first c.load_disk.ensures.paged_in in
+    let first = came_fewer old fetched (λ page. page ≡ 0) Needs 1 1 at_first (omega arith)
+    c.fetch_first.ensures.paged_in in
+    let second = came_more old fetched loaded Touched Needs 1 2 touches first c.load_disk.ensures.paged_in in
     let again = c.fetch_again.new.storage in
-    let third = came_more old loaded again (λ page. page ≡ 0) Needs at_first second c.fetch_again.ensures.paged_in in
-    Ran.tried_came old again Needs Needs (λ page it. it) third
+    let third = came_more old loaded again (λ page. page ≡ 0) Needs 3 1 at_first second c.fetch_again.ensures.paged_in in
+    Ran.tried_came 4 4 old again Needs Needs (λ page it. it) (omega arith) third
 
 pub returns-in-Err-load_disk-clause-whole : goal.returns-in-Err-load_disk-clause-whole
 returns-in-Err-load_disk-clause-whole c = λ is.
@@ -102,9 +102,9 @@ returns-in-Err-load_disk-clause-whole c = λ is.
     let same : lent_memory fetched ≡ m = c.fetch_first.ensures.memory in
     let touches : (page : ℕ) → Touched page
     → Needs page = λ page it. Ran.disk_loads o m page (subst (λ (n : Memory). DiskLoadTouches n o page) same it) in
-    let first = came_more old old fetched (λ page. page ≡ 0) Needs at_first
-    (came_nothing old old Needs c.requires.ready (keeps_stored_same old)) c.fetch_first.ensures.paged_in in
-    let second = came_more old fetched loaded Touched Needs touches first c.load_disk.ensures.paged_in in
+    let first = came_fewer old fetched (λ page. page ≡ 0) Needs 1 1 at_first (omega arith)
+    c.fetch_first.ensures.paged_in in
+    let second = came_more old fetched loaded Touched Needs 1 2 touches first c.load_disk.ensures.paged_in in
     let long : length (lent_bytes loaded) ≡ length (lent_bytes old) =
     c.load_disk.ensures.paged_in.paged_in.kept.same_size ∙ c.fetch_first.ensures.paged_in.paged_in.kept.same_size in
     let P : Type 0 = (lent_memory loaded ≡ lent_memory old) × (seen c.load_disk.new.self ≡ disks) in
@@ -137,10 +137,10 @@ returns-in-Err-load_disk-clause-paged_in c =
     let same : lent_memory fetched ≡ m = c.fetch_first.ensures.memory in
     let touches : (page : ℕ) → Touched page
     → Needs page = λ page it. Ran.disk_loads o m page (subst (λ (n : Memory). DiskLoadTouches n o page) same it) in
-    let first = came_more old old fetched (λ page. page ≡ 0) Needs at_first
-    (came_nothing old old Needs c.requires.ready (keeps_stored_same old)) c.fetch_first.ensures.paged_in in
-    let second = came_more old fetched loaded Touched Needs touches first c.load_disk.ensures.paged_in in
-    Ran.tried_came old loaded Needs Needs (λ page it. it) second
+    let first = came_fewer old fetched (λ page. page ≡ 0) Needs 1 1 at_first (omega arith)
+    c.fetch_first.ensures.paged_in in
+    let second = came_more old fetched loaded Touched Needs 1 2 touches first c.load_disk.ensures.paged_in in
+    Ran.tried_came 3 4 old loaded Needs Needs (λ page it. it) (omega arith) second
 
 pub returns-in-Err-clause-roomy : goal.returns-in-Err-clause-roomy
 returns-in-Err-clause-roomy c = λ whole refused.

@@ -1,4 +1,4 @@
-use Rattle.std.proofs.Common.{◌≡◌, ◌∙◌, ℕ, ◌%◌, ap, refl, subst, sym, inl, inr, length, Result, Err}
+use Rattle.std.proofs.Common.{◌≡◌, ◌∙◌, ℕ, ◌%◌, ap, refl, subst, sym, inl, inr, length, Result, Err, arith}
 use Rattle.std.specs.Prelude.{IfErr, IfOk}
 use Rattle.s370_channel.specs.declared.running.ChannelError.{ChannelError}
 use Rattle.s370_channel.specs.Guest.{guest_written}
@@ -33,7 +33,7 @@ returns-in-Some-clause-whole g c = λ is. memory_whole c.run_again-ended.result 
 
 pub returns-in-Some-clause-paged_in : goal.returns-in-Some-clause-paged_in
 returns-in-Some-clause-paged_in g c =
-    still_came c.args.storage.now c.run_again-ended.new.storage
+    still_came 2 c.args.storage.now c.run_again-ended.new.storage
     (ProgramNeeds HoldNeeds g.D.Device.machine c.args.start (lent_memory c.args.storage.now) c.args.device.now)
     c.requires c.run_again-ended.ensures.rest
 
@@ -133,7 +133,7 @@ returns-in-Ok-SelfModifying-clause-whole g c = λ is.
     c.run_open.ensures.paged_in.paged_in.kept.same_size in
     let lacking = subst (λ (d : Dat). c.run_open.result ≡ Err tries.FramesOut
     → LacksSuch (IsTouched guest_written (limited g.D.Device.machine start)
-    (begun start (lent_memory d) c.args.device.now)) new) same c.run_open.ensures.lacking in
+    (begun start (lent_memory d) c.args.device.now)) 2 new) same c.run_open.ensures.lacking in
     let kept = subst (λ (d : Dat). c.run_open.result ≡ Err tries.FramesOut
     → (lent_memory new ≡ lent_memory d) × (c.run_open.new.device ≡ c.args.device.now)) same
     c.run_open.ensures.unchanged_without_frames
@@ -159,8 +159,8 @@ returns-in-Ok-SelfModifying-clause-paged_in g c =
     let new = c.run_open.new.storage in
     let paged_in = subst (λ (d : Dat).
     CameOnly d (IsTouched guest_written (limited g.D.Device.machine start)
-    (begun start (lent_memory d) c.args.device.now)) new) same c.run_open.ensures.paged_in in
-    tried_came old new Touched Needs (λ page it. inr it) paged_in
+    (begun start (lent_memory d) c.args.device.now)) 2 new) same c.run_open.ensures.paged_in in
+    tried_came 2 2 old new Touched Needs (λ page it. inr it) (omega arith) paged_in
 
 pub returns-clause-whole : goal.returns-clause-whole
 returns-clause-whole g c = λ is.

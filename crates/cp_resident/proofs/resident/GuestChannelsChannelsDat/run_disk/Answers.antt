@@ -1,4 +1,4 @@
-use Rattle.std.proofs.Common.{◌≡◌, ◌∙◌, ℕ, ap, refl, subst, sym, inl, inr, length, Result, Err}
+use Rattle.std.proofs.Common.{◌≡◌, ◌∙◌, ℕ, ap, refl, subst, sym, inl, inr, length, Result, Err, arith}
 use Rattle.std.specs.Prelude.{IfErr, IfOk, OnErr, slice_get}
 use Rattle.s370_channel.specs.declared.running.ChannelError.{ChannelError}
 use Rattle.s370_channel.specs.Reading.{as_reached}
@@ -27,7 +27,7 @@ use Rattle.cp_resident.proofs.resident.GuestChannelsChannelsDat.run_disk.Goals a
 
 pub returns-then-has_disk-clause-paged_in : goal.returns-then-has_disk-clause-paged_in
 returns-then-has_disk-clause-paged_in c =
-    Ran.still_came c.args.storage.now c.run_held.new.storage
+    Ran.still_came 2 c.args.storage.now c.run_held.new.storage
     (DiskNeeds HoldNeeds c.args.start (lent_memory c.args.storage.now)
     (slice_get (disks_on c.args.self.now) c.args.index)) c.requires.ready c.run_held.ensures.rest
 
@@ -160,9 +160,9 @@ returns-in-Ok-SelfModifying-clause-paged_in c =
     subst (λ (p : LockedProgram). IfSelfModifying p (c.lock_pages.new.storage ≡ old))
     c.in-Ok-SelfModifying.field-0-is c.in-Ok-SelfModifying.ensures.untouched in
     let new = c.run_disk.new.storage in
-    let paged_in = subst (λ (d : Dat). CameOnly d (DiskTouches start (lent_memory d) disk) new) same
+    let paged_in = subst (λ (d : Dat). CameOnly d (DiskTouches start (lent_memory d) disk) 2 new) same
     c.run_disk.ensures.paged_in in
-    Ran.tried_came old new Touched Needs more paged_in
+    Ran.tried_came 2 2 old new Touched Needs more (omega arith) paged_in
 
 pub returns-in-Err-clause-whole : goal.returns-in-Err-clause-whole
 returns-in-Err-clause-whole c = λ is.

@@ -196,7 +196,7 @@ returns-in-Ok-clause-paged_in c =
     ≡ Some (disk_on volumes c.reset.new.self)) c.self.view_is
     (reset_seen_at volumes ds c.args.index d is ∙ ap (λ (s : SharedMinidisk). Some (disk_on volumes s)) (sym seat))
     in
-    subst (λ (o : Option DiskAt). CameOnly c.args.storage.now (DiskLoadTouches m o) c.load.new.storage) (sym at)
+    subst (λ (o : Option DiskAt). CameOnly c.args.storage.now (DiskLoadTouches m o) 2 c.load.new.storage) (sym at)
     c.load.ensures.paged_in
 
 pub returns-in-Err-clause-paged_in : goal.returns-in-Err-clause-paged_in
@@ -220,7 +220,7 @@ returns-in-Err-clause-paged_in c =
     ≡ Some (disk_on volumes c.reset.new.self)) c.self.view_is
     (reset_seen_at volumes ds c.args.index d is ∙ ap (λ (s : SharedMinidisk). Some (disk_on volumes s)) (sym seat))
     in
-    subst (λ (o : Option DiskAt). CameOnly c.args.storage.now (DiskLoadTouches m o) c.load.new.storage) (sym at)
+    subst (λ (o : Option DiskAt). CameOnly c.args.storage.now (DiskLoadTouches m o) 2 c.load.new.storage) (sym at)
     c.load.ensures.paged_in
 
 pub returns-in-Err-clause-roomy : goal.returns-in-Err-clause-roomy

@@ -125,8 +125,8 @@ returns-in-Ok-clause-paged_in c =
     let at : slice_get (seen c.args.self.now) c.args.index ≡ Some (disk_on volumes d) =
     subst (λ (v : DisksValue). slice_get (seen v) c.args.index ≡ Some (disk_on volumes d)) c.self.view_is
     (seen_at volumes ds c.args.index d is) in
-    subst (λ (o : Option DiskAt). CameOnly c.args.storage.now (DiskTouches c.args.start m o) c.run.new.storage) (sym at)
-    c.run.ensures.paged_in
+    subst (λ (o : Option DiskAt). CameOnly c.args.storage.now (DiskTouches c.args.start m o) 2 c.run.new.storage)
+    (sym at) c.run.ensures.paged_in
 
 pub returns-in-Err-clause-paged_in : goal.returns-in-Err-clause-paged_in
 returns-in-Err-clause-paged_in c =
@@ -146,5 +146,5 @@ returns-in-Err-clause-paged_in c =
     let at : slice_get (seen c.args.self.now) c.args.index ≡ Some (disk_on volumes d) =
     subst (λ (v : DisksValue). slice_get (seen v) c.args.index ≡ Some (disk_on volumes d)) c.self.view_is
     (seen_at volumes ds c.args.index d is) in
-    subst (λ (o : Option DiskAt). CameOnly c.args.storage.now (DiskTouches c.args.start m o) c.run.new.storage) (sym at)
-    c.run.ensures.paged_in
+    subst (λ (o : Option DiskAt). CameOnly c.args.storage.now (DiskTouches c.args.start m o) 2 c.run.new.storage)
+    (sym at) c.run.ensures.paged_in

@@ -1,4 +1,4 @@
-use Rattle.std.proofs.Common.{◌∙◌, ℕ, inr}
+use Rattle.std.proofs.Common.{◌∙◌, ℕ, inr, arith}
 use Rattle.s370_channel.specs.Guest.{guest_written}
 use Rattle.s370_channel.specs.Loading.{loading, loading_limits}
 use Rattle.s370_channel.specs.Progress.{setting}
@@ -7,7 +7,7 @@ use Rattle.channel_trial.specs.Trial.{trial_bytes, trial_flags}
 use Rattle.ckd_volume.specs.Unit.{disk_machine}
 use Rattle.cp_dat.specs.Copies.{is_wanted}
 use Rattle.cp_dat.specs.Lent.{keeps_stored_same, lent_memory}
-use Rattle.cp_dat.proofs.Copying.{came_more, came_nothing}
+use Rattle.cp_dat.proofs.Copying.{came_fewer, came_nothing}
 use Rattle.cp_minidisk.specs.Minidisk.{users_disk}
 use Rattle.cp_volumes.specs.Shared.{volume_at}
 use Rattle.cp_volumes.proofs.Confined.{confined_by, same_by, placements_by}
@@ -20,8 +20,7 @@ returns-in-Err-clause-paged_in c =
     IsTouched guest_written (setting disk_machine loading_limits)
     (loading disk_machine (lent_memory old)
     (users_disk (volume_at c.args.self.now c.args.disk.now.volume) c.args.disk.now.minidisk)) in
-    let nothing = came_nothing old old Touched c.requires.between (keeps_stored_same old) in
-    nothing
+    came_nothing old old Touched 2 c.requires.between (keeps_stored_same old)
 
 pub returns-in-Ok-load_mounted-clause-paged_in : goal.returns-in-Ok-load_mounted-clause-paged_in
 returns-in-Ok-load_mounted-clause-paged_in c =
@@ -30,9 +29,8 @@ returns-in-Ok-load_mounted-clause-paged_in c =
     IsTouched guest_written (setting disk_machine loading_limits)
     (loading disk_machine (lent_memory old)
     (users_disk (volume_at c.args.self.now c.args.disk.now.volume) c.args.disk.now.minidisk)) in
-    let nothing = came_nothing old old Touched c.requires.between (keeps_stored_same old) in
-    came_more old old c.load_mounted.new.storage (is_wanted (trial_flags c.in-Ok.tried)) Touched
-    (λ page it. c.in-Ok.ensures.touches page it) nothing c.load_mounted.ensures.paged_in
+    came_fewer old c.load_mounted.new.storage (is_wanted (trial_flags c.in-Ok.tried)) Touched 2 2
+    (λ page it. c.in-Ok.ensures.touches page it) (omega arith) c.load_mounted.ensures.paged_in
 
 pub returns-clause-paged_in : goal.returns-clause-paged_in
 returns-clause-paged_in c =
@@ -41,9 +39,8 @@ returns-clause-paged_in c =
     IsTouched guest_written (setting disk_machine loading_limits)
     (loading disk_machine (lent_memory old)
     (users_disk (volume_at c.args.self.now c.args.disk.now.volume) c.args.disk.now.minidisk)) in
-    let nothing = came_nothing old old Touched c.requires.between (keeps_stored_same old) in
-    came_more old old c.load_mounted.new.storage (is_wanted (trial_flags c.in-Ok.tried)) Touched
-    (λ page it. c.in-Ok.ensures.touches page it) nothing c.load_mounted.ensures.paged_in
+    came_fewer old c.load_mounted.new.storage (is_wanted (trial_flags c.in-Ok.tried)) Touched 2 2
+    (λ page it. c.in-Ok.ensures.touches page it) (omega arith) c.load_mounted.ensures.paged_in
 
 pub returns-in-Ok-load_mounted-clause-confined : goal.returns-in-Ok-load_mounted-clause-confined
 returns-in-Ok-load_mounted-clause-confined c =

@@ -1,4 +1,4 @@
-use Rattle.std.proofs.Common.{◌∙◌, ℕ, inr}
+use Rattle.std.proofs.Common.{◌∙◌, ℕ, inr, arith}
 use Rattle.s370_channel.specs.Guest.{guest_written}
 use Rattle.s370_channel.specs.Runs.{begun, limited}
 use Rattle.s370_channel.specs.Supplied.{IsTouched}
@@ -6,7 +6,7 @@ use Rattle.channel_trial.specs.Trial.{trial_bytes, trial_flags}
 use Rattle.ckd_volume.specs.Unit.{disk_machine}
 use Rattle.cp_dat.specs.Copies.{is_wanted}
 use Rattle.cp_dat.specs.Lent.{keeps_stored_same, lent_memory}
-use Rattle.cp_dat.proofs.Copying.{came_more, came_nothing}
+use Rattle.cp_dat.proofs.Copying.{came_fewer, came_nothing}
 use Rattle.cp_minidisk.specs.Minidisk.{users_disk}
 use Rattle.cp_volumes.specs.Shared.{volume_at}
 use Rattle.cp_volumes.proofs.Confined.{confined_by, same_by, placements_by}
@@ -19,8 +19,7 @@ returns-in-Err-clause-paged_in c =
     IsTouched guest_written (limited disk_machine c.args.start)
     (begun c.args.start (lent_memory old)
     (users_disk (volume_at c.args.self.now c.args.disk.now.volume) c.args.disk.now.minidisk)) in
-    let nothing = came_nothing old old Touched c.requires.between (keeps_stored_same old) in
-    nothing
+    came_nothing old old Touched 2 c.requires.between (keeps_stored_same old)
 
 pub returns-in-Ok-run_mounted-clause-paged_in : goal.returns-in-Ok-run_mounted-clause-paged_in
 returns-in-Ok-run_mounted-clause-paged_in c =
@@ -29,9 +28,8 @@ returns-in-Ok-run_mounted-clause-paged_in c =
     IsTouched guest_written (limited disk_machine c.args.start)
     (begun c.args.start (lent_memory old)
     (users_disk (volume_at c.args.self.now c.args.disk.now.volume) c.args.disk.now.minidisk)) in
-    let nothing = came_nothing old old Touched c.requires.between (keeps_stored_same old) in
-    came_more old old c.run_mounted.new.storage (is_wanted (trial_flags c.in-Ok.tried)) Touched
-    (λ page it. c.in-Ok.ensures.touches page it) nothing c.run_mounted.ensures.paged_in
+    came_fewer old c.run_mounted.new.storage (is_wanted (trial_flags c.in-Ok.tried)) Touched 2 2
+    (λ page it. c.in-Ok.ensures.touches page it) (omega arith) c.run_mounted.ensures.paged_in
 
 pub returns-clause-paged_in : goal.returns-clause-paged_in
 returns-clause-paged_in c =
@@ -40,9 +38,8 @@ returns-clause-paged_in c =
     IsTouched guest_written (limited disk_machine c.args.start)
     (begun c.args.start (lent_memory old)
     (users_disk (volume_at c.args.self.now c.args.disk.now.volume) c.args.disk.now.minidisk)) in
-    let nothing = came_nothing old old Touched c.requires.between (keeps_stored_same old) in
-    came_more old old c.run_mounted.new.storage (is_wanted (trial_flags c.in-Ok.tried)) Touched
-    (λ page it. c.in-Ok.ensures.touches page it) nothing c.run_mounted.ensures.paged_in
+    came_fewer old c.run_mounted.new.storage (is_wanted (trial_flags c.in-Ok.tried)) Touched 2 2
+    (λ page it. c.in-Ok.ensures.touches page it) (omega arith) c.run_mounted.ensures.paged_in
 
 pub returns-in-Ok-run_mounted-clause-confined : goal.returns-in-Ok-run_mounted-clause-confined
 returns-in-Ok-run_mounted-clause-confined c =

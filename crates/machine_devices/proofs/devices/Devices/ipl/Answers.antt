@@ -1,6 +1,6 @@
 use Rattle.std.specs.Prelude.{◌≡◌, Option, Some}
 use Rattle.std.proofs.Common.{subst}
-use Rattle.machine_channels.specs.Channels.{Brings}
+use Rattle.machine_channels.specs.Channels.{Brings, load_times}
 use Rattle.machine_devices.specs.declared.places.AttachedDevice.{AttachedDevice}
 use Rattle.machine_devices.specs.declared.places.AttachedDevice.TheVariants as kinds
 use Rattle.machine_devices.specs.Devices.{kind_at}
@@ -18,5 +18,5 @@ returns-in-Some-Disk-clause-paged_in g c =
     let found : Some (kinds.Disk c.in-Some-Disk.index) ≡ kind =
     (let a = c.in-Some-Disk.is in let b = c.in-Some-Disk.field-0-is in let e = c.kind_at.ensures.kind in cc) in
     subst (λ (k : Option AttachedDevice).
-    Brings g.C.Channels.Came c.args.storage.now (KindLoads k before) c.load_disk.new.storage) found
+    Brings (g.C.Channels.Came load_times) c.args.storage.now (KindLoads k before) c.load_disk.new.storage) found
     c.load_disk.ensures.paged_in

@@ -12,7 +12,7 @@ use Rattle.cp_spool.specs.Queues.{files_of}
 use Rattle.machine_devices.specs.Comes.{LineHadRoom, MayTakeMemory}
 use Rattle.machine_devices.specs.Lines.{IsAnswered, requested}
 use Rattle.machine_devices.specs.Comes.{LoadWants}
-use Rattle.machine_channels.specs.Channels.{Brings, IsOutOfFrames, NoRoom}
+use Rattle.machine_channels.specs.Channels.{Brings, IsOutOfFrames, NoRoom, load_times}
 use Rattle.machine_panel.specs.declared.line.LineError.TheVariants as errors
 use Rattle.machine_devices.proofs.Requested.{requested_is, typed_is}
 use Rattle.machine_devices.proofs.devices.Devices.line.Goals as goal
@@ -121,6 +121,7 @@ returns-in-Loads-clause-ok g c =
 
 pub returns-in-Loads-clause-memory : goal.returns-in-Loads-clause-memory
 returns-in-Loads-clause-memory g c =
+    let world = g.W.UserDirectory.known c.args.world.now in
     let before : Equipped = equipped c.args.machine.now (devices_on c.args.self.now c.args.queues.now)
     (g.C.Disks.disks c.args.channels.now) (g.S.Storage.memory c.args.storage.now) in
     let has = c.is_some-has_console.ensures ∙ ap (λ (p : Places). is_some p.console) c.places.ensures in
@@ -128,7 +129,8 @@ returns-in-Loads-clause-memory g c =
     requested_is (Loads c.in-Loads.device) before c.args.typed.now c.as_slice.result.now c.mode.result
     c.is_some-has_console.result c.in-Loads.ensures c.mode.ensures has
     (c.as_slice.ensures.value ∙ c.new-text.ensures) in
-    subst (λ (q : Request). c.ipl.result ≡ Err errors.Memory → MayTakeMemory q before) (sym judged) c.ipl.ensures.takes
+    subst (λ (q : Request). c.ipl.result ≡ Err errors.Memory → MayTakeMemory world q before)
+    (sym judged) c.ipl.ensures.takes
 
 pub returns-in-Loads-clause-out : goal.returns-in-Loads-clause-out
 returns-in-Loads-clause-out g c = λ ipl. (
@@ -167,7 +169,7 @@ returns-in-Loads-clause-paged_in g c = λ ipl. (
     requested_is (Loads c.in-Loads.device) before c.args.typed.now c.as_slice.result.now c.mode.result
     c.is_some-has_console.result c.in-Loads.ensures c.mode.ensures has
     (c.as_slice.ensures.value ∙ c.new-text.ensures) in (
-      subst (λ (q : Request). Brings g.C.Channels.Came c.args.storage.now (LoadWants q before) c.ipl.new.storage)
+      subst (λ (q : Request). Brings (g.C.Channels.Came load_times) c.args.storage.now (LoadWants q before) c.ipl.new.storage)
           (sym judged) c.ipl.ensures.paged_in,
       c.ipl.ensures.ready,
     ))

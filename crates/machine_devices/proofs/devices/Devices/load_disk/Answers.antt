@@ -12,7 +12,7 @@ returns-in-Ok-start_loaded-clause-ok g c =
     (g.C.Disks.disks c.args.channels.now) old in
     let after : Equipped = equipped c.start_loaded.new.machine (devices_on c.reset.new.self c.args.queues.now)
     (g.C.Disks.disks c.load_disk.new.self) (g.S.Storage.memory c.start_loaded.new.storage) in
-    let same : read.keys ≡ old.keys = g.met.C.Channels.came_keys _ _ _ c.load_disk.ensures.paged_in.1 in
+    let same : read.keys ≡ old.keys = g.met.C.Channels.came_keys _ _ _ _ c.load_disk.ensures.paged_in.1 in
     disk_loads c.args.index c.args.device before after c.loaded.result c.in-Ok-start_loaded.well
     c.in-Ok-load_disk.ending read _
     c.in-Ok-load_disk.ensures.walk same c.in-Ok-start_loaded.ensures.well (search rules) (search rules) c.loaded.ensures

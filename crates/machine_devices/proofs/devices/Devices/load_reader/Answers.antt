@@ -5,7 +5,7 @@ use Rattle.unit_record.specs.Reader.{reader_machine}
 use Rattle.cp_spool.specs.Alike.{reader_of}
 use Rattle.cp_spool.specs.Queues.{files_of}
 use Rattle.cp_spool.specs.Reader.{part_new}
-use Rattle.machine_channels.specs.Channels.{Brings, WalksLoading}
+use Rattle.machine_channels.specs.Channels.{Brings, WalksLoading, load_times}
 use Rattle.machine_devices.specs.declared.places.AttachedDevice.TheVariants as kinds
 use Rattle.machine_devices.specs.Equipped.{Equipped, equipped}
 use Rattle.machine_devices.specs.Lent.{DevicesParts, devices_on}
@@ -18,14 +18,14 @@ returns-in-Err-Memory-clause-paged_in g c =
     λ d. equipped c.args.machine.now (devices_on d c.args.queues.now) (g.C.Disks.disks c.args.channels.now)
     (g.S.Storage.memory c.args.storage.now) in
     subst (λ (d : DevicesParts).
-    Brings g.C.Channels.Came c.args.storage.now (KindLoads (Some kinds.Reader) (from d)) c.load_fed.new.storage)
+    Brings (g.C.Channels.Came load_times) c.args.storage.now (KindLoads (Some kinds.Reader) (from d)) c.load_fed.new.storage)
     c.self.view_is c.load_fed.ensures.paged_in
 
 pub returns-in-Ok-start_loaded-clause-ok : goal.returns-in-Ok-start_loaded-clause-ok
 returns-in-Ok-start_loaded-clause-ok g c =
     let old = g.S.Storage.memory c.args.storage.now in
     let read = g.S.Storage.memory c.load_fed.new.storage in
-    let same : read.keys ≡ old.keys = g.met.C.Channels.came_keys _ _ _ c.load_fed.ensures.paged_in.1 in
+    let same : read.keys ≡ old.keys = g.met.C.Channels.came_keys _ _ _ _ c.load_fed.ensures.paged_in.1 in
     let part = reader_of (files_of c.args.queues.now.users c.self.inside.user) part_new in
     let left = reader_of (files_of c.load_fed.new.queues.users c.self.inside.user) c.load_fed.new.reader in
     let Walks : List ℕ → Type 0 =
@@ -53,9 +53,9 @@ returns-in-Ok-start_loaded-clause-paged_in g c =
     (g.S.Storage.memory c.args.storage.now) in
     let b = c.load_fed.ensures.paged_in in
     subst (λ (d : DevicesParts).
-    Brings g.C.Channels.Came c.args.storage.now (KindLoads (Some kinds.Reader) (from d)) c.start_loaded.new.storage)
+    Brings (g.C.Channels.Came load_times) c.args.storage.now (KindLoads (Some kinds.Reader) (from d)) c.start_loaded.new.storage)
     c.self.view_is
-    (b.0, g.met.C.Channels.came_kept _ _ _ b.0 b.1 c.start_loaded.ensures.rest, b.2)
+    (b.0, g.met.C.Channels.came_kept _ _ _ _ b.0 b.1 c.start_loaded.ensures.rest, b.2)
 
 pub returns-in-Err-start_loaded-clause-paged_in : goal.returns-in-Err-start_loaded-clause-paged_in
 returns-in-Err-start_loaded-clause-paged_in g c =
@@ -64,6 +64,6 @@ returns-in-Err-start_loaded-clause-paged_in g c =
     (g.S.Storage.memory c.args.storage.now) in
     let b = c.load_fed.ensures.paged_in in
     subst (λ (d : DevicesParts).
-    Brings g.C.Channels.Came c.args.storage.now (KindLoads (Some kinds.Reader) (from d)) c.start_loaded.new.storage)
+    Brings (g.C.Channels.Came load_times) c.args.storage.now (KindLoads (Some kinds.Reader) (from d)) c.start_loaded.new.storage)
     c.self.view_is
-    (b.0, g.met.C.Channels.came_kept _ _ _ b.0 b.1 c.start_loaded.ensures.rest, b.2)
+    (b.0, g.met.C.Channels.came_kept _ _ _ _ b.0 b.1 c.start_loaded.ensures.rest, b.2)

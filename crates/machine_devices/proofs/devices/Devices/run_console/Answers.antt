@@ -4,7 +4,7 @@ use Rattle.s370_channel.specs.declared.running.ChannelError.TheVariants as error
 use Rattle.machine_devices.specs.Devices.{DevicesValue}
 use Rattle.cp_spool.specs.Queues.{files_of}
 use Rattle.machine_devices.specs.Lent.{DevicesParts, devices_on, devices_with}
-use Rattle.machine_channels.specs.Channels.{Brings, NoRoom, WhereOut}
+use Rattle.machine_channels.specs.Channels.{Brings, NoRoom, WhereOut, serve_times}
 use Rattle.machine_devices.specs.declared.places.AttachedDevice.TheVariants as kinds
 use Rattle.machine_devices.specs.Equipped.{Equipped, equipped}
 use Rattle.machine_devices.specs.Serve.{KindNeeds, RunsConsole}
@@ -48,7 +48,7 @@ returns-clause-runs g c =
       left = console_on c.args.machine.now c.set_attention.new.self c.end_program.new.self c.print_written.new.machine
           c.args.device _ c.in-Ok.ending c.attention.result c.run.new.device _ memory left c.attention.ensures
           c.set_attention.ensures c.end_program.ensures c.in-Ok-print_written.ensures.printed
-          (g.met.C.Channels.came_keys _ _ _ c.run.ensures.paged_in.1);
+          (g.met.C.Channels.came_keys _ _ _ _ c.run.ensures.paged_in.1);
       devices = ap (λ (console : ConsoleState). with_console old console) c.forget_lines.ensures;
       disks = c.run.ensures.disks;
     })
@@ -96,7 +96,7 @@ returns-in-Err-clause-paged_in g c =
     λ d. equipped c.args.machine.now (devices_on d c.args.queues.now) (g.C.Disks.disks c.args.channels.now)
     (g.S.Storage.memory c.args.storage.now) in
     subst (λ (d : DevicesParts).
-    Brings g.C.Channels.Came c.args.storage.now (KindNeeds g.C.Channels.holds kinds.Console c.args.start (from d))
+    Brings (g.C.Channels.Came serve_times) c.args.storage.now (KindNeeds g.C.Channels.holds kinds.Console c.args.start (from d))
     c.run.new.storage) c.self.view_is c.run.ensures.paged_in
 
 pub returns-in-Err-clause-roomy : goal.returns-in-Err-clause-roomy

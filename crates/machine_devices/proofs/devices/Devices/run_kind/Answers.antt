@@ -61,7 +61,7 @@ returns-clause-runs g c =
             target = w.self.inside.target;
             user = w.self.inside.user;
           } in
-          let same = g.met.C.Channels.came_keys _ _ _ w.run.ensures.paged_in.1 in
+          let same = g.met.C.Channels.came_keys _ _ _ _ w.run.ensures.paged_in.1 in
           let ended = c.end_program.ensures ∙ ap over w.ending-is in
           let ran : RunsKind g.C.Channels.reads kinds.Punch c.args.device c.args.start (from parts)
           (to (record parts { punch = w.run.new.device }) (g.C.Disks.disks w.run.new.self)
@@ -91,7 +91,7 @@ returns-clause-runs g c =
             target = w.self-in-Printer.inside.target;
             user = w.self-in-Printer.inside.user;
           } in
-          let same = g.met.C.Channels.came_keys _ _ _ w.run-in-Printer.ensures.paged_in.1 in
+          let same = g.met.C.Channels.came_keys _ _ _ _ w.run-in-Printer.ensures.paged_in.1 in
           let ended = c.end_program.ensures ∙ ap over w.ending-is in
           let ran : RunsKind g.C.Channels.reads kinds.Printer c.args.device c.args.start (from parts)
           (to (record parts { printer = w.run-in-Printer.new.device }) (g.C.Disks.disks w.run-in-Printer.new.self)
@@ -111,7 +111,7 @@ returns-clause-runs g c =
           (to (record parts { printer = w.run-in-Printer.new.device }) (g.C.Disks.disks w.run-in-Printer.new.self)
           (g.S.Storage.memory w.run-in-Printer.new.storage))) w.self-in-Printer.view_is ran))
       | in-Disk+in-Ok-run_disk w ↦ (
-          let same = g.met.C.Channels.came_keys _ _ _ w.run_disk.ensures.paged_in.1 in
+          let same = g.met.C.Channels.came_keys _ _ _ _ w.run_disk.ensures.paged_in.1 in
           let ended = c.end_program.ensures ∙ ap over w.ending-is in
           let ran : RunsKind g.C.Channels.reads (kinds.Disk w.in-Disk.index) c.args.device c.args.start
           (from c.args.self.now) (to c.args.self.now (g.C.Disks.disks w.run_disk.new.self)

@@ -3,7 +3,7 @@ use Rattle.std.proofs.Common.{◌∙◌, ap, subst, Err}
 use Rattle.s370_channel.specs.declared.running.ChannelError.TheVariants as errors
 use Rattle.s370_channel.specs.declared.words.Caw.{Caw}
 use Rattle.s370_subchannels.specs.Programs.{program_of}
-use Rattle.machine_channels.specs.Channels.{Brings, NoRoom, WhereOut}
+use Rattle.machine_channels.specs.Channels.{Brings, NoRoom, WhereOut, serve_times}
 use Rattle.machine_devices.specs.declared.places.AttachedDevice.{AttachedDevice}
 use Rattle.machine_devices.specs.Devices.{kind_at}
 use Rattle.machine_devices.specs.Equipped.{Equipped, equipped}
@@ -23,10 +23,10 @@ returns-in-Ok-clause-paged_in g c =
     let begun : Some c.in-Some-program.start ≡ program =
     (let a = c.in-Some-program.is in let b = c.program.ensures in cc) in
     subst (λ (k : Option AttachedDevice).
-    Brings g.C.Channels.Came c.args.storage.now (StartNeeds g.C.Channels.holds k program before)
+    Brings (g.C.Channels.Came serve_times) c.args.storage.now (StartNeeds g.C.Channels.holds k program before)
     c.run_kind.new.storage) found
     (subst (λ (p : Option Caw).
-    Brings g.C.Channels.Came c.args.storage.now (StartNeeds g.C.Channels.holds (Some c.in-Some.kind) p before)
+    Brings (g.C.Channels.Came serve_times) c.args.storage.now (StartNeeds g.C.Channels.holds (Some c.in-Some.kind) p before)
     c.run_kind.new.storage) begun c.run_kind.ensures.paged_in)
 
 pub returns-in-Err-clause-paged_in : goal.returns-in-Err-clause-paged_in
@@ -40,10 +40,10 @@ returns-in-Err-clause-paged_in g c =
     let begun : Some c.in-Some-program.start ≡ program =
     (let a = c.in-Some-program.is in let b = c.program.ensures in cc) in
     subst (λ (k : Option AttachedDevice).
-    Brings g.C.Channels.Came c.args.storage.now (StartNeeds g.C.Channels.holds k program before)
+    Brings (g.C.Channels.Came serve_times) c.args.storage.now (StartNeeds g.C.Channels.holds k program before)
     c.run_kind.new.storage) found
     (subst (λ (p : Option Caw).
-    Brings g.C.Channels.Came c.args.storage.now (StartNeeds g.C.Channels.holds (Some c.in-Some.kind) p before)
+    Brings (g.C.Channels.Came serve_times) c.args.storage.now (StartNeeds g.C.Channels.holds (Some c.in-Some.kind) p before)
     c.run_kind.new.storage) begun c.run_kind.ensures.paged_in)
 
 pub returns-in-Err-clause-whole : goal.returns-in-Err-clause-whole
