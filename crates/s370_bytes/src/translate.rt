@@ -32,7 +32,7 @@ fn is_apart(to: u32, count: u32, table: u32) -> bool
     to + count <= table || table + 256 <= to
 }
 
-/// Replaces each byte of `bytes` by the byte of `table` at that index.
+/// Replaces each byte of `bytes` by the byte of `table` whose index it is.
 #[inline]
 fn translate_all(bytes: &mut [u8], table: &[u8])
     requires whole { length table.now ≡ 256 }
@@ -285,7 +285,7 @@ fn translate_each<S: Storage>(storage: &mut S, to: u32, table: u32, count: u32)
     }
 }
 
-/// Does TR (DC): replaces each byte of the first operand by the byte of the table at that index,
+/// Does TR (DC): replaces each byte of the first operand by the table's byte whose index it is,
 /// from left to right.
 ///
 /// # Errors
@@ -333,8 +333,8 @@ fn zeros(table: &[u8], names: &[u8]) -> usize
     names.len()
 }
 
-/// Sets what TRT leaves: the condition code and, if a byte of `names` has no zero in `table`,
-/// registers 1 and 2.
+/// Sets what TRT leaves: the condition code and, if a byte of `names` has a function byte other
+/// than zero, registers 1 and 2.
 #[inline]
 fn scan(cpu: &mut Cpu, first: Addr24, names: &[u8], table: &[u8])
     requires whole { length table.now ≡ 256 }
