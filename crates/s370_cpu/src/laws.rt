@@ -17,10 +17,10 @@ pub fn protection_holds()
     ensures unit { UnitsAreProtected }
 {}
 
-/// Proves that in the problem state an instruction changes no storage key, control register or
-/// right; it has no effect.
+/// Proves that in the problem state an instruction changes no storage key, control register, system
+/// mask, PSW key or state; it has no effect.
 ///
-/// Of the PSW, the system mask, the key and the problem state stay: only an interruption ends them.
+/// Only an interruption leads out of the problem state.
 pub fn problem_state_holds()
     ensures instruction { ProblemStateHolds }
     ensures unit { UnitsStayInTheirRights }
