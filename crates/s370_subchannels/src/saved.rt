@@ -92,8 +92,8 @@ impl Subchannels {
         put_subchannels(out, self.list())
     }
 
-    /// Takes as many subchannels from `input` as there are devices and sets the states of those
-    /// devices; `None` if they are not there, perhaps after some were set.
+    /// Takes one subchannel from `input` for each device and sets the states of the devices that they
+    /// name, or returns `None` if `input` has fewer, more or bad ones, perhaps after some were set.
     ///
     /// No device is added or removed, whatever the input has.
     pub fn restore(&mut self, input: &mut Input<'_>) -> Option<()>
