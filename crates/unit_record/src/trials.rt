@@ -71,8 +71,8 @@ impl<'a> Device for ConsoleTrial<'a> {
 
     ghost needs_memory = { nothing_needed };
 
-    /// Returns what a console would answer to a command, and notes only what a read or a rejected
-    /// command leaves; nothing is written.
+    /// Returns what a console would answer to a command, and keeps only the bytes to give or the
+    /// sense of a rejected one; nothing is written.
     fn command(&mut self, order: Order) -> Result<Answer, AllocError> {
         Ok(match order.command.code {
             0x01 | 0x09 => Answer::OutputUpTo(132),
