@@ -51,7 +51,7 @@ impl PlainStorage {
         &self.keys
     }
 
-    /// Makes all its bytes and keys zero.
+    /// Sets all bytes and storage keys to zero.
     pub(crate) fn zero(&mut self)
         ensures { plain_memory self.new ≡ cleared_memory (plain_memory self.old) }
     {

@@ -39,8 +39,8 @@ pub trait UnitSupply: Supply {
     /// What was brought is held no longer. It stays present, until another page takes its place.
     ghost LetsGo: { Self → Self → Type 0 };
 
-    /// Ends the hold on all pages that were brought; they stay present until others take their
-    /// frames, and no byte or key changes.
+    /// Ends the hold on all pages that `bring` made present; they stay present until others take
+    /// their frames, and no byte or key changes.
     fn let_go(&mut self)
         ensures memory { Self.memory self.new ≡ Self.memory self.old }
         ensures let_go { LetsGo self.old self.new };
