@@ -44,8 +44,8 @@ pub(crate) fn fail<D: Device>(device: &mut D, role: Option<Transfer>, at: u32) -
     }
 }
 
-/// Returns what follows a command that is over: the next command if it chains, else the program's
-/// ending.
+/// Returns what follows a command that is over: the next command if it chains and ended well, else
+/// the program's ending.
 ///
 /// An incorrect length, or an unusual unit status, ends the program in spite of chaining.
 pub(crate) fn close(

@@ -92,8 +92,8 @@ fn one_on(p: &Position, before: Option<u32>) -> Moved
     })
 }
 
-/// Takes a byte from the device and stores it, unless the word skips, or stops the transfer with a
-/// check.
+/// Takes a byte from the device and stores it, or drops it if the word skips; or stops the transfer
+/// with a check.
 #[tactic(auto, using(crate::proofs::Stuck::lacks_giving_place, crate::proofs::Stuck::lacks_giving_byte))]
 fn give_byte<F: WordForm, S: Storage, D: Device>(
     program: &F,

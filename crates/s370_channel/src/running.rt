@@ -19,8 +19,8 @@ use s370_walk::{
 };
 use thiserror::Error;
 
-/// Moves the rest of a word's bytes, ends the word, and returns the next command or the program's
-/// ending.
+/// Moves the rest of a word's bytes, ends the word, and returns the next word's place or the
+/// program's ending.
 fn obey<F: WordForm, S: Storage, D: Device>(
     program: &F,
     storage: &mut S,
@@ -83,7 +83,7 @@ pub(crate) enum RunStop {
     Absent(Page, Place),
 }
 
-/// Starts a word's command at the device, moves its bytes, and returns the next command or the
+/// Starts a word's command at the device, moves its bytes, and returns the next word's place or the
 /// program's ending.
 #[tactic(auto, unfolding(crate::specs::Progress::weight))]
 pub(crate) fn begin<F: WordForm, S: Storage, D: Device>(

@@ -26,7 +26,7 @@ pub(crate) fn first_spot(at: u32) -> NextCcw
 }
 
 /// Returns the start that the channel address word asks for, or `None` if that word or the first
-/// command word is bad.
+/// command word is bad or not in storage.
 ///
 /// `check_start(&Guest, &storage, load_word(&storage, 72))` is what SIO tests.
 ///

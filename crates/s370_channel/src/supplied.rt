@@ -121,7 +121,7 @@ fn supply_step<S: AmpleSupply, D: Device>(
 }
 
 /// Runs the program until it ends or stops further on at an absent page, and then ends the hold on
-/// the pages that it brought.
+/// the pages that it made present.
 ///
 /// The storage has room for every page.
 fn supply_unit<S: AmpleSupply, D: Device>(
