@@ -164,8 +164,8 @@ fn combine_at<S: Storage>(
     storage.store(to, made);
 }
 
-/// Combines two ranges, each in a block that was found, and stores the result, which stays in
-/// `made`; `other` is a buffer.
+/// Combines two ranges, each in a block that `find_block` returned, and stores the result, which
+/// stays in `made`; `other` is a buffer.
 #[inline(always)]
 fn combine_in<S: Storage>(
     operation: Combine,
@@ -202,8 +202,8 @@ fn combine_in<S: Storage>(
     storage.store_in(target, to, made);
 }
 
-/// Combines two strings in blocks that were found, through buffers, and sets the condition code
-/// unless it is a move.
+/// Combines two strings in blocks that `find_block` returned, through buffers, and sets the
+/// condition code unless it is a move.
 ///
 /// A short string goes through short buffers, which take no time to make.
 #[inline(never)]
@@ -348,8 +348,8 @@ fn combine_short<S: Storage>(
     set_front_condition(operation, cpu, made, count);
 }
 
-/// Combines two strings, each in a block that was found, from left to right, and sets the condition
-/// code unless it is a move.
+/// Combines two strings, each in a block that `find_block` returned, from left to right, and sets
+/// the condition code unless it is a move.
 #[inline(always)]
 pub fn combine_straight<S: Storage>(
     operation: Combine,

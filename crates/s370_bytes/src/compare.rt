@@ -106,8 +106,8 @@ pub fn compare_row<S: Storage>(
     Ok(Completion::Done)
 }
 
-/// Loads two strings, each in a block that was found, into `xs` and `ys`, and returns the condition
-/// code of comparing them.
+/// Loads two strings, each in a block that `find_block` returned, into `xs` and `ys`, and returns
+/// the condition code of comparing them.
 #[inline(always)]
 fn order_in<S: Storage>(
     storage: &S,
@@ -137,8 +137,8 @@ fn order_in<S: Storage>(
     string_order(xs, ys)
 }
 
-/// Returns the condition code of comparing two strings, each in a block that was found, through
-/// buffers.
+/// Returns the condition code of comparing two strings, each in a block that `find_block` returned,
+/// through buffers.
 ///
 /// Short strings go through short buffers, which take no time to make.
 #[inline(never)]
@@ -216,8 +216,8 @@ pub fn front_number(bytes: [u8; 8], count: u32) -> u64
     u64::from_be_bytes(bytes) >> (64 - 8 * count)
 }
 
-/// Returns at most eight bytes of a block that was found as a number; eight bytes have to lie in
-/// the block.
+/// Returns at most eight bytes of a block that `find_block` returned as a number; eight bytes have
+/// to lie in the block.
 #[inline(always)]
 pub fn number_in<S: Storage>(storage: &S, block: Block, start: u32, count: u32) -> u64
     requires some { 0 < count }
@@ -241,7 +241,7 @@ pub fn holds_eight(block: Block, start: u32) -> bool
     start - block.first <= 2040
 }
 
-/// Returns the condition code of comparing two strings, each in a block that was found.
+/// Returns the condition code of comparing two strings, each in a block that `find_block` returned.
 ///
 /// Strings of at most eight bytes are compared as numbers, if eight bytes can be loaded.
 #[inline(always)]

@@ -157,7 +157,7 @@ pub fn insert_characters_row<S: Storage>(
 }
 
 /// Does STCM: stores the bytes of a register that the mask selects, at least one, in a block that
-/// was found.
+/// `find_block` returned.
 #[inline(always)]
 pub fn store_characters_in<S: Storage>(
     cpu: &Cpu,

@@ -69,8 +69,8 @@ pub fn store_registers<S: Storage>(
     storage.store(address.get(), &words[..4 * count as usize]);
 }
 
-/// Stores R1 to R3 of `registers` in the words from an address on, in a block that was found; 0
-/// follows 15.
+/// Stores R1 to R3 of `registers` in the words from an address on, in a block that `find_block`
+/// returned; 0 follows 15.
 #[inline(always)]
 pub fn store_registers_in<S: Storage>(
     registers: &[u32; 16],
@@ -115,8 +115,8 @@ pub fn load_registers<S: Storage>(
     }
 }
 
-/// Loads R1 to R3 of `registers` from the words from an address on, in a block that was found; 0
-/// follows 15.
+/// Loads R1 to R3 of `registers` from the words from an address on, in a block that `find_block`
+/// returned; 0 follows 15.
 #[inline(always)]
 pub fn load_registers_in<S: Storage>(
     registers: &mut [u32; 16],

@@ -8,8 +8,8 @@ use crate::combine::lag_of;
 use crate::long::set_all;
 use s370_store::{Block, Storage, load_byte_in};
 
-/// Does MVC between blocks that were found and returns true, if one copy does it; else changes
-/// nothing and returns false.
+/// Does MVC between blocks that `find_block` returned and returns true, if one copy does it; else
+/// changes nothing and returns false.
 #[inline(always)]
 pub fn move_straight<S: Storage>(
     storage: &mut S,

@@ -73,8 +73,8 @@ fn translate_apart<S: Storage>(
     storage.store(to, bytes);
 }
 
-/// Translates a range of storage by a table that does not overlap it, each in a block that was
-/// found, through buffers.
+/// Translates a range of storage by a table that does not overlap it, each in a block that
+/// `find_block` returned, through buffers.
 #[inline(always)]
 fn translate_in<S: Storage>(
     storage: &mut S,
@@ -107,8 +107,8 @@ fn translate_in<S: Storage>(
     storage.store_in(target, to, bytes);
 }
 
-/// Translates at most 256 bytes by a table that does not overlap them, each in a block that was
-/// found, through buffers.
+/// Translates at most 256 bytes by a table that does not overlap them, each in a block that
+/// `find_block` returned, through buffers.
 #[inline(never)]
 fn translate_long<S: Storage>(
     storage: &mut S,
@@ -161,8 +161,8 @@ fn translate_long<S: Storage>(
     }
 }
 
-/// Replaces the first `count` of eight bytes by bytes of a table that lies in a block that was
-/// found.
+/// Replaces the first `count` of eight bytes by bytes of a table that lies in a block that
+/// `find_block` returned.
 #[inline(always)]
 fn translate_front<S: Storage>(
     storage: &S,
@@ -187,8 +187,8 @@ fn translate_front<S: Storage>(
     }
 }
 
-/// Translates at most eight bytes by a table that does not overlap them, each in a block that was
-/// found.
+/// Translates at most eight bytes by a table that does not overlap them, each in a block that
+/// `find_block` returned.
 ///
 /// Eight bytes are loaded and stored, and those past `count` stay as they are.
 #[inline(always)]
@@ -224,8 +224,8 @@ fn translate_short<S: Storage>(
     storage.store_in(target, to, &bytes);
 }
 
-/// Does TR in blocks that were found and returns true, if string and table do not overlap; else
-/// changes nothing and returns false.
+/// Does TR in blocks that `find_block` returned and returns true, if string and table do not
+/// overlap; else changes nothing and returns false.
 #[inline(always)]
 pub fn translate_straight<S: Storage>(
     storage: &mut S,
