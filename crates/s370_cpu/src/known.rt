@@ -50,7 +50,8 @@ pub fn load_known<S: Storage>(storage: &S, start: u32, opcode: u8) -> Instructio
     instruction_in(&bytes, opcode)
 }
 
-/// Returns the instruction at an address in a block that was found; its operation code is passed.
+/// Returns the instruction at an address in a block that `find_block` returned; its operation code
+/// is passed.
 #[inline(always)]
 pub fn load_known_in<S: Storage>(storage: &S, block: Block, start: u32, opcode: u8) -> Instruction
     requires placed { S.IsPlaced storage.now block }

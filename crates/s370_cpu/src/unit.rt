@@ -74,8 +74,8 @@ pub fn step<S: Storage>(cpu: &mut Cpu, storage: &mut S) -> Stop
     carry_known(cpu, storage, start, opcode)
 }
 
-/// Does the instruction at the instruction address, as [`step`] does, from a block that was found
-/// for fetches with the PSW's key.
+/// Does the instruction at the instruction address, as [`step`] does, from a block that
+/// `find_block` returned for fetches with the PSW's key.
 ///
 /// It is at an even address there, with room for the longest instruction.
 #[inline(always)]
@@ -95,7 +95,8 @@ pub fn step_in<S: Storage>(cpu: &mut Cpu, storage: &mut S, start: Addr24, block:
     carry_in(cpu, storage, start, block)
 }
 
-/// Fetches the instruction at `start` from a block that was found, and does it as [`step`] does.
+/// Fetches the instruction at `start` from a block that `find_block` returned, and does it as
+/// [`step`] does.
 #[inline(always)]
 fn carry_in<S: Storage>(cpu: &mut Cpu, storage: &mut S, start: Addr24, block: Block) -> Stop
     requires here { start ≡ cpu.old.psw.address }
