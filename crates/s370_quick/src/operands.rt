@@ -166,8 +166,8 @@ fn held_byte<S: Storage>(cpu: &Cpu, storage: &S, start: Addr24, held: &mut HeldB
     }
 }
 
-/// Does an operation on R1 and a word of storage that lies in one block, which is then held; else
-/// returns `None`.
+/// Sets R1 and the condition code by an operation on R1 and a word of storage, if that lies in one
+/// block, which is then held; else returns `None`.
 ///
 /// It serves N 54, CL 55, O 56, X 57, L 58, C 59, A 5A, S 5B, AL 5E and SL 5F.
 #[inline(always)]
@@ -679,8 +679,8 @@ fn store_characters_quickly<S: Storage>(
     }
 }
 
-/// Does an instruction that fetches operands and stores none, except for the next address, and
-/// holds their block; or returns `None` and does nothing.
+/// Does an instruction that fetches operands and stores none, except for the next address, over
+/// held blocks if it can; or returns `None` and changes only `held`.
 #[inline(always)]
 pub fn fetch_held<S: Storage, const CODE: u8, const WAY: u8>(
     row: FetchRow,
@@ -712,8 +712,8 @@ pub fn fetch_held<S: Storage, const CODE: u8, const WAY: u8>(
     }
 }
 
-/// Does an instruction that stores an operand, except for the next address, and holds its block; or
-/// returns `None` and does nothing.
+/// Does an instruction that stores an operand, except for the next address, over held blocks if it
+/// can; or returns `None` and changes only `held`.
 #[inline(always)]
 pub fn store_held<S: Storage, const CODE: u8, const WAY: u8>(
     row: StoreRow,

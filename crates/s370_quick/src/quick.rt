@@ -471,7 +471,8 @@ fn finish_quickly<S: Storage, const CODE: u8, const WAY: u8>(
     }
 }
 
-/// Sets the instruction address by how an instruction ended, and returns it.
+/// Sets the instruction address by how an instruction ended, unless that is to be done again, and
+/// returns it.
 #[inline(always)]
 fn go_on(cpu: &mut Cpu, place: Place, ending: Completion) -> Addr24
     requires { GoesOn ending }
