@@ -40,8 +40,8 @@ pub enum Next {
     Instructs,
 }
 
-/// Returns whether a running processor surely does an instruction next; if false, [`look`] says
-/// what comes next, which can be an instruction still.
+/// Returns whether a running processor surely does an instruction next; if false, [`look`] decides,
+/// and may still return an instruction.
 #[inline(always)]
 pub fn is_plain(cpu: &Cpu, pending: Pending, subchannels: &Subchannels) -> bool
     ensures { (m : Memory) → result ≡ true

@@ -372,7 +372,7 @@ fn instruct_steadily<S: Storage>(cpu: &mut Cpu, storage: &mut S, limit: u32) -> 
 }
 
 /// Does the instruction that the quick loop left out, or for MVCL whole parts of it, at most
-/// `limit`, and returns how many units it did and whether an instruction surely comes next.
+/// `limit`, and returns how many units it did and whether an instruction is surely next.
 ///
 /// None is done if a page is absent.
 #[inline(never)]
@@ -428,7 +428,7 @@ fn instruct_apart<P: Processor, S: Keyed>(
 }
 
 /// Does instructions, at most `limit`, until one cannot be done here or may not be next, and
-/// returns how many it did and whether an instruction surely comes next.
+/// returns how many it did and whether an instruction is surely next.
 ///
 /// This has no other unit in it, so that registers are left for what it needs.
 #[inline(never)]
