@@ -72,8 +72,8 @@ impl Machine {
         self.pending.key = true;
     }
 
-    /// Does DISPLAY: prints what an item holds and returns that response; pages that are shown are
-    /// brought.
+    /// Does DISPLAY: prints what an item holds and returns that response; absent pages that are
+    /// shown are paged in.
     ///
     /// A machine that runs keeps the room for the notice of its stop.
     pub(crate) fn display<S: Supply>(
@@ -110,8 +110,8 @@ impl Machine {
         }
     }
 
-    /// Does STORE: changes an item, prints a response and returns it; pages that are changed are
-    /// brought.
+    /// Does STORE: changes an item, prints a response and returns it; absent pages that are changed
+    /// are paged in.
     ///
     /// A machine that runs keeps the room for the notice of its stop.
     pub(crate) fn store<S: Supply>(
@@ -149,7 +149,7 @@ impl Machine {
     }
 }
 
-/// Returns the response with what an item holds, and brings each absent page that is shown.
+/// Returns the response with what an item holds, after paging in each absent page that is shown.
 fn display_supplied<S: Supply>(
     cpu: &Cpu,
     storage: &mut S,
@@ -175,8 +175,8 @@ fn display_supplied<S: Supply>(
     }
 }
 
-/// Changes an item as a command says and returns the response, after bringing each absent page that
-/// is changed.
+/// Changes an item as a command says and returns the response, after paging in each absent page
+/// that is changed.
 fn change_supplied<S: Supply>(
     cpu: &mut Cpu,
     storage: &mut S,

@@ -57,7 +57,7 @@ impl Model for Machine {
 }
 
 /// Returns a processor as after a reset, with these general registers: PSW zero, and control
-/// registers zero except for the first.
+/// registers zero, except that register 0 is 000000E0.
 pub(crate) fn reset_cpu(general: [u32; 16]) -> Cpu
     ensures { result ≡ reset_cpu general }
 {
