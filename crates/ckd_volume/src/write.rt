@@ -90,7 +90,7 @@ impl ControlUnit {
     /// both have, or refuses the command.
     ///
     /// It is refused on a read-only disk, if the mask or the right to write forbids it, without
-    /// such a record, and for a record without both.
+    /// such a record, and for a record with neither.
     pub(crate) fn begin_write_both(
         &mut self,
         right: WriteAccess,
