@@ -170,9 +170,8 @@ impl Reader {
         }
     }
 
-    /// Begins a read of the first deck's next card and makes that deck current; at its end removes
-    /// it and refuses with unit exception, and refuses with intervention required if there is no
-    /// deck.
+    /// Begins a read of the next card of the first deck, which is then current, or refuses it: at
+    /// the deck's end, which removes the deck, or if there is no deck.
     fn read(&mut self) -> Answer
         ensures answer { result ≡ read_answer (next_card self.old) }
         ensures after { self.new ≡ read_started self.old (next_card self.old) }
