@@ -512,8 +512,8 @@ fn compare_at<S: Storage>(
     conclude(cpu, r1, r2, count, count_1, count_2, left, right)
 }
 
-/// Does one part of CLCL, of at most 256 pairs of bytes: moves both register pairs on and, if it is
-/// over, sets the condition code.
+/// Does one part of CLCL, of at most 256 pairs of bytes: moves both register pairs on and, if CLCL
+/// is over, sets the condition code.
 fn compare_part<S: Storage>(
     cpu: &mut Cpu,
     storage: &S,
