@@ -217,7 +217,7 @@ pub fn test_byte_row<S: Storage>(
     Ok(Completion::Done)
 }
 
-/// Does an instruction that fetches operands from storage and stores none, except for the next
+/// Does an instruction that fetches operands from storage and stores none; the caller sets the next
 /// address.
 ///
 /// # Errors

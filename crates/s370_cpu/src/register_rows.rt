@@ -85,8 +85,8 @@ fn shift_pair(shift: Shift, cpu: &mut Cpu, i: Instruction) -> Result<Completion,
     Ok(shift_pair_row(shift, cpu, i.r1(), count))
 }
 
-/// Returns whether a branch would be taken now, by the count in R1 or the condition code, given an
-/// address.
+/// Returns whether a branch is taken, if it has an address: always for BAL, else by the count in R1
+/// or the condition code.
 #[inline(always)]
 fn is_taken(kind: Branching, cpu: &Cpu, i: Instruction) -> bool
     ensures { result ≡ false → (place : Place) → (target : ℕ)
@@ -150,7 +150,7 @@ pub fn load_address(cpu: &mut Cpu, i: Instruction) -> Completion
     load_address_row(cpu, i.r1(), address)
 }
 
-/// Does an instruction that accesses no storage, except for the next address.
+/// Does an instruction that accesses no storage; the caller sets the next address.
 ///
 /// # Errors
 ///

@@ -181,7 +181,7 @@ fn swap_doubleword_row<S: Storage>(
     Ok(Completion::Done)
 }
 
-/// Does an instruction that stores an operand in storage, except for the next address.
+/// Does an instruction that stores an operand in storage; the caller sets the next address.
 ///
 /// # Errors
 ///

@@ -24,7 +24,7 @@ use s370_psw::{Ilc, ProgramCode};
 use s370_rows::{Arithmetic, Completion, Cpu, Instruction, Place, Refusal, Shift};
 use s370_store::{Block, Storage, load_byte, load_byte_in};
 
-/// Does a fetched instruction that is not privileged, except for the next address.
+/// Does a fetched instruction that is not privileged; the caller sets the next address.
 ///
 /// The operation code is passed next to the instruction, so that where it is a constant all but
 /// that instruction's row is left out of the code.
