@@ -679,8 +679,8 @@ fn store_characters_quickly<S: Storage>(
     }
 }
 
-/// Does an instruction that fetches operands and stores none, except for the next address, over
-/// held blocks if it can; or returns `None` and changes only `held`.
+/// Does an instruction that fetches operands and stores none, over held blocks if it can, or
+/// returns `None` and changes only `held`; the caller sets the next address.
 #[inline(always)]
 pub fn fetch_held<S: Storage, const CODE: u8, const WAY: u8>(
     row: FetchRow,
@@ -712,8 +712,8 @@ pub fn fetch_held<S: Storage, const CODE: u8, const WAY: u8>(
     }
 }
 
-/// Does an instruction that stores an operand, except for the next address, over held blocks if it
-/// can; or returns `None` and changes only `held`.
+/// Does an instruction that stores an operand, over held blocks if it can, or returns `None` and
+/// changes only `held`; the caller sets the next address.
 #[inline(always)]
 pub fn store_held<S: Storage, const CODE: u8, const WAY: u8>(
     row: StoreRow,

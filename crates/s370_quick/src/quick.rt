@@ -503,8 +503,8 @@ fn overflow_interrupts<const CODE: u8>(cpu: &Cpu) -> bool
     false
 }
 
-/// Does a fetched instruction, except for the next address, if the processor goes on after it; else
-/// returns `None` and changes only `held`.
+/// Does a fetched instruction if the processor goes on after it, or else returns `None` and changes
+/// only `held`; the caller sets the next address.
 ///
 /// Its operands lie in blocks that may be accessed. Its operation code is a constant of the
 /// function's own, so that each of them is compiled by itself. An instruction whose overflow would
@@ -536,8 +536,8 @@ fn perform_quickly<S: Storage, const CODE: u8, const WAY: u8>(
     perform_held::<S, CODE, WAY>(cpu, storage, place, i, held)
 }
 
-/// Does a fetched instruction, except for the next address, over the held blocks; or returns `None`
-/// and changes only `held`.
+/// Does a fetched instruction over the held blocks, or returns `None` and changes only `held`; the
+/// caller sets the next address.
 #[inline(always)]
 fn perform_held<S: Storage, const CODE: u8, const WAY: u8>(
     cpu: &mut Cpu,
