@@ -20,7 +20,7 @@ fn does_something(reason: Reason) -> bool
     }
 }
 
-/// Returns whether a running processor with this next does something, be it only to stop the
+/// Returns whether a running processor that does this next does something, be it only to stop the
 /// machine; false if it waits.
 fn has_work(next: Next) -> bool
     ensures { result ≡ has_work next }
