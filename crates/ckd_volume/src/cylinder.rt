@@ -83,7 +83,7 @@ impl Cylinder {
         tracks.len()
     }
 
-    /// Returns the track under this head.
+    /// Borrows the track under this head.
     pub fn track(&self, head: usize) -> &Track
         requires { head < 19 }
         ensures { result.now ≡ track_at self.now head }

@@ -126,8 +126,8 @@ impl ControlUnit {
         };
     }
 
-    /// Drops the pending command and its bytes, moves to the index, clears the file mask, and sets
-    /// mode, head and sense.
+    /// Drops the pending command, its bytes and the right to write, moves to the index, clears the
+    /// file mask, and sets mode, head and sense.
     pub(crate) fn restart(&mut self, writable: bool, head: usize, sense: Sense)
         requires { head < 19 }
         ensures { self.new ≡ record

@@ -190,8 +190,8 @@ impl ControlUnit {
         }
     }
 
-    /// Ends Search Home Address Equal (39, B9): compares the bytes that it took with the home
-    /// address of the track.
+    /// Ends Search Home Address Equal (39, B9): if the track's home address is as the bytes taken,
+    /// gives the right to write and returns status modifier.
     fn end_search_home(&mut self, cylinder: &Cylinder) -> UnitStatus
         ensures status { result ≡ (table.ended self.old cylinder.now jobs.SearchHome).status }
         ensures after { self.new ≡ (table.ended self.old cylinder.now jobs.SearchHome).front }
@@ -201,8 +201,8 @@ impl ControlUnit {
         self.end_search(WriteAccess::Home, is_satisfied)
     }
 
-    /// Ends Search Identifier (31, 51, 71, B1, D1, F1): compares the bytes that it took with the id
-    /// of record `i`.
+    /// Ends Search Identifier (31, 51, 71, B1, D1, F1): if the id of record `i` fits the bytes
+    /// taken, returns status modifier and, for Equal, gives the right to write.
     #[tactic(auto, using(crate::proofs::Ends::at_past))]
     fn end_search_id(&mut self, cylinder: &Cylinder, comparison: Comparison, i: usize) -> UnitStatus
         ensures status { result ≡
@@ -221,7 +221,8 @@ impl ControlUnit {
         self.end_search(right, is_satisfied)
     }
 
-    /// Ends Search Key Equal (29, A9): compares the bytes that it took with the key of record `i`.
+    /// Ends Search Key Equal (29, A9): if the key of record `i` is as the bytes taken, gives the
+    /// right to write and returns status modifier.
     #[tactic(auto, using(crate::proofs::Ends::at_past))]
     fn end_search_key(&mut self, cylinder: &Cylinder, i: usize) -> UnitStatus
         ensures status { result ≡ (table.ended self.old cylinder.now (jobs.SearchKey i)).status }
