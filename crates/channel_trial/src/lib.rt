@@ -55,7 +55,7 @@ pub struct TrialStorage {
 impl TrialStorage {
     ghost use Rattle.channel_trial.specs.Trial.{is_touched, trial_bytes, trial_flags, trial_memory};
 
-    /// Returns a storage of these bytes, no page of which was touched, with these keys.
+    /// Returns a storage for a dry run with these bytes and keys, no page of which was touched.
     ///
     /// # Errors
     ///
@@ -80,7 +80,7 @@ impl TrialStorage {
         })
     }
 
-    /// Returns whether each page was touched.
+    /// Borrows the list of flags that say whether each page was touched.
     pub fn touched(&self) -> &[bool]
         ensures flags { result.now ≡ trial_flags self.now }
         ensures size { length (trial_bytes self.now) ≡ 4096 * length result.now }
@@ -88,14 +88,14 @@ impl TrialStorage {
         &self.touched
     }
 
-    /// Returns all bytes of the storage on which a program is tried.
+    /// Borrows all bytes of the storage.
     pub fn bytes(&self) -> &[u8]
         ensures { result.now ≡ trial_bytes self.now }
     {
         &self.bytes
     }
 
-    /// Writes bytes from an address on.
+    /// Overwrites bytes from an address on; no test is made.
     fn put(&mut self, start: u32, from: &[u8])
         requires { start + length from.now ≤ length (trial_bytes self.old) }
         ensures stored { trial_memory self.new
@@ -120,10 +120,13 @@ impl Storage for TrialStorage {
 
     ghost IsPlaced = { IsTouchedBlock };
 
+    /// Returns the size of storage in bytes.
     fn size(&self) -> u32 {
         self.bytes.len() as u32
     }
 
+    /// Returns a fault if size or keys forbid an access, or if the page of its first or last byte
+    /// was not touched: it counts as absent.
     fn check(&self, range: Range, access: Access, key: AccessKey) -> Result<(), Fault> {
         let keys = KeySlice { keys: &self.keys };
         test_range(self.bytes.len() as u32, &keys, range, access, key)?;
@@ -142,6 +145,8 @@ impl Storage for TrialStorage {
         Ok(())
     }
 
+    /// Returns the block of 2048 bytes around an address, if size and keys let this access pass
+    /// there and its page was touched.
     fn find_block(&self, start: u32, access: Access, key: AccessKey) -> Option<Block> {
         let keys = KeySlice { keys: &self.keys };
         if !may_access_block(self.bytes.len() as u32, &keys, start, access, key) {
@@ -157,22 +162,26 @@ impl Storage for TrialStorage {
         })
     }
 
+    /// Fills `into` with the bytes from `start` on; the block is not used.
     fn load_in(&self, _block: Block, start: u32, into: &mut [u8]) {
         let first = start as usize;
         let end = first + into.len();
         into.copy_from_slice(&self.bytes[first..end]);
     }
 
+    /// Overwrites storage from `start` on with the bytes of `from`; the block is not used.
     fn store_in(&mut self, _block: Block, start: u32, from: &[u8]) {
         self.put(start, from);
     }
 
+    /// Fills `into` with the bytes from `start` on.
     fn load(&self, start: u32, into: &mut [u8]) {
         let first = start as usize;
         let end = first + into.len();
         into.copy_from_slice(&self.bytes[first..end]);
     }
 
+    /// Overwrites storage from `start` on with the bytes of `from`.
     fn store(&mut self, start: u32, from: &[u8]) {
         self.put(start, from);
     }
@@ -196,10 +205,12 @@ impl Keyed for TrialStorage {
 
     ghost KeepsRest = { TrialRest };
 
+    /// Returns the storage key of a block of 2048 bytes, which is given by its number.
     fn key_of(&self, block: u32) -> StorageKey {
         self.keys[block as usize]
     }
 
+    /// Sets the storage key of a block of 2048 bytes, which is given by its number.
     fn set_key(&mut self, block: u32, key: StorageKey) {
         self.keys[block as usize] = key;
     }
@@ -226,11 +237,13 @@ impl Supply for TrialStorage {
 
     ghost Cleared = { λ _ _. Unit {0} };
 
+    /// Sets all bytes and storage keys to zero; which pages were touched stays.
     fn clear(&mut self) {
         self.bytes.fill(0);
         self.keys.fill(StorageKey::ZERO);
     }
 
+    /// Marks a page as touched, so that it counts as present; there is always room.
     fn bring(&mut self, page: Page) -> Result<(), FramesOut> {
         self.touched[page.0 as usize] = true;
         Ok(())
@@ -256,6 +269,7 @@ impl UnitSupply for TrialStorage {
 
     ghost LetsGo = { λ s t. t ≡ s };
 
+    /// Does nothing: pages that were touched stay touched.
     fn let_go(&mut self) {}
 
     ghost held = { λ s t pages page brought listed. brought.held page listed };
@@ -288,7 +302,7 @@ impl AmpleSupply for TrialStorage {
     ghost ample_let_go = { λ s t let_go size ample. tt };
 }
 
-/// Returns a flag of a list.
+/// Returns the flag at this index of a list.
 fn flag_at(flags: &[bool], place: u32) -> bool
     requires { place < length flags.now }
     ensures { result ≡ slice_index_or flags.now place false }

@@ -16,7 +16,10 @@ use unit_record::{Console, Printer, Punch};
 
 /// A device of which a program can be tried: it stays as it is.
 pub trait DryRun: Device {
-    /// Tries the program with this start on a copy of a storage, no page of which was touched.
+    /// Runs the program with this start on a copy of storage, no page of which was touched, and
+    /// leaves the device as it is.
+    ///
+    /// The copy then has the bytes and the touched pages that a run leaves.
     ///
     /// # Errors
     ///
@@ -29,7 +32,10 @@ pub trait DryRun: Device {
 
 /// A device of which the program of an initial program loading can be tried: it stays as it is.
 pub trait TriedLoading: Device {
-    /// Tries that program on a copy of a storage, no page of which was touched.
+    /// Runs the program of an initial program loading on a copy of storage, no page of which was
+    /// touched, and leaves the device as it is.
+    ///
+    /// The copy then has the bytes and the touched pages that a run leaves.
     ///
     /// # Errors
     ///
@@ -41,24 +47,28 @@ pub trait TriedLoading: Device {
 }
 
 impl DryRun for Console {
+    /// Runs the program on a copy of storage, with a console for a dry run.
     fn dry_run(&self, copy: &mut TrialStorage, start: Caw) -> Result<(), AllocError> {
         try_program(copy, start, &mut self.trial())
     }
 }
 
 impl DryRun for Punch {
+    /// Runs the program on a copy of storage, with a punch for a dry run.
     fn dry_run(&self, copy: &mut TrialStorage, start: Caw) -> Result<(), AllocError> {
         try_program(copy, start, &mut self.trial())
     }
 }
 
 impl DryRun for Printer {
+    /// Runs the program on a copy of storage, with a printer for a dry run.
     fn dry_run(&self, copy: &mut TrialStorage, start: Caw) -> Result<(), AllocError> {
         try_program(copy, start, &mut self.trial())
     }
 }
 
-/// Returns how a program with this start is limited.
+/// Returns the limits of a program with this start: its key, and the most commands that a program
+/// may start.
 pub fn limits_of(start: Caw) -> Limits
     ensures { result ≡ record { key = start.key; commands = most_commands; prefix = 0 } }
 {
@@ -69,7 +79,8 @@ pub fn limits_of(start: Caw) -> Limits
     }
 }
 
-/// Tries the program with this start on a copy of a storage, with a device that stands for its own.
+/// Runs the program with this start on a copy of storage, over `trial`, a device for a dry run;
+/// both change.
 ///
 /// # Errors
 ///
@@ -89,7 +100,8 @@ pub fn try_program<T: Device>(
     }
 }
 
-/// Tries the program of an initial program loading, likewise.
+/// Runs the program of an initial program loading on a copy of storage, over `trial`, a device for
+/// a dry run; both change.
 ///
 /// # Errors
 ///
@@ -105,7 +117,8 @@ pub fn try_loading<T: Device>(copy: &mut TrialStorage, trial: &mut T) -> Result<
     }
 }
 
-/// States that a dry run with what is seen of a device touches what one with the device touches.
+/// Proves that a dry run over a view of a device touches and stores what one over the device does;
+/// it has no effect.
 pub fn a_view_is_tried_for_its_device<D: Device, E: Device>()
     ensures program { (machine : Machine D) (small : Machine E) (view : D → E) (start : Caw)
         (m : Memory) (d : D)

@@ -31,8 +31,9 @@ pub enum ImageError {
     BadTotal,
 }
 
-/// Returns the line that a program prints where an image is not read or written, without its end:
-/// `fault:`, what failed, the name of the refusal and its numbers.
+/// Returns, in a new string without a line end, the line that a program prints for this error.
+///
+/// It is `fault:`, what failed, the name of the refusal and its numbers.
 ///
 /// # Errors
 ///
@@ -53,8 +54,8 @@ pub fn fault_line(alloc: Global, error: ImageError) -> Result<String, AllocError
     }
 }
 
-/// Returns the exit status of a program whose image is not read or written: 1 where it is none, 3
-/// where its file failed, 4 where memory did.
+/// Returns the exit status of a program for this error: 1 for a bad image, 3 for a failure of the
+/// file, 4 for memory.
 pub fn status(error: ImageError) -> u8
     ensures { result ≡ image_status error }
 {

@@ -30,7 +30,8 @@ pub struct Header {
     pub cylinders: u16,
 }
 
-/// Returns the version that an image begins with, if these four bytes are of one.
+/// Returns the version of an image that begins with these four bytes, or `None` if they are of
+/// none.
 fn version_of(bytes: &[u8]) -> Option<Version>
     ensures some { IfSome result (λ version. bytes.now ≡ image.magic version) }
     ensures none { IfNone result ((version : Version) → bytes.now ≡ image.magic version → ⊥) }
@@ -42,7 +43,7 @@ fn version_of(bytes: &[u8]) -> Option<Version>
     }
 }
 
-/// Returns the most cylinders of an image.
+/// Returns the most cylinders that an image of this version may have.
 fn most_cylinders(version: Version) -> u16
     ensures value { result ≡ image.most_cylinders version }
     ensures few { result ≤ 808 }
@@ -53,21 +54,21 @@ fn most_cylinders(version: Version) -> u16
     }
 }
 
-/// Returns whether a character may be in a serial number.
+/// Returns whether a byte may be in a serial number: an upper-case letter or a digit.
 fn is_serial_character(byte: u8) -> bool
     ensures { result ≡ image.is_serial_character byte }
 {
     byte.is_ascii_uppercase() || byte.is_ascii_digit()
 }
 
-/// Returns whether these are blanks.
+/// Returns whether all bytes are blanks.
 fn are_blanks(bytes: &[u8]) -> bool
     ensures { result ≡ list_all (λ b. b == 32) bytes.now }
 {
     bytes.iter().all(|b| *b == b' ')
 }
 
-/// Returns whether these are such characters, and then blanks.
+/// Returns whether the bytes are characters of a serial number, and then only blanks.
 fn is_padded(bytes: &[u8]) -> bool
     ensures { result ≡ image.is_padded bytes.now }
 {
@@ -83,7 +84,7 @@ fn is_padded(bytes: &[u8]) -> bool
     true
 }
 
-/// Returns whether these are a serial number with blanks after it.
+/// Returns whether the bytes are a serial number of at least one character, and then only blanks.
 fn is_volser(bytes: &[u8]) -> bool
     ensures { result ≡ image.is_volser bytes.now }
 {
@@ -93,7 +94,7 @@ fn is_volser(bytes: &[u8]) -> bool
     }
 }
 
-/// Returns what 12 bytes say as a header, if they are one.
+/// Returns the header that 12 bytes are, or `None` if they are no valid one.
 fn header_of(bytes: &[u8]) -> Option<Header>
     requires { 12 ≤ length bytes.now }
     ensures some { IfSome result
@@ -113,11 +114,11 @@ fn header_of(bytes: &[u8]) -> Option<Header>
     })
 }
 
-/// Returns the header at the beginning of the bytes.
+/// Returns the header in the first 12 bytes, or the error if they are too few or no valid one.
 ///
 /// # Errors
 ///
-/// An `ImageError`: the first fault of the bytes, a failure of the file, or refused memory.
+/// `Truncated` if there are fewer than 12 bytes, or `BadMagic` if they are no header.
 pub fn read_header(bytes: &[u8]) -> Result<Header, ImageError>
     ensures there { IsOk result → 12 ≤ length bytes.now }
     ensures ok { IfOk result

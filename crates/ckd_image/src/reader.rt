@@ -18,7 +18,7 @@ use ckd_volume::{HEADS, Volume};
 use s370_num::host::{HostFault, HostReader, read_all};
 use std::alloc::Global;
 
-/// Returns the record at the beginning of the bytes, and the bytes after it; none where they end
+/// Returns the record at the front of the bytes and the bytes after it, or `None` if they end
 /// before it is whole.
 fn read_record(bytes: &[u8]) -> Option<(Record<'_>, &[u8])>
     ensures some { IfSome result
@@ -44,8 +44,8 @@ fn read_record(bytes: &[u8]) -> Option<(Record<'_>, &[u8])>
     Some((record, &bytes[end..]))
 }
 
-/// Reads the records of a track that has none, and returns the bytes after them, and whether all
-/// fit.
+/// Appends `count` records to an empty track, as far as they fit, and returns whether all fit and
+/// the bytes after them; `None` if the bytes end before that.
 fn read_records<'a>(track: &mut Track, count: u8, bytes: &'a [u8]) -> Option<(bool, &'a [u8])>
     requires { track.old.records ≡ [] }
     ensures some { IfSome result
@@ -71,7 +71,8 @@ pub enum TrackFault {
     Full,
 }
 
-/// Reads a track over one that has no records, and returns the bytes after it.
+/// Sets the home address of an empty track, appends its records, and returns the bytes after it, or
+/// that bytes are missing or do not fit.
 fn read_track<'a>(track: &mut Track, bytes: &'a [u8]) -> Result<&'a [u8], TrackFault>
     requires { track.old.records ≡ [] }
     ensures ok { IfOk result (λ rest. image.IsGood track.new
@@ -90,7 +91,8 @@ fn read_track<'a>(track: &mut Track, bytes: &'a [u8]) -> Result<&'a [u8], TrackF
     }
 }
 
-/// Reads a track of a volume.
+/// Reads a track of a volume, which has no record yet, and returns the bytes after it, or that
+/// bytes are missing or do not fit.
 fn read_track_of<'a>(
     volume: &mut Volume,
     cylinder: usize,
@@ -111,7 +113,8 @@ fn read_track_of<'a>(
     }
 }
 
-/// Reads all tracks of a volume, which have no records yet, and returns the bytes after them.
+/// Reads all tracks of a volume, which have no records yet, and returns the bytes after them, or
+/// the error of the first bad track.
 fn read_tracks<'a>(volume: &mut Volume, bytes: &'a [u8]) -> Result<&'a [u8], ImageError>
     requires { volume.old.cylinders ≡ blank_cylinders 0 (length volume.old.cylinders) }
     ensures ok { IfOk result (λ rest.
@@ -134,8 +137,8 @@ fn read_tracks<'a>(volume: &mut Volume, bytes: &'a [u8]) -> Result<&'a [u8], Ima
     Ok(rest)
 }
 
-/// Compares the number of all records with the one at the beginning of the bytes, and reports the
-/// bytes after it.
+/// Returns the bytes after a total of four bytes, or the error if these are missing or differ from
+/// `total`.
 fn check_total(total: u32, bytes: &[u8]) -> Result<&[u8], ImageError>
     ensures ok { IfOk result (λ rest. bytes.now ≡ writing.four_bytes total ++ rest.now) }
     ensures err { IfErr result (parts.IsTotalFault total bytes.now) }
@@ -149,7 +152,8 @@ fn check_total(total: u32, bytes: &[u8]) -> Result<&[u8], ImageError>
     Ok(&bytes[4..])
 }
 
-/// Judges what is after the tracks.
+/// Returns an error if what follows the tracks is wrong: in version 2 not the total of all records,
+/// or any byte after that.
 fn check_end(version: Version, total: u32, bytes: &[u8]) -> Result<(), ImageError>
     ensures ok { OnOk result (bytes.now ≡ image.end_of version total) }
     ensures err { IfErr result (parts.IsEndFault version total bytes.now) }
@@ -164,12 +168,14 @@ fn check_end(version: Version, total: u32, bytes: &[u8]) -> Result<(), ImageErro
     Ok(())
 }
 
-/// Returns the volume of which these bytes are an image of version 1 or 2, or the first fault of
-/// the bytes. Memory is taken, and can be refused, only where their header is good.
+/// Returns a new volume of which these bytes are an image of version 1 or 2, or the error of their
+/// first fault.
+///
+/// Memory is taken, and can be refused, only if their header is good.
 ///
 /// # Errors
 ///
-/// An `ImageError`: the first fault of the bytes, a failure of the file, or refused memory.
+/// An `ImageError`: the first fault of the bytes, or refused memory.
 pub fn volume_of(alloc: Global, bytes: &[u8]) -> Result<Volume, ImageError>
     ensures { IsReadingOrMemory bytes.now result }
 {
@@ -183,8 +189,8 @@ pub fn volume_of(alloc: Global, bytes: &[u8]) -> Result<Volume, ImageError>
     Ok(volume)
 }
 
-/// Reads a file to its end, and gives the volume of which it is an image, of version 1 or 2. The
-/// first fault is reported.
+/// Reads a file to its end and returns a new volume of which it is an image of version 1 or 2, or
+/// the error of its first fault.
 ///
 /// # Errors
 ///

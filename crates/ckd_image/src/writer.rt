@@ -14,7 +14,7 @@ use ckd_volume::{Cylinder, Volume};
 use s370_num::host::{HostFault, HostWriter, write_all};
 use std::alloc::{AllocError, Global};
 
-/// Appends a record of a track: its count, its key and its data.
+/// Appends a record to `out`: its count, its key and its data.
 #[tactic(auto, using(crate::proofs::Parts::append_four))]
 fn put_record(out: &mut Vec<u8>, track: &Track, i: usize) -> Result<(), AllocError>
     requires { i < length track.now.records }
@@ -35,7 +35,7 @@ fn put_record(out: &mut Vec<u8>, track: &Track, i: usize) -> Result<(), AllocErr
     Ok(())
 }
 
-/// Appends a track: its home address, the number of its records, and each of them.
+/// Appends a track to `out`: its home address, the number of its records, and each of them.
 #[tactic(auto, using(crate::proofs::Parts::records_on, crate::proofs::Parts::append_two))]
 fn put_track(out: &mut Vec<u8>, track: &Track) -> Result<(), AllocError>
     ensures { OnOk result (out.new.items ≡ out.old.items ++ track_bytes track.now) }
@@ -50,7 +50,7 @@ fn put_track(out: &mut Vec<u8>, track: &Track) -> Result<(), AllocError>
     Ok(())
 }
 
-/// Appends the tracks of a cylinder.
+/// Appends all tracks of a cylinder to `out`.
 #[tactic(auto, using(crate::proofs::Parts::tracks_on))]
 fn put_cylinder(out: &mut Vec<u8>, cylinder: &Cylinder) -> Result<(), AllocError>
     ensures { OnOk result (out.new.items ≡ out.old.items ++ tracks_bytes cylinder.now) }
@@ -61,7 +61,7 @@ fn put_cylinder(out: &mut Vec<u8>, cylinder: &Cylinder) -> Result<(), AllocError
     Ok(())
 }
 
-/// Appends all cylinders of a volume.
+/// Appends all cylinders of a volume to `out`, with their tracks.
 #[tactic(auto, using(crate::proofs::Parts::cylinders_on))]
 fn put_cylinders(out: &mut Vec<u8>, volume: &Volume) -> Result<(), AllocError>
     ensures { OnOk result (out.new.items ≡ out.old.items ++ cylinders_bytes volume.now.cylinders) }
@@ -72,7 +72,7 @@ fn put_cylinders(out: &mut Vec<u8>, volume: &Volume) -> Result<(), AllocError>
     Ok(())
 }
 
-/// Returns how many records a cylinder has.
+/// Returns how many records the tracks of a cylinder have together.
 #[tactic(auto, using(crate::proofs::Parts::tracks_total_on))]
 fn records_of(cylinder: &Cylinder) -> u32
     ensures total { result ≡ tracks_total cylinder.now }
@@ -85,7 +85,7 @@ fn records_of(cylinder: &Cylinder) -> u32
     total
 }
 
-/// Returns how many records a volume has.
+/// Returns how many records the tracks of a volume have together.
 #[tactic(auto, using(crate::proofs::Parts::cylinders_total_on))]
 pub fn total_of(volume: &Volume) -> u32
     ensures { result ≡ cylinders_total volume.now.cylinders }
@@ -97,7 +97,7 @@ pub fn total_of(volume: &Volume) -> u32
     total
 }
 
-/// Returns the image of a volume.
+/// Returns the image of a volume, of version 2, in a new vector.
 ///
 /// # Errors
 ///
@@ -124,8 +124,8 @@ pub fn image(alloc: Global, volume: &Volume) -> Result<Vec<u8>, AllocError>
     Ok(out)
 }
 
-/// Writes the image of a volume, of which nothing is held back then; or a beginning of it where
-/// that fails.
+/// Appends the image of a volume to a file and flushes it; if that fails, the file may have a front
+/// part of the image.
 ///
 /// # Errors
 ///
@@ -155,8 +155,8 @@ pub fn write_image<W: HostWriter>(
     }
 }
 
-/// Writes all the bytes, of which nothing is held back then; or a beginning of them where that
-/// fails.
+/// Appends all the bytes to a file and flushes it; if that fails, the file may have a front part of
+/// them.
 #[tactic(auto, using(crate::proofs::Parts::appended_kept, crate::proofs::Parts::whole_front))]
 fn write_and_flush<W: HostWriter>(writer: &mut W, bytes: &[u8]) -> Result<(), HostFault>
     ensures ok { OnOk result (Appends (W.contents writer.old) (W.contents writer.new) bytes.now) }

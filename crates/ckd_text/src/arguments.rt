@@ -48,14 +48,17 @@ pub enum ToolUsageError {
 impl From<AllocError> for ToolUsageError {
     ghost from_gives = { λ _ error. error ≡ Memory };
 
+    /// Returns `ToolUsageError::Memory`, whatever the allocation was for.
     fn from(_error: AllocError) -> ToolUsageError {
         ToolUsageError::Memory
     }
 }
 
-/// Returns the two files of `mkvol`. The first word is the name that it was started by; words are
-/// read as `clap` reads them: `--` before the paths is allowed, and `--help` is a request for the
-/// text of [`ToolUsageError::Usage`].
+/// Returns the paths of image and text that the arguments of `mkvol` give, or the usage error.
+///
+/// The first argument is the name that it was started by. Arguments are read as `clap` reads them:
+/// `--` before the paths is allowed, and `--help` is a request for the text of
+/// [`ToolUsageError::Usage`].
 ///
 /// # Errors
 ///
@@ -78,7 +81,9 @@ pub fn volume_paths<'a, S: AsStr>(
     }
 }
 
-/// Returns the image of `trackmap`. Words are read as those of `mkvol`.
+/// Returns the path of the image that the arguments of `trackmap` give, or the usage error.
+///
+/// Arguments are read as those of `mkvol`.
 ///
 /// # Errors
 ///
@@ -98,7 +103,7 @@ pub fn image_path<'a, S: AsStr>(alloc: Global, words: &'a [S]) -> Result<&'a str
     }
 }
 
-/// Returns the paths of `mkvol`, where both are given.
+/// Returns the paths of image and text among the arguments of `mkvol`, or `None` if one is missing.
 fn paths_in<'a>(matches: &ArgMatches<'a>) -> Option<VolumePaths<'a>>
     ensures some { IfSome result (AreNamed (rows_of (found_of matches.now))) }
     ensures none { gives (codes "OUT") (rows_of (found_of matches.now)) ≡ true
@@ -109,14 +114,15 @@ fn paths_in<'a>(matches: &ArgMatches<'a>) -> Option<VolumePaths<'a>>
     Some(VolumePaths { out, text })
 }
 
-/// Returns the first text that the words give for an argument.
+/// Returns the first value that the command line gives for the argument with this id, if it gives
+/// one.
 fn text_of<'a>(matches: &ArgMatches<'a>, id: &str) -> Option<&'a str>
     ensures { option_map (λ s. s.now) result ≡ first_of id.now (rows_of (found_of matches.now)) }
 {
     matches.get_str(id)
 }
 
-/// Returns what `clap` finds in the words.
+/// Returns the arguments of a program as `clap` reads them, or the usage error.
 fn matched<'a, S: AsStr>(
     alloc: Global,
     tool: Tool,
@@ -135,7 +141,7 @@ fn matched<'a, S: AsStr>(
     }
 }
 
-/// Returns the usage error for an error of `clap`, whose text is this if there was memory for it.
+/// Returns the usage error for an error of `clap`: this text, or `Memory` if memory was refused.
 fn refusal(error: &ClapError, text: Option<String>) -> ToolUsageError
     ensures memory { (result ≡ ToolUsageError.Memory) ↔
         ((kind_of error.now ≡ OutOfMemory) ⊎ (text ≡ None)) }
@@ -151,7 +157,7 @@ fn refusal(error: &ClapError, text: Option<String>) -> ToolUsageError
     }
 }
 
-/// Returns the words of a program, as they are described to `clap`.
+/// Returns the description of a program's command line for `clap`.
 fn command<'a>(alloc: Global, tool: Tool) -> Result<Command<'a>, AllocError>
     ensures { IfOk result (λ c. app_of c ≡ command_of tool) }
 {
@@ -161,7 +167,7 @@ fn command<'a>(alloc: Global, tool: Tool) -> Result<Command<'a>, AllocError>
     }
 }
 
-/// Returns how the command line of `mkvol` goes.
+/// Returns the description of the command line of `mkvol` for `clap`: the arguments OUT and TEXT.
 fn mkvol_command<'a>(alloc: Global) -> Result<Command<'a>, AllocError>
     ensures { IfOk result (λ c. app_of c ≡ command_of tools.Mkvol) }
 {
@@ -178,7 +184,7 @@ fn mkvol_command<'a>(alloc: Global) -> Result<Command<'a>, AllocError>
     Ok(command)
 }
 
-/// Returns how the command line of `trackmap` goes.
+/// Returns the description of the command line of `trackmap` for `clap`: the argument IMAGE.
 fn trackmap_command<'a>(alloc: Global) -> Result<Command<'a>, AllocError>
     ensures { IfOk result (λ c. app_of c ≡ command_of tools.Trackmap) }
 {

@@ -27,6 +27,7 @@ pub enum ToolFailure {
 impl From<TextError> for ToolFailure {
     ghost from_gives = { λ error failure. failure ≡ text_failure error };
 
+    /// Returns the failure of a program for an error of a text.
     fn from(error: TextError) -> ToolFailure {
         match error {
             TextError::Memory => ToolFailure::Memory,
@@ -38,6 +39,7 @@ impl From<TextError> for ToolFailure {
 impl From<ImageError> for ToolFailure {
     ghost from_gives = { λ error failure. failure ≡ image_failure error };
 
+    /// Returns the failure of a program for an error of an image.
     fn from(error: ImageError) -> ToolFailure {
         match error {
             ImageError::Memory => ToolFailure::Memory,
@@ -50,6 +52,7 @@ impl From<ImageError> for ToolFailure {
 impl From<HostFault> for ToolFailure {
     ghost from_gives = { λ fault failure. failure ≡ file_failure fault };
 
+    /// Returns the failure of a program for a failure of a host file.
     fn from(fault: HostFault) -> ToolFailure {
         match fault {
             HostFault::Memory => ToolFailure::Memory,
@@ -61,13 +64,15 @@ impl From<HostFault> for ToolFailure {
 impl From<AllocError> for ToolFailure {
     ghost from_gives = { λ _ failure. failure ≡ Memory };
 
+    /// Returns `ToolFailure::Memory`, whatever the allocation was for.
     fn from(_error: AllocError) -> ToolFailure {
         ToolFailure::Memory
     }
 }
 
-/// Returns the line that is printed for a failure, without its end: `fault:`, what failed, the name
-/// of the refusal and its numbers.
+/// Returns, in a new string without a line end, the line that a program prints for a failure.
+///
+/// It is `fault:`, what failed, the name of the refusal and its numbers.
 ///
 /// # Errors
 ///
@@ -84,8 +89,8 @@ pub fn fault_line(alloc: Global, failure: &ToolFailure) -> Result<String, AllocE
     }
 }
 
-/// Returns the exit status of a failure: 1 where input was refused, 2 for a wrong use, 3 where a
-/// file of the host failed, 4 where memory did.
+/// Returns the exit status of a failure: 1 for refused input, 2 for a usage error, 3 for a host
+/// file, 4 for memory.
 pub fn status(failure: &ToolFailure) -> u8
     ensures { result ≡ status_of failure.now }
 {
@@ -98,7 +103,7 @@ pub fn status(failure: &ToolFailure) -> u8
     }
 }
 
-/// Returns the exit status of a program that ended so.
+/// Returns the exit status of a program that ended in this way: 0, or that of its failure.
 pub fn outcome(ended: &Result<(), ToolFailure>) -> u8
     ensures { result ≡ outcome_of ended.now }
 {

@@ -9,8 +9,8 @@ use hex::FromHexError;
 use std::alloc::{AllocError, Global};
 use text_words::numbers::{digit_value, is_digit};
 
-/// Returns the serial number that a word spells: one to six letters and digits, with blanks after
-/// them.
+/// Returns the serial number that one to six letters and digits spell, with blanks at its end, or
+/// `None`.
 pub fn serial_of(word: &[u8]) -> Option<[u8; 6]>
     ensures { result ≡ serial_of word.now }
 {
@@ -22,7 +22,7 @@ pub fn serial_of(word: &[u8]) -> Option<[u8; 6]>
     Some(serial)
 }
 
-/// Returns whether a word is one to six letters and digits.
+/// Returns whether a word is one to six upper-case letters and digits.
 fn is_serial(word: &[u8]) -> bool
     ensures { result ≡ is_serial word.now }
 {
@@ -32,14 +32,15 @@ fn is_serial(word: &[u8]) -> bool
     word.iter().all(|c| is_letter_or_digit(*c))
 }
 
-/// Returns whether a byte is a letter or a digit.
+/// Returns whether a byte is an upper-case letter or a digit.
 fn is_letter_or_digit(c: u8) -> bool
     ensures { result ≡ is_letter_or_digit c }
 {
     b'A' <= c && c <= b'Z' || is_digit(c)
 }
 
-/// Returns the five bytes that ten hexadecimal digits spell.
+/// Returns the five bytes that ten hexadecimal digits spell, or `None` if the word is anything
+/// else.
 pub fn five_of(word: &[u8]) -> Option<[u8; 5]>
     ensures { result ≡ five_of word.now }
 {
@@ -53,7 +54,8 @@ pub fn five_of(word: &[u8]) -> Option<[u8; 5]>
     }
 }
 
-/// Returns the bytes that a word spells: two hexadecimal digits each, or `-` for none.
+/// Returns, in a new vector, the bytes that pairs of hexadecimal digits spell, or none for `-`;
+/// `None` if the word is anything else.
 ///
 /// # Errors
 ///
@@ -70,7 +72,8 @@ pub fn bytes_of(alloc: Global, word: &[u8]) -> Result<Option<Vec<u8>>, AllocErro
     spelled_of(alloc, word)
 }
 
-/// Returns the bytes that pairs of hexadecimal digits spell.
+/// Returns, in a new vector, the bytes that pairs of hexadecimal digits spell, or `None` if the
+/// word is anything else.
 fn spelled_of(alloc: Global, word: &[u8]) -> Result<Option<Vec<u8>>, AllocError>
     ensures { IfOk result (λ found. option_map (λ bytes. bytes.items) found ≡ spelled_of word.now) }
 {
@@ -84,14 +87,14 @@ fn spelled_of(alloc: Global, word: &[u8]) -> Result<Option<Vec<u8>>, AllocError>
     }
 }
 
-/// Returns whether all are hexadecimal digits, with letters in upper case.
+/// Returns whether all bytes are hexadecimal digits, with letters in upper case.
 fn are_hexadecimal(word: &[u8]) -> bool
     ensures { result ≡ list_all is_hexadecimal word.now }
 {
     word.iter().all(|c| is_hexadecimal(*c))
 }
 
-/// Returns whether a byte is a hexadecimal digit.
+/// Returns whether a byte is a hexadecimal digit, with letters in upper case.
 fn is_hexadecimal(c: u8) -> bool
     ensures { result ≡ is_hexadecimal c }
 {

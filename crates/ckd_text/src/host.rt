@@ -22,6 +22,7 @@ pub struct ToolEnd {
 }
 
 impl Termination for ToolEnd {
+    /// Returns the exit status of the program's end as the host's exit code.
     fn report<R: Eprint>(self, _rt: &R) -> ExitCode
         ensures { exit_status result ≡ outcome_of self.ended }
     {
@@ -29,8 +30,10 @@ impl Termination for ToolEnd {
     }
 }
 
-/// Returns the end of a program, whose failure is reported on standard error. If there is no memory
-/// for its line, the failure is lack of memory.
+/// Returns the end of a program, and prints the line of its failure, if there is one, on standard
+/// error.
+///
+/// If there is no memory for that line, the failure is `Memory`.
 pub(crate) fn ended_of<R: AllocGlobal + Eprint>(rt: &R, ended: Result<(), ToolFailure>) -> ToolEnd
     ensures { IsReported ToolFailure.Memory ToolFailure.Usage ended result.ended }
 {
@@ -42,8 +45,10 @@ pub(crate) fn ended_of<R: AllocGlobal + Eprint>(rt: &R, ended: Result<(), ToolFa
     }
 }
 
-/// Prints the line of a failure, and gives what was reported. A wrong use has been reported by a
-/// longer text.
+/// Prints the line of a failure on standard error and returns the failure, or `Memory` if there is
+/// no memory for the line.
+///
+/// A usage error prints nothing here: a longer text has been printed for it.
 fn tell<R: AllocGlobal + Eprint>(rt: &R, failure: ToolFailure) -> ToolFailure
     ensures { (result ≡ failure)
         ⊎ ((result ≡ ToolFailure.Memory) × (failure ≡ ToolFailure.Usage → ⊥)) }
@@ -63,16 +68,18 @@ fn tell<R: AllocGlobal + Eprint>(rt: &R, failure: ToolFailure) -> ToolFailure
     }
 }
 
-/// Reports a wrong use by these texts.
+/// Prints both texts on standard error and returns the failure for a usage error.
 pub(crate) fn wrong_use<R: Eprint>(rt: &R, usage: &str, note: &str) -> ToolFailure {
     let _ = rt.eprint(usage);
     let _ = rt.eprint(note);
     ToolFailure::Usage
 }
 
-/// Returns the words of the program of this name, which is the first of them: those that it was
-/// started with, from the one that names it. Words that are no UTF-8 are a wrong use, which is
-/// reported here: no file can be opened by such a name.
+/// Returns the arguments of a program, its name first; for arguments that are not UTF-8, prints a
+/// text and returns a usage error.
+///
+/// The name that the whole program was started by is left out. No file can be opened by a name that
+/// is not UTF-8.
 pub(crate) fn words<R: AllocGlobal + Env + Eprint>(
     rt: &R,
     program: &str,
@@ -88,7 +95,8 @@ pub(crate) fn words<R: AllocGlobal + Env + Eprint>(
     }
 }
 
-/// Returns the file at a path, to be read. One that can't be opened has failed once.
+/// Opens the file at a path for reading and returns it with no failure counted, or returns failure
+/// 1 of a file.
 pub(crate) fn open<R: Files>(rt: &R, path: &str) -> Result<Counted<R::File>, ToolFailure> {
     match fs::open(rt, path) {
         Ok(file) => Ok(Counted::new(file)),

@@ -10,8 +10,10 @@ use ckd_volume::{Cylinder, Volume};
 use std::alloc::{AllocError, Global};
 use text_words::words::cut_word;
 
-/// Returns the map of a volume (docs/FORMATS.md, "Track maps"): a line that names it; each track
-/// that is not blank, with its records; and how many tracks are blank.
+/// Returns the map of a volume in a new vector: its name, each track that is not blank with its
+/// records, and the number of blank tracks.
+///
+/// docs/FORMATS.md, "Track maps".
 ///
 /// # Errors
 ///
@@ -28,7 +30,7 @@ pub fn track_map(alloc: Global, volume: &Volume) -> Result<Vec<u8>, AllocError>
     Ok(out)
 }
 
-/// Returns the line that says how many tracks are blank.
+/// Returns the line with the number of blank tracks of a volume.
 fn blank_line(alloc: Global, volume: &Volume) -> Result<String, AllocError>
     ensures { IfOk result (λ line. string_bytes line
         ≡ map.blank_line (map.blank_count 0 volume.now.cylinders)) }
@@ -37,7 +39,7 @@ fn blank_line(alloc: Global, volume: &Volume) -> Result<String, AllocError>
     format!(in alloc; "BLANK TRACKS {count}\n")
 }
 
-/// Appends the line that names the volume.
+/// Appends to `out` the line with the volume's serial number and its number of cylinders.
 #[tactic(auto, using(crate::proofs::Maps::append_three))]
 fn put_name(alloc: Global, out: &mut Vec<u8>, volume: &Volume) -> Result<(), AllocError>
     ensures { OnOk result (out.new.items ≡ out.old.items ++ map.volume_line volume.now) }
@@ -51,7 +53,7 @@ fn put_name(alloc: Global, out: &mut Vec<u8>, volume: &Volume) -> Result<(), All
     Ok(())
 }
 
-/// Returns how many cylinders a volume has, as its line says it.
+/// Returns the rest of the volume's line, with its number of cylinders and a line end.
 fn cylinders_text(alloc: Global, volume: &Volume) -> Result<String, AllocError>
     ensures { IfOk result (λ text. string_bytes text ≡ map.cylinders_text volume.now) }
 {
@@ -59,7 +61,7 @@ fn cylinders_text(alloc: Global, volume: &Volume) -> Result<String, AllocError>
     format!(in alloc; " CYLINDERS {count}\n")
 }
 
-/// Appends what all cylinders have.
+/// Appends to `out` the lines of all tracks of a volume that are not blank.
 #[tactic(auto, using(crate::proofs::Maps::cylinders_on))]
 fn put_tracks(alloc: Global, out: &mut Vec<u8>, volume: &Volume) -> Result<(), AllocError>
     ensures { OnOk result (out.new.items ≡ out.old.items
@@ -71,7 +73,7 @@ fn put_tracks(alloc: Global, out: &mut Vec<u8>, volume: &Volume) -> Result<(), A
     Ok(())
 }
 
-/// Appends what the tracks of a cylinder have.
+/// Appends to `out` the lines of all tracks of a cylinder that are not blank.
 #[tactic(auto, using(crate::proofs::Maps::tracks_on))]
 fn put_cylinder(
     alloc: Global,
@@ -89,7 +91,7 @@ fn put_cylinder(
     Ok(())
 }
 
-/// Appends what a track has that is not blank.
+/// Appends to `out` the line of a track and those of its records, or nothing if the track is blank.
 fn put_track(
     alloc: Global,
     out: &mut Vec<u8>,
@@ -110,7 +112,7 @@ fn put_track(
     put_records(alloc, out, track)
 }
 
-/// Appends the records of a track.
+/// Appends to `out` a line for each record of a track.
 #[tactic(auto, using(crate::proofs::Maps::records_on))]
 fn put_records(alloc: Global, out: &mut Vec<u8>, track: &Track) -> Result<(), AllocError>
     ensures { OnOk result (out.new.items ≡ out.old.items ++ map.record_lines track.now.records) }
@@ -122,7 +124,7 @@ fn put_records(alloc: Global, out: &mut Vec<u8>, track: &Track) -> Result<(), Al
     Ok(())
 }
 
-/// Returns the line of a track.
+/// Returns the line of a track: cylinder, head, home address, number of records and capacity used.
 fn track_line(
     alloc: Global,
     cylinder: usize,
@@ -139,7 +141,7 @@ fn track_line(
     )
 }
 
-/// Returns the line of a record.
+/// Returns the line of record `i` of a track: its id, lengths of key and data, and capacity used.
 fn record_line(alloc: Global, track: &Track, i: usize) -> Result<String, AllocError>
     requires { i < length track.now.records }
     ensures { IfOk result (λ line. string_bytes line ≡ map.record_line (record_in track.now i)) }
@@ -152,7 +154,7 @@ fn record_line(alloc: Global, track: &Track, i: usize) -> Result<String, AllocEr
     format!(in alloc; "  {id} KEY {key} DATA {content} COST {cost}\n")
 }
 
-/// Returns what a record takes of its track.
+/// Returns how many bytes of its track's capacity record `i` takes.
 fn record_cost(track: &Track, i: usize) -> usize
     requires { i < length track.now.records }
     ensures cost { result ≡ cost_of (record_in track.now i) }
@@ -166,7 +168,7 @@ fn record_cost(track: &Track, i: usize) -> usize
     }
 }
 
-/// Returns what all records of a track take.
+/// Returns how many bytes of a track's capacity all its records take.
 #[tactic(auto, using(crate::proofs::Maps::cost_on))]
 fn fill_of(track: &Track) -> usize
     ensures { result ≡ cost track.now.records }
@@ -178,7 +180,7 @@ fn fill_of(track: &Track) -> usize
     fill
 }
 
-/// Returns whether a track has no record, and the home address that is its own.
+/// Returns whether a track has no record and the usual home address of its cylinder and head.
 fn is_blank(cylinder: usize, head: usize, track: &Track) -> bool
     requires cylinder { cylinder < 808 }
     requires head { head < 19 }
@@ -187,7 +189,7 @@ fn is_blank(cylinder: usize, head: usize, track: &Track) -> bool
     track.len() == 0 && track.home() == own_home(cylinder, head)
 }
 
-/// Returns the home address of a track: flag, cylinder and head.
+/// Returns the usual home address of a track: flag 00, cylinder and head.
 fn own_home(cylinder: usize, head: usize) -> [u8; 5]
     requires cylinder { cylinder < 808 }
     requires head { head < 19 }

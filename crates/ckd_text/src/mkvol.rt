@@ -32,7 +32,8 @@ A fault is one line on standard error. Exit statuses:
   4  there was not memory enough
 ";
 
-/// Runs `mkvol`: writes the image of the volume that a text states; its arguments name both.
+/// Runs `mkvol`: reads the text that its second argument names, and writes the image of the volume
+/// to its first, which is made anew.
 pub(crate) fn run<R: AllocGlobal + Files + Env + Eprint>(rt: &R) -> Result<(), ToolFailure> {
     let alloc = rt.alloc();
     let words = words(rt, PROGRAM)?;
@@ -61,7 +62,7 @@ pub trait ImageOutput {
     /// The output may fail so.
     ghost fails: { Self → HostFault → Type 0 };
 
-    /// Makes the writer.
+    /// Makes and returns the writer to which the image goes.
     ///
     /// # Errors
     ///
@@ -71,9 +72,10 @@ pub trait ImageOutput {
         ensures err { IfErr result (λ fault. fails self.old fault) };
 }
 
-/// Makes the image of the volume that a text states, of which nothing is held back then, and gives
-/// what it was written to. The text is judged first: where it is refused, the output is not asked
-/// for anything.
+/// Makes the volume that a text states, makes a writer, writes the volume's image to it, flushes it
+/// and returns it.
+///
+/// The text is tested first: if it is refused, no writer is made.
 ///
 /// # Errors
 ///
@@ -111,6 +113,8 @@ impl<R: AllocGlobal + Files> ImageOutput for OutputFile<'_, R> {
 
     ghost fails = { λ _ fault. IsFirst fault };
 
+    /// Creates the file at the path, which empties one that exists, and returns it with a buffer
+    /// and no failure counted.
     fn make(&mut self) -> Result<Counted<io::BufWriter<R::File, Global>>, HostFault> {
         let Ok(file) = fs::create(self.rt, self.path) else {
             return Err(HostFault::Device(1));

@@ -9,8 +9,8 @@ const USAGE: &str = "Usage: mkvol OUT TEXT
        trackmap IMAGE
 ";
 
-/// Runs the whole program: the first word that it is started with names a program, whose words
-/// are those after it. A failure is reported on standard error.
+/// Runs `mkvol` or `trackmap`, whichever the first argument names, with the arguments after it, and
+/// prints a failure on standard error.
 pub fn program<R: AllocGlobal + Files + Env + Print + Eprint>(rt: &R) -> ToolEnd {
     let ended = match named(rt) {
         Some(Tool::Mkvol) => mkvol::run(rt),
@@ -20,8 +20,9 @@ pub fn program<R: AllocGlobal + Files + Env + Print + Eprint>(rt: &R) -> ToolEnd
     ended_of(rt, ended)
 }
 
-/// Returns the program that the first word names. The other words are judged after it, so that it
-/// is known who reports them.
+/// Returns the program that the first argument names, or `None` if it names none.
+///
+/// The other arguments are read after it, so that it is known which program reports them.
 fn named<R: Env>(rt: &R) -> Option<Tool> {
     let mut room = [0u8; 8];
     let length = rt.arg(1, &mut room).ok()?;

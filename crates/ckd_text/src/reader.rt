@@ -29,13 +29,14 @@ pub enum TextError {
 #[derive(Clone, Copy, Drop)]
 struct NoPlace;
 
-/// Returns the volume that a text states (docs/FORMATS.md, "Volume texts"). The whole text is
-/// judged: where a line is refused, the first such line is reported, and an empty text is refused
-/// in its line 1.
+/// Returns a new volume with what a text states, or the error of its first bad line; an empty text
+/// is bad in line 1.
+///
+/// docs/FORMATS.md, "Volume texts". A text is read to its first bad line.
 ///
 /// # Errors
 ///
-/// A `TextError`: the first faulty line and its fault, or refused memory.
+/// A `TextError`: the number of the first bad line, or refused memory.
 ///
 /// # Examples
 ///
@@ -61,13 +62,14 @@ pub fn make_volume(alloc: Global, text: &[u8]) -> Result<Volume, TextError>
     filled(alloc, volume, lines)
 }
 
-/// States that what is made is what the grammar of volume texts says, that nothing else is
-/// accepted, and that the line which is reported is the first wrong one.
+/// Proves that a volume is made of just those texts that the grammar allows, and that the line
+/// reported is the first bad one; it has no effect.
 pub fn reads_grammar()
     ensures { ReadsGrammar }
 {}
 
-/// Returns the volume without records that the first line states.
+/// Returns a new volume without records, as the first line of a text states it, or the error of
+/// line 1.
 fn blank_volume(alloc: Global, line: &[u8]) -> Result<Volume, TextError>
     ensures ok { IfOk result (λ volume. first_of line.now ≡ Some volume) }
     ensures err { IfErr result (IsRefusal (reported 1 (first_of line.now))) }
@@ -82,7 +84,8 @@ fn blank_volume(alloc: Global, line: &[u8]) -> Result<Volume, TextError>
     }
 }
 
-/// Returns the volume with what the lines from the second on state.
+/// Returns the volume with the home addresses and records that the lines from the second on state,
+/// or the error of the first bad line.
 fn filled(alloc: Global, blank: Volume, lines: &[u8]) -> Result<Volume, TextError>
     ensures ok { IfOk result
         (λ volume. read_lines line_step 2 blank (lines_of lines.now) ≡ Ok volume) }
@@ -108,7 +111,8 @@ fn filled(alloc: Global, blank: Volume, lines: &[u8]) -> Result<Volume, TextErro
     Ok(volume)
 }
 
-/// Puts what a line states into the volume.
+/// Sets a home address or appends a record in the volume, as a line states, or reports that the
+/// volume has no place for it.
 fn fill(volume: &mut Volume, statement: &VolumeStatement) -> Result<(), NoPlace>
     ensures ok { OnOk result (with_stated volume.old (stated statement.now) ≡ Some volume.new) }
     ensures err { OnErr result (with_stated volume.old (stated statement.now) ≡ None) }
@@ -119,7 +123,7 @@ fn fill(volume: &mut Volume, statement: &VolumeStatement) -> Result<(), NoPlace>
     }
 }
 
-/// Gives a track another home address.
+/// Replaces the home address of a track, or reports that the volume has no such track.
 fn set_home(volume: &mut Volume, cylinder: u32, head: u32, home: [u8; 5]) -> Result<(), NoPlace>
     ensures ok { OnOk result
         (with_stated volume.old (said.Home cylinder head home) ≡ Some volume.new) }
@@ -134,7 +138,7 @@ fn set_home(volume: &mut Volume, cylinder: u32, head: u32, home: [u8; 5]) -> Res
     }
 }
 
-/// Adds a record to a track.
+/// Appends a record to a track, or reports that the volume has no such track or the track no room.
 fn add(volume: &mut Volume, cylinder: u32, head: u32, wanted: &StatedRecord) -> Result<(), NoPlace>
     ensures ok { OnOk result (with_stated volume.old (said.Add cylinder head (record_in wanted.now))
         ≡ Some volume.new) }

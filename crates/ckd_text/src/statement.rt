@@ -48,7 +48,8 @@ pub enum VolumeStatement {
     Add(u32, u32, StatedRecord),
 }
 
-/// Returns what the first line states.
+/// Returns the serial number and cylinders that the first line of a text states, or `None` if it is
+/// bad.
 pub fn read_header(line: &[u8]) -> Option<StatedVolume>
     ensures { option_map blank_of result ≡ first_of line.now }
 {
@@ -60,7 +61,8 @@ pub fn read_header(line: &[u8]) -> Option<StatedVolume>
     }
 }
 
-/// Reads `VOLUME serial cylinders`, after its first word.
+/// Returns the serial number and cylinders in the operands of a `VOLUME` line, or `None` if they
+/// are bad.
 fn read_volume(operands: &[u8]) -> Option<StatedVolume>
     ensures { option_map blank_of result ≡ volume_by operands.now }
 {
@@ -77,7 +79,8 @@ fn read_volume(operands: &[u8]) -> Option<StatedVolume>
     }
 }
 
-/// Returns what a line after the first states.
+/// Returns what a line after the first states, a home address or a record of a track, or `None` if
+/// it is bad.
 ///
 /// # Errors
 ///
@@ -92,7 +95,7 @@ pub fn read_statement(alloc: Global, line: &[u8]) -> Result<Option<VolumeStateme
     }
 }
 
-/// Returns what a line states, by its first word.
+/// Returns what a line with this first word and these operands states, or `None` if it is bad.
 fn read_operands(
     alloc: Global,
     verb: &[u8],
@@ -112,7 +115,8 @@ fn read_operands(
     }
 }
 
-/// Returns the first two words, which are a cylinder and a head.
+/// Returns the cylinder and head in the first two words and the text after them, or `None` if one
+/// is missing or bad.
 fn read_place(operands: &[u8]) -> Option<TrackOperands<'_>>
     ensures { option_map placed result ≡ placed_of operands.now }
 {
@@ -128,7 +132,8 @@ fn read_place(operands: &[u8]) -> Option<TrackOperands<'_>>
     })
 }
 
-/// Reads `HOME cylinder head address`, after its place.
+/// Returns the statement of a `HOME` line from its place and the home address after that, or `None`
+/// if that is bad.
 fn read_home(place: TrackOperands<'_>) -> Option<VolumeStatement>
     ensures { option_map stated result ≡ home_by (placed place.entry) }
 {
@@ -136,7 +141,8 @@ fn read_home(place: TrackOperands<'_>) -> Option<VolumeStatement>
     Some(VolumeStatement::Home(place.cylinder, place.head, home))
 }
 
-/// Reads `REC cylinder head id key data`, after its place.
+/// Returns the statement of a `REC` line from its place and the record after that, or `None` if
+/// that is bad.
 fn read_add(alloc: Global, place: TrackOperands<'_>) -> Result<Option<VolumeStatement>, AllocError>
     ensures { IfOk result (λ found. option_map stated found ≡ add_by (placed place.entry)) }
 {
@@ -146,7 +152,7 @@ fn read_add(alloc: Global, place: TrackOperands<'_>) -> Result<Option<VolumeStat
     }
 }
 
-/// Returns the id, the key and the data of a record.
+/// Returns the record that id, key and data in a line spell, or `None` if they are bad.
 fn read_record(alloc: Global, fields: &[u8]) -> Result<Option<StatedRecord>, AllocError>
     ensures { IfOk result (λ found. option_map record_in found ≡ record_of fields.now) }
 {

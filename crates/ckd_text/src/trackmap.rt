@@ -32,7 +32,8 @@ The map goes to standard output, a fault as one line to standard error. Exit sta
   4  there was not memory enough
 ";
 
-/// Runs `trackmap`: writes the map of the volume whose image its arguments name.
+/// Runs `trackmap`: reads the image that its argument names, and prints the map of its volume on
+/// standard output.
 pub(crate) fn run<R: AllocGlobal + Files + Env + Print + Eprint>(
     rt: &R,
 ) -> Result<(), ToolFailure> {
@@ -50,7 +51,7 @@ pub(crate) fn run<R: AllocGlobal + Files + Env + Print + Eprint>(
     print_map(alloc, &volume, &mut Counted::new(output))
 }
 
-/// Writes the map of a volume, of which nothing is held back then.
+/// Appends the map of a volume to a file and flushes it.
 fn print_map<W: HostWriter>(
     alloc: Global,
     volume: &Volume,

@@ -12,7 +12,7 @@ pub struct CountArea {
     pub content: u16,
 }
 
-/// Returns the bytes of so many records.
+/// Returns how many bytes the keys and the data of these records have together.
 pub fn spread(entries: &[CountArea]) -> usize
     requires { total entries.now ≤ 13165 }
     ensures sum { result ≡ total entries.now }
@@ -25,7 +25,7 @@ pub fn spread(entries: &[CountArea]) -> usize
     sum
 }
 
-/// Returns what they take of the track.
+/// Returns how many bytes of a track's capacity these records take.
 pub fn cost_of(entries: &[CountArea]) -> usize
     requires { total_cost entries.now ≤ 13165 }
     ensures sum { result ≡ total_cost entries.now }
@@ -41,7 +41,8 @@ pub fn cost_of(entries: &[CountArea]) -> usize
 ghost use Rattle.ckd_track.specs.Track as track;
 ghost use Rattle.ckd_track.specs.Track.{no_record};
 
-/// Returns what a record takes of the track.
+/// Returns how many bytes of a track's capacity a record takes whose key and data have these
+/// lengths.
 pub fn record_cost(key: usize, content: usize) -> usize
     requires key { key ≤ 255 }
     requires content { content ≤ 65535 }
@@ -55,7 +56,7 @@ pub fn record_cost(key: usize, content: usize) -> usize
     }
 }
 
-/// Returns where the bytes of a record begin.
+/// Returns the index, in the bytes of all records, at which those of record `i` begin.
 pub fn start_of(entries: &[CountArea], i: usize) -> usize
     requires fits { total_cost entries.now ≤ 13165 }
     requires within { i ≤ length entries.now }
@@ -65,7 +66,8 @@ pub fn start_of(entries: &[CountArea], i: usize) -> usize
     spread(&entries[..i])
 }
 
-/// Returns whether there is room for a record after the first `i`.
+/// Returns whether a track has room, after its first `i` records, for one whose key and data have
+/// these lengths.
 pub fn has_room(entries: &[CountArea], i: usize, key: usize, content: usize) -> bool
     requires fits { total_cost entries.now ≤ 13165 }
     requires within { i ≤ length entries.now }
@@ -81,7 +83,7 @@ pub fn has_room(entries: &[CountArea], i: usize, key: usize, content: usize) -> 
     cost_of(&entries[..i]) + record_cost(key, content) <= 13165
 }
 
-/// Adds a record, for which there is room.
+/// Appends a record to the entries, and its key and data to the area; both lists have to have room.
 pub fn append(
     entries: &mut Vec<CountArea>,
     area: &mut Vec<u8>,
@@ -127,7 +129,7 @@ pub struct Span {
     pub end: usize,
 }
 
-/// Returns where the key and the data of a record lie in the bytes of all records.
+/// Returns where the key and the data of record `i` lie in the bytes of all records.
 pub fn span_of(entries: &[CountArea], i: usize) -> Span
     requires fits { total_cost entries.now ≤ 13165 }
     requires within { i < length entries.now }
@@ -152,7 +154,7 @@ pub struct Record<'a> {
     pub content: &'a [u8],
 }
 
-/// Returns a record of a track, whose bytes are a part of those of all records.
+/// Returns record `i` of a track, with its key and data borrowed from the bytes of all records.
 pub fn part<'a>(entries: &[CountArea], area: &'a [u8], i: usize) -> Record<'a>
     requires fits { total_cost entries.now ≤ 13165 }
     requires whole { length area.now ≡ total entries.now }
@@ -175,7 +177,7 @@ pub fn part<'a>(entries: &[CountArea], area: &'a [u8], i: usize) -> Record<'a>
     }
 }
 
-/// Puts a record after the first `i`, which there is room for; all later ones are erased.
+/// Erases all records after the first `i` and appends this one, for which there has to be room.
 pub fn replace_after(
     entries: &mut Vec<CountArea>,
     area: &mut Vec<u8>,
@@ -205,7 +207,7 @@ pub fn replace_after(
     append(entries, area, id, key, content);
 }
 
-/// Writes the data of a record.
+/// Overwrites the data of record `i` with as many bytes.
 pub fn put_content(entries: &[CountArea], area: &mut [u8], i: usize, bytes: &[u8])
     requires laid { IsLaid entries.now area.old }
     requires within { i < length entries.now }
@@ -223,7 +225,7 @@ pub fn put_content(entries: &[CountArea], area: &mut [u8], i: usize, bytes: &[u8
     area[span.middle..span.end].copy_from_slice(bytes);
 }
 
-/// Writes key and data of a record, which are one after the other.
+/// Overwrites the key and the data of record `i` with as many bytes.
 pub fn put_both(entries: &[CountArea], area: &mut [u8], i: usize, bytes: &[u8])
     requires laid { IsLaid entries.now area.old }
     requires within { i < length entries.now }

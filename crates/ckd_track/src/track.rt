@@ -47,7 +47,8 @@ impl Model for Track {
 }
 
 impl Track {
-    /// Returns a track with this home address and no record, with room for all that it can hold.
+    /// Returns a track with this home address and no record, and allocates room for all that it can
+    /// hold.
     ///
     /// # Errors
     ///
@@ -64,8 +65,7 @@ impl Track {
         })
     }
 
-    /// Returns a track with the same home address and the same records, with room for all that it
-    /// can hold.
+    /// Returns a copy of the track, and allocates room for all that it can hold.
     ///
     /// # Errors
     ///
@@ -97,7 +97,7 @@ impl Track {
         *home
     }
 
-    /// Writes another home address; the records stay.
+    /// Replaces the home address; the records stay.
     pub fn set_home(&mut self, home: [u8; 5])
         ensures home { self.new.home ≡ home }
         ensures records { self.new.records ≡ self.old.records }
@@ -105,7 +105,7 @@ impl Track {
         self.home = home;
     }
 
-    /// Returns how many records it has.
+    /// Returns how many records the track has.
     pub fn len(&self) -> usize
         ensures count { result ≡ length self.now.records }
         ensures few { result ≤ 97 }
@@ -113,7 +113,7 @@ impl Track {
         self.entries.len()
     }
 
-    /// Returns the record of this number.
+    /// Returns the record at this index, with its key and data borrowed from the track.
     pub fn record(&self, i: usize) -> Record<'_>
         requires { i < length self.now.records }
         ensures id { result.id ≡ (record_in self.now i).id }
@@ -126,7 +126,7 @@ impl Track {
         part(&self.entries, &self.area, i)
     }
 
-    /// Writes a record after all others.
+    /// Appends a record after all others, if the track has room for it.
     ///
     /// # Errors
     ///
@@ -144,7 +144,7 @@ impl Track {
         self.write_after(last, id, key, content)
     }
 
-    /// Writes a record after the first `i`; all later ones are erased.
+    /// Erases all records after the first `i` and appends this one, if the track has room for it.
     ///
     /// # Errors
     ///
@@ -171,7 +171,7 @@ impl Track {
         Ok(())
     }
 
-    /// Writes the data of a record.
+    /// Overwrites the data of record `i` with as many bytes.
     pub fn write_content(&mut self, i: usize, bytes: &[u8])
         requires inside { i < length self.old.records }
         requires whole { length bytes.now ≡ length (record_in self.old i).content }
@@ -185,7 +185,7 @@ impl Track {
         put_content(&self.entries, &mut self.area, i, bytes);
     }
 
-    /// Writes key and data of a record, which are one after the other.
+    /// Overwrites the key and the data of record `i` with as many bytes.
     pub fn write_key_and_content(&mut self, i: usize, bytes: &[u8])
         requires inside { i < length self.old.records }
         requires whole { length bytes.now

@@ -20,7 +20,7 @@ pub struct Seek {
     pub head: usize,
 }
 
-/// Returns two bytes as one number.
+/// Returns the bytes at indexes `k` and `k + 1` as one number.
 fn halfword(bytes: &[u8], k: usize) -> usize
     requires { k + 1 < length bytes.now }
     ensures { result ≡ table.halfword bytes.now k }
@@ -29,7 +29,8 @@ fn halfword(bytes: &[u8], k: usize) -> usize
 }
 
 impl ControlUnit {
-    /// 04 Sense: only as first command of a program, and with no chaining.
+    /// Begins Sense (04), which gives 24 bytes, if it is the first command of a program and does
+    /// not chain; else rejects it.
     pub(crate) fn begin_sense(&mut self, order: Order) -> Answer
         requires empty { self.old.bytes ≡ [] }
         ensures answer { result ≡ (table.begin_sense self.old order).answer }
@@ -46,7 +47,8 @@ impl ControlUnit {
         }
     }
 
-    /// 07 Seek: file protected where mask bits 3-4 are not 00.
+    /// Begins Seek (07), which takes six bytes, or refuses it as file protected if bits 3-4 of the
+    /// file mask are not 00.
     pub(crate) fn begin_seek(&mut self) -> Answer
         ensures answer { result ≡ (table.begin_seek self.old).answer }
         ensures after { self.new ≡ (table.begin_seek self.old).front }
@@ -58,7 +60,8 @@ impl ControlUnit {
         }
     }
 
-    /// 1F Set File Mask, when its byte is there.
+    /// Ends Set File Mask (1F): sets the file mask from its byte, or fails with command reject if
+    /// that is missing or invalid.
     pub(crate) fn set_mask(&mut self) -> UnitStatus
         ensures status { result ≡ (table.mask_set self.old self.old.bytes).status }
         ensures after { self.new ≡ (table.mask_set self.old self.old.bytes).front }
@@ -70,7 +73,8 @@ impl ControlUnit {
         self.end(UnitStatus::NONE)
     }
 
-    /// Returns the track that a seek names by its bytes, if a disk of so many cylinders has it.
+    /// Returns the track that the six bytes of a seek name, or `None` if a disk of so many
+    /// cylinders does not have it.
     pub(crate) fn sought(&self, cylinders: usize) -> Option<Seek>
         ensures { result ≡ table.sought cylinders self.now.bytes }
     {
@@ -85,7 +89,7 @@ impl ControlUnit {
         None
     }
 
-    /// Returns whether a seek is being carried out.
+    /// Returns whether the command under way is Seek.
     pub(crate) fn is_seeking(&self) -> bool
         ensures { result ≡ unit.is_seeking self.now.job }
     {
@@ -95,7 +99,8 @@ impl ControlUnit {
         }
     }
 
-    /// Returns the argument of a seek, when its bytes are there.
+    /// Returns the six bytes of the Seek that is under way, or `None` if there is none or it has
+    /// fewer.
     pub(crate) fn argument(&self) -> Option<[u8; 6]>
         ensures { result ≡ unit.argument_held self.now }
     {
@@ -118,7 +123,7 @@ impl ControlUnit {
         None
     }
 
-    /// Holds these bytes in place of the others.
+    /// Replaces all bytes that are held for the command by these six.
     pub(crate) fn set_argument(&mut self, argument: [u8; 6])
         ensures { self.new ≡ record (self.old) { bytes = argument } }
     {
@@ -126,7 +131,7 @@ impl ControlUnit {
         self.hold(&argument);
     }
 
-    /// Ends a seek at the index of the track under this head.
+    /// Ends a seek: selects this head and moves to the index of its track.
     pub(crate) fn end_seek(&mut self, head: usize) -> UnitStatus
         requires { head < 19 }
         ensures status { result ≡ begin.no_status }
@@ -137,7 +142,7 @@ impl ControlUnit {
         self.end(UnitStatus::NONE)
     }
 
-    /// Chooses the first head of the arm.
+    /// Selects head 0; cylinder and place stay.
     pub(crate) fn choose_first_head(&mut self)
         ensures { self.new ≡ record (self.old) { head = 0 } }
     {

@@ -28,7 +28,7 @@ impl Model for Cylinder {
     ghost invariant = { λ c. length c.tracks.items ≡ 19 };
 }
 
-/// Returns the home address of a track: flag, cylinder and head.
+/// Returns the usual home address of a track: flag 00, cylinder and head.
 pub fn home_address(cylinder: u16, head: u8) -> [u8; 5]
     ensures { result ≡ home_of cylinder head }
 {
@@ -39,7 +39,7 @@ impl Cylinder {
     ghost use Rattle.std.specs.Borrow.{sem};
     ghost use Rattle.ckd_volume.specs.Lending.{LendsTrack, LendsHead};
 
-    /// Returns a cylinder of this number whose tracks have no record.
+    /// Returns a new cylinder of this number with 19 tracks that have no record.
     ///
     /// # Errors
     ///
@@ -56,7 +56,7 @@ impl Cylinder {
         Ok(Cylinder { tracks })
     }
 
-    /// Returns a cylinder with the same tracks.
+    /// Returns a copy of the cylinder with all its tracks.
     ///
     /// # Errors
     ///
@@ -73,7 +73,7 @@ impl Cylinder {
         Ok(Cylinder { tracks })
     }
 
-    /// Returns how many heads reach it.
+    /// Returns how many tracks the cylinder has, one for each head.
     pub fn heads(&self) -> usize
         ensures count { result ≡ length self.now }
         ensures always { result ≡ 19 }
@@ -83,7 +83,7 @@ impl Cylinder {
         tracks.len()
     }
 
-    /// Returns the track under this head.
+    /// Borrows the track under this head.
     pub fn track(&self, head: usize) -> &Track
         requires { head < 19 }
         ensures { result.now ≡ track_at self.now head }
@@ -91,7 +91,7 @@ impl Cylinder {
         &self.tracks[head]
     }
 
-    /// Borrows the track under this head, to be written.
+    /// Borrows the track under this head for writing.
     pub(crate) fn track_mut(&mut self, head: usize) -> &mut Track
         requires { head < 19 }
         ensures* writes_back { sem 𝓛 (LendsTrack self.entry head result) }
@@ -100,7 +100,7 @@ impl Cylinder {
         &mut self.tracks[head]
     }
 
-    /// Borrows the track under a head, to be written, if there is such a head.
+    /// Borrows the track under this head for writing, or returns `None` if there is no such head.
     pub(crate) fn head_mut(&mut self, head: usize) -> Option<&mut Track>
         ensures* writes_back { sem 𝓛 (LendsHead self.entry head result) }
         ensures some { IsSome result ↔ (head < 19) }

@@ -17,7 +17,7 @@ const FILE_PROTECTED: u8 = 0x04;
 
 const END_OF_CYLINDER: u8 = 0x20;
 
-/// Returns the record that is next at a place, if the track has it.
+/// Returns the index of the record that is next at a place, even if the track has no such record.
 pub(crate) fn next_at(place: Orientation) -> usize
     requires { front.next_at place ≤ 97 }
     ensures { result ≡ front.next_at place }
@@ -30,7 +30,7 @@ pub(crate) fn next_at(place: Orientation) -> usize
     }
 }
 
-/// Returns the record whose count or key was just passed, else the next.
+/// Returns the index of the record whose count or key was just passed, or else of the next one.
 pub(crate) fn here_at(place: Orientation) -> usize
     ensures { result ≡ front.here_at place }
 {
@@ -42,7 +42,7 @@ pub(crate) fn here_at(place: Orientation) -> usize
     }
 }
 
-/// Returns the record whose count was just passed, else the next.
+/// Returns the index of the record whose count was just passed, or else of the next one.
 pub(crate) fn counted_at(place: Orientation) -> usize
     requires { front.next_at place ≤ 97 }
     ensures { result ≡ front.counted_at place }
@@ -55,7 +55,7 @@ pub(crate) fn counted_at(place: Orientation) -> usize
     }
 }
 
-/// Returns whether a record is looked for.
+/// Returns whether a record is of the wanted kind: any, one with a key, or one with number 1.
 fn is_wanted(wanted: Wanted, there: Record<'_>) -> bool
     requires { length there.id ≡ 5 }
     ensures { result ≡ front.wants wanted
@@ -72,7 +72,8 @@ fn is_wanted(wanted: Wanted, there: Record<'_>) -> bool
     }
 }
 
-/// Returns the first record from this one on that is looked for.
+/// Returns the index of the first record of the wanted kind on a track from `start` on, if there is
+/// one.
 fn first_from(wanted: Wanted, track: &Track, start: usize) -> Option<usize>
     ensures found { result ≡ orientation.first_from (front.wants wanted) track.now.records start }
     ensures there { IfSome result (λ i. i < length track.now.records) }
@@ -85,8 +86,8 @@ fn first_from(wanted: Wanted, track: &Track, start: usize) -> Option<usize>
     None
 }
 
-/// Returns the record that a command finds on one track, from this one on: a second index point is
-/// no record found.
+/// Returns the record that a command finds on one track from `start` on, also past the index once,
+/// or that no record is found.
 fn on_track(wanted: Wanted, cylinder: &Cylinder, head: usize, points: u8, start: usize) -> Found
     requires { head < 19 }
     ensures found { result ≡ orientation.on_track (front.wants wanted)
@@ -109,8 +110,8 @@ fn on_track(wanted: Wanted, cylinder: &Cylinder, head: usize, points: u8, start:
     }
 }
 
-/// Returns the record that a multitrack search finds on the heads after this one, of which there
-/// are so many.
+/// Returns the record that a multitrack search finds on at most `more` heads after this one, or
+/// that it is file protected or at the end of the cylinder.
 #[tactic(auto, using(crate::proofs::Finding::switched_last, crate::proofs::Finding::switched_on))]
 fn over_heads(wanted: Wanted, cylinder: &Cylinder, mask: u8, head: usize, more: usize) -> Found
     requires { head + more ≡ 18 }
@@ -129,7 +130,7 @@ fn over_heads(wanted: Wanted, cylinder: &Cylinder, mask: u8, head: usize, more: 
     }
 }
 
-/// Returns the first record with the number 1 on the track under this head.
+/// Returns the first record with number 1 on the track under this head, or that no record is found.
 pub(crate) fn first_numbered_one(cylinder: &Cylinder, head: usize) -> Found
     requires { head < 19 }
     ensures found { result ≡ orientation.once_round head 0
@@ -143,8 +144,8 @@ pub(crate) fn first_numbered_one(cylinder: &Cylinder, head: usize) -> Found
 }
 
 impl ControlUnit {
-    /// Returns the record that a command finds, from this one on: a search whose code has bit 0 one
-    /// goes over the heads.
+    /// Returns the record that a command finds from record `i` on, or that it is lost; if bit 0 of
+    /// the code is one, it goes on to the next heads.
     pub(crate) fn found(&self, code: u8, wanted: Wanted, cylinder: &Cylinder, i: usize) -> Found
         ensures found { result ≡ orientation.found code (front.wants wanted) cylinder.now self.now
             i }
@@ -159,7 +160,8 @@ impl ControlUnit {
         }
     }
 
-    /// Returns the index: a pass unless the head is there, or a switch of heads.
+    /// Returns the index that a command goes to, of this track or for a multitrack code of the next
+    /// head's, or that it is lost.
     pub(crate) fn to_index(&self, code: u8) -> Found
         ensures found { result ≡ orientation.to_index code self.now self.now.place }
         ensures head { front.head_of result < 19 }

@@ -60,7 +60,8 @@ impl Model for ControlUnit {
 }
 
 impl ControlUnit {
-    /// Returns a panel whose head is at the index of a track, with room for the longest command.
+    /// Returns a control unit with this mode, head and sense, at the index of a track, and
+    /// allocates room for the longest command.
     pub(crate) fn new(
         alloc: Global,
         writable: bool,
@@ -97,7 +98,8 @@ impl ControlUnit {
         })
     }
 
-    /// Starts a command; a program starts at the index.
+    /// Drops the pending command, its bytes and the right to write; for the first command of a
+    /// program, also moves to the index and clears the file mask.
     pub(crate) fn start(&mut self, first: bool)
         ensures { self.new ≡ table.starting self.old first }
     {
@@ -112,7 +114,8 @@ impl ControlUnit {
         self.given = 0;
     }
 
-    /// Makes the control unit as before a program, and without sense.
+    /// Drops the pending command and its bytes, moves to the index, and clears file mask, right to
+    /// write and sense; head and mode stay.
     pub(crate) fn reset(&mut self)
         ensures { self.new ≡ record (table.starting self.old true) { sense = table.sense_of 0 0 } }
     {
@@ -123,8 +126,8 @@ impl ControlUnit {
         };
     }
 
-    /// Makes the control unit as before a program, with the mode, the head and the sense of another
-    /// arm.
+    /// Drops the pending command, its bytes and the right to write, moves to the index, clears the
+    /// file mask, and sets mode, head and sense.
     pub(crate) fn restart(&mut self, writable: bool, head: usize, sense: Sense)
         requires { head < 19 }
         ensures { self.new ≡ record
@@ -136,7 +139,7 @@ impl ControlUnit {
         self.sense = sense;
     }
 
-    /// Refuses the command, with its sense.
+    /// Sets the two sense bytes and returns that the command is refused with unit check.
     pub(crate) fn refuse(&mut self, first: u8, second: u8) -> Answer
         ensures answer { result ≡ (table.refused self.old first second).answer }
         ensures after { self.new ≡ (table.refused self.old first second).front }
@@ -145,7 +148,7 @@ impl ControlUnit {
         Answer::Refused(UnitStatus::UNIT_CHECK)
     }
 
-    /// Refuses the command as one that is not known.
+    /// Sets the sense to command reject and returns that the command is refused with unit check.
     pub(crate) fn reject(&mut self) -> Answer
         ensures answer { result ≡ (table.rejected self.old).answer }
         ensures after { self.new ≡ (table.rejected self.old).front }
@@ -153,7 +156,8 @@ impl ControlUnit {
         self.refuse(0x80, 0)
     }
 
-    /// Refuses the command since the record was not found.
+    /// Selects this head, sets the second sense byte and returns that the command is refused with
+    /// unit check.
     pub(crate) fn lose(&mut self, head: usize, second: u8) -> Answer
         requires { head < 19 }
         ensures answer { result ≡ (table.lost self.old head second).answer }
@@ -163,7 +167,7 @@ impl ControlUnit {
         self.refuse(0, second)
     }
 
-    /// Moves to this head and this place.
+    /// Sets the head, the count of index points and the place on the track.
     pub(crate) fn go(&mut self, head: usize, points: u8, place: Orientation)
         requires head { head < 19 }
         requires place { front.next_at place ≤ 97 }
@@ -174,7 +178,7 @@ impl ControlUnit {
         self.points = points;
     }
 
-    /// Begins to take so many bytes.
+    /// Sets the pending command and returns that it takes `count` bytes.
     pub(crate) fn take_for(&mut self, count: u32, job: PendingCommand) -> Answer
         ensures answer { result ≡ (table.takes self.old count job).answer }
         ensures after { self.new ≡ (table.takes self.old count job).front }
@@ -183,7 +187,7 @@ impl ControlUnit {
         Answer::Output(count)
     }
 
-    /// Appends these bytes to those that are held to be given.
+    /// Appends bytes to those that are held for the command, for which there has to be room.
     pub(crate) fn hold(&mut self, bytes: &[u8])
         requires { length self.old.bytes + length bytes.now ≤ 65798 }
         ensures { self.new ≡ record (self.old) { bytes = self.old.bytes ++ bytes.now } }
@@ -194,7 +198,8 @@ impl ControlUnit {
         }
     }
 
-    /// Begins to give the bytes that are held.
+    /// Makes giving the held bytes the pending command, which ends with this status, and returns
+    /// how many they are.
     pub(crate) fn give_held(&mut self, status: UnitStatus) -> Answer
         ensures answer { result ≡ (table.gives self.old status self.old.bytes).answer }
         ensures after { self.new ≡ (table.gives self.old status self.old.bytes).front }
@@ -203,7 +208,8 @@ impl ControlUnit {
         Answer::Input(self.bytes.len() as u32)
     }
 
-    /// Begins to give the bytes that are held, or refuses the command if there are none.
+    /// Makes giving the held bytes the pending command, as `give_held` does, or refuses the command
+    /// with this status if there are none.
     pub(crate) fn give_data_held(&mut self, status: UnitStatus) -> Answer
         ensures answer { result ≡ (table.gives_data self.old status self.old.bytes).answer }
         ensures after { self.new ≡ (table.gives_data self.old status self.old.bytes).front }
@@ -214,7 +220,7 @@ impl ControlUnit {
         self.give_held(status)
     }
 
-    /// Gives the next byte.
+    /// Returns the next held byte and moves on past it, or returns zero if none is left.
     pub(crate) fn give(&mut self) -> u8
         ensures byte { result ≡ slice_index self.old.bytes self.old.given }
         ensures after { self.new ≡ unit.gave self.old }
@@ -228,7 +234,7 @@ impl ControlUnit {
         }
     }
 
-    /// Takes one more byte.
+    /// Appends a byte to those that the command has taken, or drops it if there is no room.
     pub(crate) fn take(&mut self, byte: u8)
         ensures { self.new ≡ unit.took self.old byte }
     {
@@ -240,7 +246,7 @@ impl ControlUnit {
         }
     }
 
-    /// Ends the command.
+    /// Ends the pending command: drops its bytes and returns this status.
     pub(crate) fn end(&mut self, status: UnitStatus) -> UnitStatus
         ensures status { result ≡ status }
         ensures after { self.new ≡ table_end.resting self.old }
@@ -251,7 +257,7 @@ impl ControlUnit {
         status
     }
 
-    /// Ends the command with unit check and this sense.
+    /// Sets the two sense bytes, ends the pending command and returns unit check.
     pub(crate) fn fail(&mut self, first: u8, second: u8) -> UnitStatus
         ensures status { result ≡ (table_end.fails self.old first second).status }
         ensures after { self.new ≡ (table_end.fails self.old first second).front }

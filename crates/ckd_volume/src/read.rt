@@ -11,7 +11,7 @@ use crate::parts::{Found, Orientation};
 use ckd_track::Record;
 use s370_walk::{Answer, Order, UnitStatus};
 
-/// Answers a record without data with unit exception.
+/// Returns unit exception if a record's data are empty, else no status.
 pub(crate) fn exception(content: &[u8]) -> UnitStatus
     ensures { result ≡ begin.exception_of content.now }
 {
@@ -22,7 +22,8 @@ pub(crate) fn exception(content: &[u8]) -> UnitStatus
     }
 }
 
-/// Returns what a count reports a record next to its id: how long its key and its data are.
+/// Returns the last three bytes of a record's count: the length of its key, and in two bytes that
+/// of its data.
 fn lengths(there: Record<'_>) -> [u8; 3]
     requires key { length there.key.now ≤ 255 }
     requires content { length there.content.now ≤ 65535 }
@@ -38,7 +39,8 @@ fn lengths(there: Record<'_>) -> [u8; 3]
 }
 
 impl ControlUnit {
-    /// 1A Read Home Address.
+    /// Begins Read Home Address (1A): moves past the home address that was found and gives it, or
+    /// refuses the command if it is lost.
     pub(crate) fn home_read(&mut self, cylinder: &Cylinder, found: Found) -> Answer
         requires empty { self.old.bytes ≡ [] }
         requires head { front.head_of found < 19 }
@@ -56,7 +58,8 @@ impl ControlUnit {
         }
     }
 
-    /// 12 Read Count.
+    /// Begins Read Count (12): moves past the count that was found and gives it, or refuses the
+    /// command if it is lost.
     pub(crate) fn count_read(&mut self, cylinder: &Cylinder, found: Found) -> Answer
         requires empty { self.old.bytes ≡ [] }
         requires there { IsIn cylinder.now found }
@@ -77,7 +80,8 @@ impl ControlUnit {
         }
     }
 
-    /// 06 Read Data.
+    /// Begins Read Data (06): moves past the record that was found and gives its data, or refuses
+    /// the command if it is lost or has no data.
     pub(crate) fn data_read(&mut self, cylinder: &Cylinder, found: Found) -> Answer
         requires empty { self.old.bytes ≡ [] }
         requires there { IsIn cylinder.now found }
@@ -95,7 +99,8 @@ impl ControlUnit {
         }
     }
 
-    /// 0E Read Key and Data.
+    /// Begins Read Key and Data (0E): moves past the record that was found and gives both, or
+    /// refuses the command if it is lost or has neither.
     pub(crate) fn read_key_data(&mut self, cylinder: &Cylinder, found: Found) -> Answer
         requires empty { self.old.bytes ≡ [] }
         requires there { IsIn cylinder.now found }
@@ -114,7 +119,8 @@ impl ControlUnit {
         }
     }
 
-    /// 1E Read Count, Key and Data.
+    /// Begins Read Count, Key and Data (1E): moves past the record that was found and gives all
+    /// three, or refuses the command if it is lost.
     #[tactic(auto, using(crate::proofs::Ends::append_all))]
     pub(crate) fn read_count_key_data(&mut self, cylinder: &Cylinder, found: Found) -> Answer
         requires empty { self.old.bytes ≡ [] }
@@ -138,7 +144,10 @@ impl ControlUnit {
         }
     }
 
-    /// 02 Read IPL: only as first command; the arm is on its first track then.
+    /// Begins Read IPL (02) as Read Data of the record that was found, if it is the first command
+    /// of a program; else rejects it.
+    ///
+    /// The arm is on its first track then.
     pub(crate) fn ipl_read(&mut self, cylinder: &Cylinder, order: Order, found: Found) -> Answer
         requires empty { self.old.bytes ≡ [] }
         requires there { IsIn cylinder.now found }

@@ -10,7 +10,8 @@ use crate::parts::{Comparison, Found, Orientation, PendingCommand, WriteAccess};
 use s370_walk::{Answer, UnitStatus};
 
 impl ControlUnit {
-    /// 39, B9 Search Home Address Equal.
+    /// Begins Search Home Address Equal (39, B9), which takes four bytes, past the home address
+    /// that was found, or refuses it if that is lost.
     pub(crate) fn home_searched(&mut self, found: Found) -> Answer
         requires { front.head_of found < 19 }
         ensures answer { result ≡ (table.home_searched self.old found).answer }
@@ -25,7 +26,8 @@ impl ControlUnit {
         }
     }
 
-    /// 31, 51, 71, B1, D1, F1 Search Identifier.
+    /// Begins Search Identifier (31, 51, 71, B1, D1, F1), which takes five bytes, past the count
+    /// that was found, or refuses it if that is lost.
     pub(crate) fn id_searched(
         &mut self,
         comparison: Comparison,
@@ -46,7 +48,8 @@ impl ControlUnit {
         }
     }
 
-    /// 29, A9 Search Key Equal.
+    /// Begins Search Key Equal (29, A9), which takes as many bytes as the key that was found has,
+    /// and moves past that, or refuses it if it is lost.
     pub(crate) fn key_searched(&mut self, cylinder: &Cylinder, found: Found) -> Answer
         requires { IsIn cylinder.now found }
         ensures answer { result ≡ (table.key_searched self.old cylinder.now found).answer }
@@ -62,7 +65,8 @@ impl ControlUnit {
         }
     }
 
-    /// Returns whether what is there is as a search wants it, by the bytes that it took.
+    /// Returns whether a field of the track compares with the bytes that a search took as it wants,
+    /// over as many bytes as it took; false if it took none.
     pub(crate) fn fits(&self, comparison: Comparison, there: &[u8]) -> bool
         ensures { result ≡ table.fits comparison self.now.bytes there.now }
     {
@@ -84,7 +88,8 @@ impl ControlUnit {
         }
     }
 
-    /// Ends a search.
+    /// Ends a search: if it is satisfied, sets the right to write and returns status modifier, else
+    /// returns no status.
     pub(crate) fn end_search(&mut self, right: WriteAccess, is_satisfied: bool) -> UnitStatus
         ensures status { result ≡ (table.satisfied self.old right is_satisfied).status }
         ensures after { self.new ≡ (table.satisfied self.old right is_satisfied).front }
@@ -97,7 +102,8 @@ impl ControlUnit {
     }
 }
 
-/// Returns what a satisfied search for an id gives the right to: only one for an equal id does.
+/// Returns the right to write that a satisfied search for an id gives: one for an equal id, and
+/// none for the others.
 pub(crate) fn id_right(comparison: Comparison) -> WriteAccess
     ensures { result ≡ table.id_right comparison }
 {

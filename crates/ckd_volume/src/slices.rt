@@ -7,7 +7,7 @@ use crate::panel::{ControlUnit, LONGEST};
 use crate::parts::PendingCommand;
 
 impl ControlUnit {
-    /// Returns whether so many bytes are left to be given.
+    /// Returns whether at least `count` held bytes are left to be given.
     pub(crate) fn has(&self, count: usize) -> bool
         ensures { result ≡ nat_le (self.now.given + count) (length self.now.bytes) }
     {
@@ -15,7 +15,7 @@ impl ControlUnit {
         count <= held && self.given <= held - count
     }
 
-    /// Gives as many bytes as there is room for.
+    /// Fills `into` with the next held bytes, which have to be there, and moves on past them.
     pub(crate) fn give_slice(&mut self, into: &mut [u8])
         requires { self.old.given + length into.old ≤ length self.old.bytes }
         ensures bytes { into.new
@@ -27,7 +27,8 @@ impl ControlUnit {
         self.given = end;
     }
 
-    /// Takes bytes, as far as there is room.
+    /// Appends bytes to those that the command has taken, as far as there is room, and drops the
+    /// others.
     #[tactic(auto, using(std::proofs::lemmas::List::take_all))]
     pub(crate) fn take_slice(&mut self, from: &[u8])
         ensures { self.new ≡ took_slice self.old from.now }
@@ -44,8 +45,8 @@ impl ControlUnit {
         }
     }
 
-    /// Returns how many bytes a Write Count, Key and Data lacks: of its first eight, and then of
-    /// those that they say.
+    /// Returns how many bytes a Write Count, Key and Data still needs: of its first eight, and then
+    /// of those that they announce.
     fn lacks(&self) -> u32
         ensures { result ≡ lacks self.now.bytes }
     {
@@ -57,7 +58,8 @@ impl ControlUnit {
         (8 + u32::from(self.bytes[5]) + content).saturating_sub(held)
     }
 
-    /// Returns how many bytes at least are given or taken before the command wants no more.
+    /// Returns a number of bytes that are sure to be given or taken before the command wants no
+    /// more.
     pub(crate) fn ready(&self) -> u32
         ensures { result ≡ ready self.now self.now.job }
     {

@@ -17,7 +17,8 @@ use crate::search::id_right;
 use s370_walk::{Answer, Order, UnitStatus};
 
 impl ControlUnit {
-    /// Returns the record that is next.
+    /// Returns the record that is next at the place, or the one that is found after it, or that it
+    /// is lost.
     fn next(&self, code: u8, cylinder: &Cylinder) -> Found
         ensures found { result ≡ orientation.found code (front.wants wanted.Any) cylinder.now
             self.now
@@ -28,7 +29,8 @@ impl ControlUnit {
         self.found(code, Wanted::Any, cylinder, i)
     }
 
-    /// Returns the record whose count or key was just passed, else the next.
+    /// Returns the record whose count or key was just passed, or else the next that is found, or
+    /// that it is lost.
     fn here(&self, code: u8, cylinder: &Cylinder) -> Found
         ensures found { result ≡ orientation.found code (front.wants wanted.Any) cylinder.now
             self.now
@@ -39,7 +41,8 @@ impl ControlUnit {
         self.found(code, Wanted::Any, cylinder, i)
     }
 
-    /// Returns the record whose count was just passed, else the next, of those that are looked for.
+    /// Returns the record whose count was just passed, or else the next, that is of the wanted
+    /// kind, or that it is lost.
     fn counted(&self, code: u8, looked_for: Wanted, cylinder: &Cylinder) -> Found
         ensures found { result ≡ orientation.found code (front.wants looked_for) cylinder.now
             self.now
@@ -50,7 +53,8 @@ impl ControlUnit {
         self.found(code, looked_for, cylinder, i)
     }
 
-    /// Begins a command, over the cylinder under the arm.
+    /// Begins a command over this cylinder and returns whether it gives or takes bytes, or is
+    /// refused; drops what an earlier command left.
     pub(crate) fn begin(&mut self, cylinder: &Cylinder, order: Order) -> Answer
         ensures answer { result ≡
             (table.begun (begin.starting self.old order.first)
@@ -64,8 +68,8 @@ impl ControlUnit {
         self.obey(right, cylinder, order)
     }
 
-    /// Returns the right to write that a command finds: what the command before gave, but nothing
-    /// where it is the first of its program.
+    /// Returns the right to write that the command before this one gave, or none for the first
+    /// command of a program.
     fn right_found(&self, is_first: bool) -> WriteAccess
         ensures { result ≡ begin.right_found self.now is_first }
     {
@@ -76,7 +80,10 @@ impl ControlUnit {
         }
     }
 
-    /// Begins a command that has started, which found this right to write.
+    /// Begins the command of this code, with this right to write, and returns whether it gives or
+    /// takes bytes, or is refused.
+    ///
+    /// An unknown code is rejected.
     fn obey(&mut self, right: WriteAccess, cylinder: &Cylinder, order: Order) -> Answer
         requires { self.old.bytes ≡ [] }
         ensures answer { result ≡ (table.begun self.old right cylinder.now order).answer }
@@ -148,7 +155,7 @@ impl ControlUnit {
         }
     }
 
-    /// Returns whether a command wants no more bytes, though it has fewer than it said.
+    /// Returns whether the command is a Write Count, Key and Data that has all its bytes.
     pub(crate) fn is_done(&self) -> bool
         ensures { result ≡ unit.is_done self.now self.now.job }
     {
@@ -158,7 +165,10 @@ impl ControlUnit {
         }
     }
 
-    /// Ends a command, over the cylinder under the arm.
+    /// Ends the pending command over this cylinder, on which a write then writes its bytes, and
+    /// returns the unit status.
+    ///
+    /// A Seek fails here.
     pub(crate) fn finish(&mut self, cylinder: &mut Cylinder) -> UnitStatus
         ensures status { result ≡ (table.ended self.old cylinder.old self.old.job).status }
         ensures after { self.new ≡ (table.ended self.old cylinder.old self.old.job).front }
@@ -180,7 +190,8 @@ impl ControlUnit {
         }
     }
 
-    /// 39, B9 Search Home Address Equal, when its bytes are there.
+    /// Ends Search Home Address Equal (39, B9): if the track's home address is as the bytes taken,
+    /// gives the right to write and returns status modifier.
     fn end_search_home(&mut self, cylinder: &Cylinder) -> UnitStatus
         ensures status { result ≡ (table.ended self.old cylinder.now jobs.SearchHome).status }
         ensures after { self.new ≡ (table.ended self.old cylinder.now jobs.SearchHome).front }
@@ -190,7 +201,8 @@ impl ControlUnit {
         self.end_search(WriteAccess::Home, is_satisfied)
     }
 
-    /// 31, 51, 71, B1, D1, F1 Search Identifier, when its bytes are there.
+    /// Ends Search Identifier (31, 51, 71, B1, D1, F1): if the id of record `i` fits the bytes
+    /// taken, returns status modifier and, for Equal, gives the right to write.
     #[tactic(auto, using(crate::proofs::Ends::at_past))]
     fn end_search_id(&mut self, cylinder: &Cylinder, comparison: Comparison, i: usize) -> UnitStatus
         ensures status { result ≡
@@ -209,7 +221,8 @@ impl ControlUnit {
         self.end_search(right, is_satisfied)
     }
 
-    /// 29, A9 Search Key Equal, when its bytes are there.
+    /// Ends Search Key Equal (29, A9): if the key of record `i` is as the bytes taken, gives the
+    /// right to write and returns status modifier.
     #[tactic(auto, using(crate::proofs::Ends::at_past))]
     fn end_search_key(&mut self, cylinder: &Cylinder, i: usize) -> UnitStatus
         ensures status { result ≡ (table.ended self.old cylinder.now (jobs.SearchKey i)).status }

@@ -52,7 +52,7 @@ impl<'a> Model for UnitTrial<'a> {
         × IsReady u.copies.items u.cylinder u.panel.job };
 }
 
-/// Sees that a cylinder has a copy.
+/// Copies the cylinder at this index into `copies`, if there is no copy of it yet.
 #[tactic(auto, using(crate::proofs::Overlays::copied_same))]
 fn copy_cylinder(
     alloc: Global,
@@ -76,7 +76,7 @@ fn copy_cylinder(
     Ok(())
 }
 
-/// Begins a command over a cylinder.
+/// Begins a command over the copy of a cylinder, or over the cylinder itself if it has no copy.
 #[tactic(auto, using(crate::proofs::Overlays::overlaid_copy, crate::proofs::Overlays::overlaid_own))]
 fn begin_over(
     panel: &mut ControlUnit,
@@ -100,7 +100,8 @@ fn begin_over(
     }
 }
 
-/// Ends a command over a cylinder.
+/// Ends the pending command over the copy of a cylinder, which it may change; without a copy it
+/// only ends it.
 #[tactic(auto, using(crate::proofs::Overlays::overlaid_copy, crate::proofs::Overlays::overlaid_own, crate::proofs::Overlays::overlaid_set, crate::proofs::Overlays::same_set))]
 fn finish_over(
     panel: &mut ControlUnit,
@@ -135,7 +136,7 @@ fn finish_over(
     }
 }
 
-/// Creates a list without copies of so many cylinders.
+/// Returns a list of `count` places for copies of cylinders, all empty.
 fn no_copies(alloc: Global, count: usize) -> Result<Vec<Option<Cylinder>>, AllocError>
     ensures { IfOk result (λ made. made.items ≡ replicate count None) }
 {
@@ -152,8 +153,10 @@ impl Volume {
     ghost use Rattle.std.specs.Prelude.{slice_range};
     ghost use Rattle.ckd_volume.specs.Unit.{idle};
 
-    /// Returns a disk on trial that is so many of the cylinders from `first` on, with this arm over
-    /// them: as it is between programs.
+    /// Returns a unit for a dry run over `count` of the cylinders from `first` on, with this arm,
+    /// which leaves the volume as it is.
+    ///
+    /// It is as between programs. Each cylinder that a command reaches is copied.
     ///
     /// # Errors
     ///
@@ -190,7 +193,7 @@ impl Volume {
     }
 }
 
-/// Returns the cylinder of a number.
+/// Borrows the cylinder at this index.
 fn of_number(own: &[Cylinder], index: usize) -> &Cylinder
     requires { index < length own.now }
     ensures { result.now ≡ slice_index_or own.now index [] }
@@ -201,7 +204,8 @@ fn of_number(own: &[Cylinder], index: usize) -> &Cylinder
 impl<'a> UnitTrial<'a> {
     ghost use Rattle.ckd_volume.specs.Unit.{moved, seek_of, seek_status};
 
-    /// 07 Seek, when its bytes are there.
+    /// Ends Seek (07): moves the arm to the track that its bytes name, or fails with command reject
+    /// if there is no such track.
     fn seek(&mut self) -> UnitStatus
         ensures status { result ≡ seek_status (seek_of self.old) }
         ensures after { self.new ≡ moved self.old (seek_of self.old) }
@@ -224,6 +228,8 @@ impl<'a> Device for UnitTrial<'a> {
 
     ghost needs_memory = { λ disk order. true };
 
+    /// Begins a command over a copy of the arm's cylinder, which is made if there is none; a first
+    /// Read IPL moves the arm to its home first.
     fn command(&mut self, order: Order) -> Result<Answer, AllocError> {
         let is_ipl = order.first && order.command.code == 0x02;
         let target = if is_ipl { self.home } else { self.cylinder };
@@ -241,18 +247,23 @@ impl<'a> Device for UnitTrial<'a> {
         ))
     }
 
+    /// Returns whether the command wants no more bytes, though it has fewer than it said.
     fn is_done(&self) -> bool {
         self.panel.is_done()
     }
 
+    /// Returns the next byte that the command gives, or zero if none is left.
     fn give(&mut self) -> u8 {
         self.panel.give()
     }
 
+    /// Appends a byte to those that the command has taken, or drops it if there is no room.
     fn take(&mut self, byte: u8) {
         self.panel.take(byte);
     }
 
+    /// Ends the pending command, a Seek or one over the copy of the arm's cylinder, and returns the
+    /// unit status.
     fn finish(&mut self) -> UnitStatus {
         if self.panel.is_seeking() {
             return self.seek();

@@ -63,7 +63,7 @@ impl Unit {
     ghost use Rattle.ckd_volume.specs.Unit.{argument_held, disk_machine, volume_of, disk_reset};
     ghost use Rattle.ckd_volume.specs.Unit.{disk_cleared, rested};
 
-    /// Returns a unit whose arm is over a volume; it has room for the longest command.
+    /// Returns a unit over this volume with this arm, and allocates room for the longest command.
     ///
     /// # Errors
     ///
@@ -83,7 +83,7 @@ impl Unit {
         })
     }
 
-    /// Returns the volume under the arm.
+    /// Borrows the volume under the arm.
     pub fn volume(&self) -> &Volume
         ensures volser { result.now.volser ≡ self.now.volser }
         ensures cylinders { result.now.cylinders ≡ self.now.cylinders }
@@ -98,7 +98,7 @@ impl Unit {
         volume
     }
 
-    /// Returns where the arm is, and what else outlasts a channel program.
+    /// Returns what outlasts a channel program: cylinder, head, home cylinder, mode and sense.
     pub fn arm(&self) -> Arm
         ensures cylinder { result.cylinder ≡ self.now.cylinder }
         ensures head { result.head ≡ self.now.front.head }
@@ -119,8 +119,11 @@ impl Unit {
         }
     }
 
-    /// Makes the unit as before a program, under this arm: so disks that are parts of one volume
-    /// take turns at its unit, each with an arm and a sense of its own. It takes no memory.
+    /// Makes the unit as before a program, with the cylinder, head, home, mode and sense of this
+    /// arm.
+    ///
+    /// So disks that are parts of one volume take turns at its unit, each with an arm and a sense
+    /// of its own. It takes no memory.
     pub fn set_arm(&mut self, arm: Arm)
         requires cylinder { arm.cylinder < length self.old.cylinders }
         requires home { arm.home < length self.old.cylinders }
@@ -132,14 +135,16 @@ impl Unit {
         self.home = arm.home;
     }
 
-    /// Does a system reset: no command is under way, and there is no sense; the arm stays.
+    /// Drops the command under way, moves to the index, and clears file mask and sense; the arm
+    /// stays.
     pub fn reset(&mut self)
         ensures { self.new ≡ disk_reset self.old }
     {
         self.panel.reset();
     }
 
-    /// Does a reset as [`Unit::reset`] does, and moves the arm to cylinder 0 and head 0.
+    /// Drops the command under way, clears file mask and sense, and moves the arm to cylinder 0 and
+    /// head 0.
     pub fn clear(&mut self)
         ensures { self.new ≡ disk_cleared self.old }
     {
@@ -148,31 +153,35 @@ impl Unit {
         self.cylinder = 0;
     }
 
-    /// Makes the unit as after a channel program: no command is under way; the arm and the sense
-    /// stay. The next program does not see the difference, since its first command begins so.
+    /// Drops the command under way, moves to the index and clears the file mask; the arm and the
+    /// sense stay.
+    ///
+    /// The next program does not see the difference, since its first command begins so.
     pub fn rest(&mut self)
         ensures { self.new ≡ rested self.old }
     {
         self.panel.start(true);
     }
 
-    /// Returns the argument of a seek that has all its bytes and has not ended; None in every other
-    /// command.
+    /// Returns the six bytes of the Seek that is under way, or `None` if there is none or it has
+    /// fewer.
     pub fn argument(&self) -> Option<[u8; 6]>
         ensures { result ≡ argument_held self.now.front }
     {
         self.panel.argument()
     }
 
-    /// Gives the command that is under way these bytes in place of those that it has taken: so the
-    /// argument of a seek is replaced before it ends. It takes no memory.
+    /// Replaces all bytes that the command under way has taken by these six, so that a seek ends
+    /// elsewhere.
+    ///
+    /// It takes no memory.
     pub fn set_argument(&mut self, argument: [u8; 6])
         ensures { self.new ≡ keeps self.old (record (self.old.front) { bytes = argument }) }
     {
         self.panel.set_argument(argument);
     }
 
-    /// Moves the arm to the first track, as Read IPL does before all else.
+    /// Moves the arm to its home cylinder and head 0 if `is_ipl` is true; else does nothing.
     fn aim(&mut self, is_ipl: bool)
         ensures { self.new ≡ aimed self.old is_ipl }
     {
@@ -182,7 +191,9 @@ impl Unit {
         }
     }
 
-    /// Begins a command, which takes no memory.
+    /// Begins a command over the arm's cylinder; a first Read IPL moves the arm to its home first.
+    ///
+    /// It takes no memory.
     fn begin(&mut self, order: Order) -> Answer
         ensures answer { result ≡ disk_machine.answer self.old order }
         ensures after { self.new ≡ started self.old order }
@@ -192,7 +203,8 @@ impl Unit {
         self.panel.begin(cylinder, order)
     }
 
-    /// 07 Seek, when its bytes are there.
+    /// Ends Seek (07): moves the arm to the track that its bytes name, or fails with command reject
+    /// if there is no such track.
     fn seek(&mut self) -> UnitStatus
         ensures status { result ≡ seek_status (seek_of self.old) }
         ensures after { self.new ≡ moved self.old (seek_of self.old) }
@@ -215,7 +227,8 @@ impl Device for Unit {
 
     ghost needs_memory = { nothing_needed };
 
-    /// A command of a disk is never refused memory.
+    /// Begins a command over the arm's cylinder, for which memory is never refused; a first Read
+    /// IPL moves the arm to its home first.
     fn command(&mut self, order: Order) -> Result<Answer, AllocError>
         ensures ready { IsOk result }
         ensures answer { IfOk result (λ answer. answer ≡ disk_machine.answer self.old order) }
@@ -224,23 +237,29 @@ impl Device for Unit {
         Ok(self.begin(order))
     }
 
+    /// Returns whether the command wants no more bytes, though it has fewer than it said.
     fn is_done(&self) -> bool {
         self.panel.is_done()
     }
 
+    /// Returns the next byte that the command gives, or zero if none is left.
     fn give(&mut self) -> u8 {
         self.panel.give()
     }
 
+    /// Appends a byte to those that the command has taken, or drops it if there is no room.
     fn take(&mut self, byte: u8) {
         self.panel.take(byte);
     }
 
+    /// Returns a number of bytes that are sure to be given or taken before the command wants no
+    /// more.
     #[tactic(auto, using(crate::proofs::Moves::done_giving, crate::proofs::Moves::done_taking))]
     fn ready(&self) -> u32 {
         self.panel.ready()
     }
 
+    /// Fills `into` with the next bytes that the command gives, and with zeros after the last.
     #[tactic(auto, using(crate::proofs::Moves::given_slice, crate::proofs::Moves::after_giving_slice))]
     fn give_bytes(&mut self, into: &mut [u8]) {
         if self.panel.has(into.len()) {
@@ -251,11 +270,15 @@ impl Device for Unit {
         }
     }
 
+    /// Appends bytes to those that the command has taken, as far as there is room, and drops the
+    /// others.
     #[tactic(auto, using(crate::proofs::Moves::after_taking_slice))]
     fn take_bytes(&mut self, from: &[u8]) {
         self.panel.take_slice(from);
     }
 
+    /// Ends the pending command, a Seek or one over the arm's cylinder, on which a write then
+    /// writes, and returns the unit status.
     fn finish(&mut self) -> UnitStatus {
         if self.panel.is_seeking() {
             return self.seek();

@@ -54,7 +54,7 @@ impl Model for Volume {
     ghost invariant = { λ v. (0 < length v.cylinders.items) × (length v.cylinders.items ≤ 808) };
 }
 
-/// Creates so many cylinders without records.
+/// Returns `count` new cylinders, numbered from 0, whose tracks have no record.
 #[tactic(auto, using(crate::proofs::Blanks::cylinders_on))]
 fn blank_cylinders_of(alloc: Global, count: u16) -> Result<Vec<Cylinder>, AllocError>
     ensures cylinders { IfOk result (λ made. made.items ≡ blank_cylinders 0 count) }
@@ -68,7 +68,7 @@ fn blank_cylinders_of(alloc: Global, count: u16) -> Result<Vec<Cylinder>, AllocE
     Ok(cylinders)
 }
 
-/// Returns the same cylinders once more.
+/// Returns copies of these cylinders.
 #[tactic(auto, using(std::proofs::lemmas::List::take_all))]
 fn copies_of(alloc: Global, cylinders: &[Cylinder]) -> Result<Vec<Cylinder>, AllocError>
     ensures { IfOk result (λ made. made.items ≡ cylinders.now) }
@@ -81,7 +81,7 @@ fn copies_of(alloc: Global, cylinders: &[Cylinder]) -> Result<Vec<Cylinder>, All
     Ok(copies)
 }
 
-/// Puts these cylinders in the place of as many, from this one on.
+/// Replaces as many cylinders as `part` has, from index `start` on, by those of `part`.
 #[tactic(auto, using(crate::proofs::PutBack::put_one, crate::proofs::PutBack::put_none))]
 fn put_cylinders(cylinders: &mut [Cylinder], start: usize, part: Vec<Cylinder>)
     requires { start + length part.items ≤ length cylinders.old }
@@ -99,8 +99,8 @@ impl Volume {
     ghost use Rattle.std.specs.Borrow.{sem};
     ghost use Rattle.ckd_volume.specs.LendingVolume.{LendsTrackOf, LendsCylinder};
 
-    /// Returns a volume with so many cylinders, whose tracks have no record; their home addresses
-    /// are 00, cylinder and head.
+    /// Returns a new volume with so many cylinders, whose tracks have no record and the usual home
+    /// addresses: 00, cylinder and head.
     ///
     /// # Errors
     ///
@@ -121,7 +121,7 @@ impl Volume {
         }
     }
 
-    /// Returns a volume of its own, with the same serial number and `count` of the cylinders, from
+    /// Returns a new volume with the same serial number and copies of `count` cylinders from
     /// `start` on.
     ///
     /// # Errors
@@ -143,8 +143,10 @@ impl Volume {
         })
     }
 
-    /// Puts the cylinders of another volume in the place of as many of its own, from `start` on;
-    /// the others stay. It takes no memory.
+    /// Replaces as many cylinders as `part` has, from `start` on, by those of `part`; the others
+    /// stay.
+    ///
+    /// It takes no memory.
     pub fn put_back(&mut self, start: usize, part: Volume)
         requires { start + length part.cylinders ≤ length self.old.cylinders }
         ensures { self.new
@@ -156,7 +158,7 @@ impl Volume {
         put_cylinders(&mut self.cylinders, start, part.cylinders);
     }
 
-    /// Returns the serial number, in ASCII, with blanks after it.
+    /// Returns the serial number, in ASCII with blanks at its end.
     pub fn volser(&self) -> [u8; 6]
         ensures { result ≡ self.now.volser }
     {
@@ -168,7 +170,7 @@ impl Volume {
         *volser
     }
 
-    /// Returns how many cylinders it has.
+    /// Returns how many cylinders the volume has.
     pub fn count(&self) -> usize
         ensures count { result ≡ length self.now.cylinders }
         ensures some { 0 < result }
@@ -177,7 +179,7 @@ impl Volume {
         self.cylinders.len()
     }
 
-    /// Returns a cylinder.
+    /// Borrows the cylinder with this number.
     pub fn cylinder(&self, number: usize) -> &Cylinder
         requires { number < length self.now.cylinders }
         ensures { result.now ≡ slice_index_or self.now.cylinders number [] }
@@ -185,7 +187,7 @@ impl Volume {
         &self.cylinders[number]
     }
 
-    /// Borrows a cylinder, to be written.
+    /// Borrows the cylinder with this number for writing.
     pub(crate) fn cylinder_mut(&mut self, number: usize) -> &mut Cylinder
         requires { number < length self.old.cylinders }
         ensures* writes_back { sem 𝓛 (LendsCylinder self.entry number result) }
@@ -194,7 +196,7 @@ impl Volume {
         &mut self.cylinders[number]
     }
 
-    /// Borrows a track, to be written, if the volume has it; the others stay.
+    /// Borrows a track for writing, or returns `None` if the volume does not have it.
     pub fn track_mut(&mut self, cylinder: usize, head: usize) -> Option<&mut Track>
         ensures* writes_back { sem 𝓛 (LendsTrackOf self.entry cylinder head result) }
         ensures some { IsSome result ↔ ((cylinder < length self.old.cylinders) × (head < 19)) }

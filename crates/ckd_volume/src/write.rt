@@ -15,7 +15,7 @@ use crate::parts::{Orientation, PendingCommand, WriteAccess};
 use crate::read::exception;
 use s370_walk::{Answer, UnitStatus};
 
-/// Cuts bytes to this length, or puts zeros after them.
+/// Makes a list of bytes `count` long: cuts it, or appends zeros, for which there has to be room.
 #[tactic(auto, using(crate::proofs::Ends::zero_on, crate::proofs::Ends::padded_long))]
 fn pad(bytes: &mut Vec<u8>, count: usize)
     requires { count ≤ vec_capacity bytes.old }
@@ -33,7 +33,8 @@ fn pad(bytes: &mut Vec<u8>, count: usize)
 }
 
 impl ControlUnit {
-    /// Returns whether the file mask, or the command before, forbids a write.
+    /// Returns whether the file mask or the right to write forbids the write command with this
+    /// code.
     fn is_barred(&self, right: WriteAccess, code: u8) -> bool
         ensures { result ≡ (table.mask_bars self.now.mask code || not (table.grants right code)) }
     {
@@ -50,7 +51,11 @@ impl ControlUnit {
         }
     }
 
-    /// 05 Write Data begins.
+    /// Begins Write Data (05) over record `i`: moves past it and takes as many bytes as its data
+    /// have, or refuses the command.
+    ///
+    /// It is refused on a read-only disk, if the mask or the right to write forbids it, without
+    /// such a record, and for a record without data.
     pub(crate) fn begin_write_data(
         &mut self,
         right: WriteAccess,
@@ -81,7 +86,11 @@ impl ControlUnit {
         self.take_for(count as u32, PendingCommand::WriteData(i))
     }
 
-    /// 0D Write Key and Data begins.
+    /// Begins Write Key and Data (0D) over record `i`: moves past it and takes as many bytes as
+    /// both have, or refuses the command.
+    ///
+    /// It is refused on a read-only disk, if the mask or the right to write forbids it, without
+    /// such a record, and for a record with neither.
     pub(crate) fn begin_write_both(
         &mut self,
         right: WriteAccess,
@@ -114,7 +123,8 @@ impl ControlUnit {
         self.take_for(count as u32, PendingCommand::WriteBoth(i))
     }
 
-    /// 1D Write Count, Key and Data begins.
+    /// Begins Write Count, Key and Data (1D) after the first `i` records, or refuses it on a
+    /// read-only disk or if mask or right forbids it.
     pub(crate) fn begin_write_record(&mut self, right: WriteAccess, i: usize) -> Answer
         ensures answer { result ≡
             (table.if_writes self.old right 29 (table.whole_written self.old i)).answer }
@@ -130,7 +140,8 @@ impl ControlUnit {
         self.take_for(LONGEST as u32, PendingCommand::WriteRecord(i))
     }
 
-    /// 05 Write Data, when its bytes are there.
+    /// Ends Write Data (05): overwrites the data of record `i` with the bytes that it took, and
+    /// with zeros for missing ones; fails without such a record.
     pub(crate) fn end_write_data(&mut self, cylinder: &mut Cylinder, i: usize) -> UnitStatus
         ensures status { result ≡
             (table.data_ended self.old (front.track_at cylinder.old self.old.head) i
@@ -152,7 +163,8 @@ impl ControlUnit {
         self.end(UnitStatus::NONE)
     }
 
-    /// 0D Write Key and Data, when its bytes are there.
+    /// Ends Write Key and Data (0D): overwrites both of record `i` with the bytes that it took, and
+    /// with zeros for missing ones; fails without such a record.
     pub(crate) fn end_write_both(&mut self, cylinder: &mut Cylinder, i: usize) -> UnitStatus
         ensures status { result ≡
             (table.both_ended self.old (front.track_at cylinder.old self.old.head) i
@@ -177,7 +189,7 @@ impl ControlUnit {
         self.end(status)
     }
 
-    /// Returns whether a Write Count, Key and Data has all that its first eight bytes say.
+    /// Returns whether a Write Count, Key and Data has all the bytes that its first eight announce.
     pub(crate) fn is_whole(&self) -> bool
         ensures { result ≡ table.is_whole self.now.bytes }
     {
@@ -188,7 +200,8 @@ impl ControlUnit {
         8 + usize::from(self.bytes[5]) + content <= self.bytes.len()
     }
 
-    /// 1D Write Count, Key and Data, when its bytes are there.
+    /// Ends Write Count, Key and Data (1D): erases all records after the first `i` and writes this
+    /// one, with zeros for missing bytes; fails if the count is short or the track is full.
     #[tactic(auto, using(crate::proofs::Ends::set_own))]
     pub(crate) fn end_write_record(&mut self, cylinder: &mut Cylinder, i: usize) -> UnitStatus
         ensures status { result ≡
@@ -220,7 +233,8 @@ impl ControlUnit {
         }
     }
 
-    /// Ends a command that wrote a whole record before this place.
+    /// Ends a command that wrote a whole record: moves to the gap before record `next`, and gives
+    /// the right to write further records.
     fn end_written(&mut self, next: usize) -> UnitStatus
         requires { next ≤ 97 }
         ensures status { result ≡ begin.no_status }

@@ -79,7 +79,10 @@ pub enum CommandError {
     Operand(u64),
 }
 
-/// Returns the command that a text is.
+/// Returns the command that a text spells, or the error: an unknown command, or its first bad
+/// operand.
+///
+/// A text of blanks is the command `Nothing`.
 ///
 /// # Errors
 ///
@@ -93,14 +96,16 @@ pub fn read_command(text: &[u8]) -> Result<Command<'_>, CommandError>
     read_named(name, operands)
 }
 
-/// States that a text is read as the command that its words spell, and that another text is
-/// reported by its first word, if no command has it, or by the first word at which no command goes
-/// on.
+/// Proves that a text is read as the command that its words spell, or else reported by its first
+/// bad word; it has no effect.
+///
+/// It is the first word if no command has it, or else the first word at which no command goes on.
 pub fn reads_grammar()
     ensures { ReadsGrammar }
 {}
 
-/// Returns the command of a name, with its operands.
+/// Returns the command with this name and these operands, or the error of an unknown name or bad
+/// operand.
 fn read_named<'a>(name: &[u8], operands: &'a [u8]) -> Result<Command<'a>, CommandError>
     ensures { result ≡ command_named name.now (words_of operands.now) (message_text operands.now) }
 {
@@ -123,7 +128,8 @@ fn read_named<'a>(name: &[u8], operands: &'a [u8]) -> Result<Command<'a>, Comman
     }
 }
 
-/// Reads `BEGIN`, which may name an address.
+/// Returns the command `BEGIN`, with the address that the operands may name, or the first bad
+/// operand.
 fn read_begin(operands: &[u8]) -> Result<Command<'_>, CommandError>
     ensures { result ≡ begin_of (words_of operands.now) }
 {
@@ -134,7 +140,7 @@ fn read_begin(operands: &[u8]) -> Result<Command<'_>, CommandError>
     ended(2, Command::Begin(Some(address)), rest)
 }
 
-/// Reads `SYSTEM RESET`.
+/// Returns the command `SYSTEM RESET`, or its first bad operand.
 fn read_system(operands: &[u8]) -> Result<Command<'_>, CommandError>
     ensures { result ≡ system_of (words_of operands.now) }
 {
@@ -145,7 +151,7 @@ fn read_system(operands: &[u8]) -> Result<Command<'_>, CommandError>
     ended(2, Command::SystemReset, rest)
 }
 
-/// Reads `DISPLAY` and a place.
+/// Returns the command `DISPLAY` of the item that the operand names, or its first bad operand.
 fn read_display(operands: &[u8]) -> Result<Command<'_>, CommandError>
     ensures { result ≡ display_of (words_of operands.now) }
 {
@@ -154,7 +160,9 @@ fn read_display(operands: &[u8]) -> Result<Command<'_>, CommandError>
     ended(2, Command::Display(place), rest)
 }
 
-/// Reads `STORE`, a place and what it is given.
+/// Returns the command `STORE` of an item and its new contents, or its first bad operand.
+///
+/// Control registers and keys cannot be stored.
 fn read_store(operands: &[u8]) -> Result<Command<'_>, CommandError>
     ensures { result ≡ store_of (words_of operands.now) }
 {
@@ -168,7 +176,7 @@ fn read_store(operands: &[u8]) -> Result<Command<'_>, CommandError>
     }
 }
 
-/// Returns the two halves that the PSW is given.
+/// Returns the command `STORE PSW` with the two words of the new PSW, or its first bad operand.
 fn read_psw(operands: &[u8]) -> Result<Command<'_>, CommandError>
     ensures { result ≡ change_of DisplayItem.Psw (words_of operands.now) }
 {
@@ -180,7 +188,8 @@ fn read_psw(operands: &[u8]) -> Result<Command<'_>, CommandError>
     ended(4, Command::Store(Change::Psw(psw)), rest)
 }
 
-/// Returns the contents that a register is given.
+/// Returns the command `STORE` of a general register and its new contents, or its first bad
+/// operand.
 fn read_general(register: Register, operands: &[u8]) -> Result<Command<'_>, CommandError>
     ensures { result ≡ change_of (DisplayItem.General register) (words_of operands.now) }
 {
@@ -189,7 +198,7 @@ fn read_general(register: Register, operands: &[u8]) -> Result<Command<'_>, Comm
     ended(3, Command::Store(Change::General(register, contents)), rest)
 }
 
-/// Returns the bytes that storage is given from an address on.
+/// Returns the command `STORE` of bytes from an address on, or its first bad operand.
 fn read_storage(address: Addr24, operands: &[u8]) -> Result<Command<'_>, CommandError>
     ensures { result ≡ change_of (DisplayItem.Storage address) (words_of operands.now) }
 {
@@ -198,7 +207,8 @@ fn read_storage(address: Addr24, operands: &[u8]) -> Result<Command<'_>, Command
     ended(3, Command::Store(Change::Storage(address, bytes)), rest)
 }
 
-/// Returns what is displayed or changed: `PSW`, a register, a key or storage.
+/// Returns the item that a word names, `PSW`, a register, a key or storage, or `None` if it names
+/// none.
 fn place_of(word: &[u8]) -> Option<DisplayItem>
     ensures { result ≡ place_of word.now }
 {

@@ -14,7 +14,8 @@ pub struct ConsoleLine {
 }
 
 impl ConsoleLine {
-    /// Returns a line of these characters, of which at most [`MOST_CHARACTERS`] are taken.
+    /// Returns a line of the first [`MOST_CHARACTERS`] of these characters, or all if there are
+    /// fewer.
     pub fn of(text: &[u8]) -> ConsoleLine
         ensures { characters_of result ≡ take 144 text.now }
     {
@@ -27,7 +28,7 @@ impl ConsoleLine {
         }
     }
 
-    /// Returns the characters of the line.
+    /// Borrows the characters of the line.
     pub fn as_slice(&self) -> &[u8]
         ensures characters { result.now ≡ characters_of self.now }
         ensures short { length result.now ≤ 144 }

@@ -29,7 +29,8 @@ pub enum DeviceCommand<'a> {
     Message(LinePart<'a>, LinePart<'a>),
 }
 
-/// Returns the command of a name that no command of a machine has, with its operands.
+/// Returns the command `IPL`, `QUERY`, `SPOOL`, `CLOSE`, `PURGE` or `MSG`, or the error of another
+/// name or a bad operand.
 pub(crate) fn read_device_named<'a>(
     name: &[u8],
     operands: &'a [u8],
@@ -54,7 +55,7 @@ pub(crate) fn read_device_named<'a>(
     }
 }
 
-/// Reads `IPL` and a device.
+/// Returns the command `IPL` of a device, or its first bad operand.
 fn read_ipl(operands: &[u8]) -> Result<Command<'_>, CommandError>
     ensures { result ≡ ipl_of (words_of operands.now) }
 {
@@ -63,7 +64,7 @@ fn read_ipl(operands: &[u8]) -> Result<Command<'_>, CommandError>
     ended(2, Command::Ipl(device), rest)
 }
 
-/// Reads `QUERY FILES` or `QUERY USERS`.
+/// Returns the command `QUERY FILES` or `QUERY USERS`, or its first bad operand.
 fn read_query(operands: &[u8]) -> Result<Command<'_>, CommandError>
     ensures { result ≡ query_of (words_of operands.now) }
 {
@@ -77,7 +78,7 @@ fn read_query(operands: &[u8]) -> Result<Command<'_>, CommandError>
     }
 }
 
-/// Reads `SPOOL`, a device, `TO` and a name.
+/// Returns the command `SPOOL device TO name`, or its first bad operand.
 fn read_spool(operands: &[u8]) -> Result<Command<'_>, CommandError>
     ensures { result ≡ spool_of (words_of operands.now) }
 {
@@ -92,7 +93,7 @@ fn read_spool(operands: &[u8]) -> Result<Command<'_>, CommandError>
     ended(4, Command::Device(spool), rest)
 }
 
-/// Reads `CLOSE` and a device.
+/// Returns the command `CLOSE` of a device, or its first bad operand.
 fn read_close(operands: &[u8]) -> Result<Command<'_>, CommandError>
     ensures { result ≡ close_of (words_of operands.now) }
 {
@@ -101,7 +102,7 @@ fn read_close(operands: &[u8]) -> Result<Command<'_>, CommandError>
     ended(2, Command::Device(DeviceCommand::Close(device)), rest)
 }
 
-/// Reads `PURGE` and the number of a file.
+/// Returns the command `PURGE` of a file's number, or its first bad operand.
 fn read_purge(operands: &[u8]) -> Result<Command<'_>, CommandError>
     ensures { result ≡ purge_of (words_of operands.now) }
 {
@@ -110,7 +111,8 @@ fn read_purge(operands: &[u8]) -> Result<Command<'_>, CommandError>
     ended(2, Command::Device(DeviceCommand::Purge(file)), rest)
 }
 
-/// Reads `MSG`, a name and a text, which is the rest of the line with its blanks.
+/// Returns the command `MSG` with a name and the rest of the line as its text, or its first missing
+/// operand.
 fn read_message(operands: &[u8]) -> Result<Command<'_>, CommandError>
     ensures { result ≡ message_of (words_of operands.now) (message_text operands.now) }
 {

@@ -27,7 +27,7 @@ impl<'a> LinePart<'a> {
         LinePart { characters }
     }
 
-    /// Returns the characters of the part.
+    /// Borrows the characters of the part.
     pub fn as_slice(&self) -> &'a [u8]
         ensures { result.now ≡ self.now }
     {
@@ -40,6 +40,7 @@ impl<'a> PartialEq for LinePart<'a> {
 
     ghost laws = { partial_equiv_from_equiv nat_list_eq_equiv };
 
+    /// Returns whether two parts have the same characters.
     fn eq(&self, other: &Self) -> bool {
         self.characters == other.characters
     }

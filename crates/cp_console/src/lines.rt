@@ -28,7 +28,8 @@ impl Model for ConsoleText {
 }
 
 impl ConsoleText {
-    /// Returns the line that these characters are taken as.
+    /// Returns a line of at most the first [`LINE_LENGTH`] characters, with a blank for each that
+    /// EBCDIC does not have.
     pub fn new(typed: &[u8]) -> ConsoleText
         ensures { result ≡ cleaned typed.now }
     {
@@ -41,7 +42,7 @@ impl ConsoleText {
         ConsoleText { characters, count }
     }
 
-    /// Returns the characters of the line.
+    /// Borrows the characters of the line.
     pub fn as_slice(&self) -> &[u8]
         ensures value { result.now ≡ self.now }
         ensures bound { length result.now ≤ LINE_LENGTH }
@@ -50,7 +51,7 @@ impl ConsoleText {
     }
 }
 
-/// Returns the characters of a line that are taken.
+/// Returns the first [`LINE_LENGTH`] characters of a line, or all if there are fewer.
 fn first_characters(typed: &[u8]) -> &[u8]
     ensures value { result.now ≡ take 130 typed.now }
     ensures bound { length result.now ≤ 130 }
@@ -80,7 +81,9 @@ pub enum Asked<'a> {
     Plain(&'a [u8]),
 }
 
-/// Returns what a line asks for, by its first word. The line is one that was cut and cleaned.
+/// Returns whether a line is `#CP` only (a stop), `#CP` and a command, or a plain line.
+///
+/// The line is one that was cut and cleaned.
 pub fn asked_of(line: &[u8]) -> Asked<'_>
     ensures { asked result ≡ asked_of line.now }
 {

@@ -34,7 +34,7 @@ impl Model for StoredBytes {
 }
 
 impl StoredBytes {
-    /// Creates a buffer of no bytes.
+    /// Returns a buffer of no bytes, which has room for sixteen.
     fn new() -> StoredBytes
         ensures { result ≡ [] }
     {
@@ -44,7 +44,7 @@ impl StoredBytes {
         }
     }
 
-    /// Returns these bytes and one more, at the end.
+    /// Returns these bytes with one more at their end; there have to be fewer than sixteen.
     fn with(self, byte: u8) -> StoredBytes
         requires { length self < 16 }
         ensures { result ≡ self ++ byte ∷ [] }
@@ -57,7 +57,7 @@ impl StoredBytes {
         }
     }
 
-    /// Returns the bytes in the order in which they are stored.
+    /// Borrows the bytes in the order in which they are stored.
     pub fn as_slice(&self) -> &[u8]
         ensures value { result.now ≡ self.now }
         ensures bound { length result.now ≤ 16 }
@@ -66,21 +66,24 @@ impl StoredBytes {
     }
 }
 
-/// Returns an address of storage, 1 to 6 hexadecimal digits.
+/// Returns the storage address that 1 to 6 hexadecimal digits spell, or `None` if the word is
+/// anything else.
 pub fn address_of(word: &[u8]) -> Option<Addr24>
     ensures { result ≡ address_of word.now }
 {
     Addr24::new(hexadecimal_of(1, 6, word)?)
 }
 
-/// Returns the contents of a register, 8 hexadecimal digits.
+/// Returns the word of 32 bits that 8 hexadecimal digits spell, or `None` if `word` is anything
+/// else.
 pub fn contents_of(word: &[u8]) -> Option<Word>
     ensures { result ≡ contents_of word.now }
 {
     Some(Word::from_unsigned(hexadecimal_of(8, 8, word)?))
 }
 
-/// Returns the number of a register, decimal without a leading zero.
+/// Returns the register that a decimal number from 0 to 15, without a leading zero, names, or
+/// `None`.
 pub fn register_of(word: &[u8]) -> Option<Register>
     ensures { result ≡ register_of word.now }
 {
@@ -91,14 +94,18 @@ pub fn register_of(word: &[u8]) -> Option<Register>
     }
 }
 
-/// Returns the address of a device, three hexadecimal digits.
+/// Returns the device address that three hexadecimal digits spell, or `None` if the word is
+/// anything else.
 pub fn device_of(word: &[u8]) -> Option<DevAddr>
     ensures { result ≡ device_of word.now }
 {
     Some(DevAddr::new(hexadecimal_of(3, 3, word)? as u16))
 }
 
-/// Returns the number of a file, decimal with any leading zeros.
+/// Returns the file number that decimal digits spell, or `None` if there is none or it exceeds 64
+/// bits.
+///
+/// Leading zeros are allowed.
 #[tactic(auto, using(crate::proofs::FileNumbers::fits))]
 pub fn file_of(word: &[u8]) -> Option<u64>
     ensures { result ≡ file_of word.now }
@@ -113,7 +120,8 @@ pub fn file_of(word: &[u8]) -> Option<u64>
     Some(number)
 }
 
-/// Returns the number with one more decimal digit at its right.
+/// Returns the number with one more decimal digit at its right, or `None` if it is no digit or the
+/// number exceeds 64 bits.
 fn with_digit(number: u64, digit: u8) -> Option<u64>
     ensures { result ≡ (if is_digit digit then in_64_bits (number * 10 + (digit - 48)) else None) }
 {
@@ -123,7 +131,8 @@ fn with_digit(number: u64, digit: u8) -> Option<u64>
     number.checked_mul(10)?.checked_add(u64::from(digit - b'0'))
 }
 
-/// Returns the bytes that pairs of hexadecimal digits spell.
+/// Returns the bytes that pairs of hexadecimal digits spell, at most sixteen, or `None` if a digit
+/// is bad or has no pair.
 fn bytes_spelled(word: &[u8]) -> Option<StoredBytes>
     requires { length word.now ≤ 32 }
     ensures { result ≡ bytes_spelled word.now }
@@ -137,7 +146,7 @@ fn bytes_spelled(word: &[u8]) -> Option<StoredBytes>
     if rest.is_empty() { Some(bytes) } else { None }
 }
 
-/// Returns the first two digits, and those after them.
+/// Returns the first two digits and the digits after them, or `None` if there are fewer than two.
 fn cut_pair(digits: &[u8]) -> Option<(u8, u8, &[u8])>
     ensures found { IfSome result (λ cut. digits.now ≡ cut.0 ∷ cut.1 ∷ cut.2.now) }
     ensures none { IfNone result (length digits.now < 2) }
@@ -148,7 +157,8 @@ fn cut_pair(digits: &[u8]) -> Option<(u8, u8, &[u8])>
     }
 }
 
-/// Returns the bytes to be stored, 1 to 16 of them, each of two hexadecimal digits.
+/// Returns the 1 to 16 bytes that pairs of hexadecimal digits spell, or `None` if the word is
+/// anything else.
 pub fn bytes_of(word: &[u8]) -> Option<StoredBytes>
     ensures { result ≡ bytes_of word.now }
 {
@@ -158,7 +168,7 @@ pub fn bytes_of(word: &[u8]) -> Option<StoredBytes>
     bytes_spelled(word)
 }
 
-/// Returns the byte that two hexadecimal digits spell.
+/// Returns the byte that two hexadecimal digits spell, or `None` if one is no such digit.
 fn byte_of(left: u8, right: u8) -> Option<u8>
     ensures { result ≡ byte_of left right }
 {

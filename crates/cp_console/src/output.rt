@@ -41,7 +41,7 @@ impl Model for ConsoleOutput {
 }
 
 impl ConsoleOutput {
-    /// Returns a console that has printed nothing.
+    /// Returns an output of no lines, without room for any.
     pub fn new(alloc: Global) -> ConsoleOutput
         ensures { result.lines ≡ [] }
     {
@@ -52,12 +52,12 @@ impl ConsoleOutput {
         }
     }
 
-    /// Makes room for so many lines. What is printed stays, and so does the room where memory is
-    /// refused.
+    /// Makes room for at least so many more lines by allocating memory, if there is less; the
+    /// printed lines stay.
     ///
     /// # Errors
     ///
-    /// `AllocError` if memory is refused; what this is then is not specified.
+    /// `AllocError` if memory is refused; lines and room are then not less than before.
     pub fn make_room(&mut self, lines: usize) -> Result<(), AllocError>
         ensures lines { self.new.lines ≡ self.old.lines }
         ensures ok { OnOk result (lines ≤ self.new.room) }
@@ -76,7 +76,10 @@ impl ConsoleOutput {
         Ok(())
     }
 
-    /// Prints a line where there is room. This takes no memory.
+    /// Appends a response as a printed line, and uses up the room for one line, which there has to
+    /// be.
+    ///
+    /// This takes no memory.
     pub fn print(&mut self, response: &Response)
         requires { 0 < self.old.room }
         ensures lines { self.new.lines ≡ self.old.lines ++ text_of response.now ∷ [] }
@@ -87,7 +90,7 @@ impl ConsoleOutput {
         self.room -= 1;
     }
 
-    /// Forgets the lines that were printed, and gives back their memory but for the room.
+    /// Removes all printed lines and gives back their memory; the room for further lines stays.
     pub fn forget(&mut self)
         ensures lines { self.new.lines ≡ [] }
         ensures room { self.new.room ≡ self.old.room }
@@ -98,14 +101,14 @@ impl ConsoleOutput {
         self.ends.shrink_to(self.room);
     }
 
-    /// Returns how many lines were printed.
+    /// Returns how many printed lines there are.
     pub fn len(&self) -> usize
         ensures { result ≡ length self.now.lines }
     {
         self.ends.len()
     }
 
-    /// Returns whether nothing was printed.
+    /// Returns whether there is no printed line.
     pub fn is_empty(&self) -> bool
         ensures { result ≡ (length self.now.lines == 0) }
     {
@@ -118,7 +121,7 @@ impl ConsoleOutput {
         ends.is_empty()
     }
 
-    /// Returns the text of a line that was printed.
+    /// Returns the text of the printed line at this index, if there is one.
     pub fn get(&self, line: usize) -> Option<&[u8]>
         ensures { option_map (λ text. text.now) result ≡ slice_get self.now.lines line }
     {
@@ -130,7 +133,7 @@ impl ConsoleOutput {
     }
 }
 
-/// Returns the bytes of a text from a place on to another.
+/// Returns the bytes of a text from one index to another.
 fn part_of(text: &[u8], start: usize, end: usize) -> &[u8]
     requires start { start ≤ end }
     requires end { end ≤ length text.now }
@@ -139,7 +142,7 @@ fn part_of(text: &[u8], start: usize, end: usize) -> &[u8]
     &text[start..end]
 }
 
-/// Returns where a line starts: where the one before it ends.
+/// Returns the index at which a line starts, which is where the line before it ends.
 fn start_of(ends: &[usize], line: usize) -> usize
     requires { line < length ends.now }
     ensures { result ≡ slice_index_or (0 ∷ ends.now) line 0 }
@@ -151,7 +154,8 @@ fn start_of(ends: &[usize], line: usize) -> usize
 }
 
 impl ConsoleOutput {
-    /// Appends the lines that were printed.
+    /// Appends the printed lines to `out`, each after a byte of 1 and its length, and then a byte
+    /// of 0.
     ///
     /// # Errors
     ///
@@ -169,7 +173,10 @@ impl ConsoleOutput {
         put_zero(out)
     }
 
-    /// Takes the lines that are next, after those that were printed.
+    /// Takes lines from `input` and appends them to the printed lines, or returns `None` if the
+    /// input is bad or memory is refused, perhaps after appending some.
+    ///
+    /// After a line was appended, there is no room for others.
     pub fn restore(&mut self, input: &mut Input<'_>) -> Option<()> {
         for _ in 0..u64::MAX {
             if !input.flag()? {
@@ -181,7 +188,7 @@ impl ConsoleOutput {
         Some(())
     }
 
-    /// Adds a line, which takes memory, and leaves no room for others.
+    /// Appends a printed line, which takes memory, and leaves no room for others.
     fn add_line(&mut self, text: &[u8]) -> Result<(), AllocError> {
         self.ends.reserve(1)?;
         self.room = 0;

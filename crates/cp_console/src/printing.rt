@@ -7,7 +7,7 @@ use crate::responses::Response;
 use crate::texts::add_text;
 use std::alloc::{AllocError, Global};
 
-/// Returns the text of a response, without the end of a line. Only lack of memory is an error.
+/// Returns the text of a response in a new vector, without the end of a line.
 ///
 /// # Errors
 ///
@@ -21,8 +21,8 @@ pub fn reply(alloc: Global, response: &Response) -> Result<Vec<u8>, AllocError>
     Ok(text)
 }
 
-/// Returns the line that reports a file: its number, who sent it, and how many cards it has. Only
-/// lack of memory is an error.
+/// Returns the line that reports a file, with its number, its sender and its number of cards, in a
+/// new vector.
 ///
 /// ```text
 /// let line = file_line(alloc, 1, b"A", 3)?; // b"FILE 0001 FROM A CARDS 3"
@@ -46,15 +46,14 @@ pub fn file_line(
     Ok(line)
 }
 
-/// Returns a file's number in at least four digits, before the name of its sender.
+/// Returns the front of a file's line: `FILE`, its number in at least four digits, and `FROM`.
 fn file_start(alloc: Global, file: u64) -> Result<String, AllocError>
     ensures { IfOk result (λ text. string_bytes text ≡ file_start file) }
 {
     format!(in alloc; "FILE {file:04} FROM ")
 }
 
-/// Returns the line in which a user reads what another one says. Only lack of memory is an
-/// error.
+/// Returns the line in which a user reads a message, with its sender and its text, in a new vector.
 ///
 /// ```text
 /// let line = message_line(alloc, b"A", b"HELLO")?; // b"MSG FROM A: HELLO"

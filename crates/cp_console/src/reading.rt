@@ -6,7 +6,7 @@ ghost use Rattle.text_words.specs.Words.{after_first_word, words_of};
 use crate::commands::{Command, CommandError};
 use text_words::words::next_word;
 
-/// Returns the command, where no operand is left; a surplus one is reported by its place.
+/// Returns the command if no operand is left, or else the error of a bad operand at this place.
 pub(crate) fn ended<'a>(
     place: u64,
     command: Command<'a>,
@@ -20,7 +20,8 @@ pub(crate) fn ended<'a>(
     }
 }
 
-/// Returns the operand at this place, and what follows it; a missing one is reported by its place.
+/// Returns the next operand and what follows it, or the error of a bad operand at this place if
+/// none is left.
 pub(crate) fn operand(place: u64, operands: &[u8]) -> Result<(&[u8], &[u8]), CommandError>
     ensures words { MatchResult result
         (λ cut. words_of operands.now ≡ cut.0.now ∷ words_of cut.1.now)

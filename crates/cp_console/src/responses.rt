@@ -74,7 +74,7 @@ pub enum Response {
 }
 
 impl Response {
-    /// Returns whether the console keeps the response among its output.
+    /// Returns whether a response is one that a machine's console prints and keeps in its output.
     pub fn is_panel(&self) -> bool
         ensures { result ≡ is_panel self.now }
     {

@@ -10,7 +10,7 @@ use byteorder::{BigEndian, ByteOrder};
 use itoa::Buffer;
 use s370_num::{Addr24, Register, StorageKey, Word};
 
-/// Adds the text of a response, which has at most 144 characters.
+/// Appends the text of a response, at most 144 characters, to `text`, which has room for it.
 pub(crate) fn add_text(text: &mut Vec<u8>, response: &Response)
     requires { vec_len text.old + 144 ≤ vec_capacity text.old }
     ensures items { text.new.items ≡ text.old.items ++ text_of response.now }
@@ -52,7 +52,7 @@ pub(crate) fn add_text(text: &mut Vec<u8>, response: &Response)
     }
 }
 
-/// Adds bytes for which there is room.
+/// Appends bytes to `text`, which has room for them.
 fn add(text: &mut Vec<u8>, bytes: &[u8])
     requires { vec_len text.old + length bytes.now ≤ vec_capacity text.old }
     ensures items { text.new.items ≡ text.old.items ++ bytes.now }
@@ -66,7 +66,7 @@ fn add(text: &mut Vec<u8>, bytes: &[u8])
     }
 }
 
-/// Adds a number after a word.
+/// Appends a text and then a number in decimal to `text`, which has room for them.
 fn add_counted(text: &mut Vec<u8>, word: &[u8], number: u64)
     requires { vec_len text.old + (length word.now + 20) ≤ vec_capacity text.old }
     ensures items { text.new.items ≡ text.old.items ++ (word.now ++ decimal number) }
@@ -78,7 +78,7 @@ fn add_counted(text: &mut Vec<u8>, word: &[u8], number: u64)
     add(text, digits.format(number).as_bytes());
 }
 
-/// Adds `PSW` and its two words.
+/// Appends `PSW` and its two words in hexadecimal to `text`, which has room for them.
 #[tactic(auto, using(crate::proofs::Joined::four))]
 fn add_psw(text: &mut Vec<u8>, psw: u64)
     requires { vec_len text.old + 21 ≤ vec_capacity text.old }
@@ -92,7 +92,7 @@ fn add_psw(text: &mut Vec<u8>, psw: u64)
     add_word(text, (psw % 0x1_0000_0000) as u32);
 }
 
-/// Adds a general register's number and contents.
+/// Appends `GPR`, a general register's number and its contents to `text`, which has room for them.
 fn add_general(text: &mut Vec<u8>, register: Register, contents: Word)
     requires { vec_len text.old + 35 ≤ vec_capacity text.old }
     ensures items { text.new.items ≡ text.old.items ++ general_text register contents }
@@ -104,7 +104,7 @@ fn add_general(text: &mut Vec<u8>, register: Register, contents: Word)
     add_word(text, contents.unsigned());
 }
 
-/// Adds a control register's number and contents.
+/// Appends `CR`, a control register's number and its contents to `text`, which has room for them.
 fn add_control(text: &mut Vec<u8>, register: Register, contents: Word)
     requires { vec_len text.old + 34 ≤ vec_capacity text.old }
     ensures items { text.new.items ≡ text.old.items ++ control_text register contents }
@@ -116,7 +116,8 @@ fn add_control(text: &mut Vec<u8>, register: Register, contents: Word)
     add_word(text, contents.unsigned());
 }
 
-/// Adds the address of a block of storage, and its key.
+/// Appends `KEY`, the address of the block around `address`, and its key to `text`, which has room
+/// for them.
 fn add_key(text: &mut Vec<u8>, address: Addr24, key: StorageKey)
     requires { vec_len text.old + 15 ≤ vec_capacity text.old }
     ensures items { text.new.items ≡ text.old.items ++ key_text address key }
@@ -129,7 +130,8 @@ fn add_key(text: &mut Vec<u8>, address: Addr24, key: StorageKey)
     add(text, &byte_digits(key.get() * 8));
 }
 
-/// Adds the address of a line of storage, and its four words.
+/// Appends the multiple of 16 at or below `address`, and four words, to `text`, which has room for
+/// them.
 fn add_storage(text: &mut Vec<u8>, address: Addr24, bytes: &[u8; 16])
     requires { vec_len text.old + 42 ≤ vec_capacity text.old }
     ensures items { text.new.items ≡ text.old.items ++ storage_text address bytes.now }
@@ -147,7 +149,7 @@ fn add_storage(text: &mut Vec<u8>, address: Addr24, bytes: &[u8; 16])
     add_word(text, word_at(bytes, 12));
 }
 
-/// Returns the word that four bytes are.
+/// Returns the word that four bytes from index `at` on are.
 fn word_at(bytes: &[u8; 16], at: usize) -> u32
     requires { at + 4 ≤ 16 }
     ensures { result ≡ word_at bytes.now at }
@@ -155,7 +157,8 @@ fn word_at(bytes: &[u8; 16], at: usize) -> u32
     BigEndian::read_u32(&bytes[at..at + 4])
 }
 
-/// Adds the file that was closed, by its number in at least four digits.
+/// Appends `FILE`, a file's number in at least four digits and `CLOSED` to `text`, which has room
+/// for them.
 fn add_closed(text: &mut Vec<u8>, file: u64)
     requires { vec_len text.old + 36 ≤ vec_capacity text.old }
     ensures items { text.new.items ≡ text.old.items ++ closed_text file }
@@ -171,7 +174,7 @@ fn add_closed(text: &mut Vec<u8>, file: u64)
     add(text, b" CLOSED");
 }
 
-/// Adds the eight digits of a word.
+/// Appends the eight hexadecimal digits of a word to `text`, which has room for them.
 #[tactic(auto, using(crate::proofs::Joined::four))]
 fn add_word(text: &mut Vec<u8>, word: u32)
     requires { vec_len text.old + 8 ≤ vec_capacity text.old }
@@ -185,7 +188,7 @@ fn add_word(text: &mut Vec<u8>, word: u32)
     add(text, &byte_digits((word % 0x100) as u8));
 }
 
-/// Adds the six digits of an address.
+/// Appends the six hexadecimal digits of an address to `text`, which has room for them.
 #[tactic(auto, using(crate::proofs::Joined::three))]
 fn add_address(text: &mut Vec<u8>, address: u32)
     requires small { address < 2 ^ 24 }
@@ -199,14 +202,14 @@ fn add_address(text: &mut Vec<u8>, address: u32)
     add(text, &byte_digits((address % 0x100) as u8));
 }
 
-/// Returns the two digits of a byte.
+/// Returns the two hexadecimal digits of a byte.
 fn byte_digits(byte: u8) -> [u8; 2]
     ensures { result ≡ two_digits byte }
 {
     [digit(byte / 16), digit(byte % 16)]
 }
 
-/// Returns a hexadecimal digit.
+/// Returns the hexadecimal digit of a value below sixteen.
 fn digit(value: u8) -> u8
     requires { value < 16 }
     ensures { result ≡ digit_of value }

@@ -23,7 +23,8 @@ use s370_store::{FramesOut, Supply};
 use std::alloc::AllocError;
 
 impl Machine {
-    /// Does BEGIN: the machine runs, and the room for the notice of its stop is made.
+    /// Does BEGIN: makes room for the notice of a stop, sets the instruction address if one is
+    /// given, and sets the mode to running.
     pub(crate) fn begin(&mut self, address: Option<Addr24>) -> Result<(), AllocError>
         ensures ok { (m : Memory)
             → OnOk result (line (lines.Begin address) (machine_of self.old m)
@@ -41,11 +42,12 @@ impl Machine {
         Ok(())
     }
 
-    /// Does SYSTEM RESET: general registers, storage, keys and what was printed stay.
+    /// Does SYSTEM RESET: resets the machine and prints a response; general registers, storage,
+    /// keys and printed lines stay.
     ///
     /// # Errors
     ///
-    /// `AllocError` if memory is refused; what this is then is not specified.
+    /// `AllocError` if memory is refused; the machine is then as it was.
     pub fn system_reset(&mut self) -> Result<(), AllocError>
         ensures ok { (m : Memory)
             → OnOk result (machine_of self.new m
@@ -61,7 +63,7 @@ impl Machine {
         Ok(())
     }
 
-    /// Does EXTERNAL: the interrupt key is pressed.
+    /// Does EXTERNAL: makes the condition of the interrupt key pending.
     pub(crate) fn external(&mut self)
         ensures { (m : Memory)
             → line lines.External (machine_of self.old m)
@@ -70,7 +72,10 @@ impl Machine {
         self.pending.key = true;
     }
 
-    /// Does DISPLAY. A machine that runs keeps the room for the notice of its stop.
+    /// Does DISPLAY: prints what an item holds and returns that response; absent pages that are
+    /// shown are paged in.
+    ///
+    /// A machine that runs keeps the room for the notice of its stop.
     pub(crate) fn display<S: Supply>(
         &mut self,
         storage: &mut S,
@@ -105,7 +110,10 @@ impl Machine {
         }
     }
 
-    /// Does STORE. A machine that runs keeps the room for the notice of its stop.
+    /// Does STORE: changes an item, prints a response and returns it; absent pages that are changed
+    /// are paged in.
+    ///
+    /// A machine that runs keeps the room for the notice of its stop.
     pub(crate) fn store<S: Supply>(
         &mut self,
         storage: &mut S,
@@ -141,7 +149,7 @@ impl Machine {
     }
 }
 
-/// Returns what a place holds, after each page that is shown was brought.
+/// Returns the response with what an item holds, after paging in each absent page that is shown.
 fn display_supplied<S: Supply>(
     cpu: &Cpu,
     storage: &mut S,
@@ -167,7 +175,8 @@ fn display_supplied<S: Supply>(
     }
 }
 
-/// Changes a place as a command says, after each page that is changed was brought.
+/// Changes an item as a command says and returns the response, after paging in each absent page
+/// that is changed.
 fn change_supplied<S: Supply>(
     cpu: &mut Cpu,
     storage: &mut S,

@@ -12,7 +12,7 @@ use s370_psw::{Ilc, Psw};
 use s370_rows::Cpu;
 use s370_store::{Access, BLOCK_SIZE, Fault, Keyed, Page, Range, Storage};
 
-/// Returns what a place holds.
+/// Returns the response with what an item holds, or that its address is past storage.
 ///
 /// # Errors
 ///
@@ -42,7 +42,8 @@ pub fn display<S: Keyed>(place: DisplayItem, cpu: &Cpu, storage: &S) -> Result<R
     }
 }
 
-/// Returns the key of the block in which an address lies.
+/// Returns the response with the key of the block around an address, or that the address is past
+/// storage.
 fn display_key<S: Keyed>(address: Addr24, cpu: &Cpu, storage: &S) -> Response
     ensures { let s = state_of cpu.now (S.Storage.memory storage.now) in
         result ≡ displayed (DisplayItem.Key address) s }
@@ -53,7 +54,8 @@ fn display_key<S: Keyed>(address: Addr24, cpu: &Cpu, storage: &S) -> Response
     Response::Key(address, storage.key_of(address.get() / BLOCK_SIZE))
 }
 
-/// Returns the sixteen bytes round an address.
+/// Returns the response with the sixteen bytes around an address, or that the address is past
+/// storage.
 fn display_storage<S: Storage>(address: Addr24, cpu: &Cpu, storage: &S) -> Result<Response, Page>
     ensures { let s = state_of cpu.now (S.memory storage.now) in
         Displays (DisplayItem.Storage address) (S.present storage.now) s result }
@@ -68,7 +70,10 @@ fn display_storage<S: Storage>(address: Addr24, cpu: &Cpu, storage: &S) -> Resul
     Ok(Response::Storage(address, bytes))
 }
 
-/// Changes a place as a command says.
+/// Changes the PSW, a general register or bytes of storage as a command says, and returns the
+/// response.
+///
+/// Bytes that do not lie in storage are not stored.
 ///
 /// # Errors
 ///
@@ -92,7 +97,8 @@ pub fn change<S: Storage>(change: Change, cpu: &mut Cpu, storage: &mut S) -> Res
     }
 }
 
-/// Stores bytes from an address on, where they lie in storage.
+/// Stores bytes from an address on and returns the response, or changes nothing and returns that
+/// the address is past storage.
 fn change_storage<S: Storage>(
     address: Addr24,
     stored: StoredBytes,
@@ -118,8 +124,8 @@ fn change_storage<S: Storage>(
     Ok(Response::Stored)
 }
 
-/// Tests the access to a range that lies in storage, whatever its keys: it passes, or a page of it
-/// is not present.
+/// Returns `Ok` if the pages of a range in storage are present, whatever its keys, or else an
+/// absent page.
 fn reach<S: Storage>(storage: &S, range: Range, access: Access) -> Result<(), Page>
     requires short { range.count ≤ 256 }
     requires inside { range.start + range.count ≤ length (S.memory storage.now).bytes }

@@ -17,14 +17,15 @@ use s370_walk::Ending;
 use std::alloc::AllocError;
 
 impl Machine {
-    /// Returns the start of the channel program on which the device works, if it works.
+    /// Returns the channel address word of the program on which the device works, if it works.
     pub fn program(&self, device: DevAddr) -> Option<Caw>
         ensures { result ≡ program_of device self.now.subchannels }
     {
         self.subchannels.program(device.get())
     }
 
-    /// Ends the program of a device, which had this key: its status is pending.
+    /// Makes the channel status word of an ended program pending at its device; if there is no such
+    /// device, nothing changes.
     pub fn end_program(&mut self, device: DevAddr, key: AccessKey, ending: Ending)
         ensures { self.new ≡ record
             self.old { subchannels = program_ended device key ending self.old.subchannels } }
@@ -32,7 +33,8 @@ impl Machine {
         self.subchannels.end_program(device.get(), key, ending);
     }
 
-    /// Sets whether the device has attention to give when its program ends.
+    /// Sets whether the device has attention to give when its program ends; if there is no such
+    /// device, nothing changes.
     pub fn set_attention(&mut self, device: DevAddr, gives: bool)
         ensures { self.new ≡ record
             self.old { subchannels = with_attention device gives self.old.subchannels } }
@@ -40,8 +42,8 @@ impl Machine {
         self.subchannels.set_attention(device.get(), gives);
     }
 
-    /// Gives attention at the device: it is pending at once, unless a program of the device is
-    /// under way.
+    /// Gives the device attention, which is pending at once, or at the end of its program if it
+    /// works; if there is no such device, nothing changes.
     pub fn attend(&mut self, device: DevAddr)
         ensures { self.new ≡ record
             self.old { subchannels = attended device self.old.subchannels } }
@@ -49,11 +51,12 @@ impl Machine {
         self.subchannels.attend(device.get());
     }
 
-    /// Makes room on the console for so many lines, and for the notice of the machine's stop.
+    /// Makes room on the console for at least so many more lines and the notice of the machine's
+    /// stop.
     ///
     /// # Errors
     ///
-    /// `AllocError` if memory is refused; what this is then is not specified.
+    /// `AllocError` if memory is refused; the machine is then as it was, except perhaps for more room.
     pub fn make_room(&mut self, lines: usize) -> Result<(), AllocError>
         requires { lines ≤ 65536 }
         ensures ok { OnOk result (lines < self.new.room) }
@@ -64,8 +67,8 @@ impl Machine {
         self.output.make_room(lines + 1)
     }
 
-    /// Prints a line on the console, for which there is room next to that for the notice of the
-    /// machine's stop.
+    /// Appends a line to the console's printed lines; there has to be room for it and for the
+    /// notice of the machine's stop.
     pub fn print(&mut self, response: &Response)
         requires { 1 < self.old.room }
         ensures printed { self.new
@@ -78,7 +81,8 @@ impl Machine {
         self.output.print(response);
     }
 
-    /// Resets the machine: general registers and what was printed stay. The machine is stopped.
+    /// Stops the machine and resets PSW, control registers, pending conditions and devices; general
+    /// registers, storage and printed lines stay.
     pub fn reset(&mut self)
         ensures { self.new ≡ record self.old {
           cpu = reset_cpu self.old.cpu.general;
@@ -93,7 +97,8 @@ impl Machine {
         self.mode = Mode::Stopped;
     }
 
-    /// Starts the machine with this PSW. The notice of its stop has its room.
+    /// Sets the PSW and sets the mode to running; the console has to have room for the notice of a
+    /// stop.
     pub fn start(&mut self, psw: Psw)
         requires { 0 < self.old.room }
         ensures { self.new ≡ record

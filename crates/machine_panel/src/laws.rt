@@ -1,8 +1,8 @@
 //! Laws of a machine, as functions that promise them.
 ghost use Rattle.machine_panel.specs.Forgotten.{PrintedLinesDoNotMatter};
 
-/// States that lines that were printed before do not matter to a machine: whatever it does, it does
-/// the same without them.
+/// Proves that a machine does the same without the lines that were printed before; it has no
+/// effect.
 pub fn printed_lines_do_not_matter()
     ensures { PrintedLinesDoNotMatter }
 {}

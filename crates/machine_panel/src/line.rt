@@ -44,8 +44,8 @@ pub enum PanelLine {
 }
 
 impl Machine {
-    /// Does what a line asks of the machine alone, and returns the response, if there is one. Where
-    /// it is not obeyed nothing has happened.
+    /// Carries out what a line asks of the machine alone and returns the response, if there is one;
+    /// on an error the machine is as it was.
     ///
     /// # Errors
     ///

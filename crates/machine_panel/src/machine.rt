@@ -56,7 +56,8 @@ impl Model for Machine {
     ghost invariant = { λ m. m.mode ≡ Running → 1 ≤ m.output.room };
 }
 
-/// Returns the registers and the PSW after a reset, which leaves the general registers.
+/// Returns a processor as after a reset, with these general registers: PSW zero, and control
+/// registers zero, except that register 0 is 000000E0.
 pub(crate) fn reset_cpu(general: [u32; 16]) -> Cpu
     ensures { result ≡ reset_cpu general }
 {
@@ -70,7 +71,7 @@ pub(crate) fn reset_cpu(general: [u32; 16]) -> Cpu
 }
 
 impl Machine {
-    /// Returns a machine with these devices that is off and was never on.
+    /// Returns a machine that is off, with these devices, which are reset, and no printed line.
     pub fn new(alloc: Global, mut subchannels: Subchannels) -> Machine
         ensures machine { (m : Memory)
             → machine_of result (cleared_memory m) ≡ unused m subchannels }
@@ -85,7 +86,8 @@ impl Machine {
         }
     }
 
-    /// Does LOGON: a reset machine with zeros everywhere; what was printed stays.
+    /// Does LOGON: resets the machine, makes general registers, storage and keys zero, and sets the
+    /// mode to stopped; printed lines stay.
     pub fn clear<S: Supply>(&mut self, storage: &mut S)
         ensures machine { machine_of self.new (S.Storage.memory storage.new)
             ≡ cleared (machine_of self.old (S.Storage.memory storage.old)) }
@@ -102,7 +104,8 @@ impl Machine {
         storage.clear();
     }
 
-    /// Does LOGOFF: the machine is as after LOGON, but off.
+    /// Does LOGOFF: resets the machine, makes general registers, storage and keys zero, and sets
+    /// the mode to off; printed lines stay.
     pub fn switch_off<S: Supply>(&mut self, storage: &mut S)
         ensures machine { machine_of self.new (S.Storage.memory storage.new)
             ≡ switched_off (machine_of self.old (S.Storage.memory storage.old)) }
@@ -116,7 +119,7 @@ impl Machine {
         self.mode = Mode::Off;
     }
 
-    /// Returns the registers and the PSW.
+    /// Borrows the registers and the PSW.
     pub fn cpu(&self) -> &Cpu
         ensures { result.now ≡ self.now.cpu }
     {
@@ -130,7 +133,7 @@ impl Machine {
         self.pending
     }
 
-    /// Returns the subchannels of the devices, in the order of their addresses.
+    /// Borrows the subchannels of the devices, in the order of their addresses.
     pub fn subchannels(&self) -> &[Subchannel]
         ensures list { result.now ≡ self.now.subchannels }
         ensures order { AreAscending result.now }
@@ -138,7 +141,7 @@ impl Machine {
         self.subchannels.list()
     }
 
-    /// Returns whether the machine is on, and whether it runs.
+    /// Returns the mode of the machine: off, stopped or running.
     pub fn mode(&self) -> Mode
         ensures { result ≡ self.now.mode }
     {
@@ -154,22 +157,24 @@ impl Machine {
         *mode
     }
 
-    /// Returns how many lines the console has printed.
+    /// Returns how many printed lines the console has.
     pub fn printed(&self) -> usize
         ensures { result ≡ length self.now.output }
     {
         self.output.len()
     }
 
-    /// Returns the text of a line that the console has printed.
+    /// Returns the text of the console's printed line at this index, if there is one.
     pub fn console_output(&self, line: usize) -> Option<&[u8]>
         ensures { option_map (λ text. text.now) result ≡ slice_get self.now.output line }
     {
         self.output.get(line)
     }
 
-    /// Forgets the lines that the console has printed, and gives back their memory. Whatever the
-    /// machine does goes on as before ([`crate::printed_lines_do_not_matter`]).
+    /// Removes the console's printed lines and gives back their memory; the room for further lines
+    /// stays.
+    ///
+    /// Whatever the machine does goes on as before ([`crate::printed_lines_do_not_matter`]).
     pub fn forget_lines(&mut self)
         ensures { self.new ≡ record self.old { output = [] } }
     {

@@ -9,7 +9,8 @@ ghost use Rattle.machine_panel.specs.Ready.{does_something, has_work, is_ready};
 use crate::machine::{Machine, Mode};
 use s370_intr::{Next, Reason, look};
 
-/// Returns whether a machine does something that says this.
+/// Returns false if a run that ends for this reason only finds the machine stopped or waiting, else
+/// true.
 fn does_something(reason: Reason) -> bool
     ensures { result ≡ does_something reason }
 {
@@ -19,7 +20,8 @@ fn does_something(reason: Reason) -> bool
     }
 }
 
-/// Returns whether a running processor that does this next does something.
+/// Returns whether a running processor that does this next does something, be it only to stop the
+/// machine; false if it waits.
 fn has_work(next: Next) -> bool
     ensures { result ≡ has_work next }
 {
@@ -30,8 +32,10 @@ fn has_work(next: Next) -> bool
 }
 
 impl Machine {
-    /// Returns whether the machine is ready for a unit: it is, unless a run of one unit would say
-    /// that it waits for an interruption or is stopped. Nothing is done.
+    /// Returns whether a run of one unit would do something: the machine runs and does not wait for
+    /// an interruption.
+    ///
+    /// A machine that would stop by itself is ready. Nothing is done.
     pub fn is_ready(&self) -> bool
         ensures { (m : Memory) → result ≡ is_ready (machine_of self.now m) }
     {

@@ -19,7 +19,8 @@ pub struct MachineRan {
     pub notice: Option<Response>,
 }
 
-/// Returns the notice of a machine that stops by itself.
+/// Returns the notice that is printed when a machine stops by itself for this reason, or `None` for
+/// any other.
 #[inline]
 pub fn notice_of(reason: Reason) -> Option<Response>
     ensures { result ≡ notice_of reason }
@@ -32,7 +33,7 @@ pub fn notice_of(reason: Reason) -> Option<Response>
 }
 
 impl MachineRan {
-    /// Returns what a run says, with its notice.
+    /// Returns a run together with the notice of its reason, if there is one.
     pub fn reported(ran: Ran) -> MachineRan
         ensures ran { result.ran ≡ ran }
         ensures notice { result.notice ≡ notice_of ran.reason }
@@ -45,8 +46,10 @@ impl MachineRan {
 }
 
 impl Machine {
-    /// Lets the machine run for at most so many units. This takes no memory. What it printed, if it
-    /// stopped, is [`notice_of`] the reason: a run that goes on carries no room for it.
+    /// Runs a machine that is running for at most `count` units, and stops it with a printed notice
+    /// on a disabled wait or EC mode.
+    ///
+    /// The notice is [`notice_of`] the reason. This takes no memory.
     pub fn run<P: Processor, S: UnitSupply>(&mut self, storage: &mut S, count: u32) -> Ran
         requires large { 8192 ≤ length (S.Storage.memory storage.old).bytes }
         requires between { S.IsBetween storage.old }
@@ -88,7 +91,7 @@ impl Machine {
         ran
     }
 
-    /// Stops the machine with a notice, where there is one.
+    /// Sets the mode to stopped and prints the notice, if there is one; else does nothing.
     fn halt(&mut self, notice: Option<Response>)
         requires { 1 ≤ self.old.room }
         ensures machine { (m : Memory)

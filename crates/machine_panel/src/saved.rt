@@ -14,7 +14,7 @@ use s370_rows::Cpu;
 use saved_bytes::{Input, put_flag, put_number, put_one, put_zero};
 use std::alloc::AllocError;
 
-/// Appends registers.
+/// Appends registers to `out`, each after a byte of 1, and then a byte of 0.
 #[tactic(auto, using(saved_bytes::proofs::Codes::each_on))]
 fn put_registers(out: &mut Vec<u8>, registers: &[u32]) -> Result<(), AllocError>
     ensures { OnOk result (out.new.items ≡ out.old.items ++ each number registers.now) }
@@ -26,7 +26,7 @@ fn put_registers(out: &mut Vec<u8>, registers: &[u32]) -> Result<(), AllocError>
     put_zero(out)
 }
 
-/// Takes the registers that are next.
+/// Takes registers from `input` and returns them, or `None` if they are not sixteen or are bad.
 fn registers_of(input: &mut Input<'_>) -> Option<[u32; 16]> {
     let mut registers = [0u32; 16];
     for place in 0..16usize {
@@ -38,7 +38,7 @@ fn registers_of(input: &mut Input<'_>) -> Option<[u32; 16]> {
     if input.flag()? { None } else { Some(registers) }
 }
 
-/// Appends the masks and the key of a PSW.
+/// Appends to `out` the system mask, the key and the program mask of a PSW, as numbers.
 fn put_psw_masks(out: &mut Vec<u8>, psw: &Psw) -> Result<(), AllocError>
     ensures { OnOk result (out.new.items ≡ out.old.items ++ psw_masks_bytes psw.now) }
 {
@@ -47,7 +47,8 @@ fn put_psw_masks(out: &mut Vec<u8>, psw: &Psw) -> Result<(), AllocError>
     put_number(out, u64::from(psw.program_mask()))
 }
 
-/// Appends the bits of a PSW.
+/// Appends to `out` bits 12 to 15 of a PSW: extended control, machine check, wait and problem
+/// state.
 fn put_psw_flags(out: &mut Vec<u8>, psw: &Psw) -> Result<(), AllocError>
     ensures { OnOk result (out.new.items ≡ out.old.items ++ psw_flags_bytes psw.now) }
 {
@@ -57,7 +58,7 @@ fn put_psw_flags(out: &mut Vec<u8>, psw: &Psw) -> Result<(), AllocError>
     put_flag(out, psw.is_problem())
 }
 
-/// Appends a PSW.
+/// Appends to `out` a PSW: its masks and key, bits 12 to 15, condition code and address.
 fn put_psw(out: &mut Vec<u8>, psw: &Psw) -> Result<(), AllocError>
     ensures { OnOk result (out.new.items ≡ out.old.items ++ psw_bytes psw.now) }
 {
@@ -67,12 +68,13 @@ fn put_psw(out: &mut Vec<u8>, psw: &Psw) -> Result<(), AllocError>
     put_number(out, u64::from(psw.address().get()))
 }
 
-/// Takes a bit that is next, in its place of a word.
+/// Takes a flag from `input` and returns `bit` if it is set, or zero if not, or `None` if there is
+/// no flag.
 fn bit_of(input: &mut Input<'_>, bit: u64) -> Option<u64> {
     if input.flag()? { Some(bit) } else { Some(0) }
 }
 
-/// Takes the PSW that is next.
+/// Takes a PSW from `input` and returns it, or `None` if there is none or it is bad.
 fn psw_of(input: &mut Input<'_>) -> Option<Psw> {
     let system_mask = input.small()?;
     let key = input.small()?;
@@ -89,7 +91,7 @@ fn psw_of(input: &mut Input<'_>) -> Option<Psw> {
     Some(psw)
 }
 
-/// Appends the registers of a processor and its PSW.
+/// Appends to `out` the general registers, the control registers and the PSW of a processor.
 #[tactic(auto, unfolding(crate::specs::Saved::cpu_bytes))]
 fn put_cpu(out: &mut Vec<u8>, cpu: &Cpu) -> Result<(), AllocError>
     ensures { OnOk result (out.new.items ≡ out.old.items ++ cpu_bytes cpu.now) }
@@ -105,7 +107,7 @@ fn put_cpu(out: &mut Vec<u8>, cpu: &Cpu) -> Result<(), AllocError>
     put_psw(out, psw)
 }
 
-/// Appends the external conditions that are pending.
+/// Appends to `out` whether timer and interrupt key are pending, as two flags.
 fn put_pending(out: &mut Vec<u8>, pending: Pending) -> Result<(), AllocError>
     ensures { OnOk result (out.new.items ≡ out.old.items ++ pending_bytes pending) }
 {
@@ -115,7 +117,7 @@ fn put_pending(out: &mut Vec<u8>, pending: Pending) -> Result<(), AllocError>
     put_flag(out, key)
 }
 
-/// Returns the number of a mode.
+/// Returns the number of a mode: 0 off, 1 stopped, 2 running.
 fn number_of(mode: Mode) -> u64
     ensures { result ≡ mode_number mode }
 {
@@ -126,14 +128,14 @@ fn number_of(mode: Mode) -> u64
     }
 }
 
-/// Appends a mode.
+/// Appends the number of a mode to `out`.
 fn put_mode(out: &mut Vec<u8>, mode: Mode) -> Result<(), AllocError>
     ensures { OnOk result (out.new.items ≡ out.old.items ++ mode_bytes mode) }
 {
     put_number(out, number_of(mode))
 }
 
-/// Takes the mode that is next.
+/// Takes a mode from `input` and returns it, or `None` if there is none or it is bad.
 fn mode_of(input: &mut Input<'_>) -> Option<Mode> {
     match input.number()? {
         0 => Some(Mode::Off),
@@ -144,7 +146,8 @@ fn mode_of(input: &mut Input<'_>) -> Option<Mode> {
 }
 
 impl Machine {
-    /// Appends all that is seen of a machine but its storage.
+    /// Appends to `out` all of a machine except its storage: processor, conditions, devices, mode
+    /// and printed lines.
     ///
     /// # Errors
     ///
@@ -167,8 +170,10 @@ impl Machine {
         output.save(out)
     }
 
-    /// Restores what is next in the input, in a machine that has printed nothing. Its devices stay,
-    /// whatever comes.
+    /// Restores a machine, except its storage, from `input`, or returns `None` if that is bad or
+    /// memory is refused; the machine is then off and perhaps partly restored.
+    ///
+    /// It has printed nothing before. No device is added or removed, whatever the input has.
     pub fn restore(&mut self, input: &mut Input<'_>) -> Option<()>
         ensures { addresses self.new.subchannels ≡ addresses self.old.subchannels }
     {

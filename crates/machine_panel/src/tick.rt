@@ -10,8 +10,10 @@ use s370_intr::{Pending, tick};
 use s370_store::{FramesOut, Supply, UnitSupply};
 
 impl Machine {
-    /// Steps the interval timer of a machine that runs. If there is no room for page 0, nothing has
-    /// happened. This takes no memory.
+    /// Subtracts 256 from the interval timer of a machine that runs, which may make the timer
+    /// condition pending; page 0 is paged in for it.
+    ///
+    /// If there is no room for page 0, nothing has changed. This takes no memory.
     ///
     /// # Errors
     ///
@@ -43,8 +45,7 @@ impl Machine {
     }
 }
 
-/// Steps the interval timer of a machine that runs, with page 0, which is pinned until that is
-/// done.
+/// Steps the interval timer, for which page 0 is paged in, and then ends the hold on that page.
 fn tick_supplied<S: UnitSupply>(pending: &mut Pending, storage: &mut S) -> Result<(), FramesOut>
     requires large { 8192 ≤ length (S.Storage.memory storage.old).bytes }
     requires between { S.IsBetween storage.old }
@@ -67,7 +68,8 @@ fn tick_supplied<S: UnitSupply>(pending: &mut Pending, storage: &mut S) -> Resul
     ticked
 }
 
-/// Steps the interval timer, after page 0 was brought if it was not present.
+/// Steps the interval timer, after paging in page 0 if it is absent; if there is no room for it,
+/// nothing has changed.
 fn bring_and_tick<S: UnitSupply>(pending: &mut Pending, storage: &mut S) -> Result<(), FramesOut>
     requires { 8192 ≤ length (S.Storage.memory storage.old).bytes }
     ensures ok { OnOk result (timed (S.Storage.memory storage.new).bytes pending.new

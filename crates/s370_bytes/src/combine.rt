@@ -28,7 +28,7 @@ pub enum Combine {
 }
 
 impl Combine {
-    /// Returns the byte that is made of a byte of each operand.
+    /// Returns the byte that the operation makes of a target byte `x` and a source byte `y`.
     #[inline(always)]
     fn byte(self, x: u8, y: u8) -> u8
         ensures { result ≡ combined self x y }
@@ -44,7 +44,7 @@ impl Combine {
     }
 }
 
-/// Returns how many bytes are read before one that was made is read.
+/// Returns after how many bytes a byte that was written is read as source, or `count` if none is.
 #[inline(always)]
 pub fn lag_of(to: u32, from: u32, count: u32) -> u32
     requires { 0 < count }
@@ -59,7 +59,8 @@ pub fn lag_of(to: u32, from: u32, count: u32) -> u32
     }
 }
 
-/// Combines the bytes from left to right, each past the lag with one that was made before it.
+/// Combines `target` in place with `source`; past the first `lag` bytes, the source is the new
+/// target byte `lag` before.
 #[inline]
 fn combine_all(operation: Combine, target: &mut [u8], source: &[u8], lag: usize)
     requires same { length target.old ≡ length source.now }
@@ -78,7 +79,8 @@ fn combine_all(operation: Combine, target: &mut [u8], source: &[u8], lag: usize)
     }
 }
 
-/// Repeats the first bytes in all that follow.
+/// Overwrites each byte past the first `lag` with the byte `lag` before it, so that the front
+/// repeats.
 #[inline]
 fn repeat(bytes: &mut [u8], lag: usize)
     requires some { 0 < lag }
@@ -105,7 +107,7 @@ pub fn is_zero(bytes: &[u8]) -> bool
     true
 }
 
-/// Returns the condition code of bytes: whether one is not zero.
+/// Returns condition code 0 if all bytes are zero, else 1.
 #[inline(always)]
 fn condition_of(bytes: &[u8]) -> ConditionCode
     ensures { result ≡ zero_code (number bytes.now) }
@@ -117,7 +119,7 @@ fn condition_of(bytes: &[u8]) -> ConditionCode
     }
 }
 
-/// Sets the condition code of what was made.
+/// Sets condition code 0 or 1 by whether the result is all zero, unless the operation is a move.
 #[inline(always)]
 fn set_combined_condition(operation: Combine, cpu: &mut Cpu, made: &[u8])
     ensures { cpu.new ≡ combined_condition operation cpu.old made.now }
@@ -130,7 +132,8 @@ fn set_combined_condition(operation: Combine, cpu: &mut Cpu, made: &[u8])
     }
 }
 
-/// Combines two ranges through two buffers of their length, and answers what was made in the first.
+/// Combines two ranges of storage from left to right and stores the result, which stays in `made`;
+/// `source` is a buffer.
 #[inline(always)]
 fn combine_at<S: Storage>(
     operation: Combine,
@@ -161,7 +164,8 @@ fn combine_at<S: Storage>(
     storage.store(to, made);
 }
 
-/// Combines ranges as `combine_at` does, each in a block that was found.
+/// Combines two ranges, each in a block that `find_block` returned, and stores the result, which
+/// stays in `made`; `other` is a buffer.
 #[inline(always)]
 fn combine_in<S: Storage>(
     operation: Combine,
@@ -198,7 +202,8 @@ fn combine_in<S: Storage>(
     storage.store_in(target, to, made);
 }
 
-/// Combines as [`combine_straight`] does, through buffers.
+/// Combines two strings in blocks that `find_block` returned, through buffers, and sets the
+/// condition code unless it is a move.
 ///
 /// A short string goes through short buffers, which take no time to make.
 #[inline(never)]
@@ -264,7 +269,7 @@ fn combine_long<S: Storage>(
     }
 }
 
-/// Combines the first bytes of eight with those of another eight.
+/// Combines the first `count` bytes of `target` in place with those of `source`; the others stay.
 #[inline(always)]
 fn combine_front(operation: Combine, target: &mut [u8; 8], source: &[u8; 8], count: usize)
     requires { count ≤ 8 }
@@ -278,7 +283,7 @@ fn combine_front(operation: Combine, target: &mut [u8; 8], source: &[u8; 8], cou
     }
 }
 
-/// Sets the condition code of what was made, which are the first bytes of eight.
+/// Sets the condition code for the first `count` bytes of a result, unless the operation is a move.
 #[inline(always)]
 fn set_front_condition(operation: Combine, cpu: &mut Cpu, made: [u8; 8], count: u32)
     requires some { 0 < count }
@@ -298,8 +303,10 @@ fn set_front_condition(operation: Combine, cpu: &mut Cpu, made: [u8; 8], count: 
     }
 }
 
-/// Combines as [`combine_straight`] does, at most eight bytes, none of which is read after it was
-/// made. Eight bytes are loaded and stored, of which the others stay as they are.
+/// Combines at most eight bytes, none of which is read after it was written, and sets the condition
+/// code unless it is a move.
+///
+/// Eight bytes are loaded and stored, and those past `count` stay as they are.
 #[inline(always)]
 fn combine_short<S: Storage>(
     operation: Combine,
@@ -341,7 +348,8 @@ fn combine_short<S: Storage>(
     set_front_condition(operation, cpu, made, count);
 }
 
-/// Does NC, OC, XC, MVN or MVZ of two strings that each lie in a block that was found.
+/// Combines two strings, each in a block that `find_block` returned, from left to right, and sets
+/// the condition code unless it is a move.
 #[inline(always)]
 pub fn combine_straight<S: Storage>(
     operation: Combine,
@@ -381,7 +389,8 @@ pub fn combine_straight<S: Storage>(
     combine_long(operation, cpu, storage, target, to, source, from, count)
 }
 
-/// D1 MVN, D3 MVZ, D4 NC, D6 OC, D7 XC: combine a string with another; left to right.
+/// Does MVN (D1), MVZ (D3), NC (D4), OC (D6) or XC (D7): combines the first operand with the second
+/// from left to right, and sets the condition code unless it is a move.
 ///
 /// # Errors
 ///
@@ -419,7 +428,7 @@ pub fn combine_row<S: Storage>(
     Ok(Completion::Done)
 }
 
-/// Moves a range through a buffer of its length.
+/// Copies a range of storage as if byte by byte from left to right, through a buffer of its length.
 #[inline(always)]
 fn move_through<S: Storage>(storage: &mut S, to: u32, from: u32, bytes: &mut [u8])
     requires some { 0 < length bytes.old }
@@ -439,7 +448,7 @@ fn move_through<S: Storage>(storage: &mut S, to: u32, from: u32, bytes: &mut [u8
     storage.store(to, bytes);
 }
 
-/// Moves a range that is read where it was written.
+/// Copies at most 256 bytes of storage, which may overlap, as if byte by byte from left to right.
 #[inline(never)]
 fn move_near<S: Storage>(storage: &mut S, to: u32, from: u32, count: u32)
     requires some { 0 < count }
@@ -457,7 +466,8 @@ fn move_near<S: Storage>(storage: &mut S, to: u32, from: u32, count: u32)
     move_through(storage, to, from, &mut bytes[..count as usize]);
 }
 
-/// Moves a range: at once, but where a byte is read after it was written.
+/// Copies at most 256 bytes of storage as if byte by byte from left to right, by one copy if that
+/// gives the same.
 #[inline(always)]
 fn move_at<S: Storage>(storage: &mut S, to: u32, from: u32, count: u32)
     requires some { 0 < count }
@@ -478,7 +488,7 @@ fn move_at<S: Storage>(storage: &mut S, to: u32, from: u32, count: u32)
     }
 }
 
-/// D2 MVC: move characters; left to right.
+/// Does MVC (D2): copies the second operand over the first, as if byte by byte from left to right.
 ///
 /// It is [`combine_row`] of [`Combine::Move`], mostly by one copy.
 ///

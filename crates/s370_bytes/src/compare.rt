@@ -11,7 +11,7 @@ use s370_num::ConditionCode;
 use s370_rows::{Completion, Cpu, Instruction, Refusal, grant_two, order_of};
 use s370_store::{Access, Block, Range, Storage};
 
-/// Returns whether eight bytes from a place on are equal in both.
+/// Returns whether eight bytes from index `start` on are equal in both lists.
 #[inline(always)]
 fn is_equal_group(xs: &[u8], ys: &[u8], start: usize) -> bool
     requires same { length xs.now ≡ length ys.now }
@@ -22,7 +22,7 @@ fn is_equal_group(xs: &[u8], ys: &[u8], start: usize) -> bool
     xs[start..start + 8] == ys[start..start + 8]
 }
 
-/// Returns how many bytes are equal in both before a group of eight that is not.
+/// Returns how many bytes at the front are equal in both lists, counted in whole groups of eight.
 #[inline]
 fn equal_groups(xs: &[u8], ys: &[u8]) -> usize
     requires { length xs.now ≡ length ys.now }
@@ -38,7 +38,7 @@ fn equal_groups(xs: &[u8], ys: &[u8]) -> usize
     xs.len() / 8 * 8
 }
 
-/// Returns how many bytes from the first on are equal in both.
+/// Returns how many bytes at the front are equal in both lists.
 #[inline]
 pub fn equal_front(xs: &[u8], ys: &[u8]) -> usize
     requires { length xs.now ≡ length ys.now }
@@ -55,7 +55,8 @@ pub fn equal_front(xs: &[u8], ys: &[u8]) -> usize
     xs.len()
 }
 
-/// Returns the condition code of two strings of one length, as numbers.
+/// Returns the condition code of comparing two strings of one length: 0 if equal, 1 if `xs` is low,
+/// 2 if it is high.
 #[inline]
 pub fn string_order(xs: &[u8], ys: &[u8]) -> ConditionCode
     requires { length xs.now ≡ length ys.now }
@@ -68,7 +69,7 @@ pub fn string_order(xs: &[u8], ys: &[u8]) -> ConditionCode
     order_of(xs[front] as u32, ys[front] as u32)
 }
 
-/// D5 CLC: compare logical characters.
+/// Does CLC (D5): compares two strings of storage and sets the condition code.
 ///
 /// # Errors
 ///
@@ -105,8 +106,8 @@ pub fn compare_row<S: Storage>(
     Ok(Completion::Done)
 }
 
-/// Returns the order of two strings of one length, each in a block that was found, through buffers
-/// of that length.
+/// Loads two strings, each in a block that `find_block` returned, into `xs` and `ys`, and returns
+/// the condition code of comparing them.
 #[inline(always)]
 fn order_in<S: Storage>(
     storage: &S,
@@ -136,7 +137,8 @@ fn order_in<S: Storage>(
     string_order(xs, ys)
 }
 
-/// Compares as [`compare_straight`] does, through buffers.
+/// Returns the condition code of comparing two strings, each in a block that `find_block` returned,
+/// through buffers.
 ///
 /// Short strings go through short buffers, which take no time to make.
 #[inline(never)]
@@ -189,7 +191,8 @@ fn compare_long<S: Storage>(
     }
 }
 
-/// Returns the condition code of two numbers.
+/// Returns the condition code of comparing two numbers: 0 if equal, 1 if `a` is low, 2 if it is
+/// high.
 #[inline(always)]
 pub fn number_order(a: u64, b: u64) -> ConditionCode
     ensures { result ≡ order_code a b }
@@ -203,7 +206,7 @@ pub fn number_order(a: u64, b: u64) -> ConditionCode
     }
 }
 
-/// Returns the number that the first bytes of eight are.
+/// Returns the first `count` of eight bytes as a number.
 #[inline(always)]
 pub fn front_number(bytes: [u8; 8], count: u32) -> u64
     requires some { 0 < count }
@@ -213,8 +216,8 @@ pub fn front_number(bytes: [u8; 8], count: u32) -> u64
     u64::from_be_bytes(bytes) >> (64 - 8 * count)
 }
 
-/// Returns the number that at most eight bytes are which lie in a block that was found, where eight
-/// bytes lie in it.
+/// Returns at most eight bytes of a block that `find_block` returned as a number; eight bytes have
+/// to lie in the block.
 #[inline(always)]
 pub fn number_in<S: Storage>(storage: &S, block: Block, start: u32, count: u32) -> u64
     requires some { 0 < count }
@@ -229,7 +232,7 @@ pub fn number_in<S: Storage>(storage: &S, block: Block, start: u32, count: u32) 
     front_number(bytes, count)
 }
 
-/// Returns whether eight bytes from an address on lie in a block in which that address lies.
+/// Returns whether eight bytes from an address of a block on all lie in that block.
 #[inline(always)]
 pub fn holds_eight(block: Block, start: u32) -> bool
     requires { block.first ≤ start }
@@ -238,7 +241,7 @@ pub fn holds_eight(block: Block, start: u32) -> bool
     start - block.first <= 2040
 }
 
-/// Compares two strings as [`string_order`] does, if each lies in a block that was found.
+/// Returns the condition code of comparing two strings, each in a block that `find_block` returned.
 ///
 /// Strings of at most eight bytes are compared as numbers, if eight bytes can be loaded.
 #[inline(always)]

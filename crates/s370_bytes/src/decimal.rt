@@ -10,7 +10,7 @@ use s370_psw::ProgramCode;
 use s370_rows::{Completion, Cpu, Instruction, Refusal, grant};
 use s370_store::{Access, Range, Storage, load_doubleword, store_doubleword};
 
-/// Returns the number that 15 decimal digits are, if each is one.
+/// Returns the number that 15 packed decimal digits are, or `None` if one of them is no digit.
 fn decimal_value(digits: u64) -> Option<u64>
     ensures value { result ≡ decimal_value digits }
     ensures below { IfSome result (λ n. n < 10 ^ 15) }
@@ -30,7 +30,8 @@ fn decimal_value(digits: u64) -> Option<u64>
     Some(value)
 }
 
-/// Returns the number that 15 decimal digits and a sign are, if they are one.
+/// Returns the number that 15 packed decimal digits and a sign are, or `None` if a digit or the
+/// sign is invalid.
 #[inline]
 fn signed_value(doubleword: u64) -> Option<i64>
     ensures { result ≡ signed_value doubleword }
@@ -47,7 +48,8 @@ fn signed_value(doubleword: u64) -> Option<i64>
     })
 }
 
-/// Loads the low bits of a number into a register.
+/// Loads the low 32 bits of a packed decimal number into a register, and returns a divide exception
+/// if it does not fit.
 #[inline]
 fn load_binary(
     cpu: &mut Cpu,
@@ -70,7 +72,8 @@ fn load_binary(
     }
 }
 
-/// 4F CVB: convert 15 decimal digits and a sign to binary.
+/// Does CVB (4F): loads a packed decimal doubleword into a register in binary; if it does not fit,
+/// its low bits are loaded and the result is a divide exception.
 ///
 /// # Errors
 ///
@@ -102,7 +105,7 @@ pub fn binary_row<S: Storage>(
     }
 }
 
-/// Returns the decimal digits of a number below ten to the fifteenth, four bits each.
+/// Returns the 15 packed decimal digits of a number below ten to the fifteenth.
 fn decimal_digits(number: u64) -> u64
     ensures value { result ≡ rebased 16 10 15 number }
     ensures below { result < 2 ^ 60 }
@@ -122,7 +125,7 @@ fn decimal_digits(number: u64) -> u64
     value
 }
 
-/// Returns the decimal digits and the sign of the signed number that a word is.
+/// Returns a word, taken as a signed number, as 15 packed decimal digits and a sign.
 #[inline]
 #[tactic(auto, unfolding(crate::specs::Decimal::decimal_of))]
 pub fn decimal_of(word: u32) -> u64
@@ -133,7 +136,7 @@ pub fn decimal_of(word: u32) -> u64
     decimal_digits(number.unsigned_abs() as u64) * 16 + sign
 }
 
-/// 4E CVD: convert to 15 decimal digits and a sign.
+/// Does CVD (4E): stores a register, taken as a signed number, as a packed decimal doubleword.
 ///
 /// # Errors
 ///

@@ -18,7 +18,7 @@ pub enum Layout {
     Unpack,
 }
 
-/// Returns a byte counted from the right.
+/// Returns the byte at index `place` from the right, or zero past the left end.
 #[inline(always)]
 fn from_right(bytes: &[u8], place: usize) -> u8
     ensures { result ≡ from_right bytes.now place }
@@ -30,7 +30,7 @@ fn from_right(bytes: &[u8], place: usize) -> u8
     }
 }
 
-/// Returns a digit counted from the right, two in a byte.
+/// Returns the half byte at index `place` from the right, or zero past the left end.
 #[inline(always)]
 fn digit(bytes: &[u8], place: usize) -> u8
     ensures value { result ≡ digit bytes.now place }
@@ -40,7 +40,7 @@ fn digit(bytes: &[u8], place: usize) -> u8
     if place % 2 == 0 { byte % 16 } else { byte / 16 }
 }
 
-/// Returns a byte with its digits exchanged.
+/// Returns a byte with its two halves exchanged.
 #[inline(always)]
 fn exchanged(byte: u8) -> u8
     ensures { result ≡ exchanged byte }
@@ -48,7 +48,7 @@ fn exchanged(byte: u8) -> u8
     byte % 16 * 16 + byte / 16
 }
 
-/// Returns a byte of the result, counted from the right.
+/// Returns byte `place`, counted from the right, of the result of MVO, PACK or UNPK.
 #[inline(always)]
 fn laid_out(layout: Layout, target: &[u8], source: &[u8], place: usize) -> u8
     requires { place < 16 }
@@ -80,7 +80,7 @@ fn laid_out(layout: Layout, target: &[u8], source: &[u8], place: usize) -> u8
     }
 }
 
-/// Lays out the whole result.
+/// Fills `made` with the result of MVO, PACK or UNPK on `target` and `source`.
 #[inline]
 fn lay_out(layout: Layout, target: &[u8], source: &[u8], made: &mut [u8])
     requires same { length made.old ≡ length target.now }
@@ -92,7 +92,8 @@ fn lay_out(layout: Layout, target: &[u8], source: &[u8], made: &mut [u8])
     }
 }
 
-/// Lays out the digits of one range in another, through buffers of their lengths.
+/// Does MVO, PACK or UNPK on two ranges of storage, both of which are read whole before one is
+/// stored.
 #[inline(always)]
 fn lay_out_at<S: Storage>(
     layout: Layout,
@@ -122,7 +123,10 @@ fn lay_out_at<S: Storage>(
     storage.store(to, made);
 }
 
-/// F1 MVO, F2 PACK, F3 UNPK: move with offset, pack, unpack; from right to left.
+/// Does MVO (F1), PACK (F2) or UNPK (F3): lays out the second operand's digits in the first
+/// operand.
+///
+/// The condition code stays. Both operands are read whole before the result is stored.
 ///
 /// # Errors
 ///

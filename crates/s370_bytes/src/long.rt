@@ -30,7 +30,7 @@ pub struct Operand {
 }
 
 impl Operand {
-    /// Returns the operand that a pair of registers names.
+    /// Returns the operand whose address, count and pad byte a register pair holds.
     #[inline(always)]
     fn of(cpu: &Cpu, register: Register) -> Operand
         requires { register < 15 }
@@ -47,7 +47,7 @@ impl Operand {
         }
     }
 
-    /// Returns what is left after some bytes.
+    /// Returns the operand that is left after its first `count` bytes.
     #[inline(always)]
     fn past(&self, count: u32) -> Operand
         requires enough { count ≤ self.now.count }
@@ -62,8 +62,8 @@ impl Operand {
         }
     }
 
-    /// Sets the pair that names an operand to this, which is what is left of it after some bytes:
-    /// no more are taken than its count has, so the byte above the count stays as it is.
+    /// Sets a register pair's address to this operand's and subtracts `count` from its count; the
+    /// byte above that stays.
     #[inline(always)]
     fn set_left(self, cpu: &mut Cpu, register: Register, count: u32)
         requires register { register < 15 }
@@ -75,7 +75,7 @@ impl Operand {
         cpu.general[register.index() + 1] -= count;
     }
 
-    /// Sets the pair that names an operand.
+    /// Sets a register pair to this operand: to its address, and to its pad byte and count.
     #[inline(always)]
     fn set(self, cpu: &mut Cpu, register: Register)
         requires register { register < 15 }
@@ -87,7 +87,7 @@ impl Operand {
     }
 }
 
-/// Returns the condition code of two lengths.
+/// Returns the condition code of comparing the counts of two operands.
 #[inline(always)]
 fn counts_code(first: Operand, second: Operand) -> ConditionCode
     ensures { result ≡ counts_code first second }
@@ -95,7 +95,7 @@ fn counts_code(first: Operand, second: Operand) -> ConditionCode
     order_of(first.count, second.count)
 }
 
-/// Returns whether a byte of the second operand would be moved after it was changed.
+/// Returns whether MVCL would read a byte of the second operand after writing over it.
 #[inline(always)]
 fn destroys(first: Operand, second: Operand) -> bool
     ensures { result ≡ destroys first second }
@@ -104,7 +104,7 @@ fn destroys(first: Operand, second: Operand) -> bool
     0 < distance && distance < first.count.min(second.count)
 }
 
-/// Sets each byte.
+/// Sets each byte of `bytes` to `pad`.
 #[inline]
 pub fn set_all(bytes: &mut [u8], pad: u8)
     ensures { bytes.new ≡ replicate (length bytes.old) pad }
@@ -114,7 +114,7 @@ pub fn set_all(bytes: &mut [u8], pad: u8)
     }
 }
 
-/// Loads a range, and pads after it.
+/// Fills `into` with `count` bytes of storage and, after them, with pad bytes.
 #[inline]
 fn load_padded<S: Storage>(storage: &S, from: u32, pad: u8, into: &mut [u8], count: u32)
     requires within { count ≤ length into.old }
@@ -130,7 +130,8 @@ fn load_padded<S: Storage>(storage: &S, from: u32, pad: u8, into: &mut [u8], cou
     }
 }
 
-/// Moves a range and then pads, through a buffer.
+/// Stores `count` bytes from one address at another, and pad bytes after them up to the length of
+/// the buffer `made`.
 #[inline(always)]
 fn move_through<S: Storage>(
     storage: &mut S,
@@ -155,7 +156,8 @@ fn move_through<S: Storage>(
     storage.store(to, made);
 }
 
-/// Moves as [`move_padded`] does, if there are pads.
+/// Stores `moved` bytes from one address at another, and pad bytes after them up to `count`,
+/// through a buffer.
 #[inline(never)]
 fn move_pads<S: Storage>(storage: &mut S, to: u32, from: u32, pad: u8, count: u32, moved: u32)
     requires within { moved ≤ count }
@@ -173,7 +175,7 @@ fn move_pads<S: Storage>(storage: &mut S, to: u32, from: u32, pad: u8, count: u3
     move_through(storage, to, from, pad, &mut made[..count as usize], moved);
 }
 
-/// Moves a range, and then pads up to a count.
+/// Stores `moved` bytes from one address at another, and pad bytes after them up to `count`.
 #[inline(always)]
 fn move_padded<S: Storage>(storage: &mut S, to: u32, from: u32, pad: u8, count: u32, moved: u32)
     requires some { 0 < count }
@@ -195,7 +197,8 @@ fn move_padded<S: Storage>(storage: &mut S, to: u32, from: u32, pad: u8, count: 
     }
 }
 
-/// Moves one part of the long move.
+/// Does one part of MVCL, of at most 256 bytes: stores it, updates both register pairs and, if it
+/// is the last, sets the condition code.
 fn move_part<S: Storage>(
     cpu: &mut Cpu,
     storage: &mut S,
@@ -233,7 +236,8 @@ fn move_part<S: Storage>(
     }
 }
 
-/// 0E MVCL: move long; a part of at most 256 bytes.
+/// Does one part of MVCL (0E), of at most 256 bytes, and updates both register pairs; the last
+/// part, or overlap, sets the condition code, else the result is `Again`.
 ///
 /// # Errors
 ///
@@ -270,8 +274,7 @@ pub fn move_long_row<S: Storage>(
     move_part(cpu, storage, r1, r2)
 }
 
-/// Returns whether so many bytes that are moved to an address have none of the two bytes at
-/// another.
+/// Returns whether `count` bytes from `to` on include neither of the two bytes from `start` on.
 #[inline(always)]
 fn is_apart(to: u32, count: u32, start: u32) -> bool
     requires to { to < 2 ^ 24 }
@@ -282,8 +285,8 @@ fn is_apart(to: u32, count: u32, start: u32) -> bool
     start + 1 < to || to + count <= start
 }
 
-/// Returns how many whole parts, at most so many and none of them the last, can be one copy: as
-/// many as lie in one block at each place, or one.
+/// Returns how many whole parts of MVCL, none of them the last, can be one copy, at most `limit`:
+/// as many as lie in one block at each place, or one.
 #[inline(always)]
 fn parts_at_once(first: &Operand, second: &Operand, limit: u32) -> u32
     ensures within { result ≤ limit }
@@ -311,8 +314,10 @@ fn parts_at_once(first: &Operand, second: &Operand, limit: u32) -> u32
     at_most(parts, room / 256)
 }
 
-/// Parts of the long move that have all their bytes, as one copy that changes none of the two bytes
-/// at an address: so many, or none where they can't be moved, and then nothing changes.
+/// Copies so many parts of MVCL at once, updates both register pairs and returns `parts`; or
+/// changes nothing and returns 0.
+///
+/// It is 0 if the parts include one of the two bytes from `start` on, or are not granted.
 #[inline(always)]
 fn move_whole_parts<S: Storage>(
     cpu: &mut Cpu,
@@ -355,9 +360,11 @@ fn move_whole_parts<S: Storage>(
     parts
 }
 
-/// 0E MVCL with this second byte: parts of 256 bytes that have none of the two bytes at an address,
-/// one after another and at most so many, after each of which more are left. How many there were;
-/// where there is none, nothing changes.
+/// Does parts of MVCL (0E) by one copy, at most `limit`, updates both register pairs and returns
+/// how many it did; if 0, nothing has changed.
+///
+/// Each part has 256 bytes and is not the last, and none includes one of the two bytes from `start`
+/// on.
 ///
 /// Those that lie in one block are one copy.
 #[inline(always)]
@@ -403,7 +410,7 @@ pub fn move_long_quickly<S: Storage>(
     move_whole_parts(cpu, storage, start, r1, r2, parts)
 }
 
-/// Returns the lesser of two counts.
+/// Returns the smaller of two numbers.
 #[inline(always)]
 fn at_most(a: u32, b: u32) -> u32
     ensures value { result ≡ min a b }
@@ -413,7 +420,8 @@ fn at_most(a: u32, b: u32) -> u32
     if a < b { a } else { b }
 }
 
-/// Returns how many pairs a part of a comparison has.
+/// Returns how many pairs of bytes the next part of CLCL compares: the greater count, but at most
+/// 256.
 #[inline(always)]
 fn longest(first: &Operand, second: &Operand) -> u32
     ensures value { result ≡ longest first.now second.now }
@@ -427,7 +435,8 @@ fn longest(first: &Operand, second: &Operand) -> u32
     if longer < 256 { longer } else { 256 }
 }
 
-/// Sets what a comparison of padded parts leaves.
+/// Moves both register pairs past the bytes that were found equal and, if CLCL is over, sets the
+/// condition code.
 #[inline]
 fn conclude(
     cpu: &mut Cpu,
@@ -466,7 +475,8 @@ fn conclude(
     }
 }
 
-/// Compares two ranges with pads after them, through two buffers of one length.
+/// Compares two padded ranges through two buffers, moves both register pairs on and, if CLCL is
+/// over, sets the condition code.
 #[inline(always)]
 fn compare_at<S: Storage>(
     cpu: &mut Cpu,
@@ -502,7 +512,8 @@ fn compare_at<S: Storage>(
     conclude(cpu, r1, r2, count, count_1, count_2, left, right)
 }
 
-/// Compares one part of the long comparison.
+/// Does one part of CLCL, of at most 256 pairs of bytes: moves both register pairs on and, if CLCL
+/// is over, sets the condition code.
 fn compare_part<S: Storage>(
     cpu: &mut Cpu,
     storage: &S,
@@ -540,7 +551,8 @@ fn compare_part<S: Storage>(
     ))
 }
 
-/// 0F CLCL: compare logical long; a part of at most 256 pairs.
+/// Does one part of CLCL (0F), of at most 256 pairs of bytes, and moves both register pairs on; the
+/// last part sets the condition code, else the result is `Again`.
 ///
 /// # Errors
 ///

@@ -18,7 +18,7 @@ use s370_num::{ConditionCode, Register};
 use s370_rows::{Completion, Cpu, Instruction, Refusal, grant};
 use s370_store::{Access, Block, Range, Storage};
 
-/// Returns whether a mask has the bit that stands for a byte of a register, from the left.
+/// Returns whether a four-bit mask selects byte `place` of a register, of which the leftmost is 0.
 #[inline(always)]
 fn is_chosen(mask: u8, place: u32) -> bool
     requires { place < 4 }
@@ -27,7 +27,7 @@ fn is_chosen(mask: u8, place: u32) -> bool
     mask >> (3 - place) & 1 == 1
 }
 
-/// Returns how many bytes a mask chooses.
+/// Returns how many bytes of a register a four-bit mask selects.
 #[tactic(auto, unfolding(crate::specs::Masks::chosen_count))]
 pub fn chosen_count(mask: u8) -> u32
     ensures value { result ≡ chosen_count mask }
@@ -42,7 +42,7 @@ pub fn chosen_count(mask: u8) -> u32
     count
 }
 
-/// Returns how many bytes are tested, of which a mask chooses so many.
+/// Returns how many bytes are tested for access: as many as a mask selects, but at least one.
 #[inline(always)]
 fn tested_count(count: u32) -> u32
     ensures { result ≡ tested_count count }
@@ -50,7 +50,7 @@ fn tested_count(count: u32) -> u32
     if count == 0 { 1 } else { count }
 }
 
-/// Copies the bytes that a mask chooses to the front of others.
+/// Copies the bytes that a mask selects to the front of `into`, in order.
 #[tactic(auto, unfolding(crate::specs::Masks::chosen_count, crate::specs::Masks::chosen))]
 fn gather(mask: u8, bytes: &[u8; 4], into: &mut [u8; 4])
     ensures { take (chosen_count mask) into.new ≡ chosen mask bytes.now }
@@ -64,7 +64,7 @@ fn gather(mask: u8, bytes: &[u8; 4], into: &mut [u8; 4])
     }
 }
 
-/// Puts bytes in order into those that a mask chooses.
+/// Overwrites the bytes that a mask selects with those of `from`, in order.
 #[tactic(auto, unfolding(crate::specs::Masks::chosen_count))]
 fn insert(mask: u8, bytes: &mut [u8; 4], from: &[u8])
     requires { length from.now ≡ chosen_count mask }
@@ -79,7 +79,8 @@ fn insert(mask: u8, bytes: &mut [u8; 4], from: &[u8])
     }
 }
 
-/// Returns the condition code of bytes that were inserted.
+/// Returns ICM's condition code of inserted bytes: 0 if all are zero, 1 if the first bit is one,
+/// else 2.
 #[inline]
 fn inserted_code(bytes: &[u8]) -> ConditionCode
     ensures { result ≡ inserted_code bytes.now }
@@ -94,8 +95,8 @@ fn inserted_code(bytes: &[u8]) -> ConditionCode
     }
 }
 
-/// Loads the bytes of a range into those of a register that a mask chooses, through a buffer of
-/// their number.
+/// Loads bytes of storage into the bytes of a register that a mask selects, and sets the condition
+/// code.
 #[inline]
 fn insert_at<S: Storage>(
     cpu: &mut Cpu,
@@ -119,7 +120,8 @@ fn insert_at<S: Storage>(
     cpu.psw.set_condition(inserted_code(from));
 }
 
-/// BF ICM: insert characters under mask.
+/// Does ICM (BF): loads bytes of storage into the bytes of a register that the mask selects, and
+/// sets the condition code.
 ///
 /// # Errors
 ///
@@ -154,7 +156,8 @@ pub fn insert_characters_row<S: Storage>(
     Ok(Completion::Done)
 }
 
-/// Does STCM into a range that lies in a block that was found, if the mask chooses some bytes.
+/// Does STCM: stores the bytes of a register that the mask selects, at least one, in a block that
+/// `find_block` returned.
 #[inline(always)]
 pub fn store_characters_in<S: Storage>(
     cpu: &Cpu,
@@ -179,7 +182,7 @@ pub fn store_characters_in<S: Storage>(
     storage.store_in(block, start, &made[..count as usize]);
 }
 
-/// BE STCM: store characters under mask.
+/// Does STCM (BE): stores the bytes of a register that the mask selects, one after another.
 ///
 /// # Errors
 ///
@@ -209,8 +212,8 @@ pub fn store_characters_row<S: Storage>(
     Ok(Completion::Done)
 }
 
-/// Returns the condition code of the bytes of a register that a mask chooses against those of a
-/// range, through a buffer.
+/// Returns the condition code of comparing the bytes of a register that a mask selects with those
+/// of storage, through a buffer.
 #[inline]
 fn order_at<S: Storage>(
     cpu: &Cpu,
@@ -237,7 +240,7 @@ fn order_at<S: Storage>(
     string_order(&left[..right.len()], right)
 }
 
-/// Returns the number that the bytes of a register are which a mask chooses, where it chooses some.
+/// Returns the bytes of a register that a mask selects, at least one, as a number.
 #[inline(always)]
 fn chosen_number(cpu: &Cpu, register: Register, mask: u8) -> u64
     requires some { 0 < chosen_count mask }
@@ -253,8 +256,8 @@ fn chosen_number(cpu: &Cpu, register: Register, mask: u8) -> u64
     front_number([a, b, c, d, 0, 0, 0, 0], chosen_count(mask))
 }
 
-/// Returns the condition code that CLM sets, where eight bytes from its operand on lie in a block
-/// that was found, and the mask chooses some.
+/// Returns the condition code that CLM sets; the mask selects some bytes, and eight bytes from
+/// `start` on lie in the block.
 #[inline(always)]
 pub fn characters_order_in<S: Storage>(
     cpu: &Cpu,
@@ -276,7 +279,8 @@ pub fn characters_order_in<S: Storage>(
     number_order(left, right)
 }
 
-/// BD CLM: compare logical characters under mask.
+/// Does CLM (BD): compares the bytes of a register that the mask selects with storage, and sets the
+/// condition code.
 ///
 /// # Errors
 ///

@@ -12,7 +12,7 @@ use s370_num::{Addr24, Register};
 use s370_rows::{Completion, Cpu, Instruction, Refusal, grant};
 use s370_store::{Access, Block, Range, Storage, load_word, load_word_in};
 
-/// Returns how many registers there are from one to another, where 0 follows 15.
+/// Returns how many registers there are from `first` to `last`, where 0 follows 15.
 #[inline(always)]
 fn count_of(first: Register, last: Register) -> u32
     ensures value { result ≡ register_count first last }
@@ -22,7 +22,8 @@ fn count_of(first: Register, last: Register) -> u32
     (last.number() as u32 + 16 - first.number() as u32) % 16 + 1
 }
 
-/// Fills bytes with the words of registers, one after another.
+/// Writes `count` registers from `first` on, where 0 follows 15, to the front of `words`, four
+/// bytes each.
 fn fill(words: &mut [u8; 64], registers: &[u32; 16], first: Register, count: u32)
     requires few { count ≤ 16 }
     ensures { take (4 * count) words.new ≡ words_from registers.now first count }
@@ -34,7 +35,7 @@ fn fill(words: &mut [u8; 64], registers: &[u32; 16], first: Register, count: u32
     }
 }
 
-/// Returns the words from an address on that registers R1 to R3 have, one for each.
+/// Returns the range of storage that LM or STM accesses: one word for each of registers R1 to R3.
 #[inline(always)]
 pub fn words_range(address: Addr24, i: Instruction) -> Range
     ensures start { result.start ≡ address }
@@ -47,7 +48,7 @@ pub fn words_range(address: Addr24, i: Instruction) -> Range
     }
 }
 
-/// Stores registers R1 to R3, of those given, into the words from an address on; 0 follows 15.
+/// Stores R1 to R3 of `registers` in the words from an address on; 0 follows 15.
 #[inline(always)]
 pub fn store_registers<S: Storage>(
     registers: &[u32; 16],
@@ -68,7 +69,8 @@ pub fn store_registers<S: Storage>(
     storage.store(address.get(), &words[..4 * count as usize]);
 }
 
-/// Stores registers into words that lie in a block that was found.
+/// Stores R1 to R3 of `registers` in the words from an address on, in a block that `find_block`
+/// returned; 0 follows 15.
 #[inline(always)]
 pub fn store_registers_in<S: Storage>(
     registers: &[u32; 16],
@@ -91,7 +93,7 @@ pub fn store_registers_in<S: Storage>(
     storage.store_in(block, address.get(), &words[..4 * count as usize]);
 }
 
-/// Loads registers R1 to R3, of those given, from the words from an address on; 0 follows 15.
+/// Loads R1 to R3 of `registers` from the words from an address on; 0 follows 15.
 #[inline(always)]
 pub fn load_registers<S: Storage>(
     registers: &mut [u32; 16],
@@ -113,7 +115,8 @@ pub fn load_registers<S: Storage>(
     }
 }
 
-/// Loads registers from words that lie in a block that was found.
+/// Loads R1 to R3 of `registers` from the words from an address on, in a block that `find_block`
+/// returned; 0 follows 15.
 #[inline(always)]
 pub fn load_registers_in<S: Storage>(
     registers: &mut [u32; 16],
@@ -137,7 +140,7 @@ pub fn load_registers_in<S: Storage>(
     }
 }
 
-/// 90 STM: store registers R1 to R3; 0 follows 15.
+/// Does STM (90): stores general registers R1 to R3 in the words from an address on; 0 follows 15.
 ///
 /// # Errors
 ///
@@ -159,7 +162,7 @@ pub fn store_multiple_row<S: Storage>(
     Ok(Completion::Done)
 }
 
-/// 98 LM: load registers R1 to R3; 0 follows 15.
+/// Does LM (98): loads general registers R1 to R3 from the words from an address on; 0 follows 15.
 ///
 /// # Errors
 ///

@@ -8,8 +8,8 @@ use crate::combine::lag_of;
 use crate::long::set_all;
 use s370_store::{Block, Storage, load_byte_in};
 
-/// Does MVC of a string in one block and one in another or the same, if it is one copy. Else
-/// nothing changes.
+/// Does MVC between blocks that `find_block` returned and returns true, if one copy does it; else
+/// changes nothing and returns false.
 #[inline(always)]
 pub fn move_straight<S: Storage>(
     storage: &mut S,
@@ -43,8 +43,10 @@ pub fn move_straight<S: Storage>(
     true
 }
 
-/// Does MVC of a string that is read one byte before where it is written: its first byte goes to
-/// all of them. Else nothing changes. Both lie in blocks that were found.
+/// Does MVC from the byte before its target, which fills that with the byte, and returns true; for
+/// any other MVC changes nothing and returns false.
+///
+/// Both strings lie in blocks that were found.
 #[inline(always)]
 pub fn fill_straight<S: Storage>(
     storage: &mut S,

@@ -13,7 +13,7 @@ use s370_num::{Addr24, ConditionCode};
 use s370_rows::{Completion, Cpu, Instruction, Refusal, grant_two};
 use s370_store::{Access, Block, Range, Storage, load_byte, load_byte_in, store_byte};
 
-/// Returns all bytes of a table: an access to it is tested whole, whichever of them are named.
+/// Returns the range of all 256 bytes of a table, the range that is tested for access.
 #[inline(always)]
 fn whole_table(start: u32) -> Range
     ensures { result ≡ record { start = start; count = 256 } }
@@ -21,7 +21,7 @@ fn whole_table(start: u32) -> Range
     Range { start, count: 256 }
 }
 
-/// Returns whether no byte of a string is one of a table.
+/// Returns whether a string and a table of 256 bytes have no byte in common.
 #[inline(always)]
 fn is_apart(to: u32, count: u32, table: u32) -> bool
     requires to { to < 2 ^ 24 }
@@ -32,7 +32,7 @@ fn is_apart(to: u32, count: u32, table: u32) -> bool
     to + count <= table || table + 256 <= to
 }
 
-/// Translates each byte of a string by a table.
+/// Replaces each byte of `bytes` by the byte of `table` whose index it is.
 #[inline]
 fn translate_all(bytes: &mut [u8], table: &[u8])
     requires whole { length table.now ≡ 256 }
@@ -45,7 +45,8 @@ fn translate_all(bytes: &mut [u8], table: &[u8])
     }
 }
 
-/// Translates a range by a table that has none of its bytes, through buffers of their lengths.
+/// Translates a range of storage by a table that does not overlap it, through buffers of their
+/// lengths.
 #[inline(always)]
 fn translate_apart<S: Storage>(
     storage: &mut S,
@@ -72,7 +73,8 @@ fn translate_apart<S: Storage>(
     storage.store(to, bytes);
 }
 
-/// Translates as `translate_apart` does, if range and table each lie in a block that was found.
+/// Translates a range of storage by a table that does not overlap it, each in a block that
+/// `find_block` returned, through buffers.
 #[inline(always)]
 fn translate_in<S: Storage>(
     storage: &mut S,
@@ -105,7 +107,8 @@ fn translate_in<S: Storage>(
     storage.store_in(target, to, bytes);
 }
 
-/// Translates as [`translate_straight`] does, through buffers.
+/// Translates at most 256 bytes by a table that does not overlap them, each in a block that
+/// `find_block` returned, through buffers.
 #[inline(never)]
 fn translate_long<S: Storage>(
     storage: &mut S,
@@ -158,7 +161,8 @@ fn translate_long<S: Storage>(
     }
 }
 
-/// Translates the first bytes of eight by a table that lies in a block that was found.
+/// Replaces the first `count` of eight bytes by bytes of a table that lies in a block that
+/// `find_block` returned.
 #[inline(always)]
 fn translate_front<S: Storage>(
     storage: &S,
@@ -183,8 +187,10 @@ fn translate_front<S: Storage>(
     }
 }
 
-/// Translates as [`translate_straight`] does, at most eight bytes that are no part of the table.
-/// Eight bytes are loaded and stored, of which the others stay as they are.
+/// Translates at most eight bytes by a table that does not overlap them, each in a block that
+/// `find_block` returned.
+///
+/// Eight bytes are loaded and stored, and those past `count` stay as they are.
 #[inline(always)]
 fn translate_short<S: Storage>(
     storage: &mut S,
@@ -218,8 +224,8 @@ fn translate_short<S: Storage>(
     storage.store_in(target, to, &bytes);
 }
 
-/// Does TR of a string and a table that each lie in a block that was found, if they have no byte in
-/// common. Else nothing changes.
+/// Does TR in blocks that `find_block` returned and returns true, if string and table do not
+/// overlap; else changes nothing and returns false.
 #[inline(always)]
 pub fn translate_straight<S: Storage>(
     storage: &mut S,
@@ -258,7 +264,7 @@ pub fn translate_straight<S: Storage>(
     true
 }
 
-/// Translates a range by a table that may change with it, byte by byte.
+/// Translates a range of storage in place, byte by byte, by a table that may overlap it.
 fn translate_each<S: Storage>(storage: &mut S, to: u32, table: u32, count: u32)
     requires to { to < 2 ^ 24 }
     requires from { table < 2 ^ 24 }
@@ -279,7 +285,8 @@ fn translate_each<S: Storage>(storage: &mut S, to: u32, table: u32, count: u32)
     }
 }
 
-/// DC TR: translate; left to right, each byte becomes the byte of the table that it names.
+/// Does TR (DC): replaces each byte of the first operand by the table's byte whose index it is,
+/// from left to right.
 ///
 /// # Errors
 ///
@@ -311,7 +318,7 @@ pub fn translate_row<S: Storage>(
     Ok(Completion::Done)
 }
 
-/// Returns how many bytes have a function byte of zero before the first that has not.
+/// Returns how many bytes at the front of `names` have a zero in `table`.
 #[inline]
 fn zeros(table: &[u8], names: &[u8]) -> usize
     requires { length table.now ≡ 256 }
@@ -326,7 +333,8 @@ fn zeros(table: &[u8], names: &[u8]) -> usize
     names.len()
 }
 
-/// Sets what a test of bytes, of which the first has an address, leaves.
+/// Sets what TRT leaves: the condition code and, if a byte of `names` has a function byte other
+/// than zero, registers 1 and 2.
 #[inline]
 fn scan(cpu: &mut Cpu, first: Addr24, names: &[u8], table: &[u8])
     requires whole { length table.now ≡ 256 }
@@ -349,7 +357,8 @@ fn scan(cpu: &mut Cpu, first: Addr24, names: &[u8], table: &[u8])
     });
 }
 
-/// DD TRT: translate and test; the first byte whose function byte is not zero, left to right.
+/// Does TRT (DD): sets registers 1 and 2 from the first byte whose table byte is not zero, if there
+/// is one, and sets the condition code.
 ///
 /// # Errors
 ///

@@ -11,7 +11,8 @@ use s370_walk::{
     UnitStatus,
 };
 
-/// Returns the end of a program at a word, which has channel end and device end.
+/// Returns an ending at a word, whose unit status is `status` with channel end and device end
+/// added.
 pub(crate) fn end_at(at: u32, status: UnitStatus, channel: ChannelStatus, count: u16) -> Ending
     ensures { result ≡ ending at status channel count }
 {
@@ -23,7 +24,7 @@ pub(crate) fn end_at(at: u32, status: UnitStatus, channel: ChannelStatus, count:
     }
 }
 
-/// Stops a transfer by a check; the device ends with the bytes that it has.
+/// Finishes the device's command and returns the program's ending, with a channel check.
 pub(crate) fn stop<D: Device>(device: &mut D, at: u32, check: ChannelStatus, count: u16) -> Ending
     ensures ending { result ≡ ending at (D.machine.status device.old) check count }
     ensures after { device.new ≡ D.machine.finished device.old }
@@ -31,7 +32,8 @@ pub(crate) fn stop<D: Device>(device: &mut D, at: u32, check: ChannelStatus, cou
     end_at(at, device.finish(), check, count)
 }
 
-/// Ends a program whose next word cannot be fetched, or is bad.
+/// Returns the ending of a program with a program check, after finishing the device's command if
+/// one is under way.
 pub(crate) fn fail<D: Device>(device: &mut D, role: Option<Transfer>, at: u32) -> Ending
     ensures ending { result ≡ failure D.machine role at device.old }
     ensures after { device.new ≡ failed D.machine role device.old }
@@ -42,7 +44,10 @@ pub(crate) fn fail<D: Device>(device: &mut D, role: Option<Transfer>, at: u32) -
     }
 }
 
-/// Returns what a command leads to that is over: the next command, or the end of the program.
+/// Returns what follows a command that is over: the next command if it chains and ended well, else
+/// the program's ending.
+///
+/// An incorrect length, or an unusual unit status, ends the program in spite of chaining.
 pub(crate) fn close(
     prefix: u32,
     wrong: bool,
@@ -74,7 +79,8 @@ pub(crate) fn close(
     }
 }
 
-/// Returns whether an incorrect length is reported at this word.
+/// Returns whether an incorrect length is reported at this word: by its flags and the direction of
+/// the transfer.
 fn minds_length(p: &Position) -> bool
     ensures { result ≡ tells_length p.now }
 {
@@ -87,14 +93,16 @@ fn minds_length(p: &Position) -> bool
     exact && (flags.has(Flags::CHAIN_DATA) || !flags.has(Flags::SUPPRESS_LENGTH))
 }
 
-/// Returns the bytes that the device has left or wants.
+/// Returns how many bytes the device still has to move: zero if it is done.
 pub(crate) fn left_of<D: Device>(device: &D, p: &Position) -> u32
     ensures { result ≡ rest D.machine p.now device.now }
 {
     if device.is_done() { 0 } else { p.transfer.left }
 }
 
-/// Ends a word whose count is zero, or whose device has nothing left, and returns what it leads to.
+/// Ends a word whose count is zero or whose device has nothing left, and returns what follows.
+///
+/// The device's command is finished, unless the count is zero and data are chained.
 #[tactic(auto, unfolding(crate::specs::Progress::weight))]
 pub(crate) fn finish<D: Device>(device: &mut D, limits: &Limits, p: &Position) -> Progress
     requires { (p.now.count ≡ 0) ⊎ (rest D.machine p.now device.old ≡ 0) }

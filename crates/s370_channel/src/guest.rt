@@ -19,7 +19,8 @@ use s370_walk::{Ccw, Flags, Position, WordForm};
 #[derive(Clone, Copy, PartialEq, Eq)]
 pub struct Guest;
 
-/// Returns an address of 24 bits, so many bytes further on.
+/// Returns the 24-bit address that is `bytes` bytes further on; past the last address it goes on at
+/// zero.
 fn further(at: u32, bytes: u32) -> u32
     ensures value { result ≡ later at bytes }
     ensures below { result < 2 ^ 24 }
@@ -27,7 +28,7 @@ fn further(at: u32, bytes: u32) -> u32
     ((at as u64 + bytes as u64) % 0x100_0000) as u32
 }
 
-/// Returns a command word with the places of the words after it.
+/// Returns a stored command word with the addresses of the words that may follow it.
 fn linked(at: u32, ccw: StoredCcw) -> Ccw
     ensures word { result ≡ word_at at ccw }
     ensures next { result.next < 2 ^ 24 }
@@ -75,7 +76,8 @@ fn linked(at: u32, ccw: StoredCcw) -> Ccw
     }
 }
 
-/// Returns a word of a list of addresses, or None past storage.
+/// Returns the word at an address of an indirect data address list, or `None` if it may not be
+/// fetched.
 fn fetch_list_word<S: Storage>(storage: &S, at: u32) -> Result<Option<u32>, Page>
     ensures { FetchTells (length (S.memory storage.now).bytes) (S.present storage.now)
         (area access.Fetch at 4 ∷ [])
@@ -96,7 +98,8 @@ fn fetch_list_word<S: Storage>(storage: &S, at: u32) -> Result<Option<u32>, Page
     }
 }
 
-/// Returns the address that a word of a list says, or None where it says none.
+/// Returns a list word's value as the address of block `number`, or `None` if it has over 24 bits
+/// or, past block 0, begins no block.
 fn address_said(number: u32, value: u32) -> Option<u32>
     ensures { result ≡ said number value }
 {
@@ -107,7 +110,7 @@ fn address_said(number: u32, value: u32) -> Option<u32>
     }
 }
 
-/// Returns where the block of a number begins of an area that is one piece of storage.
+/// Returns where block `number` of a data area in one piece begins, or `None` past 2^32.
 fn block_start(address: u32, number: u32) -> Option<u32>
     ensures { result ≡ straight address number }
 {
@@ -122,8 +125,9 @@ fn block_start(address: u32, number: u32) -> Option<u32>
     }
 }
 
-/// Returns the guest's word at an address, or None past storage. The places of the words after it
-/// have 24 bits.
+/// Returns the guest's channel command word at an address, or `None` if it may not be fetched.
+///
+/// The addresses of the words after it have 24 bits.
 ///
 /// # Errors
 ///
@@ -153,8 +157,10 @@ pub fn fetch_word<S: Storage>(storage: &S, at: u32) -> Result<Option<Ccw>, Page>
     }
 }
 
-/// Returns where the block of a number begins of the area of a guest's word, or None where that
-/// cannot be found out.
+/// Returns where block `number` of the data area of a guest's word begins, or `None` if it has
+/// none.
+///
+/// With the flag for indirect addresses, the list of addresses says it.
 ///
 /// # Errors
 ///
@@ -180,10 +186,12 @@ impl WordForm for Guest {
 
     ghost written = { λ _. guest_written };
 
+    /// Returns the guest's channel command word at an address, as `fetch_word` does.
     fn fetch<S: Storage>(&self, storage: &S, at: u32) -> Result<Option<Ccw>, Page> {
         fetch_word(storage, at)
     }
 
+    /// Returns where a block of the data area of a guest's word begins, as `fetch_block` does.
     fn block<S: Storage>(
         &self,
         storage: &S,

@@ -16,7 +16,8 @@ pub enum Verdict {
     Good,
 }
 
-/// Returns whether a word that is no transfer in channel is bad, whatever its role.
+/// Returns whether a word that is no transfer in channel is bad: its count is zero, an invalid flag
+/// is set, or its address list is not on a word.
 fn is_bad(word: &Ccw) -> bool
     ensures { result ≡ is_bad_word word.now }
 {
@@ -25,7 +26,8 @@ fn is_bad(word: &Ccw) -> bool
         || (word.flags.has(Flags::INDIRECT) && word.address % 4 != 0)
 }
 
-/// Judges a word, where so many commands may be started.
+/// Returns whether a command word is bad, a jump or good at this place in a program of at most
+/// `commands` commands.
 pub fn judge(commands: u32, spot: &NextCcw, word: &Ccw) -> Verdict
     ensures { verdict_of result ≡ judged commands spot.now word.now }
 {

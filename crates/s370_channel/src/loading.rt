@@ -30,7 +30,8 @@ pub(crate) const LIMITS: Limits = Limits {
     prefix: 0,
 };
 
-/// Runs the program of an initial program loading, as far as pages are present.
+/// Runs the channel program of an initial program loading to its end, or until memory is refused or
+/// a page is absent.
 pub(crate) fn load<F: WordForm, S: Storage, D: Device>(
     program: &F,
     storage: &mut S,
@@ -52,12 +53,14 @@ pub(crate) fn load<F: WordForm, S: Storage, D: Device>(
     }
 }
 
-/// Runs the program of an initial program loading. It has gone well where its ending has the unit
-/// status [`UnitStatus::ENDED`](s370_walk::UnitStatus::ENDED) and no channel status.
+/// Runs the channel program of an initial program loading and returns its ending.
+///
+/// It has gone well if the ending has the unit status
+/// [`UnitStatus::ENDED`](s370_walk::UnitStatus::ENDED) and no channel status.
 ///
 /// # Errors
 ///
-/// A `ChannelError`: refused memory that a command or the analysis needs, or an absent page.
+/// A `ChannelError`: refused memory that a command needs, or an absent page.
 pub fn run_ipl<F: WordForm, S: Storage, D: Device>(
     program: &F,
     storage: &mut S,

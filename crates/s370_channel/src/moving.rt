@@ -32,7 +32,7 @@ pub(crate) struct MissingPage {
     pub(crate) position: Position,
 }
 
-/// Returns whether the next byte begins a block.
+/// Returns whether the next byte begins a block, given the address of the byte before it, if any.
 fn is_first_of_block(before: Option<u32>) -> bool
     ensures { result ≡ begins_block before }
 {
@@ -42,7 +42,7 @@ fn is_first_of_block(before: Option<u32>) -> bool
     }
 }
 
-/// Returns the place after a place.
+/// Returns the address after an address, or `None` if there is none.
 fn one_further(before: Option<u32>) -> Option<u32>
     ensures { result ≡ after before }
 {
@@ -52,7 +52,7 @@ fn one_further(before: Option<u32>) -> Option<u32>
     }
 }
 
-/// Returns where the next byte lies, or None where that cannot be found out.
+/// Returns the address of the next byte to move, or `None` if its block has no address.
 pub(crate) fn place<F: WordForm, S: Storage>(
     program: &F,
     storage: &S,
@@ -71,7 +71,8 @@ pub(crate) fn place<F: WordForm, S: Storage>(
     }
 }
 
-/// Moves the position one byte further.
+/// Returns the position one byte further: count and rest are one less, and `before` is the byte's
+/// address.
 fn one_on(p: &Position, before: Option<u32>) -> Moved
     requires count { 0 < p.now.count }
     requires left { 0 < p.now.transfer.left }
@@ -91,7 +92,8 @@ fn one_on(p: &Position, before: Option<u32>) -> Moved
     })
 }
 
-/// Takes a byte from the device, and stores it.
+/// Takes a byte from the device and stores it, or drops it if the word skips; or stops the transfer
+/// with a check.
 #[tactic(auto, using(crate::proofs::Stuck::lacks_giving_place, crate::proofs::Stuck::lacks_giving_byte))]
 fn give_byte<F: WordForm, S: Storage, D: Device>(
     program: &F,
@@ -149,7 +151,7 @@ fn give_byte<F: WordForm, S: Storage, D: Device>(
     }
 }
 
-/// Loads a byte, and hands it to the device.
+/// Loads a byte and passes it to the device, or stops the transfer with a check.
 #[tactic(auto, using(crate::proofs::Stuck::lacks_taking_place, crate::proofs::Stuck::lacks_taking_byte))]
 fn take_byte<F: WordForm, S: Storage, D: Device>(
     program: &F,
@@ -201,7 +203,8 @@ fn take_byte<F: WordForm, S: Storage, D: Device>(
     }
 }
 
-/// Moves a byte either way.
+/// Moves one byte between device and storage, in the direction of the transfer, or stops it with a
+/// check.
 fn move_byte<F: WordForm, S: Storage, D: Device>(
     program: &F,
     storage: &mut S,
@@ -231,7 +234,8 @@ fn move_byte<F: WordForm, S: Storage, D: Device>(
     }
 }
 
-/// Moves as many bytes as can move in one piece, or one.
+/// Moves as many bytes as can move in one piece, or else one byte, or stops the transfer with a
+/// check.
 #[tactic(auto, using(s370_walk::proofs::Reaching::reach_next))]
 fn move_on<F: WordForm, S: Storage, D: Device>(
     program: &F,
@@ -265,8 +269,7 @@ fn move_on<F: WordForm, S: Storage, D: Device>(
     }
 }
 
-/// Moves bytes until the count or the device has run out, or to a check, or as far as pages are
-/// present.
+/// Moves bytes until the count or the device has run out, a check stops it, or a page is absent.
 #[tactic(auto, using(s370_walk::proofs::Reaching::reach_on))]
 pub(crate) fn transfer<F: WordForm, S: Storage, D: Device>(
     program: &F,

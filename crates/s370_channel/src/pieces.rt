@@ -14,8 +14,8 @@ use crate::moving::place;
 use s370_store::{Access, Range, Storage};
 use s370_walk::{Device, Direction, Flags, Position, Transfer, WordForm};
 
-/// Returns how many bytes from an address on can move in one piece: of the same block, counted, and
-/// wanted or had by the device.
+/// Returns how many bytes from an address on can move at once: at most 256, inside one block,
+/// within the count and ready at the device.
 fn piece<D: Device>(device: &D, p: &Position, address: u32) -> u32
     requires going { D.machine.done device.now ≡ false }
     ensures short { result ≤ 256 }
@@ -40,7 +40,8 @@ fn least(one: u32, other: u32) -> u32
     if one < other { one } else { other }
 }
 
-/// Moves the position so many bytes further, of which the last lies at an address.
+/// Returns the position `n` bytes further: count and rest are `n` less, and `last` is the address
+/// of the last byte.
 fn many_on(p: &Position, n: u32, last: u32) -> Position
     requires count { n ≤ p.now.count }
     requires left { n ≤ p.now.transfer.left }
@@ -60,7 +61,7 @@ fn many_on(p: &Position, n: u32, last: u32) -> Position
     }
 }
 
-/// Takes bytes from the device, and stores them from an address on.
+/// Takes `n` bytes from the device and stores them from an address on, without any test.
 fn give_piece<S: Storage, D: Device>(storage: &mut S, device: &mut D, address: u32, n: u32)
     requires granted { IsGranted (length (S.memory storage.old).bytes) (S.present storage.old)
         address n }
@@ -76,7 +77,7 @@ fn give_piece<S: Storage, D: Device>(storage: &mut S, device: &mut D, address: u
     storage.store(address, bytes);
 }
 
-/// Loads bytes from an address on, and hands them to the device.
+/// Loads `n` bytes from an address on and passes them to the device, without any test.
 fn take_piece<S: Storage, D: Device>(storage: &S, device: &mut D, address: u32, n: u32)
     requires granted { IsGranted (length (S.memory storage.now).bytes) (S.present storage.now)
         address n }
@@ -91,7 +92,8 @@ fn take_piece<S: Storage, D: Device>(storage: &S, device: &mut D, address: u32, 
     device.take_bytes(bytes);
 }
 
-/// Takes several bytes from the device and stores them, where all may be stored; or does nothing.
+/// Takes at least two bytes from the device, stores them and returns the new position; or does
+/// nothing and returns `None`.
 fn give_many<S: Storage, D: Device>(
     storage: &mut S,
     device: &mut D,
@@ -130,7 +132,8 @@ fn give_many<S: Storage, D: Device>(
     Some(many_on(p, n, end - 1))
 }
 
-/// Loads several bytes and hands them to the device, where all may be fetched; or does nothing.
+/// Loads at least two bytes, passes them to the device and returns the new position; or does
+/// nothing and returns `None`.
 fn take_many<S: Storage, D: Device>(
     storage: &S,
     device: &mut D,
@@ -164,7 +167,8 @@ fn take_many<S: Storage, D: Device>(
     Some(many_on(p, n, end - 1))
 }
 
-/// Moves several bytes in one piece, where that can be done; or does nothing.
+/// Moves at least two bytes at once and returns the new position; or does nothing and returns
+/// `None`.
 pub(crate) fn move_many<F: WordForm, S: Storage, D: Device>(
     program: &F,
     storage: &mut S,

@@ -19,7 +19,8 @@ use s370_walk::{
 };
 use thiserror::Error;
 
-/// Obeys a word from its first byte on.
+/// Moves the rest of a word's bytes, ends the word, and returns the next word's place or the
+/// program's ending.
 fn obey<F: WordForm, S: Storage, D: Device>(
     program: &F,
     storage: &mut S,
@@ -50,7 +51,7 @@ fn obey<F: WordForm, S: Storage, D: Device>(
     }
 }
 
-/// Returns a word before its first byte.
+/// Returns the position before the first byte of a word.
 fn position(spot: &NextCcw, started: u32, word: Ccw, transfer: Transfer) -> Position
     ensures { result ≡ moving spot.now started word transfer }
 {
@@ -82,7 +83,8 @@ pub(crate) enum RunStop {
     Absent(Page, Place),
 }
 
-/// Starts a command.
+/// Starts a word's command at the device, moves its bytes, and returns the next word's place or the
+/// program's ending.
 #[tactic(auto, unfolding(crate::specs::Progress::weight))]
 pub(crate) fn begin<F: WordForm, S: Storage, D: Device>(
     program: &F,
@@ -159,7 +161,8 @@ pub(crate) fn begin<F: WordForm, S: Storage, D: Device>(
     }
 }
 
-/// Goes on with a command in its next word.
+/// Goes on with a command whose data are chained to another word, and returns what follows that
+/// word.
 #[tactic(auto, using(s370_walk::proofs::Reaching::reach_from), unfolding(crate::specs::Progress::weight))]
 fn resume<F: WordForm, S: Storage, D: Device>(
     program: &F,
@@ -199,7 +202,9 @@ fn resume<F: WordForm, S: Storage, D: Device>(
     }
 }
 
-/// Fetches one word and obeys it.
+/// Fetches one word, carries it out or jumps, and returns the next place or the program's ending.
+///
+/// A word that is bad, or cannot be fetched, ends the program with a program check.
 #[tactic(auto, using(s370_walk::proofs::Reaching::reach_from, s370_walk::proofs::Reaching::reach_next, crate::proofs::Halts::lacks_word), unfolding(crate::specs::Progress::weight))]
 fn one_word<F: WordForm, S: Storage, D: Device>(
     program: &F,
@@ -259,7 +264,7 @@ pub enum ChannelError {
 impl RunStop {
     ghost use Rattle.s370_channel.specs.Halts.{error_of};
 
-    /// Returns what is reported of it.
+    /// Returns the error that is reported for a run that stopped; where it stopped is dropped.
     pub(crate) fn error(self) -> ChannelError
         ensures { result ≡ error_of self }
     {
@@ -270,7 +275,7 @@ impl RunStop {
     }
 }
 
-/// Goes on with the words from a spot, to the end of the program.
+/// Runs the program from a word on to its end, or until memory is refused or a page is absent.
 #[tactic(auto, using(s370_walk::proofs::Reaching::reach_on))]
 pub(crate) fn go_on<F: WordForm, S: Storage, D: Device>(
     program: &F,
@@ -303,7 +308,8 @@ pub(crate) fn go_on<F: WordForm, S: Storage, D: Device>(
     }
 }
 
-/// Goes on from a place, to the end of the program.
+/// Runs the program from a place, perhaps within a word, to its end, or until memory is refused or
+/// a page is absent.
 pub(crate) fn go_from<F: WordForm, S: Storage, D: Device>(
     program: &F,
     storage: &mut S,
@@ -338,11 +344,12 @@ pub(crate) fn go_from<F: WordForm, S: Storage, D: Device>(
     }
 }
 
-/// Runs the program that starts at an address.
+/// Runs the channel program that starts at an address over a device and storage, and returns its
+/// ending.
 ///
 /// # Errors
 ///
-/// A `ChannelError`: refused memory that a command or the analysis needs, or an absent page.
+/// A `ChannelError`: refused memory that a command needs, or an absent page.
 pub fn run<F: WordForm, S: Storage, D: Device>(
     program: &F,
     storage: &mut S,

@@ -13,7 +13,7 @@ use s370_walk::{NextCcw, WordForm};
 /// How many commands one program may start: the start of one more is a program check.
 pub const MOST_COMMANDS: u32 = 65535;
 
-/// Returns where a program starts that begins at an address.
+/// Returns the place before the first command of a program, at which a jump is not allowed.
 pub(crate) fn first_spot(at: u32) -> NextCcw
     ensures { result ≡ start_spot at }
 {
@@ -25,8 +25,8 @@ pub(crate) fn first_spot(at: u32) -> NextCcw
     }
 }
 
-/// Returns the start that the channel address word asks for, or None where that word or the first
-/// command word is bad. An error is a page of the first word that is not present.
+/// Returns the start that the channel address word asks for, or `None` if that word or the first
+/// command word is bad or not in storage.
 ///
 /// `check_start(&Guest, &storage, load_word(&storage, 72))` is what SIO tests.
 ///

@@ -39,7 +39,7 @@ enum Shortage {
     Room,
 }
 
-/// Returns how much a transfer may still move, as it counts in the weight of a place.
+/// Returns what a transfer's rest counts in the weight of a place: zero without a transfer.
 fn rest_in(role: Option<Transfer>) -> u128
     ensures rest { result ≡ rest_of role }
     ensures small { result < 2 ^ 34 }
@@ -50,7 +50,7 @@ fn rest_in(role: Option<Transfer>) -> u128
     }
 }
 
-/// Returns the commands that may still be started, as they count in the weight of a place.
+/// Returns what the commands that may still be started count in the weight of a place.
 fn commands_left(commands: u32, started: u32) -> u128
     ensures value { result ≡ (commands - started) * 2 ^ 34 }
     ensures small { result < 2 ^ 66 }
@@ -58,7 +58,7 @@ fn commands_left(commands: u32, started: u32) -> u128
     u128::from(commands.saturating_sub(started)) * 0x4_0000_0000
 }
 
-/// Returns how much may still be done from a place, where so many commands may be started.
+/// Returns a bound on the work left from a place, which falls with each step of the program.
 #[tactic(auto, unfolding(crate::specs::Progress::weight))]
 fn weight_of(commands: u32, place: &Place) -> u128
     ensures { result ≡ place_weight commands place.now }
@@ -76,8 +76,8 @@ fn weight_of(commands: u32, place: &Place) -> u128
     }
 }
 
-/// Goes on from a place to another at which a page is absent, after each page was brought that the
-/// step needs, each of them once.
+/// Runs the program until it ends or stops further on at an absent page; the pages that it needs
+/// for that are made present.
 fn supply_step<S: AmpleSupply, D: Device>(
     storage: &mut S,
     device: &mut D,
@@ -120,8 +120,10 @@ fn supply_step<S: AmpleSupply, D: Device>(
     }
 }
 
-/// Brings the pages of a unit, if there is room for every page; what was brought is pinned no
-/// longer.
+/// Runs the program until it ends or stops further on at an absent page, and then ends the hold on
+/// the pages that it made present.
+///
+/// The storage has room for every page.
 fn supply_unit<S: AmpleSupply, D: Device>(
     storage: &mut S,
     device: &mut D,
@@ -158,7 +160,7 @@ fn supply_unit<S: AmpleSupply, D: Device>(
     }
 }
 
-/// Goes on from a place to the end of the program; pages that are absent are brought.
+/// Runs the program from a place to its end, and makes absent pages present as it needs them.
 fn go_supplied<S: AmpleSupply, D: Device>(
     storage: &mut S,
     device: &mut D,
@@ -195,12 +197,14 @@ fn go_supplied<S: AmpleSupply, D: Device>(
     }
 }
 
-/// Runs the program that starts at an address over a storage that has room for every page; those
-/// that it touches are brought when it comes to them.
+/// Runs the program that starts at an address to its end; absent pages are made present as it needs
+/// them.
+///
+/// The storage has room for every page.
 ///
 /// # Errors
 ///
-/// A `ChannelError`: refused memory that a command or the analysis needs, or an absent page.
+/// `ChannelError::Memory` if a command is refused memory; no page is reported as absent.
 pub fn run_supplied<S: AmpleSupply, D: Device>(
     storage: &mut S,
     start: u32,
@@ -227,11 +231,12 @@ pub fn run_supplied<S: AmpleSupply, D: Device>(
     go_supplied(storage, device, limits, Place::Next(first_spot(start)))
 }
 
-/// Runs the program of an initial program loading, whose pages are brought as it needs them.
+/// Runs the channel program of an initial program loading; absent pages are made present as it
+/// needs them.
 ///
 /// # Errors
 ///
-/// A `ChannelError`: refused memory that a command or the analysis needs, or an absent page.
+/// `ChannelError::Memory` if a command is refused memory; no page is reported as absent.
 pub fn load_supplied<S: AmpleSupply, D: Device>(
     storage: &mut S,
     device: &mut D,

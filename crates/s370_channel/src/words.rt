@@ -23,7 +23,8 @@ pub struct StoredCcw {
 }
 
 impl StoredCcw {
-    /// Returns the word that eight bytes of storage hold. Bits 40 to 47 are ignored.
+    /// Returns the channel command word that eight bytes of storage hold; bits 40 to 47 are
+    /// ignored.
     pub fn from_bytes(bytes: &[u8; 8]) -> StoredCcw
         ensures { result ≡ ccw_of bytes.now }
     {
@@ -35,7 +36,7 @@ impl StoredCcw {
         }
     }
 
-    /// Returns the eight bytes of the word, with zeros in bits 40 to 47.
+    /// Returns the eight bytes of the channel command word, with zeros in bits 40 to 47.
     pub fn to_bytes(self) -> [u8; 8]
         ensures { result ≡ ccw_bytes self }
     {
@@ -65,7 +66,8 @@ pub struct Csw {
 }
 
 impl Csw {
-    /// Returns the word that says how a program with this key ended.
+    /// Returns the channel status word of a program with this key that has ended; its address is 8
+    /// past the last word.
     pub fn of_ending(key: AccessKey, ending: Ending) -> Csw
         ensures { result ≡ ending_word key ending }
     {
@@ -78,7 +80,7 @@ impl Csw {
         }
     }
 
-    /// Returns the word that eight bytes of storage hold. Bits 4 to 7 are ignored.
+    /// Returns the channel status word that eight bytes of storage hold; bits 4 to 7 are ignored.
     pub fn from_bytes(bytes: &[u8; 8]) -> Csw
         ensures { result ≡ csw_of bytes.now }
     {
@@ -91,7 +93,7 @@ impl Csw {
         }
     }
 
-    /// Returns the eight bytes of the word, as they are stored at location 64.
+    /// Returns the eight bytes of the channel status word, as they are stored at location 64.
     pub fn to_bytes(self) -> [u8; 8]
         ensures { result ≡ csw_bytes self }
     {
@@ -115,8 +117,8 @@ pub struct Caw {
 }
 
 impl Caw {
-    /// Returns the word that 32 bits spell, or None where bits 4 to 7 are not zero or the address
-    /// is not on a doubleword.
+    /// Returns the channel address word in 32 bits, or `None` if bits 4 to 7 are not zero or the
+    /// address is not on a doubleword.
     pub fn from_word(word: u32) -> Option<Caw>
         ensures { result ≡ caw_of word }
     {

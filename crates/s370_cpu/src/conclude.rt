@@ -29,7 +29,8 @@ pub enum Stop {
     Absent(Page),
 }
 
-/// Sets the address that an instruction leaves, and says how the unit ends.
+/// Sets the instruction address by how an instruction ended, and returns how the step ends; if the
+/// instruction is to be done again or a page is absent, nothing changes.
 #[inline(always)]
 pub fn conclude(cpu: &mut Cpu, place: Place, outcome: Result<Completion, Refusal>) -> Stop
     ensures { stopped outcome place cpu.old ≡ record { stop = result; cpu = cpu.new } }

@@ -11,7 +11,8 @@ use s370_store::Storage;
 /// The operation code of EX.
 pub const EXECUTE: u8 = 0x44;
 
-/// Returns the target of EX, as EX changes it.
+/// Returns EX's target with the rightmost byte of R1 ORed into its second byte, unless R1 is
+/// register 0.
 #[inline(always)]
 fn join(cpu: &Cpu, i: Instruction, target: Instruction) -> Instruction
     ensures { result ≡ joined cpu.now i target }
@@ -26,7 +27,8 @@ fn join(cpu: &Cpu, i: Instruction, target: Instruction) -> Instruction
     }
 }
 
-/// 44 EX: the target, which is fetched; any other instruction is carried out itself.
+/// Fetches and returns the target of EX (44), as EX changes it; returns any other instruction as it
+/// is.
 ///
 /// # Errors
 ///

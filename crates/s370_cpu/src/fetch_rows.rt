@@ -21,7 +21,8 @@ use s370_rows::{
 };
 use s370_store::{Access, Range, Storage, load_byte, load_halfword, load_word};
 
-/// Returns the word at the address of a second operand with an index.
+/// Returns the word of storage that is the second operand, addressed with an index, if it may be
+/// fetched.
 #[inline(always)]
 fn fetched_word<S: Storage>(cpu: &Cpu, storage: &S, i: Instruction) -> Result<u32, Refusal>
     ensures { let m = state_of cpu.now (S.memory storage.now) in
@@ -33,7 +34,8 @@ fn fetched_word<S: Storage>(cpu: &Cpu, storage: &S, i: Instruction) -> Result<u3
     Ok(load_word(storage, start))
 }
 
-/// Returns the signed halfword at the address of a second operand with an index.
+/// Returns the halfword of storage that is the second operand, its sign extended, if it may be
+/// fetched.
 #[inline(always)]
 fn fetched_halfword<S: Storage>(cpu: &Cpu, storage: &S, i: Instruction) -> Result<u32, Refusal>
     ensures { let m = state_of cpu.now (S.memory storage.now) in
@@ -45,7 +47,7 @@ fn fetched_halfword<S: Storage>(cpu: &Cpu, storage: &S, i: Instruction) -> Resul
     Ok(halfword_operand(load_halfword(storage, start)))
 }
 
-/// Returns the byte at an address.
+/// Returns the byte at an address, if it may be fetched with the PSW's key.
 #[inline(always)]
 fn fetched_byte<S: Storage>(cpu: &Cpu, storage: &S, address: Addr24) -> Result<u8, Refusal>
     ensures { let m = state_of cpu.now (S.memory storage.now) in
@@ -57,8 +59,10 @@ fn fetched_byte<S: Storage>(cpu: &Cpu, storage: &S, address: Addr24) -> Result<u
     Ok(load_byte(storage, start))
 }
 
-/// 54 N, 55 CL, 56 O, 57 X, 58 L, 59 C, 5A A, 5B S, 5E AL, 5F SL: an operation on a register and a
-/// word of storage.
+/// Does an operation on register R1 and a word of storage: sets R1 and the condition code.
+///
+/// It serves N 54, CL 55, O 56, X 57, L 58, C 59, A 5A, S 5B, AL 5E and SL 5F. CL and C keep R1,
+/// and L keeps the condition code.
 ///
 /// # Errors
 ///
@@ -79,7 +83,8 @@ pub fn word_row<S: Storage>(
     word_row_at(operation, cpu, storage, i, start)
 }
 
-/// Does a row as [`word_row`] does, whose word is at this address.
+/// Does an operation on register R1 and the word at this address, as [`word_row`] does: sets R1 and
+/// the condition code.
 ///
 /// # Errors
 ///
@@ -103,7 +108,8 @@ pub fn word_row_at<S: Storage>(
     Ok(arithmetic_row(operation, cpu, i.r1(), b))
 }
 
-/// 48 LH, 49 CH, 4A AH, 4B SH: an operation on a register and a halfword of storage.
+/// Does LH (48), CH (49), AH (4A) or SH (4B) on register R1 and a halfword of storage: sets R1 and,
+/// except for LH, the condition code.
 #[inline(always)]
 fn halfword_row<S: Storage>(
     operation: Arithmetic,
@@ -120,7 +126,7 @@ fn halfword_row<S: Storage>(
     Ok(arithmetic_row(operation, cpu, i.r1(), b))
 }
 
-/// 4C MH: a product with a halfword of storage.
+/// Does MH (4C): sets R1 to the low 32 bits of the product of R1 and a halfword of storage.
 #[inline(always)]
 fn multiply_halfword<S: Storage>(
     cpu: &mut Cpu,
@@ -135,7 +141,7 @@ fn multiply_halfword<S: Storage>(
     Ok(multiply_halfword_row(cpu, i.r1(), b))
 }
 
-/// 5C M: a product with a word of storage.
+/// Does M (5C): sets pair R1 to the product of its second register and a word of storage.
 #[inline(always)]
 fn multiply_word<S: Storage>(
     cpu: &mut Cpu,
@@ -153,7 +159,7 @@ fn multiply_word<S: Storage>(
     Ok(multiply_row(cpu, i.r1(), b))
 }
 
-/// 5D D: a quotient of a pair and a word of storage.
+/// Does D (5D): divides pair R1 by a word of storage, and sets the pair to remainder and quotient.
 #[inline(always)]
 fn divide_word<S: Storage>(
     cpu: &mut Cpu,
@@ -174,7 +180,7 @@ fn divide_word<S: Storage>(
     }
 }
 
-/// 43 IC: a byte of storage goes to a register.
+/// Does IC (43): sets the rightmost byte of R1 from a byte of storage.
 #[inline(always)]
 fn insert_character<S: Storage>(
     cpu: &mut Cpu,
@@ -189,7 +195,7 @@ fn insert_character<S: Storage>(
     Ok(insert_byte_row(cpu, i.r1(), byte))
 }
 
-/// 91 TM, 95 CLI: a test of a byte of storage by the immediate one.
+/// Does TM (91) or CLI (95): sets the condition code from a byte of storage and the immediate byte.
 ///
 /// # Errors
 ///
@@ -211,7 +217,8 @@ pub fn test_byte_row<S: Storage>(
     Ok(Completion::Done)
 }
 
-/// Carries out a row that fetches its operands, but for the address.
+/// Does an instruction that fetches operands from storage and stores none; the caller sets the next
+/// address.
 ///
 /// # Errors
 ///

@@ -9,7 +9,8 @@ ghost use Rattle.s370_cpu.specs.Fetch.{instruction_at};
 use s370_rows::Instruction;
 use s370_store::{Block, Storage};
 
-/// Returns a halfword of an instruction, or zero where it lies past the instruction's length.
+/// Returns two bytes as a halfword, or zero if `past` is true: the halfword is past the
+/// instruction's end.
 #[inline(always)]
 fn half(past: bool, bytes: [u8; 2]) -> u16
     ensures { result ≡ (if past then 0 else from_be_bytes w16 bytes) }
@@ -17,8 +18,8 @@ fn half(past: bool, bytes: [u8; 2]) -> u16
     if past { 0 } else { u16::from_be_bytes(bytes) }
 }
 
-/// Returns the instruction whose bytes these are, as many as the longest has, of which the first,
-/// the operation code, is known.
+/// Returns the instruction in the front of six bytes, whose operation code is passed and sets its
+/// length.
 #[inline(always)]
 fn instruction_in(bytes: &[u8; 6], opcode: u8) -> Instruction
     ensures instruction { (storage : List ℕ) → (start : ℕ)
@@ -34,8 +35,8 @@ fn instruction_in(bytes: &[u8; 6], opcode: u8) -> Instruction
     }
 }
 
-/// Returns the instruction at an address from which six bytes may be loaded, of which the first,
-/// its operation code, is known.
+/// Returns the instruction at an address from which six bytes may be loaded; its operation code is
+/// passed.
 #[inline(always)]
 pub fn load_known<S: Storage>(storage: &S, start: u32, opcode: u8) -> Instruction
     requires granted { IsGranted (length (S.memory storage.now).bytes) (S.present storage.now) start
@@ -49,8 +50,8 @@ pub fn load_known<S: Storage>(storage: &S, start: u32, opcode: u8) -> Instructio
     instruction_in(&bytes, opcode)
 }
 
-/// Returns the instruction at an address in a block that was found, whose first byte, the operation
-/// code, is known.
+/// Returns the instruction at an address in a block that `find_block` returned; its operation code
+/// is passed.
 #[inline(always)]
 pub fn load_known_in<S: Storage>(storage: &S, block: Block, start: u32, opcode: u8) -> Instruction
     requires placed { S.IsPlaced storage.now block }

@@ -345,7 +345,7 @@ static OPCODES: [Opcode; 256] = [
     NONE, MVO, PACK, UNPK, NONE, NONE, NONE, NONE, NONE, NONE, NONE, NONE, NONE, NONE, NONE, NONE,
 ];
 
-/// Returns the row that an operation code names.
+/// Returns the entry of the table of instructions for an operation code.
 #[inline(always)]
 pub fn opcode_of(first: u8) -> Opcode
     ensures { result ≡ opcode_at first }

@@ -17,8 +17,8 @@ use s370_rows::{
     multiply_row, set_program_mask_row, shift_pair_row, shift_row,
 };
 
-/// 05 BALR, 45 BAL; 06 BCTR, 46 BCT; 07 BCR, 47 BC. `may` says whether there is an address to
-/// branch to.
+/// Does BALR or BAL (05, 45), BCTR or BCT (06, 46), or BCR or BC (07, 47), and returns a branch to
+/// `target` only if `may` is true.
 #[inline(always)]
 fn branch_row(
     kind: Branching,
@@ -37,7 +37,7 @@ fn branch_row(
     }
 }
 
-/// Returns by how many bits a shift is.
+/// Returns by how many bits to shift: the low six bits of the second operand's address.
 #[inline(always)]
 fn shift_count(cpu: &Cpu, i: Instruction) -> u8
     ensures value { result ≡ shift_count cpu.now i }
@@ -46,7 +46,7 @@ fn shift_count(cpu: &Cpu, i: Instruction) -> u8
     (cpu.based(i.second_half).get() % 64) as u8
 }
 
-/// 1C MR: a product of two registers.
+/// Does MR (1C): sets pair R1 to the product of its second register and `b`; an odd R1 is refused.
 #[inline(always)]
 fn multiply(cpu: &mut Cpu, i: Instruction, b: u32) -> Result<Completion, ProgramCode>
     ensures { MeetsEnded (with_even (r1_of i) (Ok (multiplied cpu.old (r1_of i) b))) cpu.old result
@@ -58,7 +58,8 @@ fn multiply(cpu: &mut Cpu, i: Instruction, b: u32) -> Result<Completion, Program
     Ok(multiply_row(cpu, i.r1(), b))
 }
 
-/// 1D DR: a quotient of a pair and a register.
+/// Does DR (1D): divides pair R1 by `b` and sets it to remainder and quotient; an odd R1 is
+/// refused.
 #[inline(always)]
 fn divide(cpu: &mut Cpu, i: Instruction, b: u32) -> Result<Completion, ProgramCode>
     ensures { MeetsEnded (with_even (r1_of i) (quotient_left cpu.old (r1_of i) b)) cpu.old result
@@ -70,7 +71,7 @@ fn divide(cpu: &mut Cpu, i: Instruction, b: u32) -> Result<Completion, ProgramCo
     divide_row(cpu, i.r1(), b)
 }
 
-/// 8C SRDL, 8D SLDL, 8E SRDA, 8F SLDA: a shift of a pair.
+/// Does SRDL (8C), SLDL (8D), SRDA (8E) or SLDA (8F): shifts pair R1; an odd R1 is refused.
 #[inline(always)]
 fn shift_pair(shift: Shift, cpu: &mut Cpu, i: Instruction) -> Result<Completion, ProgramCode>
     ensures { MeetsEnded (with_even (r1_of i)
@@ -84,7 +85,8 @@ fn shift_pair(shift: Shift, cpu: &mut Cpu, i: Instruction) -> Result<Completion,
     Ok(shift_pair_row(shift, cpu, i.r1(), count))
 }
 
-/// Returns whether a branch is taken where there is an address to branch to.
+/// Returns whether a branch is taken, if it has an address: always for BAL, else by the count in R1
+/// or the condition code.
 #[inline(always)]
 fn is_taken(kind: Branching, cpu: &Cpu, i: Instruction) -> bool
     ensures { result ≡ false → (place : Place) → (target : ℕ)
@@ -97,7 +99,8 @@ fn is_taken(kind: Branching, cpu: &Cpu, i: Instruction) -> bool
     }
 }
 
-/// 45 BAL, 46 BCT, 47 BC: a branch to the second operand's address.
+/// Does BAL (45), BCT (46) or BC (47): sets R1 for BAL and BCT, and returns a branch to the second
+/// operand's address if it is taken.
 ///
 /// The address is made up only for a branch that is taken. So the real processor foretells which
 /// instruction comes next, and does not wait for the count or the condition to choose between two
@@ -114,8 +117,8 @@ pub fn branch_to(kind: Branching, cpu: &mut Cpu, place: Place, i: Instruction) -
     branch_row(kind, cpu, place, i, true, target)
 }
 
-/// 05 BALR, 06 BCTR, 07 BCR: a branch to the address in a register, but none where the field is
-/// zero.
+/// Does BALR (05), BCTR (06) or BCR (07): sets R1 for BALR and BCTR, and returns a branch to the
+/// address in R2 if it is taken and R2 is not register 0.
 #[inline(always)]
 pub fn branch_register(kind: Branching, cpu: &mut Cpu, place: Place, i: Instruction) -> Completion
     ensures { branched kind cpu.old place i (not (r2_of i == 0))
@@ -126,7 +129,8 @@ pub fn branch_register(kind: Branching, cpu: &mut Cpu, place: Place, i: Instruct
     branch_row(kind, cpu, place, i, i.r2().number() != 0, target)
 }
 
-/// Does an operation on two registers.
+/// Does an operation on registers R1 and R2: sets R1 and the condition code, and may return an
+/// overflow exception.
 #[inline(always)]
 pub fn register_operation(operation: Arithmetic, cpu: &mut Cpu, i: Instruction) -> Completion
     ensures { arithmetic operation cpu.old (r1_of i) (slice_index cpu.old.general (r2_of i))
@@ -136,7 +140,7 @@ pub fn register_operation(operation: Arithmetic, cpu: &mut Cpu, i: Instruction) 
     arithmetic_row(operation, cpu, i.r1(), second)
 }
 
-/// 41 LA: the second operand's address goes to a register.
+/// Does LA (41): sets R1 to the address of the second operand.
 #[inline(always)]
 pub fn load_address(cpu: &mut Cpu, i: Instruction) -> Completion
     ensures { address_loaded cpu.old (r1_of i) (indexed_address cpu.old (r2_of i) i.second_half)
@@ -146,7 +150,7 @@ pub fn load_address(cpu: &mut Cpu, i: Instruction) -> Completion
     load_address_row(cpu, i.r1(), address)
 }
 
-/// Carries out a row that accesses no storage, but for the address.
+/// Does an instruction that accesses no storage; the caller sets the next address.
 ///
 /// # Errors
 ///

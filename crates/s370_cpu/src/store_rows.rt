@@ -21,7 +21,7 @@ use s370_store::{
     store_halfword, store_word,
 };
 
-/// 50 ST: the store of a register.
+/// Does ST (50): stores register R1 in the word of the second operand.
 ///
 /// # Errors
 ///
@@ -42,7 +42,7 @@ pub fn store_word_row<S: Storage>(
     store_word_row_at(cpu, storage, i, start)
 }
 
-/// Does a row as [`store_word_row`] does, whose word is at this address.
+/// Stores register R1 in the word at this address, as [`store_word_row`] does.
 ///
 /// # Errors
 ///
@@ -66,7 +66,7 @@ pub fn store_word_row_at<S: Storage>(
     Ok(Completion::Done)
 }
 
-/// 40 STH: the store of the right half of a register.
+/// Does STH (40): stores the right half of register R1 in two bytes of storage.
 #[inline(always)]
 fn store_halfword_row<S: Storage>(
     cpu: &Cpu,
@@ -88,7 +88,7 @@ fn store_halfword_row<S: Storage>(
     Ok(Completion::Done)
 }
 
-/// 42 STC: the store of the rightmost byte of a register.
+/// Does STC (42): stores the rightmost byte of register R1 in a byte of storage.
 #[inline(always)]
 fn store_character_row<S: Storage>(
     cpu: &Cpu,
@@ -106,7 +106,8 @@ fn store_character_row<S: Storage>(
     Ok(Completion::Done)
 }
 
-/// 92 MVI, 93 TS, 94 NI, 96 OI, 97 XI: a change of a byte.
+/// Does MVI (92), TS (93), NI (94), OI (96) or XI (97): changes a byte of storage and, except for
+/// MVI, sets the condition code.
 #[inline(always)]
 fn change_byte_row<S: Storage>(
     change: ByteChange,
@@ -128,7 +129,8 @@ fn change_byte_row<S: Storage>(
     Ok(Completion::Done)
 }
 
-/// BA CS: the swap of a word.
+/// Does CS (BA): stores R3 if R1 equals a word of storage, else loads that word into R1; sets the
+/// condition code.
 #[inline(always)]
 fn swap_word_row<S: Storage>(
     cpu: &mut Cpu,
@@ -153,7 +155,8 @@ fn swap_word_row<S: Storage>(
     Ok(Completion::Done)
 }
 
-/// BB CDS: the swap of a doubleword.
+/// Does CDS (BB): stores pair R3 if pair R1 equals a doubleword of storage, else loads that into
+/// pair R1; sets the condition code.
 #[inline(always)]
 fn swap_doubleword_row<S: Storage>(
     cpu: &mut Cpu,
@@ -178,7 +181,7 @@ fn swap_doubleword_row<S: Storage>(
     Ok(Completion::Done)
 }
 
-/// Carries out a row that stores an operand, but for the address.
+/// Does an instruction that stores an operand in storage; the caller sets the next address.
 ///
 /// # Errors
 ///

@@ -24,9 +24,10 @@ use s370_psw::{Ilc, ProgramCode};
 use s370_rows::{Arithmetic, Completion, Cpu, Instruction, Place, Refusal, Shift};
 use s370_store::{Block, Storage, load_byte, load_byte_in};
 
-/// Carries out an instruction of any state that was fetched, but for its address. The operation
-/// code is passed next to the instruction, so that where it is a constant all but that
-/// instruction's row is left out of the code.
+/// Does a fetched instruction that is not privileged; the caller sets the next address.
+///
+/// The operation code is passed next to the instruction, so that where it is a constant all but
+/// that instruction's row is left out of the code.
 #[inline(always)]
 fn perform<S: Storage>(
     cpu: &mut Cpu,
@@ -56,9 +57,8 @@ fn perform<S: Storage>(
     }
 }
 
-/// Does one instruction of a running processor, or the program interruption that comes in its
-/// place, up to the swap of program status words. An instruction for the supervisor state is handed
-/// back, after its fetch, with nothing done.
+/// Does the instruction at the instruction address and returns how it ended; no PSW is swapped for
+/// an interruption, and a privileged instruction is only fetched and returned.
 #[inline]
 pub fn step<S: Storage>(cpu: &mut Cpu, storage: &mut S) -> Stop
     ensures unit { let before = state_of cpu.old (S.memory storage.old) in
@@ -74,8 +74,10 @@ pub fn step<S: Storage>(cpu: &mut Cpu, storage: &mut S) -> Stop
     carry_known(cpu, storage, start, opcode)
 }
 
-/// Does an instruction as [`step`] does, in a block that was found for fetches with the processor's
-/// key. It is at an even address there, with room for the longest instruction.
+/// Does the instruction at the instruction address, as [`step`] does, from a block that
+/// `find_block` returned for fetches with the PSW's key.
+///
+/// It is at an even address there, with room for the longest instruction.
 #[inline(always)]
 pub fn step_in<S: Storage>(cpu: &mut Cpu, storage: &mut S, start: Addr24, block: Block) -> Stop
     requires here { start ≡ cpu.old.psw.address }
@@ -93,7 +95,8 @@ pub fn step_in<S: Storage>(cpu: &mut Cpu, storage: &mut S, start: Addr24, block:
     carry_in(cpu, storage, start, block)
 }
 
-/// Does an instruction as [`step_in`] does, if it may be fetched.
+/// Fetches the instruction at `start` from a block that `find_block` returned, and does it as
+/// [`step`] does.
 #[inline(always)]
 fn carry_in<S: Storage>(cpu: &mut Cpu, storage: &mut S, start: Addr24, block: Block) -> Stop
     requires here { start ≡ cpu.old.psw.address }
@@ -112,7 +115,8 @@ fn carry_in<S: Storage>(cpu: &mut Cpu, storage: &mut S, start: Addr24, block: Bl
     carry(cpu, storage, opcode, first)
 }
 
-/// Does an instruction as [`step`] does, if one look is not enough for the fetch.
+/// Fetches the instruction with tests of each part and does it as [`step`] does; a fetch that fails
+/// changes nothing.
 #[inline(never)]
 fn step_apart<S: Storage>(cpu: &mut Cpu, storage: &mut S) -> Stop
     ensures unit { let before = state_of cpu.old (S.memory storage.old) in
@@ -127,8 +131,8 @@ fn step_apart<S: Storage>(cpu: &mut Cpu, storage: &mut S) -> Stop
     }
 }
 
-/// Goes on with the instruction of this operation code, which is at the instruction address, once
-/// one look was enough for its fetch.
+/// Fetches the six bytes at `start`, which are known to be granted, and does the instruction as
+/// [`step`] does.
 #[inline(always)]
 fn carry_known<S: Storage>(cpu: &mut Cpu, storage: &mut S, start: u32, opcode: u8) -> Stop
     requires here { start ≡ cpu.old.psw.address }
@@ -146,7 +150,7 @@ fn carry_known<S: Storage>(cpu: &mut Cpu, storage: &mut S, start: u32, opcode: u
     carry(cpu, storage, opcode, first)
 }
 
-/// Goes on with the instruction that was fetched, of this operation code.
+/// Does a fetched instruction as [`step`] does; for EX its target.
 #[inline(always)]
 fn carry<S: Storage>(cpu: &mut Cpu, storage: &mut S, opcode: u8, first: Instruction) -> Stop
     requires same { first.opcode ≡ opcode }
@@ -165,7 +169,7 @@ fn carry<S: Storage>(cpu: &mut Cpu, storage: &mut S, opcode: u8, first: Instruct
     finish(cpu, storage, Place { next, ilc }, opcode, first)
 }
 
-/// Goes on with EX, which was fetched: with its target.
+/// Fetches the target of EX and does it, or ends EX with the refusal of that fetch.
 #[inline(never)]
 fn carry_target<S: Storage>(
     cpu: &mut Cpu,
@@ -189,7 +193,7 @@ fn carry_target<S: Storage>(
     }
 }
 
-/// Goes on with the instruction that is carried out, of this operation code.
+/// Does a fetched instruction and sets the next address, or returns it undone if it is privileged.
 #[inline(always)]
 fn finish<S: Storage>(
     cpu: &mut Cpu,
@@ -215,7 +219,7 @@ fn finish<S: Storage>(
     conclude(cpu, Place { next, ilc }, outcome)
 }
 
-/// Returns whether an operation code is for the supervisor state only.
+/// Returns whether an operation code is that of a privileged instruction.
 #[inline(always)]
 fn is_supervised(code: u8) -> bool
     ensures { result ≡ is_supervised (opcode_at code) }
@@ -226,8 +230,11 @@ fn is_supervised(code: u8) -> bool
     }
 }
 
-/// Returns whether the processor goes on after each instruction of an operation code that is
-/// carried out, unless it overflows, and changes nobody's rights.
+/// Returns false for operation codes of privileged instructions, SVC and CVB, and true for all
+/// others.
+///
+/// An instruction of the others, if it is carried out and does not overflow, lets the processor go
+/// on and changes nobody's rights.
 #[inline(always)]
 pub fn is_steady(code: u8) -> bool
     ensures steady { result ≡ is_steady (opcode_at code) }
@@ -240,8 +247,7 @@ pub fn is_steady(code: u8) -> bool
     }
 }
 
-/// Returns whether an instruction of an operation code can overflow, which interrupts where the
-/// program mask has its bit.
+/// Returns whether an instruction of an operation code can end with a fixed-point overflow.
 #[inline(always)]
 pub fn may_overflow(code: u8) -> bool
     ensures { result ≡ may_overflow (opcode_at code) }
@@ -256,7 +262,7 @@ pub fn may_overflow(code: u8) -> bool
     }
 }
 
-/// Returns whether an operation makes a signed number, which may not fit its register.
+/// Returns whether an operation can overflow: its signed result may not fit a register.
 #[inline(always)]
 fn is_signed(operation: Arithmetic) -> bool
     ensures { result ≡ is_signed operation }

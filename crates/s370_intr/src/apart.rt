@@ -19,7 +19,7 @@ use s370_subchannels::Subchannels;
 /// 0A SVC.
 const SUPERVISOR_CALL: u8 = 0x0A;
 
-/// Returns whether page 0 is present, in which interruptions store and load the PSW.
+/// Returns whether page 0, in which interruptions store and load the PSW, is present.
 #[inline(always)]
 fn has_first_page<S: Storage>(storage: &S) -> bool
     requires { 8192 ≤ length (S.memory storage.now).bytes }
@@ -32,8 +32,8 @@ fn has_first_page<S: Storage>(storage: &S) -> bool
     }
 }
 
-/// Carries out SVC, which was fetched, and interrupts the program. Where page 0 is not present,
-/// that is the error, and nothing has changed.
+/// Does SVC, which was fetched from `start`, and its interruption, or returns page 0 if that is
+/// absent, and nothing has changed.
 #[inline(always)]
 fn call_supervisor<P: Processor, S: Keyed>(
     cpu: &mut Cpu,
@@ -65,8 +65,8 @@ fn call_supervisor<P: Processor, S: Keyed>(
     }
 }
 
-/// Carries out an instruction in a block, with the interruption or the answer that it ends in.
-/// Returns whether that was done: it may not be if a page is missing, and then nothing has changed.
+/// Does the instruction at `start`, with the interruption or the device's answer that it ends in,
+/// and returns true; or returns false and changes nothing, if a page is absent.
 #[inline(always)]
 fn step_and_follow<P: Processor, S: Keyed>(
     cpu: &mut Cpu,
@@ -113,9 +113,10 @@ fn step_and_follow<P: Processor, S: Keyed>(
     }
 }
 
-/// Carries out the next instruction, which is in this block, with the interruption or the answer
-/// that it ends in. Returns whether that was done: it may not be if a page is missing, and then
-/// nothing has changed.
+/// Does the instruction at `start`, with the interruption or the device's answer that it ends in,
+/// and returns true; or returns false and changes nothing, if a page is absent.
+///
+/// The instruction lies in `block`, with room for the longest.
 #[inline(always)]
 pub fn instruct_in<P: Processor, S: Keyed>(
     cpu: &mut Cpu,

@@ -14,7 +14,7 @@ pub enum Class {
 }
 
 impl Class {
-    /// Returns the address of the old program status word.
+    /// Returns the address at which an interruption of this class stores the old PSW.
     #[inline]
     pub fn old_psw(self) -> u32
         ensures { result ≡ old_psw_of self }
@@ -28,7 +28,7 @@ impl Class {
         }
     }
 
-    /// Returns the address of the new program status word.
+    /// Returns the address from which an interruption of this class loads the new PSW.
     #[inline]
     pub fn new_psw(self) -> u32
         ensures { result ≡ new_psw_of self }

@@ -8,8 +8,9 @@ use s370_rows::{Cpu, IoOperation};
 use s370_store::{Page, Storage};
 use s370_subchannels::{Subchannels, answer};
 
-/// Answers an input/output instruction, which asks the device of this address. If a page is not
-/// present that is needed, it is the error, and nothing is changed.
+/// Carries out SIO, TIO, HIO or TCH for the device of this address and sets the condition code.
+///
+/// If a page that is needed is absent, nothing is changed.
 ///
 /// # Errors
 ///

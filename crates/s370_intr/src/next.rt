@@ -40,8 +40,8 @@ pub enum Next {
     Instructs,
 }
 
-/// Returns whether a running processor does an instruction next, where nothing is pending. If it
-/// says no, [`look`] says what comes next, which can be an instruction still.
+/// Returns whether a running processor surely does an instruction next; if false, [`look`] decides,
+/// and may still return an instruction.
 #[inline(always)]
 pub fn is_plain(cpu: &Cpu, pending: Pending, subchannels: &Subchannels) -> bool
     ensures { (m : Memory) → result ≡ true
@@ -59,8 +59,8 @@ pub fn is_plain(cpu: &Cpu, pending: Pending, subchannels: &Subchannels) -> bool
     subchannels.is_quiet(&cpu.psw)
 }
 
-/// Returns what a running processor does next, of which it is known already whether it is an
-/// instruction with nothing pending.
+/// Returns what a running processor does next: an instruction if `is_plain` is true, else what
+/// [`look`] returns.
 #[inline(always)]
 pub fn next_of(is_plain: bool, cpu: &Cpu, pending: Pending, subchannels: &Subchannels) -> Next
     requires { (m : Memory) → is_plain ≡ true
@@ -74,7 +74,8 @@ pub fn next_of(is_plain: bool, cpu: &Cpu, pending: Pending, subchannels: &Subcha
     }
 }
 
-/// Returns what a running processor does next.
+/// Returns what a running processor does next: stop, accept external conditions or a device's
+/// status, or an instruction.
 #[inline(always)]
 pub fn look(cpu: &Cpu, pending: Pending, subchannels: &Subchannels) -> Next
     ensures { (m : Memory) → result ≡ look (core_of (state_of cpu.now m) pending subchannels.now) }
@@ -95,7 +96,8 @@ pub fn look(cpu: &Cpu, pending: Pending, subchannels: &Subchannels) -> Next
     offered(subchannels.first_status(&cpu.psw), &cpu.psw)
 }
 
-/// Returns what comes next of a device that may interrupt and a wait: the status comes first.
+/// Returns that the processor accepts the status, if there is one, else whether it waits or does an
+/// instruction.
 #[inline(always)]
 fn offered(status: Option<Status>, psw: &Psw) -> Next
     ensures { result ≡ offered status psw.now }
@@ -106,7 +108,8 @@ fn offered(status: Option<Status>, psw: &Psw) -> Next
     }
 }
 
-/// Returns whether the processor waits.
+/// Returns that the processor stops if its PSW is in the wait state, else that it does an
+/// instruction.
 #[inline(always)]
 fn waits(psw: &Psw) -> Next
     ensures { result ≡ waits psw.now }

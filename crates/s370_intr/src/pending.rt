@@ -20,7 +20,8 @@ impl Pending {
         key: false,
     };
 
-    /// Returns the external conditions that the processor has enabled.
+    /// Returns those of the pending external conditions that PSW and control register 0 let
+    /// interrupt.
     #[inline(always)]
     pub fn enabled(self, cpu: &Cpu) -> Pending
         ensures { result ≡ enabled_of cpu.now self }
@@ -31,7 +32,7 @@ impl Pending {
         }
     }
 
-    /// Returns whether there is one.
+    /// Returns whether at least one external condition is pending.
     #[inline(always)]
     pub fn is_any(self) -> bool
         ensures { result ≡ is_any self }
@@ -39,7 +40,7 @@ impl Pending {
         self.timer || self.key
     }
 
-    /// Returns the interruption code of all of them together.
+    /// Returns the interruption code of all the pending external conditions together.
     #[inline]
     pub fn code(self) -> u16
         ensures { result ≡ external_code self }
@@ -49,7 +50,7 @@ impl Pending {
         timer | key
     }
 
-    /// Returns the external conditions that are left when some were taken.
+    /// Returns the pending external conditions except for those that were taken.
     #[inline]
     pub fn without(self, taken: Pending) -> Pending
         ensures { result ≡ without self taken }
@@ -61,7 +62,7 @@ impl Pending {
     }
 }
 
-/// Returns whether bit 24 of control register 0 is one.
+/// Returns whether bit 24 of control register 0 lets the timer interrupt.
 #[inline(always)]
 fn has_timer_subclass(cpu: &Cpu) -> bool
     ensures { result ≡ has_subclass cpu.now 24 }
@@ -69,7 +70,7 @@ fn has_timer_subclass(cpu: &Cpu) -> bool
     cpu.control[0] >> 7 & 1 == 1
 }
 
-/// Returns whether bit 25 of control register 0 is one.
+/// Returns whether bit 25 of control register 0 lets the interrupt key interrupt.
 #[inline(always)]
 fn has_key_subclass(cpu: &Cpu) -> bool
     ensures { result ≡ has_subclass cpu.now 25 }

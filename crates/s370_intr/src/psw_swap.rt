@@ -15,9 +15,10 @@ const PSWS: Range = Range {
     count: 104,
 };
 
-/// Interrupts a processor: stores its program status word with this code and instruction length,
-/// and loads the new one. Keys are not tested. All the locations lie in page 0; where that is not
-/// present it is the error, and nothing is changed.
+/// Stores the processor's PSW with this code and length code as the old PSW of its class, and loads
+/// the new PSW of that class.
+///
+/// Keys are not tested. All the locations lie in page 0; if that is absent, nothing is changed.
 ///
 /// # Errors
 ///

@@ -33,7 +33,8 @@ pub struct Ran {
     pub reason: Reason,
 }
 
-/// Tries once the unit that a look says; none is done where it stops.
+/// Does the unit that `said` names, or returns an absent page that it needs, and nothing has
+/// changed; for a stop it does nothing.
 #[inline(always)]
 fn try_unit<P: Processor, S: Keyed>(
     said: Next,
@@ -59,8 +60,8 @@ fn try_unit<P: Processor, S: Keyed>(
     }
 }
 
-/// Does the unit that a look says, after each page was brought that it needs, each of them once. If
-/// there is no room for one of them, nothing has changed.
+/// Does the unit that `said` names, after making each absent page that it needs present; if there
+/// is no room for one, the unit is not done.
 fn bring_pages<P: Processor, S: UnitSupply>(
     said: Next,
     cpu: &mut Cpu,
@@ -93,8 +94,10 @@ fn bring_pages<P: Processor, S: UnitSupply>(
     }
 }
 
-/// Does the unit that a look says, for which pages have to be brought: they are pinned until it
-/// ends, and no longer. It is out of line, so that a unit that brings nothing pays nothing for it.
+/// Does the unit that `said` names, with the absent pages that it needs, as `bring_pages` does, and
+/// then ends the hold on them.
+///
+/// It is not inlined, so that a unit that brings nothing pays nothing for it.
 #[inline(never)]
 fn bring_for_unit<P: Processor, S: UnitSupply>(
     said: Next,
@@ -123,9 +126,10 @@ fn bring_for_unit<P: Processor, S: UnitSupply>(
     done
 }
 
-/// Does the unit that a look says: tries it once, and brings all pages that it needs if one is
-/// absent; none is done where it stops. If there is no room for one of them, nothing has changed;
-/// the pages that were brought for it stay.
+/// Does the unit that `said` names, and makes the absent pages that it needs present first; if
+/// there is no room for one, the unit is not done.
+///
+/// The pages that were brought for it stay. Nothing is done for a stop.
 #[inline(always)]
 fn try_or_bring<P: Processor, S: UnitSupply>(
     said: Next,
@@ -155,7 +159,7 @@ fn try_or_bring<P: Processor, S: UnitSupply>(
     }
 }
 
-/// Does a unit as `try_or_bring` does, out of line.
+/// Does the unit that `said` names as `try_or_bring` does, in a function that is not inlined.
 #[inline(never)]
 fn accept_supplied<P: Processor, S: UnitSupply>(
     said: Next,
@@ -182,8 +186,10 @@ fn accept_supplied<P: Processor, S: UnitSupply>(
     try_or_bring::<P, S>(said, cpu, spare, pending, subchannels, storage)
 }
 
-/// Does a unit as `try_or_bring` does. An instruction is named here, and all else is out of line,
-/// so that nothing of other units is carried through it.
+/// Does the unit that `said` names as `try_or_bring` does.
+///
+/// An instruction is named here, and all else is out of line, so that nothing of other units is
+/// carried through it.
 #[inline(always)]
 fn supplied<P: Processor, S: UnitSupply>(
     said: Next,
@@ -215,8 +221,9 @@ fn supplied<P: Processor, S: UnitSupply>(
     }
 }
 
-/// Returns the block of an address, where the one that was found for the last instruction ends. It
-/// is out of line, so that the loop over instructions has no more in it than a call.
+/// Returns the block around an address, if it may be fetched with this key and its page is present.
+///
+/// It is not inlined, so that the loop over instructions has no more in it than a call.
 #[inline(never)]
 fn find_again<S: Storage>(storage: &S, next: Addr24, key: AccessKey) -> Option<Block>
     ensures first { IfSome result (λ found. found.first ≡ next / 2048 * 2048) }
@@ -228,8 +235,8 @@ fn find_again<S: Storage>(storage: &S, next: Addr24, key: AccessKey) -> Option<B
     storage.find_block(next.get(), Access::Fetch, key)
 }
 
-/// Returns the block in which the next instruction lies, at an even address and with room for the
-/// longest: the one that was found for the last, or another.
+/// Returns the block in which the next instruction lies with room for the longest, either `block`
+/// or another, or `None` if there is none or the address is odd.
 #[inline(always)]
 fn block_of<S: Storage>(storage: &S, block: Block, next: Addr24, key: AccessKey) -> Option<Block>
     requires low { block.first < 16777216 }
@@ -258,9 +265,11 @@ fn block_of<S: Storage>(storage: &S, block: Block, next: Addr24, key: AccessKey)
     }
 }
 
-/// Parts of an MVCL that is at the instruction address, one after another and at most so many: how
-/// many were done. They have a loop of their own, since each of them moves so much that what is
-/// done once for all of them counts.
+/// Does parts of the MVCL at the instruction address, at most `limit`, until one cannot be done
+/// quickly, and returns how many it did.
+///
+/// They have a loop of their own, since each of them moves so much that what is done once for all
+/// of them counts.
 #[inline(never)]
 fn move_parts<S: Storage>(
     cpu: &mut Cpu,
@@ -305,9 +314,11 @@ struct UnitsDone {
     is_plain: bool,
 }
 
-/// Instructions that are done in one go, one after another and at most so many. After each of them
-/// a look would say what it said before: so the block from which they are fetched is looked up
-/// once, as long as they stay in it.
+/// Does instructions, at most `limit`, until one cannot be done quickly, and returns how many it
+/// did and the block of that one, if it was found.
+///
+/// After each of them a look would say what it said before: so the block from which they are
+/// fetched is looked up once, as long as they stay in it.
 #[inline(always)]
 fn instruct_steadily<S: Storage>(cpu: &mut Cpu, storage: &mut S, limit: u32) -> Steady
     ensures done { let before = state_of cpu.old (S.memory storage.old) in
@@ -360,8 +371,10 @@ fn instruct_steadily<S: Storage>(cpu: &mut Cpu, storage: &mut S, limit: u32) -> 
     }
 }
 
-/// Goes on with an instruction that the loop left out, from the block in which it is: with parts of
-/// an MVCL, or with all of any other. None are done if a page is missing.
+/// Does the instruction that the quick loop left out, or for MVCL whole parts of it, at most
+/// `limit`, and returns how many units it did and whether an instruction is surely next.
+///
+/// None is done if a page is absent.
 #[inline(never)]
 fn instruct_apart<P: Processor, S: Keyed>(
     cpu: &mut Cpu,
@@ -414,9 +427,10 @@ fn instruct_apart<P: Processor, S: Keyed>(
     }
 }
 
-/// Instructions one after another, at most so many, as long as each of them can be done at once and
-/// nothing is pending then. This has no other unit in it, so that registers are left for what it
-/// needs.
+/// Does instructions, at most `limit`, until one cannot be done here or may not be next, and
+/// returns how many it did and whether an instruction is surely next.
+///
+/// This has no other unit in it, so that registers are left for what it needs.
 #[inline(never)]
 fn instruct_quickly<P: Processor, S: Keyed>(
     cpu: &mut Cpu,
@@ -467,7 +481,7 @@ fn instruct_quickly<P: Processor, S: Keyed>(
     }
 }
 
-/// Does a unit as `try_or_bring` does, if it is an instruction with nothing pending; else none.
+/// Does instructions as `instruct_quickly` does if `is_plain` is true; else does nothing.
 #[inline(always)]
 fn go_quickly<P: Processor, S: Keyed>(
     is_plain: bool,
@@ -501,7 +515,7 @@ fn go_quickly<P: Processor, S: Keyed>(
     }
 }
 
-/// Registers of zeros, over which others are written before they are read.
+/// Returns registers and a PSW of zeros, which others overwrite before they are read.
 fn blank_cpu() -> Cpu {
     Cpu {
         general: [0; 16],
@@ -510,8 +524,11 @@ fn blank_cpu() -> Cpu {
     }
 }
 
-/// Runs at most so many units of a running processor. Each brings the pages that it needs, nine at
-/// most, and what is brought for one stays until it ends. This takes no memory.
+/// Runs at most `count` units of a processor, with the pages that each needs, and returns how many
+/// it ran and why it stopped.
+///
+/// Each brings at most nine pages, and what is brought for one stays until it ends. This takes no
+/// memory.
 pub fn run_units<P: Processor, S: UnitSupply>(
     cpu: &mut Cpu,
     pending: &mut Pending,

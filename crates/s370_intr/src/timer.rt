@@ -15,9 +15,10 @@ const TIMER: Range = Range {
 /// What a tick takes from the interval timer.
 const STEP: u32 = 256;
 
-/// Steps the interval timer, the word at location 80: the timer condition is pending when that word
-/// goes from zero or positive to negative (GA22-7000, "Interval Timer"). Keys are not tested. Where
-/// page 0 is not present it is the error, and nothing is changed.
+/// Subtracts 256 from the interval timer at location 80, and makes the timer condition pending if
+/// that makes it negative.
+///
+/// GA22-7000, "Interval Timer". Keys are not tested. If page 0 is absent, nothing is changed.
 ///
 /// # Errors
 ///
@@ -43,7 +44,7 @@ pub fn tick<S: Storage>(pending: &mut Pending, storage: &mut S) -> Result<(), Pa
     Ok(())
 }
 
-/// Returns whether the sign bit of a word is one.
+/// Returns whether a word is negative: its sign bit is one.
 fn is_negative(word: u32) -> bool
     ensures { result ≡ is_negative word }
 {

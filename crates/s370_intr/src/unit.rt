@@ -25,8 +25,7 @@ use s370_subchannels::{DeviceState, Status, Subchannels, store_csw};
 /// How the instructions for the supervisor state and the interruptions of a processor are carried
 /// out: by the processor itself, or for a guest by the control program.
 pub trait Processor {
-    /// Goes on with an instruction for the supervisor state that was handed back with this length
-    /// code.
+    /// Completes a privileged instruction that `step` returned, and returns how it ended.
     fn control<S: Keyed>(cpu: &mut Cpu, storage: &mut S, i: Instruction, ilc: Ilc) -> Stop
         requires { is_supervised (opcode_at i.opcode) ≡ true }
         ensures unit { let before = state_of cpu.old (S.Storage.memory storage.old) in
@@ -35,8 +34,10 @@ pub trait Processor {
             after }
         ensures rest { S.KeepsRest storage.old storage.new };
 
-    /// Interrupts the processor, with this interruption code and length code. Page 0 is the error
-    /// where it is not present; nothing is then changed.
+    /// Interrupts the processor: stores the old PSW of the class, with this code and length code,
+    /// and loads the new one.
+    ///
+    /// If page 0 is absent, nothing is changed.
     ///
     /// # Errors
     ///
@@ -60,11 +61,13 @@ pub trait Processor {
 pub struct RealCpu;
 
 impl Processor for RealCpu {
+    /// Completes a privileged instruction as [`supervise`] does.
     #[inline(always)]
     fn control<S: Keyed>(cpu: &mut Cpu, storage: &mut S, i: Instruction, ilc: Ilc) -> Stop {
         supervise(cpu, storage, i, ilc)
     }
 
+    /// Stores the old PSW of the class and loads the new one, as [`swap`] does.
     #[inline(always)]
     fn interrupt<S: Keyed>(
         cpu: &mut Cpu,
@@ -77,8 +80,10 @@ impl Processor for RealCpu {
     }
 }
 
-/// Goes on with an instruction for the supervisor state that was handed back, and with what follows
-/// it. It is out of line, so that the loop over units is for the others.
+/// Completes a privileged instruction and the interruption or device's answer that it ends in; if a
+/// page is absent, nothing has changed.
+///
+/// It is not inlined, so that the loop over units is for the others.
 #[inline(never)]
 pub(crate) fn instruct_control<P: Processor, S: Keyed>(
     cpu: &mut Cpu,
@@ -113,8 +118,8 @@ pub(crate) fn instruct_control<P: Processor, S: Keyed>(
     }
 }
 
-/// Does one instruction, and the interruption or the answer that it ends in. If they need a page
-/// that is not present, that is the error, and all is as it was.
+/// Does one instruction and the interruption or the device's answer that it ends in; if a page is
+/// absent, nothing has changed.
 ///
 /// # Errors
 ///
@@ -136,8 +141,8 @@ pub fn instruct<P: Processor, S: Keyed>(
     instruct_saving::<P, S>(cpu, &mut spare, subchannels, storage)
 }
 
-/// Does an instruction as [`instruct`] does, with a place for a copy of the registers, of which one
-/// is made only where it may be wanted.
+/// Does one instruction as [`instruct`] does; `spare` may be overwritten with a copy of the
+/// registers.
 #[inline(always)]
 pub(crate) fn instruct_saving<P: Processor, S: Keyed>(
     cpu: &mut Cpu,
@@ -173,8 +178,8 @@ pub(crate) fn instruct_saving<P: Processor, S: Keyed>(
     }
 }
 
-/// Copies the registers where an interruption may have to be undone: page 0, in which it stores and
-/// loads, is not present.
+/// Copies the registers to `spare` if page 0 is absent, so that an interruption can be undone; else
+/// does nothing.
 #[inline(always)]
 fn save<S: Storage>(cpu: &Cpu, spare: &mut Cpu, storage: &S)
     requires { 8192 ≤ length (S.memory storage.now).bytes }
@@ -187,8 +192,8 @@ fn save<S: Storage>(cpu: &Cpu, spare: &mut Cpu, storage: &S)
     }
 }
 
-/// Carries out what the stop of an instruction is followed by: its interruption, or the answer of
-/// the device that it asks.
+/// Does what follows an instruction: its interruption, or the answer of the device that it asks;
+/// nothing for any other stop.
 #[inline(always)]
 pub(crate) fn follow<P: Processor, S: Keyed>(
     cpu: &mut Cpu,
@@ -216,8 +221,9 @@ pub(crate) fn follow<P: Processor, S: Keyed>(
     }
 }
 
-/// Accepts external conditions together. Where page 0 is not present, that is the error, and all is
-/// as it was. No device takes part.
+/// Interrupts the processor for the external conditions `taken`, which are then pending no longer.
+///
+/// If page 0 is absent, nothing has changed. No device takes part.
 ///
 /// # Errors
 ///
@@ -243,8 +249,10 @@ pub fn accept<P: Processor, S: Keyed>(
     Ok(())
 }
 
-/// Accepts the status of a device: stores its channel status word and interrupts the processor; the
-/// device is idle. Where page 0 is not present, that is the error, and all is as it was.
+/// Stores a device's channel status word, interrupts the processor for input/output, and makes the
+/// device idle.
+///
+/// If page 0 is absent, nothing has changed.
 ///
 /// # Errors
 ///

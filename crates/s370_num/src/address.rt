@@ -42,7 +42,7 @@ impl Addr24 {
         }
     }
 
-    /// Returns the address in the right 24 bits of a number, as address arithmetic leaves it.
+    /// Returns the address in the right 24 bits of a number; the other bits are dropped.
     #[inline(always)]
     pub fn wrapping(value: u32) -> Addr24
         ensures { result ≡ storage_address value }
@@ -61,7 +61,8 @@ impl Addr24 {
         self.value
     }
 
-    /// Returns the address so many bytes further on, from which storage goes on at zero.
+    /// Returns the address that is `bytes` bytes further on; past the last address, counting goes
+    /// on at zero.
     #[inline(always)]
     pub fn wrapping_add(self, bytes: u32) -> Addr24
         ensures { result ≡ storage_address (self + bytes) }
@@ -114,7 +115,7 @@ impl Word {
         }
     }
 
-    /// Returns the word as a number in two's complement.
+    /// Returns the word as a number in two's complement, from -2^31 to 2^31 - 1.
     #[inline(always)]
     pub fn signed(self) -> i32
         ensures { result ≡ cast_signed w32 self }
@@ -176,7 +177,7 @@ impl DevAddr {
         self.value
     }
 
-    /// Returns the channel to which the device is attached.
+    /// Returns the channel to which the device is attached: the high eight bits of its address.
     #[inline(always)]
     pub fn channel(self) -> u8
         ensures { result ≡ channel_of self }
@@ -188,7 +189,7 @@ impl DevAddr {
 impl fmt::Display for Addr24 {
     ghost output = { λ address. Some (address_text address) };
 
-    /// Six hexadecimal digits.
+    /// Writes the address as six hexadecimal digits.
     fn fmt<W: fmt::Write>(&self, f: &mut fmt::Formatter<W>) -> fmt::Result {
         let [_, high, middle, low] = self.value.to_be_bytes();
         write!(f, "{high:02X}{middle:02X}{low:02X}")
@@ -198,7 +199,7 @@ impl fmt::Display for Addr24 {
 impl fmt::Display for Word {
     ghost output = { λ word. Some (word_text word) };
 
-    /// Eight hexadecimal digits.
+    /// Writes the word as eight hexadecimal digits.
     fn fmt<W: fmt::Write>(&self, f: &mut fmt::Formatter<W>) -> fmt::Result {
         let [highest, high, middle, low] = self.bits.to_be_bytes();
         write!(f, "{highest:02X}{high:02X}{middle:02X}{low:02X}")
@@ -208,7 +209,7 @@ impl fmt::Display for Word {
 impl fmt::Display for DevAddr {
     ghost output = { λ device. Some (device_text device) };
 
-    /// Three hexadecimal digits, or four where the channel needs two.
+    /// Writes the device address as three hexadecimal digits, or four if the channel needs two.
     fn fmt<W: fmt::Write>(&self, f: &mut fmt::Formatter<W>) -> fmt::Result {
         let [channel, unit] = self.value.to_be_bytes();
         write!(f, "{channel:X}{unit:02X}")

@@ -47,7 +47,7 @@ static BYTES: [u8; 256] = [
     0x00, 0x00, 0x00, 0x00, 0x00, 0x00, 0x00, 0x00, 0x00, 0x00, 0x00, 0x00, 0x00, 0x00, 0x00, 0x00,
 ];
 
-/// Returns what a console or a printer shows for an EBCDIC byte: its character, or `.` where it has
+/// Returns what a console or a printer shows for an EBCDIC byte: its character, or `.` if it has
 /// none.
 ///
 /// The byte C8 prints as `H`, and FF as `.`; so does 4B, of which `.` is the character.
@@ -59,7 +59,7 @@ pub fn printable(byte: u8) -> u8
     PRINTABLE[byte as usize]
 }
 
-/// Returns the EBCDIC byte of a character, or `None` where the alphabet lacks it.
+/// Returns the EBCDIC byte of a character, or `None` if the alphabet does not have the character.
 ///
 /// The byte of `H` is C8; `!` and the line feed have none.
 #[inline]
@@ -71,7 +71,7 @@ pub fn ebcdic_of(character: u8) -> Option<u8>
     if byte == NO_BYTE { None } else { Some(byte) }
 }
 
-/// Returns the EBCDIC byte of a character, or the byte that stands for none.
+/// Returns the EBCDIC byte of a character, or `NO_BYTE` (zero) if the character has none.
 #[inline(always)]
 fn byte_or_none(character: u8) -> u8
     ensures { result ≡ unwrap_or (byte_of character) NO_BYTE }
@@ -79,7 +79,7 @@ fn byte_or_none(character: u8) -> u8
     BYTES[character as usize]
 }
 
-/// Returns whether a character is of the alphabet, and so has an EBCDIC byte.
+/// Returns whether a character is in the alphabet, and so has an EBCDIC byte.
 #[inline]
 pub fn is_printable(character: u8) -> bool
     ensures { IsTrue result ↔ IsSome (byte_of character) }

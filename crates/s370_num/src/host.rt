@@ -34,6 +34,7 @@ pub enum HostFault {
 impl From<AllocError> for HostFault {
     ghost from_gives = { λ _ fault. fault ≡ Memory };
 
+    /// Returns `HostFault::Memory`: the program's memory could not grow.
     fn from(_error: AllocError) -> HostFault {
         HostFault::Memory
     }
@@ -44,7 +45,7 @@ pub trait HostFile {
     /// How many of its calls have failed.
     ghost failures: { Self → ℕ };
 
-    /// Returns how many of its calls have failed; the count stays at its greatest value.
+    /// Returns how many calls of this file have failed; the count stops at the greatest `u64`.
     fn failures(&self) -> u64
         ensures { result ≡ failures self.now };
 }
@@ -54,8 +55,8 @@ pub trait HostReader: HostFile {
     /// The bytes that are left, where they are known: of a file on a disk nothing is.
     ghost remaining: { Self → Option (List ℕ) };
 
-    /// Reads some bytes into the front of `buf` and says how many: none only at the end of the
-    /// file, or where `buf` is empty.
+    /// Reads bytes into the front of `buf` and returns how many; none only at the end of the file,
+    /// or if `buf` is empty.
     ///
     /// # Errors
     ///
@@ -75,7 +76,8 @@ pub trait HostWriter: HostFile {
     /// The bytes that were written and are still held back, so that the host does not have them.
     ghost held: { Self → List ℕ };
 
-    /// Writes a beginning of `bytes` and says how many: at least one where there are any.
+    /// Appends a front part of `bytes` to the file and returns how many bytes it has; at least one,
+    /// unless `bytes` is empty.
     ///
     /// # Errors
     ///
@@ -86,7 +88,7 @@ pub trait HostWriter: HostFile {
         ensures bytes { WriteAppends (contents self.old) (contents self.new) result bytes.now }
         ensures counts { Counts (Self.failures self.old) (Self.failures self.new) result };
 
-    /// Hands to the host what was written and is still held back.
+    /// Passes on to the host all bytes that were written but are still in a buffer.
     ///
     /// # Errors
     ///
@@ -97,7 +99,7 @@ pub trait HostWriter: HostFile {
         ensures counts { Counts (Self.failures self.old) (Self.failures self.new) result };
 }
 
-/// Writes all the bytes, or a beginning of them where that fails.
+/// Appends all the bytes to a file; if a write fails, a front part of them may have been written.
 ///
 /// # Errors
 ///
@@ -116,7 +118,8 @@ pub fn write_all<W: HostWriter>(writer: &mut W, bytes: &[u8]) -> Result<(), Host
     Ok(())
 }
 
-/// Reads all that is left; where that fails, what was read until then is lost.
+/// Reads all that is left of a file into a new vector; on a failure, the bytes read until then are
+/// lost.
 ///
 /// # Errors
 ///

@@ -26,7 +26,7 @@ impl AccessKey {
     /// The key that passes every block.
     pub const ZERO: AccessKey = AccessKey { key: 0 };
 
-    /// Returns the key of this number.
+    /// Returns the access key with this number, which is below 16.
     #[inline(always)]
     pub fn new(key: u8) -> AccessKey
         requires { key < 16 }
@@ -35,7 +35,7 @@ impl AccessKey {
         AccessKey { key }
     }
 
-    /// Returns the key's number.
+    /// Returns the access key as a number below 16.
     #[inline(always)]
     pub fn get(self) -> u8
         ensures value { result ≡ self }
@@ -68,7 +68,7 @@ impl StorageKey {
     /// Access control zero, and no fetch protection.
     pub const ZERO: StorageKey = StorageKey { bits: 0 };
 
-    /// Returns the key of these five bits.
+    /// Returns the storage key with these five bits: four of access control, then fetch protection.
     #[inline(always)]
     pub fn new(bits: u8) -> StorageKey
         requires { bits < 32 }
@@ -77,7 +77,7 @@ impl StorageKey {
         StorageKey { bits }
     }
 
-    /// Returns the key's five bits.
+    /// Returns the storage key's five bits: four of access control, then fetch protection.
     #[inline(always)]
     pub fn get(self) -> u8
         ensures value { result ≡ self }
@@ -114,7 +114,7 @@ impl ConditionCode {
 
     pub const THREE: ConditionCode = ConditionCode { code: 3 };
 
-    /// Returns the condition code of this number.
+    /// Returns the condition code with this number, which is below 4.
     #[inline(always)]
     pub fn new(code: u8) -> ConditionCode
         requires { code < 4 }
@@ -123,7 +123,7 @@ impl ConditionCode {
         ConditionCode { code }
     }
 
-    /// Returns the code's number.
+    /// Returns the condition code as a number below 4.
     #[inline(always)]
     pub fn get(self) -> u8
         ensures value { result ≡ self }

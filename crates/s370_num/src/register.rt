@@ -28,7 +28,7 @@ impl Register {
     /// Register 0, which as a base or index names none.
     pub const ZERO: Register = Register { number: 0 };
 
-    /// Returns the register of this number.
+    /// Returns the register with this number, which is below 16.
     #[inline(always)]
     pub fn new(number: u8) -> Register
         requires { number < 16 }
@@ -46,7 +46,7 @@ impl Register {
         self.number
     }
 
-    /// Returns the register's place among the sixteen.
+    /// Returns the register's number as an index into a list of sixteen.
     #[inline(always)]
     pub fn index(self) -> usize
         ensures value { result ≡ self }
@@ -55,7 +55,7 @@ impl Register {
         self.number as usize
     }
 
-    /// Returns the register after it; 0 follows 15.
+    /// Returns the register with the next number; 0 follows 15.
     #[inline(always)]
     pub fn next(self) -> Register
         ensures { result ≡ (self + 1) % 16 }

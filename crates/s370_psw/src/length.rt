@@ -33,7 +33,8 @@ impl Ilc {
     /// An instruction of six bytes.
     pub const THREE: Ilc = Ilc { halfwords: 3 };
 
-    /// Returns the code for so many halfwords, if there are no more than three.
+    /// Returns the length code of an instruction of so many halfwords, or `None` if there are more
+    /// than three.
     #[inline(always)]
     pub fn new(halfwords: u8) -> Option<Ilc>
         ensures found { IsSome result ↔ (halfwords < 4) }
@@ -46,7 +47,7 @@ impl Ilc {
         }
     }
 
-    /// Returns how many halfwords the instruction has.
+    /// Returns the length code: how many halfwords the instruction has, 0 to 3.
     #[inline(always)]
     pub fn get(self) -> u8
         ensures value { result ≡ self }

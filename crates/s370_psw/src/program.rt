@@ -20,7 +20,7 @@ pub enum ProgramCode {
 }
 
 impl ProgramCode {
-    /// Returns the number that is stored as interruption code.
+    /// Returns the interruption code of the program exception, 1 to 9.
     #[inline(always)]
     pub fn number(self) -> u16
         ensures { result ≡ program_number self }
@@ -38,7 +38,7 @@ impl ProgramCode {
         }
     }
 
-    /// Returns the name of the cause, for messages.
+    /// Returns the name of the program exception, for messages.
     pub fn as_str(self) -> &'static str
         ensures { result.now ≡ program_name self }
     {
@@ -59,6 +59,7 @@ impl ProgramCode {
 impl fmt::Display for ProgramCode {
     ghost output = { λ code. Some (program_name code) };
 
+    /// Writes the name of the program exception, padded as the formatter asks.
     fn fmt<W: fmt::Write>(&self, f: &mut fmt::Formatter<W>) -> fmt::Result {
         f.pad(self.as_str())
     }

@@ -62,7 +62,8 @@ impl Model for Psw {
 impl Psw {
     ghost use Rattle.s370_psw.specs.Fields.{fields_of, word_of, loaded, stored};
 
-    /// Returns the PSW that these eight bytes load. Bits 16 to 33 are dropped.
+    /// Returns the PSW that loading these eight bytes gives; bits 16 to 33, with the two codes, are
+    /// dropped.
     #[inline]
     pub fn from_bytes(bytes: &[u8; 8]) -> Psw
         ensures { result ≡ loaded bytes.now }
@@ -70,7 +71,7 @@ impl Psw {
         Psw::from_word(BigEndian::read_u64(bytes))
     }
 
-    /// Returns the eight bytes that are stored with an interruption code and an instruction length
+    /// Returns the eight bytes that storing the PSW gives, with this interruption code and length
     /// code.
     #[inline]
     pub fn to_bytes(self, code: u16, length_code: Ilc) -> [u8; 8]
@@ -81,7 +82,8 @@ impl Psw {
         bytes
     }
 
-    /// Returns the PSW that these 64 bits load. Bits 16 to 33 are dropped.
+    /// Returns the PSW that loading these 64 bits gives; bits 16 to 33, with the two codes, are
+    /// dropped.
     #[inline]
     pub fn from_word(word: u64) -> Psw
         ensures { result ≡ fields_of word }
@@ -99,8 +101,7 @@ impl Psw {
         }
     }
 
-    /// Returns the 64 bits that are stored with an interruption code and an instruction length
-    /// code.
+    /// Returns the 64 bits that storing the PSW gives, with this interruption code and length code.
     #[inline]
     pub fn to_word(self, code: u16, length_code: Ilc) -> u64
         ensures { result ≡ word_of self code length_code }
@@ -130,7 +131,7 @@ impl Psw {
         self.address
     }
 
-    /// Returns the key that storage accesses are tested with.
+    /// Returns the PSW's access key, with which accesses to storage are tested.
     #[inline(always)]
     pub fn key(&self) -> AccessKey
         ensures { result ≡ self.now.key }
@@ -146,7 +147,8 @@ impl Psw {
         self.condition
     }
 
-    /// Returns the four masks of program exceptions: fixed-point overflow is the leftmost.
+    /// Returns the four mask bits of program exceptions; the leftmost is that of fixed-point
+    /// overflow.
     #[inline(always)]
     pub fn program_mask(&self) -> u8
         ensures value { result ≡ self.now.program_mask }
@@ -155,7 +157,8 @@ impl Psw {
         self.program_mask
     }
 
-    /// Returns the eight masks of interruptions: channel 0 is the leftmost.
+    /// Returns the eight mask bits of interruptions: channel 0 is the leftmost, external the
+    /// rightmost.
     #[inline(always)]
     pub fn system_mask(&self) -> u8
         ensures { result ≡ self.now.system_mask }
@@ -163,7 +166,7 @@ impl Psw {
         self.system_mask
     }
 
-    /// Returns whether extended control mode is asked for (bit 12).
+    /// Returns whether bit 12 is one, which asks for extended control mode.
     #[inline(always)]
     pub fn is_ec(&self) -> bool
         ensures { result ≡ self.now.extended }
@@ -171,7 +174,7 @@ impl Psw {
         self.extended
     }
 
-    /// Returns whether machine checks may interrupt (bit 13).
+    /// Returns whether bit 13 is one, which lets machine checks interrupt.
     #[inline(always)]
     pub fn machine_check(&self) -> bool
         ensures { result ≡ self.now.machine_check }
@@ -179,7 +182,7 @@ impl Psw {
         self.machine_check
     }
 
-    /// Returns whether the processor waits for an interruption (bit 14).
+    /// Returns whether bit 14 is one: the processor waits for an interruption.
     #[inline(always)]
     pub fn waits(&self) -> bool
         ensures { result ≡ self.now.wait }
@@ -187,7 +190,8 @@ impl Psw {
         self.wait
     }
 
-    /// Returns whether privileged instructions are refused (bit 15).
+    /// Returns whether bit 15 is one: the processor is in the problem state, without privileged
+    /// instructions.
     #[inline(always)]
     pub fn is_problem(&self) -> bool
         ensures { result ≡ self.now.problem }
@@ -195,8 +199,8 @@ impl Psw {
         self.problem
     }
 
-    /// Returns whether a device of this channel may interrupt: channels 0 to 5 have a mask each, the
-    /// higher ones share one.
+    /// Returns whether the system mask lets this channel interrupt: channels 0 to 5 have a bit
+    /// each, and all higher ones share one.
     #[inline(always)]
     pub fn enables_channel(&self, channel: u8) -> bool
         ensures { result ≡ enables_channel self.now channel }
@@ -205,7 +209,7 @@ impl Psw {
         self.system_mask >> (7 - place) & 1 == 1
     }
 
-    /// Returns whether an external condition may interrupt.
+    /// Returns whether the system mask lets external conditions interrupt: its rightmost bit.
     #[inline(always)]
     pub fn enables_external(&self) -> bool
         ensures { result ≡ enables_external self.now }
@@ -213,7 +217,7 @@ impl Psw {
         self.system_mask & 1 == 1
     }
 
-    /// Returns whether neither a channel nor an external condition may interrupt.
+    /// Returns whether the system mask is zero: no channel and no external condition may interrupt.
     #[inline(always)]
     pub fn is_disabled(&self) -> bool
         ensures { result ≡ (self.now.system_mask == 0) }
@@ -224,7 +228,7 @@ impl Psw {
 
 /// What instructions change.
 impl Psw {
-    /// Sets the system mask.
+    /// Sets the system mask, and nothing else of the PSW.
     #[inline(always)]
     pub fn set_system_mask(&mut self, mask: u8)
         ensures { self.new ≡ record self.old { system_mask = mask } }
@@ -248,7 +252,7 @@ impl Psw {
         self.condition = condition;
     }
 
-    /// Sets the four masks of program exceptions.
+    /// Sets the four mask bits of program exceptions.
     #[inline(always)]
     pub fn set_program_mask(&mut self, mask: u8)
         requires { mask < 16 }
@@ -257,7 +261,7 @@ impl Psw {
         self.program_mask = mask;
     }
 
-    /// Sets whether the processor waits.
+    /// Sets whether the processor waits (bit 14).
     #[inline(always)]
     pub fn set_wait(&mut self, wait: bool)
         ensures { self.new ≡ record self.old { wait = wait } }
@@ -265,7 +269,7 @@ impl Psw {
         self.wait = wait;
     }
 
-    /// Sets whether the processor is in the problem state.
+    /// Sets whether the processor is in the problem state (bit 15).
     #[inline(always)]
     pub fn set_problem(&mut self, problem: bool)
         ensures { self.new ≡ record self.old { problem = problem } }
@@ -274,7 +278,7 @@ impl Psw {
     }
 }
 
-/// States that each field of any PSW is no wider than its bits, so that the laws below hold of it.
+/// Proves that each field of a PSW is no wider than its bits; it changes nothing.
 #[inline(always)]
 pub fn fields_in_range(psw: &Psw)
     ensures { IsInRange psw.now }
@@ -285,9 +289,11 @@ pub fn fields_in_range(psw: &Psw)
     let _mask = psw.system_mask;
 }
 
-/// States the laws of storing and loading: a PSW that is stored with any codes and loaded again is
-/// the PSW, its codes are in their bits, and a PSW that is loaded and stored again has the bits
-/// that it had, but for those of the codes.
+/// Proves the laws of storing and loading a PSW; it has no effect.
+///
+/// A PSW that is stored with any codes and loaded again is the same PSW, its codes are in their
+/// bits, and a PSW that is loaded and stored again has the bits that it had, except those of the
+/// codes.
 pub fn storing_and_loading()
     ensures reads_back { ReadsBack }
     ensures loads_back { LoadsBack }

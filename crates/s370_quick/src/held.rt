@@ -19,7 +19,7 @@ pub struct HeldBlock {
     pub stored: Block,
 }
 
-/// Returns whether a range lies in a block.
+/// Returns whether `count` bytes from an address on lie in a block.
 #[inline(always)]
 fn holds(block: Block, start: Addr24, count: u32) -> bool
     requires far { block.first ≤ 2147483648 }
@@ -32,8 +32,8 @@ fn holds(block: Block, start: Addr24, count: u32) -> bool
     start.get().wrapping_sub(block.first) <= 2048 - count
 }
 
-/// Returns the block in which an operand lies: the one that is held for such operands, or another.
-/// None where it lies in two, or may not be accessed so.
+/// Returns the held block if the operand lies in it, else the block that is found for this access,
+/// or `None` if the operand lies in two blocks or may not be accessed.
 #[inline(always)]
 pub fn operand_block<S: Storage>(
     access: Access,

@@ -36,8 +36,8 @@ use s370_rows::{
 };
 use s370_store::{Access, Block, Storage, load_byte_in, load_word_in, store_word_in};
 
-/// Returns the block from which an operand of so many bytes is fetched, which is held from then on;
-/// None if it lies in two blocks, or may not be fetched.
+/// Returns the block in which an operand that is fetched lies and holds it for later fetches, or
+/// returns `None` if it lies in two blocks or may not be fetched.
 #[inline(always)]
 pub fn source_block<S: Storage>(
     cpu: &Cpu,
@@ -66,8 +66,8 @@ pub fn source_block<S: Storage>(
     Some(found)
 }
 
-/// Returns the block into which an operand of so many bytes is stored, which is held from then on;
-/// None if it lies in two blocks, or may not be stored.
+/// Returns the block in which an operand that is stored lies and holds it for later stores, or
+/// returns `None` if it lies in two blocks or may not be stored.
 #[inline(always)]
 pub fn target_block<S: Storage>(
     cpu: &Cpu,
@@ -96,7 +96,8 @@ pub fn target_block<S: Storage>(
     Some(found)
 }
 
-/// Returns the word at the address of a second operand with an index.
+/// Returns the word that is the second operand and holds its block for later fetches, or returns
+/// `None` if no one block has it.
 #[inline(always)]
 fn held_word<S: Storage>(
     cpu: &Cpu,
@@ -119,7 +120,8 @@ fn held_word<S: Storage>(
     }
 }
 
-/// Returns the signed halfword at the address of a second operand with an index.
+/// Returns the halfword that is the second operand, its sign extended, and holds its block for
+/// later fetches, or returns `None` if no one block has it.
 #[inline(always)]
 fn held_halfword<S: Storage>(
     cpu: &Cpu,
@@ -146,7 +148,8 @@ fn held_halfword<S: Storage>(
     }
 }
 
-/// Returns the byte at an address.
+/// Returns the byte at an address and holds its block for later fetches, or returns `None` if it
+/// may not be fetched.
 #[inline(always)]
 fn held_byte<S: Storage>(cpu: &Cpu, storage: &S, start: Addr24, held: &mut HeldBlock) -> Option<u8>
     requires operands { AreHeld (S.IsPlaced storage.now) (S.memory storage.now)
@@ -163,8 +166,10 @@ fn held_byte<S: Storage>(cpu: &Cpu, storage: &S, start: Addr24, held: &mut HeldB
     }
 }
 
-/// 54 N, 55 CL, 56 O, 57 X, 58 L, 59 C, 5A A, 5B S, 5E AL, 5F SL: an operation on a register and a
-/// word of storage.
+/// Sets R1 and the condition code by an operation on R1 and a word of storage, if that lies in one
+/// block, which is then held; else returns `None`.
+///
+/// It serves N 54, CL 55, O 56, X 57, L 58, C 59, A 5A, S 5B, AL 5E and SL 5F.
 #[inline(always)]
 fn word_quickly<S: Storage>(
     operation: Arithmetic,
@@ -188,7 +193,8 @@ fn word_quickly<S: Storage>(
     }
 }
 
-/// 48 LH, 49 CH, 4A AH, 4B SH: an operation on a register and a halfword of storage.
+/// Does LH (48), CH (49), AH (4A) or SH (4B) if the halfword lies in one block, which is then held;
+/// else returns `None`.
 #[inline(always)]
 fn halfword_quickly<S: Storage>(
     operation: Arithmetic,
@@ -212,7 +218,7 @@ fn halfword_quickly<S: Storage>(
     }
 }
 
-/// 4C MH: a product with a halfword of storage.
+/// Does MH (4C) if the halfword lies in one block, which is then held; else returns `None`.
 #[inline(always)]
 fn multiply_halfword_quickly<S: Storage>(
     cpu: &mut Cpu,
@@ -234,7 +240,8 @@ fn multiply_halfword_quickly<S: Storage>(
     }
 }
 
-/// 5C M: a product with a word of storage.
+/// Does M (5C) if R1 is even and the word lies in one block, which is then held; else returns
+/// `None`.
 #[inline(always)]
 fn multiply_word_quickly<S: Storage>(
     cpu: &mut Cpu,
@@ -259,7 +266,8 @@ fn multiply_word_quickly<S: Storage>(
     }
 }
 
-/// 5D D: a quotient of a pair and a word of storage.
+/// Does D (5D) if R1 is even, the word lies in one block, which is then held, and the quotient
+/// fits; else returns `None`.
 #[inline(always)]
 fn divide_word_quickly<S: Storage>(
     cpu: &mut Cpu,
@@ -287,7 +295,7 @@ fn divide_word_quickly<S: Storage>(
     }
 }
 
-/// 43 IC: a byte of storage goes to a register.
+/// Does IC (43) if the byte may be fetched, and holds its block; else returns `None`.
 #[inline(always)]
 fn insert_quickly<S: Storage>(
     cpu: &mut Cpu,
@@ -309,7 +317,7 @@ fn insert_quickly<S: Storage>(
     }
 }
 
-/// 91 TM, 95 CLI: a test of a byte of storage by the immediate one.
+/// Does TM (91) or CLI (95) if the byte may be fetched, and holds its block; else returns `None`.
 #[inline(always)]
 fn test_byte_quickly<S: Storage>(
     test: ByteTest,
@@ -335,7 +343,7 @@ fn test_byte_quickly<S: Storage>(
     }
 }
 
-/// 98 LM: load registers R1 to R3; 0 follows 15.
+/// Does LM (98) if all its words lie in one block, which is then held; else returns `None`.
 #[inline(always)]
 fn load_multiple_quickly<S: Storage>(
     cpu: &mut Cpu,
@@ -361,7 +369,8 @@ fn load_multiple_quickly<S: Storage>(
     }
 }
 
-/// BD CLM: compare logical characters under mask.
+/// Does CLM (BD) if its bytes lie in one block, which is then held, or if its mask is zero and the
+/// access is granted; else returns `None`.
 #[inline(always)]
 fn compare_characters_quickly<S: Storage>(
     cpu: &mut Cpu,
@@ -394,7 +403,7 @@ fn compare_characters_quickly<S: Storage>(
     }
 }
 
-/// 50 ST: the store of a register.
+/// Does ST (50) if the word lies in one block, which is then held for stores; else returns `None`.
 #[inline(always)]
 fn store_word_quickly<S: Storage>(
     cpu: &Cpu,
@@ -421,7 +430,8 @@ fn store_word_quickly<S: Storage>(
     }
 }
 
-/// 40 STH: the store of the right half of a register.
+/// Does STH (40) if the halfword lies in one block, which is then held for stores; else returns
+/// `None`.
 #[inline(always)]
 fn store_halfword_quickly<S: Storage>(
     cpu: &Cpu,
@@ -449,7 +459,7 @@ fn store_halfword_quickly<S: Storage>(
     }
 }
 
-/// 42 STC: the store of the rightmost byte of a register.
+/// Does STC (42) if the byte may be stored, and holds its block for stores; else returns `None`.
 #[inline(always)]
 fn store_character_quickly<S: Storage>(
     cpu: &Cpu,
@@ -477,7 +487,8 @@ fn store_character_quickly<S: Storage>(
     }
 }
 
-/// 90 STM: store registers R1 to R3; 0 follows 15.
+/// Does STM (90) if all its words lie in one block, which is then held for stores; else returns
+/// `None`.
 #[inline(always)]
 fn store_multiple_quickly<S: Storage>(
     cpu: &Cpu,
@@ -504,7 +515,8 @@ fn store_multiple_quickly<S: Storage>(
     }
 }
 
-/// 92 MVI, 93 TS, 94 NI, 96 OI, 97 XI: a change of a byte.
+/// Does MVI (92), TS (93), NI (94), OI (96) or XI (97) if the byte may be stored, and holds its
+/// block for stores; else returns `None`.
 #[inline(always)]
 fn change_byte_quickly<S: Storage>(
     change: ByteChange,
@@ -535,7 +547,8 @@ fn change_byte_quickly<S: Storage>(
     }
 }
 
-/// BA CS: the swap of a word.
+/// Does CS (BA) if the operand is on a word and may be stored, and holds its block for stores; else
+/// returns `None`.
 #[inline(always)]
 fn swap_word_quickly<S: Storage>(
     cpu: &mut Cpu,
@@ -569,7 +582,8 @@ fn swap_word_quickly<S: Storage>(
     }
 }
 
-/// BB CDS: the swap of a doubleword.
+/// Does CDS (BB) if R1 and R3 are even and the operand is on a doubleword and may be stored, and
+/// holds its block for stores; else returns `None`.
 #[inline(always)]
 fn swap_doubleword_quickly<S: Storage>(
     cpu: &mut Cpu,
@@ -604,7 +618,8 @@ fn swap_doubleword_quickly<S: Storage>(
     }
 }
 
-/// 4E CVD: the store of 15 decimal digits and a sign.
+/// Does CVD (4E) if the doubleword lies in one block, which is then held for stores; else returns
+/// `None`.
 #[inline(always)]
 fn store_decimal_quickly<S: Storage>(
     cpu: &Cpu,
@@ -632,7 +647,8 @@ fn store_decimal_quickly<S: Storage>(
     }
 }
 
-/// BE STCM: store characters under mask.
+/// Does STCM (BE) if its bytes lie in one block, which is then held for stores, or if its mask is
+/// zero and the access is granted; else returns `None`.
 #[inline(always)]
 fn store_characters_quickly<S: Storage>(
     cpu: &Cpu,
@@ -663,7 +679,8 @@ fn store_characters_quickly<S: Storage>(
     }
 }
 
-/// Carries out a row that fetches its operands, but for the address.
+/// Does an instruction that fetches operands and stores none, over held blocks if it can, or
+/// returns `None` and changes only `held`; the caller sets the next address.
 #[inline(always)]
 pub fn fetch_held<S: Storage, const CODE: u8, const WAY: u8>(
     row: FetchRow,
@@ -695,7 +712,8 @@ pub fn fetch_held<S: Storage, const CODE: u8, const WAY: u8>(
     }
 }
 
-/// Carries out a row that stores an operand, but for the address.
+/// Does an instruction that stores an operand, over held blocks if it can, or returns `None` and
+/// changes only `held`; the caller sets the next address.
 #[inline(always)]
 pub fn store_held<S: Storage, const CODE: u8, const WAY: u8>(
     row: StoreRow,
@@ -730,7 +748,7 @@ pub fn store_held<S: Storage, const CODE: u8, const WAY: u8>(
     }
 }
 
-/// Returns how a row ended that was carried out; one that was refused has changed nothing.
+/// Returns how an instruction ended, or `None` if it was refused.
 #[inline(always)]
 pub fn done_of(outcome: Result<Completion, Refusal>) -> Option<Completion>
     ensures { result ≡ done_of outcome }

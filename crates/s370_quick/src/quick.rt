@@ -29,10 +29,11 @@ const IN_TURN: u8 = 0;
 /// operation code: LLVM takes a function into its caller, however large, if it has no other.
 const UNDER_EX: u8 = 1;
 
-/// Does one instruction of a running processor, if it is one of the most frequent, if it is done,
-/// and if the processor then goes on with the next one. Else nothing changes. It is at an even
-/// address in a block that was found for fetches with the processor's key, with room after it for
-/// the longest instruction.
+/// Does one instruction and returns the next instruction's address, if it is one of the frequent
+/// ones, is done and the processor goes on; else returns `None` and changes only `held`.
+///
+/// It is at an even address in a block that was found for fetches with the processor's key, with
+/// room after it for the longest instruction.
 ///
 /// The address of the next instruction says that it was done. So a loop over instructions has no
 /// stop to say from others; what it has looked at before (all that only the supervisor state can
@@ -69,7 +70,7 @@ pub fn step_quickly<S: Storage>(
     step_found_quickly(cpu, storage, start, block, held)
 }
 
-/// Does an instruction as [`step_quickly`] does, if it may be fetched.
+/// Does the instruction at `start` as [`step_quickly`] does, by its operation code.
 #[inline(always)]
 fn step_found_quickly<S: Storage>(
     cpu: &mut Cpu,
@@ -183,12 +184,11 @@ fn step_found_quickly<S: Storage>(
     }
 }
 
-/// Parts of an MVCL that is at the instruction address, one after another and at most so many:
-/// those that can be moved as one, where each has all its 256 bytes, changes nothing of the MVCL,
-/// and is not the last. How many there were; where there is none, nothing changes. Either way the
-/// same MVCL is the next instruction.
+/// Does parts of the MVCL at the instruction address by one copy, at most `limit`, and returns how
+/// many; if 0, nothing has changed.
 ///
-/// So a loop over parts need not fetch it again.
+/// Each part has all its 256 bytes, changes nothing of the MVCL, and is not the last. The same MVCL
+/// is the next instruction, so a loop over parts need not fetch it again.
 #[inline(always)]
 pub fn move_parts_quickly<S: Storage>(
     cpu: &mut Cpu,
@@ -212,7 +212,7 @@ pub fn move_parts_quickly<S: Storage>(
     move_long_quickly(cpu, storage, start, second_byte, limit)
 }
 
-/// Goes on with the instruction of this operation code, which is at the instruction address.
+/// Does the instruction at `start`, whose operation code is `CODE`, as [`step_quickly`] does.
 #[inline(always)]
 fn carry_quickly<S: Storage, const CODE: u8>(
     cpu: &mut Cpu,
@@ -246,8 +246,10 @@ fn carry_quickly<S: Storage, const CODE: u8>(
     finish_quickly::<S, CODE, IN_TURN>(cpu, storage, Place { next, ilc }, first, held)
 }
 
-/// Does an instruction as `carry_quickly` does, out of line: a call is little next to what these
-/// instructions do, and the loop keeps its registers for those that it inlines.
+/// Does an instruction as `carry_quickly` does, in a function that is not inlined.
+///
+/// A call is little next to what these instructions do, and the loop keeps its registers for those
+/// that it inlines.
 #[inline(never)]
 fn carry_apart<S: Storage, const CODE: u8>(
     cpu: &mut Cpu,
@@ -275,7 +277,8 @@ fn carry_apart<S: Storage, const CODE: u8>(
     carry_quickly::<S, CODE>(cpu, storage, start, block, held)
 }
 
-/// Goes on with EX, which was fetched: with its target, if that may be fetched.
+/// Fetches the target of EX and does it as [`step_quickly`] does, or returns `None` if it may not
+/// be fetched.
 #[inline(always)]
 fn execute_quickly<S: Storage>(
     cpu: &mut Cpu,
@@ -304,7 +307,7 @@ fn execute_quickly<S: Storage>(
     }
 }
 
-/// Goes on with the target of an EX, by the way of its own operation code.
+/// Does the target of an EX as [`step_quickly`] does, by the target's operation code.
 #[inline(always)]
 fn finish_target<S: Storage>(
     cpu: &mut Cpu,
@@ -413,7 +416,7 @@ fn finish_target<S: Storage>(
     }
 }
 
-/// Ends an instruction as `finish_quickly` does, out of line.
+/// Does the target of an EX as `finish_quickly` does, in a function that is not inlined.
 #[inline(never)]
 fn finish_apart<S: Storage, const CODE: u8>(
     cpu: &mut Cpu,
@@ -438,7 +441,8 @@ fn finish_apart<S: Storage, const CODE: u8>(
     finish_quickly::<S, CODE, UNDER_EX>(cpu, storage, place, i, held)
 }
 
-/// Goes on with the instruction that is carried out, of this operation code.
+/// Does a fetched instruction, sets the next address and returns it; or returns `None` and changes
+/// only `held`.
 #[inline(always)]
 fn finish_quickly<S: Storage, const CODE: u8, const WAY: u8>(
     cpu: &mut Cpu,
@@ -467,7 +471,8 @@ fn finish_quickly<S: Storage, const CODE: u8, const WAY: u8>(
     }
 }
 
-/// Sets the address that an instruction leaves, and answers it.
+/// Sets the instruction address by how an instruction ended, unless that is to be done again, and
+/// returns it.
 #[inline(always)]
 fn go_on(cpu: &mut Cpu, place: Place, ending: Completion) -> Addr24
     requires { GoesOn ending }
@@ -486,8 +491,7 @@ fn go_on(cpu: &mut Cpu, place: Place, ending: Completion) -> Addr24
     next
 }
 
-/// Returns whether an overflow of an instruction of this operation code would interrupt the
-/// program.
+/// Returns whether the instruction can overflow and the program mask lets an overflow interrupt.
 #[inline(always)]
 fn overflow_interrupts<const CODE: u8>(cpu: &Cpu) -> bool
     ensures { result ≡ false
@@ -499,12 +503,12 @@ fn overflow_interrupts<const CODE: u8>(cpu: &Cpu) -> bool
     false
 }
 
-/// Carries out an instruction, but for its address, if the processor goes on after it and its
-/// operands lie in blocks that may be accessed. Else nothing changes.
+/// Does a fetched instruction if the processor goes on after it, or else returns `None` and changes
+/// only `held`; the caller sets the next address.
 ///
-/// Its operation code is a constant of the function's own, so that each of them is compiled by
-/// itself. An instruction whose overflow would interrupt is left to the unit, as is one that may
-/// change rights.
+/// Its operands lie in blocks that may be accessed. Its operation code is a constant of the
+/// function's own, so that each of them is compiled by itself. An instruction whose overflow would
+/// interrupt is left to the unit, as is one that may change rights.
 #[inline(always)]
 fn perform_quickly<S: Storage, const CODE: u8, const WAY: u8>(
     cpu: &mut Cpu,
@@ -532,8 +536,8 @@ fn perform_quickly<S: Storage, const CODE: u8, const WAY: u8>(
     perform_held::<S, CODE, WAY>(cpu, storage, place, i, held)
 }
 
-/// Carries out the row of an operation code, but for the address, over the blocks that are held for
-/// its operands.
+/// Does a fetched instruction over the held blocks, or returns `None` and changes only `held`; the
+/// caller sets the next address.
 #[inline(always)]
 fn perform_held<S: Storage, const CODE: u8, const WAY: u8>(
     cpu: &mut Cpu,

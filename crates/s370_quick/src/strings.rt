@@ -18,8 +18,8 @@ use s370_bytes::{
 use s370_rows::{Completion, Cpu, Instruction};
 use s370_store::{Access, Storage};
 
-/// D2 MVC between two blocks, if it is one copy or fills its target with one byte. Else nothing
-/// changes.
+/// Does MVC (D2) if each operand lies in one block, which is then held, and it is one copy or fills
+/// the target with one byte; returns whether it did.
 #[inline(always)]
 fn move_held<S: Storage>(cpu: &Cpu, storage: &mut S, i: Instruction, held: &mut HeldBlock) -> bool
     requires operands { AreHeld (S.IsPlaced storage.old) (S.memory storage.old)
@@ -53,7 +53,8 @@ fn move_held<S: Storage>(cpu: &Cpu, storage: &mut S, i: Instruction, held: &mut 
     fill_straight(storage, source, from.get(), target, to.get(), count)
 }
 
-/// D2 MVC: as one copy, if it is one.
+/// Does MVC (D2) over held blocks if it can, else with all its tests; returns `None` if it is
+/// refused.
 #[inline(always)]
 pub fn move_quickly<S: Storage>(
     cpu: &mut Cpu,
@@ -87,8 +88,10 @@ pub fn move_quickly<S: Storage>(
     None
 }
 
-/// D2 MVC by its row. It is given the parts of the instruction, so that the loop need not write the
-/// instruction to memory for an MVC that is one copy.
+/// Does MVC (D2) with all its tests and returns true, or returns false if it is refused.
+///
+/// It is given the parts of the instruction, so that the loop need not write the instruction to
+/// memory for an MVC that is one copy.
 #[inline(never)]
 fn move_apart<S: Storage>(
     cpu: &mut Cpu,
@@ -126,7 +129,8 @@ fn move_apart<S: Storage>(
     }
 }
 
-/// D1 MVN, D3 MVZ, D4 NC, D6 OC, D7 XC: between two blocks, or else by the row.
+/// Does MVN (D1), MVZ (D3), NC (D4), OC (D6) or XC (D7) over held blocks if it can, else with all
+/// its tests; returns `None` if it is refused.
 #[inline(always)]
 pub fn combine_quickly<S: Storage>(
     operation: Combine,
@@ -169,7 +173,8 @@ pub fn combine_quickly<S: Storage>(
     Some(Completion::Done)
 }
 
-/// DC TR: between two blocks, or else by the row.
+/// Does TR (DC) over held blocks if it can, else with all its tests; returns `None` if it is
+/// refused.
 #[inline(always)]
 pub fn translate_quickly<S: Storage>(
     cpu: &Cpu,
@@ -203,7 +208,8 @@ pub fn translate_quickly<S: Storage>(
     done_of(translate_row(cpu, storage, i))
 }
 
-/// D5 CLC: between two blocks, or else by the row.
+/// Does CLC (D5) over held blocks if it can, else with all its tests; returns `None` if it is
+/// refused.
 #[inline(always)]
 pub fn compare_quickly<S: Storage>(
     cpu: &mut Cpu,

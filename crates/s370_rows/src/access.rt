@@ -12,8 +12,8 @@ use crate::ending::Refusal;
 use s370_psw::ProgramCode;
 use s370_store::{Access, Fault, Range, Storage, check_two};
 
-/// Returns leave to access a range of at most 256 bytes with the key of the PSW, or why the
-/// instruction can't.
+/// Returns `Ok` if a range of at most 256 bytes may be accessed with the PSW's key, or else the
+/// refusal.
 ///
 /// # Errors
 ///
@@ -33,8 +33,8 @@ pub fn grant<S: Storage>(
     leave_of(storage.check(range, access, cpu.psw.key()))
 }
 
-/// Returns leave to access two ranges of at most 256 bytes, tested together, or why the instruction
-/// can't.
+/// Returns `Ok` if two ranges of at most 256 bytes may be accessed with the PSW's key, or else the
+/// refusal.
 ///
 /// # Errors
 ///
@@ -65,8 +65,10 @@ pub fn grant_two<S: Storage>(
     leave_of(answer)
 }
 
-/// Copies at most 2048 bytes from one place to another, as if all were read before any is written,
-/// where one look at each grants leave with the key of the PSW; else nothing changes.
+/// Copies at most 2048 bytes if one test of each range grants it with the PSW's key, and returns
+/// whether it did.
+///
+/// All bytes are read before any is written. If the result is false, nothing has changed.
 #[inline(always)]
 pub fn copy_granted<S: Storage>(cpu: &Cpu, storage: &mut S, from: u32, to: u32, count: u32) -> bool
     requires { count ≤ 2048 }
@@ -84,7 +86,8 @@ pub fn copy_granted<S: Storage>(cpu: &Cpu, storage: &mut S, from: u32, to: u32, 
     storage.copy_at_once(from, to, count, cpu.psw.key())
 }
 
-/// Returns what the answer of a check is to the instruction that asked.
+/// Turns the fault of a check into the instruction's refusal: a program exception, or an absent
+/// page.
 #[inline(always)]
 fn leave_of(answer: Result<(), Fault>) -> Result<(), Refusal>
     ensures { (m : State) → (present : ℕ → Bool) → (ts : List Test)

@@ -33,8 +33,10 @@ pub struct Computed {
     pub overflows: bool,
 }
 
-/// Returns what an operation makes of the condition code, the contents `a` of its register and its
-/// other operand `b`.
+/// Returns what an operation on `a` and `b` gives: a register's new contents, the condition code,
+/// and whether it overflows.
+///
+/// Loads other than LTR, LPR, LNR and LCR keep the condition code that is passed.
 #[inline(always)]
 pub fn compute(operation: Arithmetic, condition: ConditionCode, a: u32, b: u32) -> Computed
     ensures { result ≡ computed operation condition a b }
@@ -59,7 +61,7 @@ pub fn compute(operation: Arithmetic, condition: ConditionCode, a: u32, b: u32) 
     }
 }
 
-/// Returns a value, with a condition code.
+/// Returns a result with this value and this condition code, and no overflow.
 #[inline(always)]
 pub fn kept(value: u32, condition: ConditionCode) -> Computed
     ensures { result ≡ plain value condition }
@@ -71,7 +73,7 @@ pub fn kept(value: u32, condition: ConditionCode) -> Computed
     }
 }
 
-/// Returns the condition code of a signed number.
+/// Returns the condition code of a signed number: 0 for zero, 1 for negative, 2 for positive.
 #[inline(always)]
 pub fn sign_of(number: i64) -> ConditionCode
     ensures { result ≡ sign_code number }
@@ -85,7 +87,8 @@ pub fn sign_of(number: i64) -> ConditionCode
     }
 }
 
-/// Returns the condition code of two numbers without sign.
+/// Returns the condition code of comparing two unsigned numbers: 0 if equal, 1 if `a` is low, 2 if
+/// it is high.
 #[inline(always)]
 pub fn order_of(a: u32, b: u32) -> ConditionCode
     ensures { result ≡ order_code a b }
@@ -99,7 +102,8 @@ pub fn order_of(a: u32, b: u32) -> ConditionCode
     }
 }
 
-/// Returns the low bits of a signed result, where the exact one may not fit.
+/// Returns `value` with the condition code of the sign of `number`, the exact result, or with code
+/// 3 and overflow if that does not fit 32 bits.
 #[inline(always)]
 fn judged(value: u32, number: i64) -> Computed
     ensures { result ≡ exact value number }
@@ -115,7 +119,8 @@ fn judged(value: u32, number: i64) -> Computed
     }
 }
 
-/// Returns what is kept of a signed number: its low 32 bits, with condition code and overflow.
+/// Returns the low 32 bits of a signed number with the condition code of its sign, or with code 3
+/// and overflow if it does not fit.
 #[inline(always)]
 fn judged_number(number: i64) -> Computed
     ensures { result ≡ exact_number number }
@@ -123,7 +128,7 @@ fn judged_number(number: i64) -> Computed
     judged((number.cast_unsigned() & 0xFFFF_FFFF) as u32, number)
 }
 
-/// Returns a sum without sign, and its carry.
+/// Returns the low 32 bits of an unsigned sum, with the condition code of zero and carry.
 #[inline(always)]
 fn carried(sum: u64) -> Computed
     ensures { result ≡ plain (sum % 2 ^ 32) (carry_code sum) }
@@ -134,7 +139,7 @@ fn carried(sum: u64) -> Computed
     kept(value, ConditionCode::new(low + high))
 }
 
-/// Returns the condition code of a result: whether it is zero.
+/// Returns condition code 0 for zero, and 1 for any other value.
 #[inline(always)]
 pub fn zero_of(value: u32) -> ConditionCode
     ensures { result ≡ zero_code value }
@@ -146,7 +151,7 @@ pub fn zero_of(value: u32) -> ConditionCode
     }
 }
 
-/// Returns a value with the condition code that says whether it is zero.
+/// Returns a result with this value, and condition code 0 if it is zero, else 1.
 #[inline(always)]
 fn tested(value: u32) -> Computed
     ensures { result ≡ plain value (zero_code value) }

@@ -18,7 +18,10 @@ pub enum IndexBranch {
     LowOrEqual,
 }
 
-/// 06 BCTR, 46 BCT: one less in a register, and a branch where something is left
+/// Does BCTR (06) and BCT (46): takes 1 from a register and, if it is not zero then and `may` is
+/// true, returns a branch.
+///
+/// `may` says whether there is an address to branch to.
 ///
 /// `may` says whether there is an address to branch to.
 #[inline(always)]
@@ -35,7 +38,8 @@ pub fn branch_on_count(cpu: &mut Cpu, register: Register, may: bool, target: u32
     }
 }
 
-/// 07 BCR, 47 BC: a branch where the mask has the bit of the condition code
+/// Does BCR (07) and BC (47): returns a branch if the mask selects the condition code and `may` is
+/// true; nothing changes.
 #[inline(always)]
 pub fn branch_on_condition(cpu: &Cpu, mask: u8, may: bool, target: u32) -> Completion
     requires { mask < 16 }
@@ -61,8 +65,8 @@ fn link_of(cpu: &Cpu, place: Place) -> u32
     place.ilc.get() as u32 * 0x4000_0000 + condition + mask + place.next.get()
 }
 
-/// 05 BALR, 45 BAL: the link information goes to a register; then a branch, where there is an
-/// address to branch to
+/// Does BALR (05) and BAL (45): sets a register to the link information and returns a branch if
+/// `may` is true.
 #[inline(always)]
 pub fn branch_and_link(
     cpu: &mut Cpu,
@@ -82,7 +86,8 @@ pub fn branch_and_link(
     }
 }
 
-/// Returns whether a sum is high, or is low or equal, as a signed number.
+/// Returns whether a sum is above the comparand (`High`), or at most equal to it (`LowOrEqual`), as
+/// signed numbers.
 #[inline(always)]
 fn index_is(kind: IndexBranch, sum: u32, comparand: u32) -> bool
     ensures { result ≡ index_is kind sum comparand }
@@ -93,8 +98,8 @@ fn index_is(kind: IndexBranch, sum: u32, comparand: u32) -> bool
     }
 }
 
-/// 86 BXH, 87 BXLE: adds a register to another, and branches if the sum is high, or is low or
-/// equal, compared with a third.
+/// Does BXH (86) and BXLE (87): adds register R3 to R1 and returns a branch if the sum is high, or
+/// low or equal, against the odd register of R3's pair.
 #[inline(always)]
 pub fn branch_on_index(
     kind: IndexBranch,

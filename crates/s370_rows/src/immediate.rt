@@ -36,7 +36,7 @@ pub struct ChangedByte {
     pub condition: ConditionCode,
 }
 
-/// 91 TM, 95 CLI: the condition code of a test of a byte
+/// Returns the condition code that TM (91) or CLI (95) gives for a byte and an immediate byte.
 #[inline(always)]
 pub fn test_byte(test: ByteTest, byte: u8, immediate: u8) -> ConditionCode
     ensures { result ≡ byte_code test byte immediate }
@@ -47,7 +47,8 @@ pub fn test_byte(test: ByteTest, byte: u8, immediate: u8) -> ConditionCode
     }
 }
 
-/// Returns the condition code of the bits that a mask selects.
+/// Returns TM's condition code of the bits that a mask selects: 0 if all are zero, 3 if all are
+/// one, 1 if mixed.
 #[inline(always)]
 fn selected_code(byte: u8, mask: u8) -> ConditionCode
     ensures { result ≡ selected_code byte mask }
@@ -62,7 +63,8 @@ fn selected_code(byte: u8, mask: u8) -> ConditionCode
     }
 }
 
-/// 92 MVI, 93 TS, 94 NI, 96 OI, 97 XI: the new byte, and the condition code, which MVI keeps
+/// Returns the byte and condition code that MVI (92), TS (93), NI (94), OI (96) or XI (97) gives;
+/// MVI keeps the code.
 #[inline(always)]
 pub fn change_byte(
     change: ByteChange,
@@ -87,7 +89,7 @@ pub fn change_byte(
     }
 }
 
-/// Returns a new byte, and whether it is zero.
+/// Returns this byte, with condition code 0 if it is zero, else 1.
 #[inline(always)]
 fn tested_byte(byte: u8) -> ChangedByte
     ensures { result ≡ tested_byte byte }

@@ -6,7 +6,7 @@ use crate::cpu::Cpu;
 use crate::ending::Completion;
 use s370_num::{Addr24, ConditionCode, Register};
 
-/// 04 SPM: condition code and program mask from a register
+/// Does SPM (04): sets the condition code and the program mask from bits 2 to 7 of a register.
 #[inline(always)]
 pub fn set_program_mask_row(cpu: &mut Cpu, register: Register) -> Completion
     ensures { program_mask_set cpu.old register ≡ record { ending = result; cpu = cpu.new } }
@@ -18,7 +18,7 @@ pub fn set_program_mask_row(cpu: &mut Cpu, register: Register) -> Completion
     Completion::Done
 }
 
-/// 41 LA: load the address of the second operand
+/// Does LA (41): sets a register to an address, whose high byte is zero.
 #[inline(always)]
 pub fn load_address_row(cpu: &mut Cpu, register: Register, address: Addr24) -> Completion
     ensures { address_loaded cpu.old register address ≡ record { ending = result; cpu = cpu.new } }
@@ -27,7 +27,7 @@ pub fn load_address_row(cpu: &mut Cpu, register: Register, address: Addr24) -> C
     Completion::Done
 }
 
-/// 43 IC: insert a byte as the rightmost of a register
+/// Does IC (43): replaces the rightmost byte of a register.
 #[inline(always)]
 pub fn insert_byte_row(cpu: &mut Cpu, register: Register, byte: u8) -> Completion
     ensures { byte_inserted cpu.old register byte ≡ record { ending = result; cpu = cpu.new } }

@@ -8,7 +8,7 @@ use crate::cpu::Cpu;
 use crate::ending::Completion;
 use s370_num::{ConditionCode, Register};
 
-/// Returns whether a mask selects this byte of a word, of which the leftmost is 0.
+/// Returns whether a four-bit mask selects byte `place` of a word, of which the leftmost is 0.
 #[inline(always)]
 fn selects(mask: u8, place: usize) -> bool
     requires { place < 4 }
@@ -17,7 +17,7 @@ fn selects(mask: u8, place: usize) -> bool
     mask >> (3 - place) & 1 == 1
 }
 
-/// Returns how many bytes a mask selects.
+/// Returns how many bytes of a word a four-bit mask selects.
 #[inline(always)]
 pub fn selected_count(mask: u8) -> usize
     ensures count { result ≡ selected_count mask }
@@ -28,7 +28,7 @@ pub fn selected_count(mask: u8) -> usize
     (left + right) as usize
 }
 
-/// BE STCM: the bytes of a word that a mask selects
+/// Copies the bytes of a word that a mask selects to the front of `into`; STCM (BE) stores them.
 #[inline]
 pub fn select_bytes(word: u32, mask: u8, into: &mut [u8])
     requires { length into.old ≡ selected_count mask }
@@ -44,7 +44,7 @@ pub fn select_bytes(word: u32, mask: u8, into: &mut [u8])
     }
 }
 
-/// Returns at most four bytes as the left part of a word.
+/// Returns a word that has at most four bytes at its left, and zeros at its right.
 #[inline]
 fn left_word(bytes: &[u8]) -> u32
     requires { length bytes.now ≤ 4 }
@@ -55,7 +55,7 @@ fn left_word(bytes: &[u8]) -> u32
     u32::from_be_bytes(word)
 }
 
-/// Returns a word of which the selected bytes are taken from others.
+/// Returns a word in which the bytes that a mask selects are replaced by `bytes`, in order.
 #[inline]
 fn insert_bytes(word: u32, mask: u8, bytes: &[u8]) -> u32
     requires { length bytes.now ≡ selected_count mask }
@@ -72,7 +72,8 @@ fn insert_bytes(word: u32, mask: u8, bytes: &[u8]) -> u32
     u32::from_be_bytes(all)
 }
 
-/// Returns the condition code of bytes that were inserted.
+/// Returns ICM's condition code of inserted bytes: 0 if all are zero, 1 if the first bit is one,
+/// else 2.
 #[inline(always)]
 fn inserted_code(bytes: &[u8]) -> ConditionCode
     requires { length bytes.now ≤ 4 }
@@ -88,7 +89,8 @@ fn inserted_code(bytes: &[u8]) -> ConditionCode
     }
 }
 
-/// BF ICM: insert bytes where a mask selects; zero, first bit one, other
+/// Does ICM (BF): replaces the bytes of a register that a mask selects, and sets the condition
+/// code.
 #[inline]
 pub fn insert_under_mask_row(
     cpu: &mut Cpu,
@@ -106,7 +108,8 @@ pub fn insert_under_mask_row(
     Completion::Done
 }
 
-/// BD CLM: compare logical the bytes that a mask selects
+/// Does CLM (BD): compares the bytes of a register that a mask selects with `bytes`, and sets the
+/// condition code.
 #[inline]
 pub fn compare_under_mask_row(
     cpu: &mut Cpu,

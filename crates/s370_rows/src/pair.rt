@@ -6,7 +6,7 @@ use crate::cpu::Cpu;
 use s370_num::Register;
 
 impl Cpu {
-    /// Returns a register and the one after it as one number of 64 bits.
+    /// Returns a register and the next one as one number of 64 bits.
     #[inline(always)]
     pub fn pair(&self, register: Register) -> u64
         requires { register < 15 }
@@ -16,7 +16,7 @@ impl Cpu {
         high << 32 | self.general[register.index() + 1] as u64
     }
 
-    /// Sets a register and the one after it to one number of 64 bits.
+    /// Sets a register to the high half of a 64-bit number, and the next one to its low half.
     #[inline(always)]
     pub fn set_pair(&mut self, register: Register, value: u64)
         requires { register < 15 }

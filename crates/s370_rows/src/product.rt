@@ -16,7 +16,7 @@ pub struct Quotient {
     pub remainder: i32,
 }
 
-/// Returns the signed product of two words.
+/// Returns the signed product of two words as 64 bits.
 #[inline(always)]
 fn product(a: u32, b: u32) -> u64
     ensures { result ≡ product a b }
@@ -24,7 +24,8 @@ fn product(a: u32, b: u32) -> u64
     (a.cast_signed() as i64 * b.cast_signed() as i64).cast_unsigned()
 }
 
-/// 1C MR, 5C M: the signed product of the second register of a pair and a word, into the pair
+/// Does MR (1C) and M (5C): sets a register pair to the signed product of its second register and a
+/// word.
 #[inline(always)]
 pub fn multiply_row(cpu: &mut Cpu, register: Register, b: u32) -> Completion
     requires { register < 15 }
@@ -35,7 +36,7 @@ pub fn multiply_row(cpu: &mut Cpu, register: Register, b: u32) -> Completion
     Completion::Done
 }
 
-/// 4C MH: the low 32 bits of the signed product of a register and a halfword
+/// Does MH (4C): sets a register to the low 32 bits of the signed product of it and an operand.
 #[inline(always)]
 pub fn multiply_halfword_row(cpu: &mut Cpu, register: Register, b: u32) -> Completion
     ensures { multiplied_halfword cpu.old register b ≡ record { ending = result; cpu = cpu.new } }
@@ -45,7 +46,8 @@ pub fn multiply_halfword_row(cpu: &mut Cpu, register: Register, b: u32) -> Compl
     Completion::Done
 }
 
-/// Returns the quotient and remainder, where the divisor is not zero and the quotient fits.
+/// Returns signed quotient and remainder, or `None` if the divisor is zero or the quotient does not
+/// fit 32 bits.
 #[inline(always)]
 fn quotient_of(dividend: i64, divisor: i32) -> Option<Quotient>
     ensures { MeetsDivision (divided dividend divisor) result }
@@ -61,8 +63,8 @@ fn quotient_of(dividend: i64, divisor: i32) -> Option<Quotient>
     })
 }
 
-/// 1D DR, 5D D: a signed pair by a word: remainder and quotient; divide exception where the
-/// quotient does not fit
+/// Does DR (1D) and D (5D): divides a signed register pair by a word and sets it to remainder and
+/// quotient, if that fits.
 ///
 /// # Errors
 ///

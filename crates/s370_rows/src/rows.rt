@@ -8,12 +8,12 @@ use crate::ending::Completion;
 use s370_num::Register;
 use s370_psw::ProgramCode;
 
-/// 10 LPR, 11 LNR, 12 LTR, 13 LCR, 18 LR, 58 L, 48 LH: load; LPR, LNR, LTR and LCR set the
-/// condition code
-/// 19 CR, 59 C, 49 CH, 15 CLR, 55 CL: compare signed, logical
-/// 1A AR, 5A A, 4A AH, 1B SR, 5B S, 4B SH: add, subtract; signed overflow
-/// 1E ALR, 5E AL, 1F SLR, 5F SL: add, subtract logical; carry
-/// 14 NR, 54 N, 16 OR, 56 O, 17 XR, 57 X: and, or, exclusive or
+/// Does an operation on a register and an operand: sets the register and the condition code, and
+/// returns an overflow exception if one is enabled.
+///
+/// It serves LPR 10, LNR 11, LTR 12, LCR 13, LR 18, L 58 and LH 48, of which the first four set the
+/// condition code; CR 19, C 59, CH 49, CLR 15 and CL 55; AR 1A, A 5A, AH 4A, SR 1B, S 5B and SH 4B;
+/// ALR 1E, AL 5E, SLR 1F and SL 5F; NR 14, N 54, OR 16, O 56, XR 17 and X 57.
 #[inline(always)]
 pub fn arithmetic_row(
     operation: Arithmetic,
@@ -30,7 +30,8 @@ pub fn arithmetic_row(
     overflow_ending(cpu, computed.overflows)
 }
 
-/// Returns how an instruction ends whose signed result may not have fit.
+/// Returns a fixed-point overflow exception if a result overflows and the program mask enables it,
+/// else `Done`.
 #[inline(always)]
 pub fn overflow_ending(cpu: &Cpu, overflows: bool) -> Completion
     ensures { result ≡ overflow_ending cpu.now overflows }

@@ -26,7 +26,7 @@ pub struct ComputedPair {
     pub overflows: bool,
 }
 
-/// Returns a signed number times a power of two.
+/// Returns a signed number times 2 to the power `count`.
 #[inline(always)]
 fn scaled(number: i64, count: u8) -> i128
     requires { count < 64 }
@@ -35,7 +35,7 @@ fn scaled(number: i64, count: u8) -> i128
     number as i128 * (1u64 << count) as i128
 }
 
-/// Returns a word that is shifted right with its sign.
+/// Returns a word shifted right with copies of its sign, and the condition code of the result.
 #[inline(always)]
 fn shift_right(a: u32, count: u8) -> Computed
     requires { count < 64 }
@@ -45,7 +45,8 @@ fn shift_right(a: u32, count: u8) -> Computed
     kept((number as i32).cast_unsigned(), sign_of(number))
 }
 
-/// Returns a word that is shifted left under its sign.
+/// Returns a word shifted left under its sign, with its condition code, or with code 3 and overflow
+/// if a significant bit is lost.
 #[inline(always)]
 fn shift_left(a: u32, count: u8) -> Computed
     requires { count < 64 }
@@ -65,7 +66,7 @@ fn shift_left(a: u32, count: u8) -> Computed
     }
 }
 
-/// Returns a register's contents, shifted.
+/// Returns what a shift makes of a word and of the condition code, which logical shifts keep.
 #[inline(always)]
 fn shift_word(shift: Shift, condition: ConditionCode, a: u32, count: u8) -> Computed
     requires { count < 64 }
@@ -79,8 +80,8 @@ fn shift_word(shift: Shift, condition: ConditionCode, a: u32, count: u8) -> Comp
     }
 }
 
-/// 88 SRL, 89 SLL, 8A SRA, 8B SLA: shift a register; the signed ones set the condition code, to the
-/// left with overflow
+/// Does SRL (88), SLL (89), SRA (8A) and SLA (8B): shifts a register; SRA and SLA set the condition
+/// code, and SLA may overflow.
 #[inline(always)]
 pub fn shift_row(shift: Shift, cpu: &mut Cpu, register: Register, count: u8) -> Completion
     requires { count < 64 }
@@ -94,7 +95,7 @@ pub fn shift_row(shift: Shift, cpu: &mut Cpu, register: Register, count: u8) -> 
     overflow_ending(cpu, computed.overflows)
 }
 
-/// Returns a pair with this value and condition code, without overflow.
+/// Returns a 64-bit result with this value and this condition code, and no overflow.
 #[inline(always)]
 fn kept_pair(value: u64, condition: ConditionCode) -> ComputedPair
     ensures { result ≡ plain_pair value condition }
@@ -106,7 +107,7 @@ fn kept_pair(value: u64, condition: ConditionCode) -> ComputedPair
     }
 }
 
-/// Returns a pair that is shifted right with its sign.
+/// Returns 64 bits shifted right with copies of their sign, and the condition code of the result.
 #[inline(always)]
 fn shift_right_pair(a: u64, count: u8) -> ComputedPair
     requires { count < 64 }
@@ -116,7 +117,8 @@ fn shift_right_pair(a: u64, count: u8) -> ComputedPair
     kept_pair(number.cast_unsigned(), sign_of(number))
 }
 
-/// Returns a pair that is shifted left under its sign.
+/// Returns 64 bits shifted left under their sign, with their condition code, or with code 3 and
+/// overflow if a significant bit is lost.
 #[inline(always)]
 fn shift_left_pair(a: u64, count: u8) -> ComputedPair
     requires { count < 64 }
@@ -136,7 +138,7 @@ fn shift_left_pair(a: u64, count: u8) -> ComputedPair
     }
 }
 
-/// Returns a pair's contents, shifted.
+/// Returns what a shift makes of 64 bits and of the condition code, which logical shifts keep.
 #[inline(always)]
 fn shift_pair(shift: Shift, condition: ConditionCode, a: u64, count: u8) -> ComputedPair
     requires { count < 64 }
@@ -150,8 +152,8 @@ fn shift_pair(shift: Shift, condition: ConditionCode, a: u64, count: u8) -> Comp
     }
 }
 
-/// 8C SRDL, 8D SLDL, 8E SRDA, 8F SLDA: shift a pair; the signed ones set the condition code, to the
-/// left with overflow
+/// Does SRDL (8C), SLDL (8D), SRDA (8E) and SLDA (8F): shifts a register pair; SRDA and SLDA set
+/// the condition code, and SLDA may overflow.
 #[inline(always)]
 pub fn shift_pair_row(shift: Shift, cpu: &mut Cpu, register: Register, count: u8) -> Completion
     requires register { register < 15 }

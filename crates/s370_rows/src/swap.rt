@@ -5,8 +5,8 @@ ghost use Rattle.s370_rows.specs.Swap.{compared_swap, compared_swap_pair};
 use crate::cpu::Cpu;
 use s370_num::{ConditionCode, Register};
 
-/// BA CS: the word that storage takes where it holds the first register's, else that register takes
-/// storage's
+/// Does CS (BA) on registers: returns R3, which is to be stored, if R1 equals the word of storage,
+/// else loads that word into R1; sets the condition code.
 #[inline(always)]
 pub fn compare_and_swap(cpu: &mut Cpu, first: Register, third: Register, word: u32) -> Option<u32>
     ensures { compared_swap cpu.old first third word ≡ record { cpu = cpu.new; stored = result } }
@@ -21,8 +21,8 @@ pub fn compare_and_swap(cpu: &mut Cpu, first: Register, third: Register, word: u
     }
 }
 
-/// BB CDS: compares a pair of registers with a doubleword, and stores another pair if they are
-/// equal.
+/// Does CDS (BB) on registers: returns pair R3, which is to be stored, if pair R1 equals the
+/// doubleword of storage, else loads that into pair R1; sets the condition code.
 #[inline(always)]
 pub fn compare_and_swap_pair(
     cpu: &mut Cpu,

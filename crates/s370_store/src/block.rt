@@ -21,8 +21,8 @@ impl Block {
         place: 0,
     };
 
-    /// Returns whether this is an even address from which on the longest instruction, which has six
-    /// bytes, would lie in it.
+    /// Returns whether `start` is an even address at which an instruction of six bytes would lie in
+    /// the block.
     ///
     /// Both are one comparison: turned right by a bit an odd number is greater than any even one.
     #[inline(always)]

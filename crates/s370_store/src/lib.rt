@@ -130,12 +130,13 @@ pub trait Storage {
     /// borrowed from.
     ghost Keeps: { Self → Self → Type 0 };
 
-    /// Returns how many bytes there are.
+    /// Returns the size of storage in bytes.
     fn size(&self) -> u32
         ensures bytes { result ≡ length (memory self.now).bytes }
         ensures keyed { length (memory self.now).bytes ≤ 2048 * length (memory self.now).keys };
 
-    /// Tests an access to at most 256 bytes, with this protection key.
+    /// Tests whether an access with this key to at most 256 bytes passes, and returns the fault if
+    /// it does not.
     ///
     /// # Errors
     ///
@@ -149,8 +150,8 @@ pub trait Storage {
     /// A block is where it says.
     ghost IsPlaced: { Self → Block → Type 0 };
 
-    /// Finds the block of an address, if the whole of it may be accessed so with this protection
-    /// key, and its page is present.
+    /// Returns the block of 2048 bytes around an address, only if this access with this key may be
+    /// made to all of it and its page is present.
     fn find_block(&self, start: u32, access: Access, key: AccessKey) -> Option<Block>
         ensures first { IfSome result (λ block. block.first ≡ start / 2048 * 2048) }
         ensures may_access { IfSome result
@@ -159,7 +160,8 @@ pub trait Storage {
             block.first) }
         ensures placed { IfSome result (λ block. IsPlaced self.now block) };
 
-    /// Copies bytes out of a block that was found, one at least.
+    /// Fills `into`, of at least one byte, with the bytes from `start` on, all in a block that
+    /// `find_block` returned.
     fn load_in(&self, block: Block, start: u32, into: &mut [u8])
         requires placed { IsPlaced self.now block }
         requires some { 0 < length into.old }
@@ -167,7 +169,8 @@ pub trait Storage {
         requires ends { start + length into.old ≤ block.first + 2048 }
         ensures { into.new ≡ slice_range (memory self.now).bytes start (start + length into.old) };
 
-    /// Copies bytes into a block that was found, one at least.
+    /// Overwrites storage from `start` on with the bytes of `from`, at least one, all in a block
+    /// that `find_block` returned.
     fn store_in(&mut self, block: Block, start: u32, from: &[u8])
         requires placed { IsPlaced self.old block }
         requires some { 0 < length from.now }
@@ -176,8 +179,8 @@ pub trait Storage {
         ensures stored { memory self.new ≡ with_stored (memory self.old) start from.now }
         ensures rest { Keeps self.old self.new };
 
-    /// Copies at most 256 bytes, one at least, from one block that was found into another or the
-    /// same, as if all were read before any is written.
+    /// Copies 1 to 256 bytes from one block that `find_block` returned into another or the same, as
+    /// if all were read before any is written.
     #[inline(always)]
     fn copy_in(&mut self, source: Block, from: u32, target: Block, to: u32, count: u32)
         requires source_placed { IsPlaced self.old source }
@@ -199,14 +202,15 @@ pub trait Storage {
         self.store_in(target, to, part);
     }
 
-    /// Copies at most 256 bytes out, which `check` has granted.
+    /// Fills `into` with at most 256 bytes of storage from `start` on, a fetch that `check` has
+    /// granted.
     fn load(&self, start: u32, into: &mut [u8])
         requires granted { IsGranted (length (memory self.now).bytes) (present self.now) start
             (length into.old) }
         requires short { length into.old ≤ 256 }
         ensures { into.new ≡ slice_range (memory self.now).bytes start (start + length into.old) };
 
-    /// Copies at most 256 bytes in, which `check` has granted.
+    /// Overwrites storage from `start` on with at most 256 bytes, a store that `check` has granted.
     fn store(&mut self, start: u32, from: &[u8])
         requires granted { IsGranted (length (memory self.old).bytes) (present self.old) start
             (length from.now) }
@@ -214,7 +218,7 @@ pub trait Storage {
         ensures stored { memory self.new ≡ with_stored (memory self.old) start from.now }
         ensures rest { Keeps self.old self.new };
 
-    /// Copies at most 256 bytes from one place to another, which `check` has granted, as if all
+    /// Copies at most 256 bytes from one address to another, which `check` has granted, as if all
     /// were read before any is written.
     fn copy(&mut self, from: u32, to: u32, count: u32)
         requires source { IsGranted (length (memory self.old).bytes) (present self.old) from count }
@@ -231,8 +235,10 @@ pub trait Storage {
         self.store(to, part);
     }
 
-    /// Copies at most 2048 bytes, as many as a block has, from one place to another as if all were
-    /// read before any is written, where one look at each place grants it; else nothing changes.
+    /// Copies at most 2048 bytes, if one test of each range grants it, and returns whether it did.
+    ///
+    /// All bytes are read before any is written. If the result is false, nothing has changed;
+    /// without a body of its own, a storage copies only 1 to 256 bytes.
     #[inline(always)]
     fn copy_at_once(&mut self, from: u32, to: u32, count: u32, key: AccessKey) -> bool
         requires { count ≤ 2048 }
@@ -293,12 +299,12 @@ pub trait Keyed: Storage {
     /// storage is borrowed from.
     ghost KeepsRest: { Self → Self → Type 0 };
 
-    /// Returns the key in storage of a block of 2048 bytes.
+    /// Returns the storage key of a block of 2048 bytes, which is given by its number.
     fn key_of(&self, block: u32) -> StorageKey
         requires { block < length (Self.memory self.now).keys }
         ensures { result ≡ slice_index (Self.memory self.now).keys block };
 
-    /// Sets the key in storage of a block.
+    /// Sets the storage key of a block of 2048 bytes, which is given by its number.
     fn set_key(&mut self, block: u32, key: StorageKey)
         requires { block < length (Self.memory self.old).keys }
         ensures keyed { Self.memory self.new ≡ with_key (Self.memory self.old) block key }

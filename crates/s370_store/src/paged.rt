@@ -48,7 +48,7 @@ impl PagedStorage {
         })
     }
 
-    /// Sets whether a page is present.
+    /// Marks a page as present or absent; its bytes and keys stay.
     pub fn set_present(&mut self, page: Page, present: bool)
         requires { page.0 < length (paged_flags self.old) }
         ensures flags { paged_flags self.new ≡ slice_set (paged_flags self.old) page.0 present }
@@ -72,10 +72,13 @@ impl Storage for PagedStorage {
 
     ghost IsPlaced = { λ s block. block.first + 2048 ≤ length (paged_bytes s) };
 
+    /// Returns the size of storage in bytes.
     fn size(&self) -> u32 {
         self.bytes.len() as u32
     }
 
+    /// Returns a fault if size or keys forbid an access, or if the page of its first or last byte
+    /// is absent.
     fn check(&self, range: Range, access: Access, key: AccessKey) -> Result<(), Fault> {
         let keys = KeySlice { keys: &self.keys };
         test_range(self.bytes.len() as u32, &keys, range, access, key)?;
@@ -94,6 +97,8 @@ impl Storage for PagedStorage {
         Ok(())
     }
 
+    /// Returns the block of 2048 bytes around an address, if size and keys let this access pass
+    /// there and its page is present.
     fn find_block(&self, start: u32, access: Access, key: AccessKey) -> Option<Block> {
         let keys = KeySlice { keys: &self.keys };
         if !may_access_block(self.bytes.len() as u32, &keys, start, access, key) {
@@ -109,22 +114,26 @@ impl Storage for PagedStorage {
         })
     }
 
+    /// Fills `into` with the bytes from `start` on; the block is not used.
     fn load_in(&self, _block: Block, start: u32, into: &mut [u8]) {
         let first = start as usize;
         let end = first + into.len();
         into.copy_from_slice(&self.bytes[first..end]);
     }
 
+    /// Overwrites storage from `start` on with the bytes of `from`; the block is not used.
     fn store_in(&mut self, _block: Block, start: u32, from: &[u8]) {
         put_at(&mut self.bytes, start as usize, from);
     }
 
+    /// Fills `into` with the bytes from `start` on.
     fn load(&self, start: u32, into: &mut [u8]) {
         let first = start as usize;
         let end = first + into.len();
         into.copy_from_slice(&self.bytes[first..end]);
     }
 
+    /// Overwrites storage from `start` on with the bytes of `from`.
     fn store(&mut self, start: u32, from: &[u8]) {
         put_at(&mut self.bytes, start as usize, from);
     }
@@ -147,10 +156,12 @@ impl Keyed for PagedStorage {
 
     ghost KeepsRest = { PagedRest };
 
+    /// Returns the storage key of a block of 2048 bytes, which is given by its number.
     fn key_of(&self, block: u32) -> StorageKey {
         self.keys[block as usize]
     }
 
+    /// Sets the storage key of a block of 2048 bytes, which is given by its number.
     fn set_key(&mut self, block: u32, key: StorageKey) {
         self.keys[block as usize] = key;
     }
@@ -164,7 +175,7 @@ impl Keyed for PagedStorage {
     ghost rest_on = { paged_rest_on };
 }
 
-/// Returns a flag of a list.
+/// Returns the flag at this index of a list.
 fn flag_at(flags: &[bool], place: u32) -> bool
     requires { place < length flags.now }
     ensures { result ≡ slice_index_or flags.now place false }

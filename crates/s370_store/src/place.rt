@@ -2,7 +2,7 @@
 ghost use Rattle.std.specs.Prelude.{◌≡◌, ◌+◌, ◌≤◌, length, slice_range};
 ghost use Rattle.s370_store.specs.Access.{put};
 
-/// Writes bytes from a place on.
+/// Overwrites the bytes of `bytes` from index `start` on with those of `from`.
 #[inline(always)]
 #[tactic(auto, unfolding(crate::specs::Access::put))]
 pub fn put_at(bytes: &mut [u8], start: usize, from: &[u8])
@@ -14,8 +14,9 @@ pub fn put_at(bytes: &mut [u8], start: usize, from: &[u8])
     bytes[start..end].copy_from_slice(from);
 }
 
-/// Copies at most 2048 bytes from one place to another, as if all were read before any is written.
-/// If the places lie apart, they need no buffer.
+/// Copies at most 2048 bytes from one index to another, as if all were read before any is written.
+///
+/// If the two ranges lie apart, no buffer is used.
 #[inline]
 pub fn copy_at(bytes: &mut [u8], from: usize, to: usize, count: usize)
     requires source { from + count ≤ length bytes.old }
@@ -37,7 +38,7 @@ pub fn copy_at(bytes: &mut [u8], from: usize, to: usize, count: usize)
     }
 }
 
-/// Copies bytes through a buffer.
+/// Copies at most 256 bytes from one index to another through a buffer, so the ranges may overlap.
 #[inline(never)]
 fn copy_near(bytes: &mut [u8], from: usize, to: usize, count: usize)
     requires source { from + count ≤ length bytes.old }
@@ -50,7 +51,7 @@ fn copy_near(bytes: &mut [u8], from: usize, to: usize, count: usize)
     copy_through(bytes, from, to, &mut buffer[..count]);
 }
 
-/// Copies bytes through a longer buffer, which is made where it is needed alone.
+/// Copies at most 2048 bytes from one index to another through a buffer, so the ranges may overlap.
 #[inline(never)]
 fn copy_long_near(bytes: &mut [u8], from: usize, to: usize, count: usize)
     requires source { from + count ≤ length bytes.old }
@@ -63,7 +64,8 @@ fn copy_long_near(bytes: &mut [u8], from: usize, to: usize, count: usize)
     copy_through(bytes, from, to, &mut buffer[..count]);
 }
 
-/// Copies as many bytes as a buffer has, through it.
+/// Copies as many bytes as `buffer` has from one index to another through `buffer`, which it
+/// overwrites.
 #[inline(always)]
 fn copy_through(bytes: &mut [u8], from: usize, to: usize, buffer: &mut [u8])
     requires source { from + length buffer.old ≤ length bytes.old }

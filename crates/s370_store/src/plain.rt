@@ -37,21 +37,21 @@ impl PlainStorage {
         Ok(PlainStorage { bytes, keys })
     }
 
-    /// Returns all its bytes.
+    /// Borrows all the bytes of storage.
     pub fn bytes(&self) -> &[u8]
         ensures { result.now ≡ plain_bytes self.now }
     {
         &self.bytes
     }
 
-    /// Returns the key of each of its blocks.
+    /// Borrows the list of storage keys, one for each block of 2048 bytes.
     pub fn keys(&self) -> &[StorageKey]
         ensures { result.now ≡ plain_keys self.now }
     {
         &self.keys
     }
 
-    /// Makes all its bytes and keys zero.
+    /// Sets all bytes and storage keys to zero.
     pub(crate) fn zero(&mut self)
         ensures { plain_memory self.new ≡ cleared_memory (plain_memory self.old) }
     {
@@ -73,17 +73,21 @@ impl Storage for PlainStorage {
 
     ghost IsPlaced = { λ s block. block.first + 2048 ≤ length (plain_bytes s) };
 
+    /// Returns the size of storage in bytes.
     #[inline(always)]
     fn size(&self) -> u32 {
         self.bytes.len() as u32
     }
 
+    /// Returns a fault if size or keys forbid an access; no page is ever absent.
     #[inline(always)]
     fn check(&self, range: Range, access: Access, key: AccessKey) -> Result<(), Fault> {
         let keys = KeySlice { keys: &self.keys };
         test_range(self.bytes.len() as u32, &keys, range, access, key)
     }
 
+    /// Copies bytes from one address to another, if there are any and size and keys let both
+    /// accesses pass, and returns whether it did.
     #[inline(always)]
     fn copy_at_once(&mut self, from: u32, to: u32, count: u32, key: AccessKey) -> bool {
         if count == 0 {
@@ -107,6 +111,8 @@ impl Storage for PlainStorage {
         true
     }
 
+    /// Returns the block of 2048 bytes around an address, if size and keys let this access pass
+    /// there.
     #[inline(always)]
     fn find_block(&self, start: u32, access: Access, key: AccessKey) -> Option<Block> {
         let keys = KeySlice { keys: &self.keys };
@@ -121,6 +127,7 @@ impl Storage for PlainStorage {
         }
     }
 
+    /// Fills `into` with the bytes from `start` on; the block is not used.
     #[inline(always)]
     fn load_in(&self, _block: Block, start: u32, into: &mut [u8]) {
         let first = start as usize;
@@ -128,16 +135,20 @@ impl Storage for PlainStorage {
         into.copy_from_slice(&self.bytes[first..end]);
     }
 
+    /// Overwrites storage from `start` on with the bytes of `from`; the block is not used.
     #[inline(always)]
     fn store_in(&mut self, _block: Block, start: u32, from: &[u8]) {
         put_at(&mut self.bytes, start as usize, from);
     }
 
+    /// Copies bytes from one address to another, as if all were read before any is written; the
+    /// blocks are not used.
     #[inline(always)]
     fn copy_in(&mut self, _source: Block, from: u32, _target: Block, to: u32, count: u32) {
         copy_at(&mut self.bytes, from as usize, to as usize, count as usize);
     }
 
+    /// Fills `into` with the bytes from `start` on.
     #[inline(always)]
     fn load(&self, start: u32, into: &mut [u8]) {
         let first = start as usize;
@@ -145,11 +156,13 @@ impl Storage for PlainStorage {
         into.copy_from_slice(&self.bytes[first..end]);
     }
 
+    /// Overwrites storage from `start` on with the bytes of `from`.
     #[inline(always)]
     fn store(&mut self, start: u32, from: &[u8]) {
         put_at(&mut self.bytes, start as usize, from);
     }
 
+    /// Copies bytes from one address to another, as if all were read before any is written.
     #[inline(always)]
     fn copy(&mut self, from: u32, to: u32, count: u32) {
         copy_at(&mut self.bytes, from as usize, to as usize, count as usize);
@@ -174,11 +187,13 @@ impl Keyed for PlainStorage {
 
     ghost KeepsRest = { PlainRest };
 
+    /// Returns the storage key of a block of 2048 bytes, which is given by its number.
     #[inline]
     fn key_of(&self, block: u32) -> StorageKey {
         self.keys[block as usize]
     }
 
+    /// Sets the storage key of a block of 2048 bytes, which is given by its number.
     #[inline]
     fn set_key(&mut self, block: u32, key: StorageKey) {
         self.keys[block as usize] = key;

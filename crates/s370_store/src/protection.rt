@@ -7,7 +7,8 @@ ghost use Rattle.s370_store.specs.Access.{IsVerdict, tested, is_passed, is_permi
 use crate::{Access, Fault, Range};
 use s370_num::{AccessKey, StorageKey};
 
-/// Returns whether an access with this protection key passes a block with this key in storage.
+/// Returns whether key protection lets an access with this key pass at a block with this storage
+/// key.
 #[inline(always)]
 #[tactic(auto, unfolding(crate::specs::Access::is_passed))]
 fn passes(access: Access, key: AccessKey, block: StorageKey) -> bool
@@ -26,7 +27,7 @@ pub trait KeyTable {
     /// The key of each block of 2048 bytes.
     ghost of_blocks: { Self → List ℕ };
 
-    /// Returns the key of one block.
+    /// Returns the storage key of the block with this number.
     fn key_at(&self, block: u32) -> StorageKey
         requires { block < length (of_blocks self.now) }
         ensures { result ≡ slice_index (of_blocks self.now) block };
@@ -42,6 +43,7 @@ pub struct KeySlice<'a> {
 impl<'a> KeyTable for KeySlice<'a> {
     ghost of_blocks = { λ l. l.keys.now };
 
+    /// Returns the storage key of the block with this number.
     #[inline(always)]
     fn key_at(&self, block: u32) -> StorageKey {
         self.keys[block as usize]
@@ -58,13 +60,14 @@ pub struct ZeroKeys {
 impl KeyTable for ZeroKeys {
     ghost of_blocks = { λ o. replicate o.blocks 0 };
 
+    /// Returns storage key zero, whichever the block.
     #[inline(always)]
     fn key_at(&self, _block: u32) -> StorageKey {
         StorageKey::ZERO
     }
 }
 
-/// Returns whether an access with this protection key passes this block.
+/// Returns whether key protection lets an access with this key pass at the block with this number.
 #[inline(always)]
 fn block_passes<K: KeyTable>(keys: &K, block: u32, access: Access, key: AccessKey) -> bool
     requires { block < length (K.of_blocks keys.now) }
@@ -73,8 +76,8 @@ fn block_passes<K: KeyTable>(keys: &K, block: u32, access: Access, key: AccessKe
     passes(access, key, keys.key_at(block))
 }
 
-/// Returns whether the key of the block in which a range lies lets the access pass: the test of an
-/// access by key alone.
+/// Returns whether key protection lets an access pass; only the block of the range's first byte is
+/// looked at, and no size is tested.
 ///
 /// It is for a storage that knows without the test of the size that the range lies in it.
 #[inline(always)]
@@ -90,8 +93,8 @@ pub fn passes_in_block<K: KeyTable>(keys: &K, range: Range, access: Access, key:
     block_passes(keys, range.start / 2048, access, key)
 }
 
-/// Returns whether size and keys let each byte of the block of an address be accessed so with this
-/// protection key.
+/// Returns whether size and keys let this access, with this key, be made to every byte of the block
+/// around an address.
 pub fn may_access_block<K: KeyTable>(
     size: u32,
     keys: &K,
@@ -111,7 +114,7 @@ pub fn may_access_block<K: KeyTable>(
     block_passes(keys, block, access, key)
 }
 
-/// Tests an access to one range by size and keys, as if every page were present.
+/// Returns a fault if size or keys forbid an access to a range, as if every page were present.
 ///
 /// A body's own `check` makes it first, and then looks for the pages. At most 2048 bytes lie in one
 /// block or in two that follow one another, so the key of the first byte decides, or those of the
@@ -119,7 +122,7 @@ pub fn may_access_block<K: KeyTable>(
 ///
 /// # Errors
 ///
-/// A `Fault`: addressing before protection, and an absent page if both let the access pass.
+/// `Fault::Addressing` before `Fault::Protection`; `Fault::Absent` is never returned.
 #[inline(always)]
 pub fn test_range<K: KeyTable>(
     size: u32,

@@ -40,13 +40,12 @@ pub trait Supply: Keyed {
     /// What clearing leaves of all that this storage is borrowed from.
     ghost Cleared: { Self → Self → Type 0 };
 
-    /// Makes all bytes and keys zero, as they are in a machine that is switched on. No page has to
-    /// be present for that.
+    /// Sets all bytes and keys to zero, as at power-on; pages may be absent.
     fn clear(&mut self)
         ensures memory { Self.memory self.new ≡ cleared_memory (Self.memory self.old) }
         ensures cleared { Cleared self.old self.new };
 
-    /// Brings a page that is absent. No byte changes, and no key.
+    /// Makes an absent page present, if there is room for it; no byte and no key changes.
     ///
     /// # Errors
     ///
@@ -84,10 +83,12 @@ impl Supply for PlainStorage {
 
     ghost Cleared = { λ _ _. Unit {0} };
 
+    /// Sets all bytes and storage keys to zero.
     fn clear(&mut self) {
         PlainStorage::zero(self);
     }
 
+    /// Does nothing and returns `Ok`: no page is ever absent.
     fn bring(&mut self, _page: Page) -> Result<(), FramesOut>
         ensures memory { plain_memory self.new ≡ plain_memory self.old }
         ensures done { result ≡ Ok tt }

@@ -39,7 +39,8 @@ pub trait UnitSupply: Supply {
     /// What was brought is held no longer. It stays present, until another page takes its place.
     ghost LetsGo: { Self → Self → Type 0 };
 
-    /// Lets go of what was brought. No byte changes, and no key.
+    /// Ends the hold on all pages that `bring` made present; they stay present until others take
+    /// their frames, and no byte or key changes.
     fn let_go(&mut self)
         ensures memory { Self.memory self.new ≡ Self.memory self.old }
         ensures let_go { LetsGo self.old self.new };
@@ -93,6 +94,7 @@ impl UnitSupply for PlainStorage {
 
     ghost LetsGo = { PlainRest };
 
+    /// Does nothing: no page is ever held.
     #[inline]
     fn let_go(&mut self)
         ensures memory { plain_memory self.new ≡ plain_memory self.old }

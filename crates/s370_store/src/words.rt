@@ -10,7 +10,7 @@ ghost use Rattle.s370_store.specs.Memory.{with_stored};
 use crate::{Access, Block, Fault, Range, Storage};
 use s370_num::AccessKey;
 
-/// Returns the byte at an address.
+/// Returns the byte at an address, a fetch that `check` has granted.
 #[inline(always)]
 pub fn load_byte<S: Storage>(storage: &S, start: u32) -> u8
     requires { IsGranted (length (S.memory storage.now).bytes) (S.present storage.now) start 1 }
@@ -21,7 +21,7 @@ pub fn load_byte<S: Storage>(storage: &S, start: u32) -> u8
     into[0]
 }
 
-/// Returns the byte at an address in a block that was found.
+/// Returns the byte at an address, in a block that `find_block` returned.
 #[inline(always)]
 pub fn load_byte_in<S: Storage>(storage: &S, block: Block, start: u32) -> u8
     requires placed { S.IsPlaced storage.now block }
@@ -34,7 +34,7 @@ pub fn load_byte_in<S: Storage>(storage: &S, block: Block, start: u32) -> u8
     into[0]
 }
 
-/// Returns the halfword from an address on.
+/// Returns the two bytes from an address on as a number, a fetch that `check` has granted.
 #[inline(always)]
 pub fn load_halfword<S: Storage>(storage: &S, start: u32) -> u16
     requires { IsGranted (length (S.memory storage.now).bytes) (S.present storage.now) start 2 }
@@ -46,7 +46,7 @@ pub fn load_halfword<S: Storage>(storage: &S, start: u32) -> u16
     u16::from_be_bytes(into)
 }
 
-/// Returns the word from an address on.
+/// Returns the four bytes from an address on as a number, a fetch that `check` has granted.
 #[inline(always)]
 pub fn load_word<S: Storage>(storage: &S, start: u32) -> u32
     requires { IsGranted (length (S.memory storage.now).bytes) (S.present storage.now) start 4 }
@@ -58,7 +58,7 @@ pub fn load_word<S: Storage>(storage: &S, start: u32) -> u32
     u32::from_be_bytes(into)
 }
 
-/// Returns the word from an address on in a block that was found.
+/// Returns the four bytes from an address on as a number, in a block that `find_block` returned.
 #[inline(always)]
 pub fn load_word_in<S: Storage>(storage: &S, block: Block, start: u32) -> u32
     requires placed { S.IsPlaced storage.now block }
@@ -72,7 +72,7 @@ pub fn load_word_in<S: Storage>(storage: &S, block: Block, start: u32) -> u32
     u32::from_be_bytes(into)
 }
 
-/// Returns the doubleword from an address on.
+/// Returns the eight bytes from an address on as a number, a fetch that `check` has granted.
 #[inline(always)]
 pub fn load_doubleword<S: Storage>(storage: &S, start: u32) -> u64
     requires { IsGranted (length (S.memory storage.now).bytes) (S.present storage.now) start 8 }
@@ -84,7 +84,7 @@ pub fn load_doubleword<S: Storage>(storage: &S, start: u32) -> u64
     u64::from_be_bytes(into)
 }
 
-/// Stores a byte at an address.
+/// Stores a byte at an address, a store that `check` has granted.
 #[inline(always)]
 pub fn store_byte<S: Storage>(storage: &mut S, start: u32, byte: u8)
     requires { IsGranted (length (S.memory storage.old).bytes) (S.present storage.old) start 1 }
@@ -94,7 +94,7 @@ pub fn store_byte<S: Storage>(storage: &mut S, start: u32, byte: u8)
     storage.store(start, &[byte]);
 }
 
-/// Stores a halfword from an address on.
+/// Stores two bytes from an address on, the highest first, a store that `check` has granted.
 #[inline(always)]
 pub fn store_halfword<S: Storage>(storage: &mut S, start: u32, halfword: u16)
     requires { IsGranted (length (S.memory storage.old).bytes) (S.present storage.old) start 2 }
@@ -105,7 +105,7 @@ pub fn store_halfword<S: Storage>(storage: &mut S, start: u32, halfword: u16)
     storage.store(start, &halfword.to_be_bytes());
 }
 
-/// Stores a word from an address on.
+/// Stores four bytes from an address on, the highest first, a store that `check` has granted.
 #[inline(always)]
 pub fn store_word<S: Storage>(storage: &mut S, start: u32, word: u32)
     requires { IsGranted (length (S.memory storage.old).bytes) (S.present storage.old) start 4 }
@@ -116,7 +116,7 @@ pub fn store_word<S: Storage>(storage: &mut S, start: u32, word: u32)
     storage.store(start, &word.to_be_bytes());
 }
 
-/// Stores a word from an address on in a block that was found.
+/// Stores four bytes from an address on, the highest first, in a block that `find_block` returned.
 #[inline(always)]
 pub fn store_word_in<S: Storage>(storage: &mut S, block: Block, start: u32, word: u32)
     requires placed { S.IsPlaced storage.old block }
@@ -129,7 +129,7 @@ pub fn store_word_in<S: Storage>(storage: &mut S, block: Block, start: u32, word
     storage.store_in(block, start, &word.to_be_bytes());
 }
 
-/// Stores a doubleword from an address on.
+/// Stores eight bytes from an address on, the highest first, a store that `check` has granted.
 #[inline(always)]
 pub fn store_doubleword<S: Storage>(storage: &mut S, start: u32, doubleword: u64)
     requires { IsGranted (length (S.memory storage.old).bytes) (S.present storage.old) start 8 }
@@ -140,8 +140,8 @@ pub fn store_doubleword<S: Storage>(storage: &mut S, start: u32, doubleword: u64
     storage.store(start, &doubleword.to_be_bytes());
 }
 
-/// Tests two accesses together, as an instruction with two operands has them tested: addressing of
-/// both, then protection of both, then whether their pages are present.
+/// Tests two accesses and returns the gravest fault of both: addressing, then protection, then an
+/// absent page.
 ///
 /// # Errors
 ///
@@ -166,7 +166,8 @@ pub fn check_two<S: Storage>(
     join(one, other)
 }
 
-/// Returns the answer of two checks together.
+/// Returns the graver of two checks' faults, or the first of two alike: addressing, then
+/// protection, then an absent page.
 #[inline(always)]
 fn join(first: Result<(), Fault>, second: Result<(), Fault>) -> Result<(), Fault>
     ensures { result ≡ join_of first second }

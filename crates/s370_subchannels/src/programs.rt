@@ -9,8 +9,8 @@ use s370_num::AccessKey;
 use s370_walk::Ending;
 
 impl Subchannels {
-    /// Returns the start of the program on which the device of this address works, if there is such
-    /// a device and it works.
+    /// Returns the channel address word of the program on which a device works, if there is such a
+    /// device and it works.
     pub fn program(&self, device: u16) -> Option<Caw>
         ensures { result ≡ program_of device self.now }
     {
@@ -23,8 +23,8 @@ impl Subchannels {
         }
     }
 
-    /// Ends the program of the device of this address, which had this key: its channel status word
-    /// is pending.
+    /// Makes the channel status word of an ended program pending at its device; if there is no such
+    /// device, nothing changes.
     pub fn end_program(&mut self, device: u16, key: AccessKey, ending: Ending)
         ensures { self.new ≡ program_ended device key ending self.old }
     {

@@ -8,7 +8,7 @@ use crate::subchannels::Subchannels;
 use saved_bytes::{Input, put_flag, put_number, put_one, put_zero};
 use std::alloc::AllocError;
 
-/// Returns the number of a state's kind.
+/// Returns the number for the kind of a state: 0 idle, 1 working, 2 pending.
 fn kind_of(state: DeviceState) -> u64
     ensures { result ≡ state_kind state }
 {
@@ -19,7 +19,8 @@ fn kind_of(state: DeviceState) -> u64
     }
 }
 
-/// Returns the word that a device has in its state, or zero.
+/// Returns the channel address word or channel status word in a device's state, or zero if it is
+/// idle.
 fn word_of(state: DeviceState) -> u64
     ensures { result ≡ state_word state }
 {
@@ -30,7 +31,7 @@ fn word_of(state: DeviceState) -> u64
     }
 }
 
-/// Appends the state of a device.
+/// Appends to `out` the kind of a device's state and its word, as two numbers.
 fn put_state(out: &mut Vec<u8>, state: DeviceState) -> Result<(), AllocError>
     ensures { OnOk result (out.new.items ≡ out.old.items ++ state_bytes state) }
 {
@@ -38,7 +39,7 @@ fn put_state(out: &mut Vec<u8>, state: DeviceState) -> Result<(), AllocError>
     put_number(out, word_of(state))
 }
 
-/// Appends a subchannel.
+/// Appends to `out` a subchannel's address, state, attention and number of its last start.
 fn put_subchannel(out: &mut Vec<u8>, s: Subchannel) -> Result<(), AllocError>
     ensures { OnOk result (out.new.items ≡ out.old.items ++ subchannel_bytes s) }
 {
@@ -55,7 +56,7 @@ fn put_subchannel(out: &mut Vec<u8>, s: Subchannel) -> Result<(), AllocError>
     put_number(out, last_start)
 }
 
-/// Appends subchannels.
+/// Appends subchannels to `out`, each after a byte of 1, and then a byte of 0.
 fn put_subchannels(out: &mut Vec<u8>, list: &[Subchannel]) -> Result<(), AllocError>
     ensures { OnOk result (out.new.items ≡ out.old.items ++ subchannels_bytes list.now) }
 {
@@ -66,7 +67,8 @@ fn put_subchannels(out: &mut Vec<u8>, list: &[Subchannel]) -> Result<(), AllocEr
     put_zero(out)
 }
 
-/// Takes the state that is next.
+/// Takes a device's state from `input`, two numbers, and returns it, or `None` if they are no
+/// state.
 fn state_of(input: &mut Input<'_>) -> Option<DeviceState> {
     let kind = input.number()?;
     let word = input.number()?;
@@ -79,7 +81,7 @@ fn state_of(input: &mut Input<'_>) -> Option<DeviceState> {
 }
 
 impl Subchannels {
-    /// Appends what is seen of all subchannels.
+    /// Appends all subchannels to `out`, each after a byte of 1, and then a byte of 0.
     ///
     /// # Errors
     ///
@@ -90,7 +92,10 @@ impl Subchannels {
         put_subchannels(out, self.list())
     }
 
-    /// Takes what comes next of each subchannel. The devices stay, whatever comes.
+    /// Takes one subchannel from `input` for each device and sets the states of the devices that they
+    /// name, or returns `None` if `input` has fewer, more or bad ones, perhaps after some were set.
+    ///
+    /// No device is added or removed, whatever the input has.
     pub fn restore(&mut self, input: &mut Input<'_>) -> Option<()>
         ensures { addresses self.new ≡ addresses self.old }
     {
@@ -101,7 +106,8 @@ impl Subchannels {
         if input.flag()? { None } else { Some(()) }
     }
 
-    /// Takes the subchannel that is next.
+    /// Takes one subchannel from `input` and sets state, attention and last start of the device of
+    /// its address, or returns `None` and sets nothing.
     #[tactic(auto, using(crate::proofs::Kept::state_kept, crate::proofs::Kept::attention_kept, crate::proofs::Kept::last_start_kept))]
     fn restore_next(&mut self, input: &mut Input<'_>) -> Option<()>
         ensures { addresses self.new ≡ addresses self.old }

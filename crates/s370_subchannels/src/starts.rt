@@ -4,7 +4,8 @@ ghost use Rattle.s370_subchannels.specs.Starts.{IsFirstStarted, first_of, is_sta
 
 use crate::subchannel::{DeviceState, Subchannel};
 
-/// Returns, of the devices that work, the first one whose start has this number or a higher one.
+/// Returns, of the devices that work, the one with the lowest number of a start that is `number` or
+/// higher.
 pub fn first_started(list: &[Subchannel], number: u64) -> Option<Subchannel>
     ensures { IsFirstStarted number list.now result }
 {
@@ -15,7 +16,8 @@ pub fn first_started(list: &[Subchannel], number: u64) -> Option<Subchannel>
     first
 }
 
-/// Returns the first, when this device is looked at too.
+/// Returns `s` if it works, its start is `number` or higher, and it is earlier than that of
+/// `first`; else `first`.
 fn first_of(first: Option<Subchannel>, s: &Subchannel, number: u64) -> Option<Subchannel>
     ensures { result ≡ first_of number first s.now }
 {
@@ -37,7 +39,7 @@ fn first_of(first: Option<Subchannel>, s: &Subchannel, number: u64) -> Option<Su
     }
 }
 
-/// Returns whether a device works, and its start has this number or a higher one.
+/// Returns whether a device works, and its last start has this number or a higher one.
 fn is_started(s: &Subchannel, number: u64) -> bool
     ensures { result ≡ is_started number s.now }
 {

@@ -11,7 +11,8 @@ pub struct CommandCode {
 }
 
 impl CommandCode {
-    /// Returns whether the word is a transfer in channel: the low four bits are 1000.
+    /// Returns whether the command code is that of a transfer in channel: its low four bits are
+    /// 1000.
     #[inline(always)]
     pub fn is_transfer_in_channel(self) -> bool
         ensures { result ≡ (self.code % 16 == 8) }
@@ -19,7 +20,7 @@ impl CommandCode {
         self.code % 16 == 8
     }
 
-    /// Returns whether the low four bits are zero, which no command has.
+    /// Returns whether the low four bits of the command code are zero, which no command has.
     #[inline(always)]
     pub fn is_invalid(self) -> bool
         ensures { result ≡ (self.code % 16 == 0) }
@@ -27,7 +28,7 @@ impl CommandCode {
         self.code % 16 == 0
     }
 
-    /// Returns whether it is a control command: the low two bits are 11.
+    /// Returns whether the command code is that of a control command: its low two bits are 11.
     #[inline(always)]
     pub fn is_control(self) -> bool
         ensures { result ≡ (self.code % 4 == 3) }
@@ -61,7 +62,7 @@ impl Flags {
     /// What a word has to have zero: PCI, and bits 38 and 39.
     pub const INVALID: Flags = Flags { bits: 0x0B };
 
-    /// Returns whether one of these flags is there.
+    /// Returns whether at least one of the flags in `flags` is set.
     #[inline(always)]
     pub fn has(self, flags: Flags) -> bool
         ensures { result ≡ has_bits self.bits flags.bits }
@@ -102,7 +103,7 @@ impl UnitStatus {
     /// Unit check and unit exception: no next command is chained.
     pub const UNUSUAL: UnitStatus = UnitStatus { bits: 0x03 };
 
-    /// Returns whether one of these bits is there.
+    /// Returns whether at least one of the bits in `status` is set.
     #[inline(always)]
     pub fn has(self, status: UnitStatus) -> bool
         ensures { result ≡ has_bits self.bits status.bits }
@@ -110,7 +111,7 @@ impl UnitStatus {
         self.bits & status.bits != 0
     }
 
-    /// Returns the bits that either of the two has.
+    /// Returns the union of two unit statuses: the bits that either of them has.
     #[inline(always)]
     pub fn with(self, status: UnitStatus) -> UnitStatus
         ensures { result ≡ both self status }

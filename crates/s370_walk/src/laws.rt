@@ -10,26 +10,28 @@ ghost use Rattle.s370_walk.specs.Walk.{Form, Written, live, Over, Reaches, Setti
 
 use crate::traits::Device;
 
-/// States that a walk reaches one end, with one storage and one device: whatever says where it ends
-/// says the same.
+/// Proves that two endings of the same walk are equal, with their storage and device; it has no
+/// effect.
 pub fn a_walk_comes_to_one_end<D: Device>()
     ensures { (form : Form) (h : Setting D) (s : State D) (e f : Ending) (m n : Memory) (d g : D)
         → Reaches form h s (Over e m d) → Reaches form h s (Over f n g)
         → ◌≡◌ {A = State D} (Over e m d) (Over f n g) }
 {}
 
-/// States that a program that never changes what it has still to read comes to the same end,
-/// whether each word and seek argument is read when it is reached or as it was when the program
-/// began.
+/// Proves that a program that never changes what it has still to read ends in the same way, whether
+/// words are read when reached or at its start; it has no effect.
+///
+/// What is read are its words and seek arguments.
 pub fn steady_programs_end_alike<D: Device>()
     ensures { (form : Form) (h : Setting D) (began : Memory) (s t : State D)
         → IsSteady form h began s
         → Reaches (frozen form began) h s t → Reaches form h s t }
 {}
 
-/// States that a walk over a smaller machine, by which a device is seen, comes to what the walk
-/// over the device comes to: the same ending, with the same storage, for the same pages; and so the
-/// other way round.
+/// Proves that a walk over a device and one over a smaller model of that device come to the same
+/// ending; it has no effect.
+///
+/// Both end with the same storage, and ask for the same pages.
 pub fn a_view_walks_as_its_device<D: Device, E: Device>()
     ensures ends { (form : Form) (h : Setting D) (small : Machine E) (view : D → E) (s : State D)
         (e : Ending) (m : Memory)

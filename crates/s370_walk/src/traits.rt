@@ -23,7 +23,8 @@ pub trait Device {
     /// Whether a command needs memory: it keeps a record. No other is ever refused any.
     ghost needs_memory: { Self → Order → Bool };
 
-    /// Begins a command, or refuses it.
+    /// Begins a command and returns how many bytes it moves and in which direction, or refuses it
+    /// and returns the unit status.
     ///
     /// A command that keeps a record takes the memory for it here, so that its bytes and its end
     /// need none. Where memory is refused nothing has happened.
@@ -37,26 +38,28 @@ pub trait Device {
         ensures memory { OnErr result (self.new ≡ self.old) }
         ensures needed { OnErr result (needs_memory self.old order ≡ true) };
 
-    /// Returns whether it wants no more bytes, though it has fewer than it said.
+    /// Returns whether the device moves no more bytes for this command, though fewer have moved
+    /// than it announced.
     fn is_done(&self) -> bool
         ensures { result ≡ machine.done self.now };
 
-    /// Gives its next byte.
+    /// Returns the device's next byte and moves on past it.
     fn give(&mut self) -> u8
         ensures byte { result ≡ machine.gives self.old }
         ensures after { self.new ≡ machine.gave self.old };
 
-    /// Takes a byte.
+    /// Passes a byte to the device, which keeps it as the next one of its command.
     fn take(&mut self, byte: u8)
         ensures { self.new ≡ machine.took self.old byte };
 
-    /// Ends the command that it began and did not refuse, and says how it went.
+    /// Ends the command that the device began and did not refuse, and returns its unit status.
     fn finish(&mut self) -> UnitStatus
         ensures status { result ≡ machine.status self.old }
         ensures after { self.new ≡ machine.finished self.old };
 
-    /// Returns how many bytes at least it will give or take before it is done. Without a body of
-    /// its own, one byte at a time is moved.
+    /// Returns a number of bytes that the device is sure to give or take before it is done.
+    ///
+    /// The body given here returns 1, so that one byte at a time is moved.
     fn ready(&self) -> u32
         requires { machine.done self.now ≡ false }
         ensures giving { (n : ℕ) → n < result
@@ -67,7 +70,7 @@ pub trait Device {
         1
     }
 
-    /// Gives as many bytes as there is room for: those that it would give one by one.
+    /// Fills `into` with the device's next bytes, those that `give` would return one by one.
     fn give_bytes(&mut self, into: &mut [u8])
         ensures bytes { into.new ≡ given machine self.old (length into.old) }
         ensures after { self.new ≡ after_giving machine self.old (length into.old) }
@@ -77,7 +80,7 @@ pub trait Device {
         }
     }
 
-    /// Takes bytes, as it would take them one by one.
+    /// Passes all of `from` to the device, as `take` would one byte at a time.
     fn take_bytes(&mut self, from: &[u8])
         ensures { self.new ≡ after_taking machine self.old from.now }
     {
@@ -92,8 +95,7 @@ pub trait WordForm {
     /// The form as functions on storage.
     ghost written: { Self → Written };
 
-    /// Returns the word at an address, or None where none lies there. An error is a page that is
-    /// not present.
+    /// Returns the channel command word at an address, or `None` if no such word can lie there.
     ///
     /// # Errors
     ///
@@ -103,8 +105,10 @@ pub trait WordForm {
             ((written self.now).word_asks at)
             ((written self.now).text (S.memory storage.now) at) result };
 
-    /// Returns where the block of this number begins of the area of a word, or None where that
-    /// cannot be found out: block 0 is where the area begins, the others are blocks of 2048 bytes.
+    /// Returns the address at which block `number` of a word's data area begins, or `None` if it
+    /// has none.
+    ///
+    /// Block 0 is where the area begins; each other block has 2048 bytes.
     ///
     /// # Errors
     ///

@@ -34,7 +34,7 @@ ghost use Rattle.saved_bytes.specs.Codes.{bytes, flag, number};
 
 use std::alloc::AllocError;
 
-/// Appends a number: eight bytes, the highest first.
+/// Appends a number to `out` as eight bytes, the highest first.
 ///
 /// # Errors
 ///
@@ -57,7 +57,7 @@ pub fn put_number(out: &mut Vec<u8>, value: u64) -> Result<(), AllocError>
     Ok(())
 }
 
-/// Appends a flag as one byte, 1 if it is set.
+/// Appends a flag to `out` as one byte: 1 if it is set, else 0.
 ///
 /// # Errors
 ///
@@ -68,7 +68,7 @@ pub fn put_flag(out: &mut Vec<u8>, value: bool) -> Result<(), AllocError>
     if value { put_one(out) } else { put_zero(out) }
 }
 
-/// Appends the mark that something follows.
+/// Appends one byte of 1 to `out`, the mark that something follows.
 ///
 /// # Errors
 ///
@@ -80,7 +80,7 @@ pub fn put_one(out: &mut Vec<u8>) -> Result<(), AllocError>
     Ok(())
 }
 
-/// Appends the mark that nothing follows.
+/// Appends one byte of 0 to `out`, the mark that nothing follows.
 ///
 /// # Errors
 ///
@@ -92,7 +92,7 @@ pub fn put_zero(out: &mut Vec<u8>) -> Result<(), AllocError>
     Ok(())
 }
 
-/// Appends bytes, and before them how many they are.
+/// Appends to `out` how many bytes `value` has, as eight bytes, and then those bytes.
 ///
 /// # Errors
 ///
@@ -112,7 +112,7 @@ pub struct Input<'a> {
 }
 
 impl<'a> Input<'a> {
-    /// Begins before the first of these bytes.
+    /// Returns an input that reads these bytes from the first one on.
     pub fn new(rest: &'a [u8]) -> Input<'a> {
         Input { rest }
     }
@@ -122,7 +122,7 @@ impl<'a> Input<'a> {
         self.rest.is_empty()
     }
 
-    /// Takes the next bytes, so many of them, where so many are left.
+    /// Takes the next `count` bytes, or takes nothing and returns `None` if fewer are left.
     pub fn take(&mut self, count: usize) -> Option<&'a [u8]>
         ensures { IfSome result (λ taken. length taken.now ≡ count) }
     {
@@ -134,7 +134,8 @@ impl<'a> Input<'a> {
         Some(front)
     }
 
-    /// Takes the next number of the input.
+    /// Takes eight bytes and returns the number in them, highest first, or takes nothing and
+    /// returns `None` if fewer are left.
     pub fn number(&mut self) -> Option<u64> {
         let eight = self.take(8)?;
         let mut value = 0u64;
@@ -144,7 +145,8 @@ impl<'a> Input<'a> {
         Some(value)
     }
 
-    /// Takes the next flag: one byte, 0 or 1.
+    /// Takes one byte and returns whether it is 1, or `None` if it is neither 0 nor 1 or none is
+    /// left.
     pub fn flag(&mut self) -> Option<bool> {
         let one = self.take(1)?;
         match one[0] {
@@ -154,28 +156,33 @@ impl<'a> Input<'a> {
         }
     }
 
-    /// Takes the next bytes, with how many they are before them.
+    /// Takes a count of eight bytes and then as many bytes, and returns these, or `None` if too few
+    /// are left; the count is taken even then.
     pub fn bytes(&mut self) -> Option<&'a [u8]> {
         let count = self.number()?;
         self.take(usize::try_from(count).ok()?)
     }
 
-    /// Takes the next number, where it fits 32 bits.
+    /// Takes an eight-byte number and returns it, or `None` if it does not fit 32 bits (it is taken
+    /// even then) or is not there.
     pub fn word(&mut self) -> Option<u32> {
         u32::try_from(self.number()?).ok()
     }
 
-    /// Takes the next number, where it fits 16 bits.
+    /// Takes an eight-byte number and returns it, or `None` if it does not fit 16 bits (it is taken
+    /// even then) or is not there.
     pub fn half(&mut self) -> Option<u16> {
         u16::try_from(self.number()?).ok()
     }
 
-    /// Takes the next number, where it fits 8 bits.
+    /// Takes an eight-byte number and returns it, or `None` if it does not fit 8 bits (it is taken
+    /// even then) or is not there.
     pub fn small(&mut self) -> Option<u8> {
         u8::try_from(self.number()?).ok()
     }
 
-    /// Takes the next number, where it fits an index.
+    /// Takes an eight-byte number and returns it, or `None` if it does not fit a `usize` (it is
+    /// taken even then) or is not there.
     pub fn place(&mut self) -> Option<usize> {
         usize::try_from(self.number()?).ok()
     }

@@ -5,15 +5,15 @@ ghost use Rattle.text_words.specs.Lines.{lines_of, is_comment};
 
 use std::marker::Model;
 
-/// Returns where a byte is first.
+/// Returns the index of the first `byte` among `bytes`, if there is one.
 pub fn place_of(byte: u8, bytes: &[u8]) -> Option<usize>
     ensures { result ≡ position (λ c. c == byte) bytes.now }
 {
     bytes.iter().position(|c| *c == byte)
 }
 
-/// Returns the first line of a text that has one, without its LF, and the text that follows it. The
-/// last line may lack its LF.
+/// Returns the text before its first LF and the text after that, or all of it and nothing if it has
+/// no LF.
 pub fn cut_line(text: &[u8]) -> (&[u8], &[u8])
     requires { 0 < length text.now }
     ensures lines { lines_of text.now ≡ result.0.now ∷ lines_of result.1.now }
@@ -52,7 +52,7 @@ impl<'a> Model for NumberedLines<'a> {
     ghost invariant = { λ l. l.number + length l.rest.now < 2 ^ 64 };
 }
 
-/// Returns the lines of a text, numbered from 1.
+/// Returns an iterator over the lines of a text and their numbers, from 1 on.
 ///
 /// ```text
 /// for line in numbered_lines(b"USER A PW 8K\n*\n") {
@@ -79,6 +79,7 @@ impl<'a> Iterator for NumberedLines<'a> {
 
     ghost remaining = { λ l. at_most (length l.lines) };
 
+    /// Returns the next line, without its LF, and its number, or `None` at the end of the text.
     fn next(&mut self) -> Option<NumberedLine<'a>> {
         if self.rest.is_empty() {
             return None;
@@ -91,7 +92,7 @@ impl<'a> Iterator for NumberedLines<'a> {
     }
 }
 
-/// Returns whether a line begins with `*`.
+/// Returns whether the first character of a line is `*`.
 pub fn is_comment(line: &[u8]) -> bool
     ensures { result ≡ is_comment line.now }
 {

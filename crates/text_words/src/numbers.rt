@@ -9,7 +9,10 @@ pub fn is_digit(c: u8) -> bool
     b'0' <= c && c <= b'9'
 }
 
-/// Returns the number that 1 to `most` decimal digits spell, leading zeros allowed.
+/// Returns the number that 1 to `most` decimal digits spell, or `None` if `digits` is anything
+/// else.
+///
+/// Leading zeros are allowed.
 pub fn decimal_of(most: usize, digits: &[u8]) -> Option<u32>
     requires { most ≤ 9 }
     ensures { result ≡ decimal_of most digits.now }
@@ -27,7 +30,8 @@ pub fn decimal_of(most: usize, digits: &[u8]) -> Option<u32>
     Some(number)
 }
 
-/// Returns the value of a hexadecimal digit, `0` to `9` or `A` to `F`.
+/// Returns the value of a hexadecimal digit, `0` to `9` or `A` to `F`, or `None` for any other
+/// byte.
 pub fn digit_value(c: u8) -> Option<u8>
     ensures value { result ≡ digit_value c }
     ensures below { IfSome result (λ digit. digit < 16) }
@@ -39,7 +43,10 @@ pub fn digit_value(c: u8) -> Option<u8>
     }
 }
 
-/// Returns the number that `least` to `most` hexadecimal digits spell, leading zeros allowed.
+/// Returns the number that `least` to `most` hexadecimal digits spell, or `None` if `digits` is
+/// anything else.
+///
+/// Leading zeros are allowed.
 pub fn hexadecimal_of(least: usize, most: usize, digits: &[u8]) -> Option<u32>
     requires { most ≤ 8 }
     ensures value { result ≡ hexadecimal_of least most digits.now }

@@ -7,8 +7,8 @@ ghost use Rattle.text_words.specs.Words.{words_of};
 use crate::lines::place_of;
 use std::alloc::{AllocError, Global};
 
-/// Returns the first word of a line whose words are separated by one blank, and what follows the
-/// blank after it. If the line has no blank it is one word, and nothing follows.
+/// Returns the text before a line's first blank and the text after that, or the whole line and
+/// `None` if it has no blank.
 pub fn cut_word(line: &[u8]) -> (&[u8], Option<&[u8]>)
     ensures word { result.0.now ≡ word_of line.now }
     ensures rest { option_map (λ rest. rest.now) result.1 ≡ after_word line.now }
@@ -19,8 +19,10 @@ pub fn cut_word(line: &[u8]) -> (&[u8], Option<&[u8]>)
     }
 }
 
-/// Returns the first word of a line whose words are separated by any number of blanks, and what is
-/// after the blank that ends it; none where the line has only blanks.
+/// Returns the first word of a line and the text after the blank that ends it, or `None` if the
+/// line has only blanks.
+///
+/// Words are separated by any number of blanks.
 pub fn next_word(line: &[u8]) -> Option<(&[u8], &[u8])>
     ensures words { MatchOption result (words_of line.now ≡ [])
         (λ cut. words_of line.now ≡ cut.0.now ∷ words_of cut.1.now) }
@@ -37,7 +39,7 @@ pub fn next_word(line: &[u8]) -> Option<(&[u8], &[u8])>
     }
 }
 
-/// Returns the line from its first character on that is no blank.
+/// Returns the line without the blanks at its front.
 pub fn unindented(line: &[u8]) -> &[u8]
     ensures { result.now ≡ unindented line.now }
 {
@@ -48,7 +50,8 @@ pub fn unindented(line: &[u8]) -> &[u8]
     rest
 }
 
-/// Returns the words of a line, separated by any number of blanks; no word is empty.
+/// Returns the words of a line, which any number of blanks separate, in a new vector; no word is
+/// empty.
 ///
 /// # Errors
 ///

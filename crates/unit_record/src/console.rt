@@ -77,6 +77,8 @@ impl Device for Console {
 
     ghost needs_memory = { console_needs_memory };
 
+    /// Begins a write, which takes memory for two lines, a read, which takes the first waiting
+    /// line, or a sense; does a no-operation, and rejects any other command.
     fn command(&mut self, order: Order) -> Result<Answer, AllocError> {
         match order.command.code {
             code if is_write(code) => {
@@ -100,18 +102,23 @@ impl Device for Console {
         }
     }
 
+    /// Returns false: no command ends before the bytes that it announced.
     fn is_done(&self) -> bool {
         false
     }
 
+    /// Returns the greatest number: the count alone ends a command.
     fn ready(&self) -> u32 {
         u32::MAX
     }
 
+    /// Returns the next byte of the line or sense that is read, or zero if none is left.
     fn give(&mut self) -> u8 {
         self.giving.give()
     }
 
+    /// Appends the character of a written byte to the unfinished line, after finishing that if it
+    /// is full; drops it past 132 characters of a write.
     fn take(&mut self, byte: u8) {
         if self.wanted == 0 {
             return;
@@ -124,6 +131,7 @@ impl Device for Console {
         self.wanted -= 1;
     }
 
+    /// Ends the command; a write that ends its line finishes the line.
     fn finish(&mut self) -> UnitStatus {
         if self.ends_line {
             let line = mem::replace(&mut self.unfinished, RecordBytes::new());
@@ -153,7 +161,8 @@ impl Console {
         }
     }
 
-    /// Begins a read of the first waiting line.
+    /// Takes the first waiting line, to be given, and returns how many bytes it has, or refuses the
+    /// read if no line waits.
     fn read(&mut self) -> Answer
         ensures answer { result ≡ read_answer self.old.waiting }
         ensures after { self.new ≡ read_started self.old self.old.waiting }
@@ -168,8 +177,8 @@ impl Console {
         }
     }
 
-    /// Types a line at the console, which waits to be read. Where memory is refused the console
-    /// stays as it was.
+    /// Appends a typed line to those that wait to be read, and returns whether it was kept, or lost
+    /// because too many wait.
     ///
     /// # Errors
     ///
@@ -188,14 +197,15 @@ impl Console {
         Ok(Arrival::Kept)
     }
 
-    /// Returns whether attention is wanted: a line waits.
+    /// Returns whether the console wants attention, which it does while a line waits.
     pub fn attention(&self) -> bool
         ensures { result ≡ wants_attention self.now }
     {
         self.waiting.len() > 0
     }
 
-    /// Resets the console: no line waits any more; what was written stays.
+    /// Removes the waiting lines, drops the command under way and clears the sense; what was
+    /// written stays.
     pub fn reset(&mut self)
         ensures { self.new ≡ console_reset self.old }
     {
@@ -206,22 +216,21 @@ impl Console {
         self.giving = Outgoing::new();
     }
 
-    /// Returns the lines that are finished, in characters.
+    /// Borrows the finished lines, in characters.
     pub fn lines(&self) -> &[RecordBytes]
         ensures { result.now ≡ self.now.lines }
     {
         self.lines.as_slice()
     }
 
-    /// Forgets the finished lines, which were copied elsewhere. The room for what is being written
-    /// stays.
+    /// Removes the finished lines; the room for what is being written stays.
     pub fn forget_lines(&mut self)
         ensures { self.new ≡ without_lines self.old }
     {
         self.lines.clear();
     }
 
-    /// Returns the characters of the line that is not finished.
+    /// Borrows the characters of the line that is not finished.
     pub fn unfinished(&self) -> &[u8]
         ensures { result.now ≡ self.now.unfinished }
     {
@@ -235,7 +244,8 @@ impl Console {
         self.waiting.len()
     }
 
-    /// Returns a line that waits, as the bytes that a read would give.
+    /// Borrows the waiting line at this index, as the bytes that a read would give, if there is
+    /// one.
     pub fn waiting_line(&self, index: usize) -> Option<&RecordBytes>
         ensures { option_copied result ≡ slice_get self.now.waiting index }
     {
@@ -260,14 +270,14 @@ impl Console {
     }
 }
 
-/// Returns whether the command writes.
+/// Returns whether the command code is that of a write.
 fn is_write(code: u8) -> bool
     ensures { result ≡ is_write code }
 {
     matches!(code, 0x01 | 0x09)
 }
 
-/// Returns a typed line as bytes.
+/// Returns a typed line as EBCDIC bytes, with blanks for characters that EBCDIC does not have.
 fn typed(text: &[u8]) -> RecordBytes
     requires { length text.now ≤ RECORD_LENGTH }
     ensures { result ≡ map typed_byte text.now }
@@ -279,7 +289,7 @@ fn typed(text: &[u8]) -> RecordBytes
     bytes
 }
 
-/// Returns the byte of a character, or a blank.
+/// Returns the EBCDIC byte of a character, or a blank if it has none.
 fn typed_byte(character: u8) -> u8
     ensures { result ≡ typed_byte character }
 {

@@ -16,7 +16,8 @@ const SENSE: u8 = 0x04;
 /// Chain data and chain command.
 const CHAINING: Flags = Flags { bits: 0xC0 };
 
-/// Returns whether a sense command is asked for and accepted.
+/// Returns whether a command is a Sense that is accepted: the first of its program, without
+/// chaining.
 pub(crate) fn is_sense(order: Order) -> bool
     ensures { result ≡ is_sense order }
 {

@@ -3,27 +3,30 @@ ghost use Rattle.unit_record.specs.Laws.{KeepsEightyBytes, PrintsOneEntry, Punch
 ghost use Rattle.unit_record.specs.Laws.{ReadsDecksInOrder, WritesOn, WritesOneLine};
 ghost use Rattle.unit_record.specs.Laws.{WritesTwoLines};
 
-/// States that a punch command adds one card to the open file, of its bytes and of blanks for those
-/// that are missing.
+/// Proves that a punch command adds one card of its bytes to the open file, with blanks for missing
+/// ones; it has no effect.
 pub fn a_punch_adds_one_card()
     ensures one { PunchesOneCard }
     ensures whole { KeepsEightyBytes }
 {}
 
-/// States that a write of the printer adds one entry, of its code and its bytes.
+/// Proves that a write of the printer adds one entry with its code and its bytes; it has no effect.
 pub fn a_write_adds_one_entry()
     ensures { PrintsOneEntry }
 {}
 
-/// States that the cards of a deck are read in order, each once; the read after the last is refused
-/// with unit exception, and the next deck follows.
+/// Proves that the cards of a deck are read in order, each once, and then the next deck; it has no
+/// effect.
+///
+/// The read after the last card is refused with unit exception.
 pub fn decks_are_read_in_order()
     ensures { ReadsDecksInOrder }
 {}
 
-/// States that no character that is written to a console is lost: a write that ends the line makes
-/// one line of all that fits into 132 characters, else a line of 132 and one of the rest; a write
-/// that does not end it leaves the line to be gone on with.
+/// Proves that no character that is written to a console is lost; it has no effect.
+///
+/// A write that ends the line makes one line of all that fits into 132 characters, else a line of
+/// 132 and one of the rest. A write that does not end it leaves the line to be gone on with.
 pub fn written_text_is_kept()
     ensures one_line { WritesOneLine }
     ensures two_lines { WritesTwoLines }

@@ -22,7 +22,7 @@ impl Model for Outgoing {
 }
 
 impl Outgoing {
-    /// Creates a buffer with nothing to be given.
+    /// Returns a buffer with no byte to give.
     pub fn new() -> Outgoing
         ensures { result ≡ [] }
     {
@@ -32,21 +32,21 @@ impl Outgoing {
         }
     }
 
-    /// Returns a whole record.
+    /// Returns a buffer that gives the bytes of this record, from its first on.
     pub fn of(bytes: RecordBytes) -> Outgoing
         ensures { result ≡ bytes }
     {
         Outgoing { bytes, given: 0 }
     }
 
-    /// Returns a copy of the bytes that are to be given.
+    /// Returns a buffer with a copy of the bytes that are left to give.
     pub fn copy(&self) -> Outgoing
         ensures { result ≡ self.now }
     {
         Outgoing::of(RecordBytes::of(&self.bytes.as_slice()[self.given..]))
     }
 
-    /// Returns the bytes that are left.
+    /// Borrows the bytes that are left to give.
     pub(crate) fn left(&self) -> &[u8]
         ensures { result.now ≡ self.now }
     {
@@ -55,14 +55,14 @@ impl Outgoing {
         &bytes.as_slice()[*given..]
     }
 
-    /// Returns how many bytes are left.
+    /// Returns how many bytes are left to give.
     pub fn len(&self) -> usize
         ensures { result ≡ length self.now }
     {
         self.bytes.len() - self.given
     }
 
-    /// Gives the next byte, or zero where none is left.
+    /// Returns the next byte and moves on past it, or returns zero if none is left.
     pub fn give(&mut self) -> u8
         ensures byte { result ≡ slice_index self.old 0 }
         ensures after { self.new ≡ drop 1 self.old }

@@ -31,7 +31,7 @@ impl Model for Entry {
 }
 
 impl Entry {
-    /// Returns a file without entries.
+    /// Returns an entry with this command code and these bytes.
     pub fn new(code: u8, bytes: RecordBytes) -> Entry
         ensures code { result.code ≡ code }
         ensures bytes { result.bytes ≡ bytes }
@@ -39,7 +39,7 @@ impl Entry {
         Entry { code, bytes }
     }
 
-    /// Returns the command that made it.
+    /// Returns the code of the command that made the entry.
     pub fn code(&self) -> u8
         ensures { result ≡ self.now.code }
     {
@@ -48,7 +48,7 @@ impl Entry {
         *code
     }
 
-    /// Returns the bytes of the entry, as they were in storage.
+    /// Borrows the bytes of the entry, as they were in storage.
     pub fn bytes(&self) -> &[u8]
         ensures { result.now ≡ self.now.bytes }
     {
@@ -75,7 +75,7 @@ impl Model for Output {
 }
 
 impl Output {
-    /// Creates an output in which nothing was made.
+    /// Returns an output whose open file has no entry.
     pub fn new(alloc: Global) -> Output
         ensures { result.entries ≡ [] }
     {
@@ -84,18 +84,18 @@ impl Output {
         }
     }
 
-    /// Returns an open file of these entries.
+    /// Returns an output whose open file has these entries.
     pub fn of(entries: Vec<Entry>) -> Output
         ensures { result.entries ≡ entries.items }
     {
         Output { entries }
     }
 
-    /// Makes room for one more entry.
+    /// Makes room in the open file for one more entry.
     ///
     /// # Errors
     ///
-    /// `AllocError` if memory is refused; what this is then is not specified.
+    /// `AllocError` if memory is refused; the entries stay.
     pub fn reserve(&mut self) -> Result<(), AllocError>
         ensures entries { self.new.entries ≡ self.old.entries }
         ensures room { OnOk result (0 < self.new.room) }
@@ -104,7 +104,9 @@ impl Output {
         self.entries.reserve(1)
     }
 
-    /// Adds an entry to the open file. This takes no memory.
+    /// Appends an entry to the open file, which has to have room for it.
+    ///
+    /// This takes no memory.
     pub fn add(&mut self, entry: Entry)
         requires { 0 < self.old.room }
         ensures { self.new.entries ≡ self.old.entries ++ entry ∷ [] }
@@ -112,7 +114,9 @@ impl Output {
         self.entries.push_reserved(entry);
     }
 
-    /// Takes the entries of the open file, which has none then. This takes no memory.
+    /// Removes all entries from the open file and returns them.
+    ///
+    /// This takes no memory.
     pub fn take(&mut self, alloc: Global) -> Vec<Entry>
         ensures taken { result.items ≡ self.old.entries }
         ensures entries { self.new.entries ≡ [] }
@@ -120,7 +124,7 @@ impl Output {
         mem::replace(&mut self.entries, Vec::new(alloc))
     }
 
-    /// Returns the entries of the open file, in order.
+    /// Borrows the entries of the open file, in order.
     pub fn entries(&self) -> &[Entry]
         ensures { result.now ≡ self.now.entries }
     {

@@ -44,6 +44,8 @@ impl Device for Printer {
 
     ghost needs_memory = { printer_needs_memory };
 
+    /// Begins a write, which takes memory for its entry, or a sense; adds the entry of a space
+    /// command at once, does a no-operation, and rejects any other command.
     fn command(&mut self, order: Order) -> Result<Answer, AllocError> {
         match order.command.code {
             code if is_write(code) => {
@@ -67,24 +69,29 @@ impl Device for Printer {
         }
     }
 
+    /// Returns false: no command ends before the bytes that it announced.
     fn is_done(&self) -> bool {
         false
     }
 
+    /// Returns the greatest number: the count alone ends a command.
     fn ready(&self) -> u32 {
         u32::MAX
     }
 
+    /// Returns the sense byte.
     fn give(&mut self) -> u8 {
         self.sense
     }
 
+    /// Appends a byte to the line that is being printed, or drops it past 132 bytes.
     fn take(&mut self, byte: u8) {
         if self.line.len() < RECORD_LENGTH {
             self.line.push(byte);
         }
     }
 
+    /// Ends the command; a write adds its entry, with its code and its bytes, to the open file.
     fn finish(&mut self) -> UnitStatus {
         if let Some(code) = self.printing {
             let line = mem::replace(&mut self.line, RecordBytes::new());
@@ -108,7 +115,7 @@ impl Printer {
         }
     }
 
-    /// Resets the printer: the open file stays.
+    /// Drops the line that is being printed and clears the sense; the open file stays.
     pub fn reset(&mut self)
         ensures { self.new ≡ printer_reset self.old }
     {
@@ -117,8 +124,10 @@ impl Printer {
         self.line = RecordBytes::new();
     }
 
-    /// Takes the entries of the open file, to be closed; the file has none then. This takes no
-    /// memory.
+    /// Removes all entries from the open file and returns them, to be closed; a line that is being
+    /// printed is dropped.
+    ///
+    /// This takes no memory.
     pub fn take_entries(&mut self, alloc: Global) -> Vec<Entry>
         ensures taken { result.items ≡ self.old.entries }
         ensures after { self.new ≡ printer_emptied self.old }
@@ -128,7 +137,7 @@ impl Printer {
         self.output.take(alloc)
     }
 
-    /// Returns the entries of the open file, in order.
+    /// Borrows the entries of the open file, in order.
     pub fn entries(&self) -> &[Entry]
         ensures { result.now ≡ self.now.entries }
     {
@@ -150,14 +159,14 @@ impl Printer {
     }
 }
 
-/// Returns whether the command prints a line.
+/// Returns whether the command code is that of a write, which prints a line.
 fn is_write(code: u8) -> bool
     ensures { result ≡ is_write code }
 {
     matches!(code, 0x01 | 0x09 | 0x11 | 0x19 | 0x89)
 }
 
-/// Returns whether the command moves the paper at once.
+/// Returns whether the command code is that of a space or skip, which only moves the paper.
 fn is_space(code: u8) -> bool
     ensures { result ≡ is_space code }
 {

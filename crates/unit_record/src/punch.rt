@@ -50,6 +50,8 @@ impl Device for Punch {
 
     ghost needs_memory = { punch_needs_memory };
 
+    /// Begins a punch, which takes memory for its card, or a sense; does a no-operation, and
+    /// rejects any other command.
     fn command(&mut self, order: Order) -> Result<Answer, AllocError> {
         match order.command.code {
             PUNCH => {
@@ -67,24 +69,29 @@ impl Device for Punch {
         }
     }
 
+    /// Returns false: no command ends before the bytes that it announced.
     fn is_done(&self) -> bool {
         false
     }
 
+    /// Returns the greatest number: the count alone ends a command.
     fn ready(&self) -> u32 {
         u32::MAX
     }
 
+    /// Returns the sense byte.
     fn give(&mut self) -> u8 {
         self.sense
     }
 
+    /// Appends a byte to the card that is being punched, or drops it past 80 bytes.
     fn take(&mut self, byte: u8) {
         if self.card.len() < CARD_LENGTH {
             self.card.push(byte);
         }
     }
 
+    /// Ends the command; a punch adds its card, with blanks at its end, to the open file.
     fn finish(&mut self) -> UnitStatus {
         if self.is_punching {
             self.card.pad_to(CARD_LENGTH, BLANK);
@@ -109,7 +116,7 @@ impl Punch {
         }
     }
 
-    /// Resets the punch: the open file stays.
+    /// Drops the card that is being punched and clears the sense; the open file stays.
     pub fn reset(&mut self)
         ensures { self.new ≡ punch_reset self.old }
     {
@@ -118,8 +125,10 @@ impl Punch {
         self.card = RecordBytes::new();
     }
 
-    /// Takes the entries of the open file, to be closed; the file has none then. This takes no
-    /// memory.
+    /// Removes all cards from the open file and returns them, to be closed; a card that is being
+    /// punched is dropped.
+    ///
+    /// This takes no memory.
     pub fn take_entries(&mut self, alloc: Global) -> Vec<Entry>
         ensures taken { result.items ≡ self.old.entries }
         ensures after { self.new ≡ punch_emptied self.old }
@@ -129,7 +138,7 @@ impl Punch {
         self.output.take(alloc)
     }
 
-    /// Returns the cards of the open file, in order.
+    /// Borrows the cards of the open file, in order.
     pub fn entries(&self) -> &[Entry]
         ensures { result.now ≡ self.now.entries }
     {

@@ -45,7 +45,7 @@ impl Model for Deck {
 }
 
 impl Deck {
-    /// Returns a deck of these cards.
+    /// Returns a deck with this label, this sender and these cards.
     pub fn new(label: u64, sender: Sender, cards: Vec<Card>) -> Deck
         ensures label { result.label ≡ label }
         ensures sender { result.sender ≡ sender }
@@ -72,7 +72,7 @@ impl Deck {
         self.sender
     }
 
-    /// Returns the cards of the deck, in order.
+    /// Borrows the cards of the deck, in order.
     pub fn cards(&self) -> &[Card]
         ensures { result.now ≡ self.now.cards }
     {
@@ -110,7 +110,8 @@ impl Device for Reader {
 
     ghost needs_memory = { nothing_needed };
 
-    /// A command of a reader is never refused memory.
+    /// Begins a read of the next card, or a sense; does a no-operation, and rejects any other
+    /// command; memory is never refused.
     fn command(&mut self, order: Order) -> Result<Answer, AllocError>
         ensures ready { IsOk result }
         ensures answer { IfOk result (λ answer. answer ≡ reader_machine.answer self.old order) }
@@ -130,20 +131,25 @@ impl Device for Reader {
         })
     }
 
+    /// Returns false: no command ends before the bytes that it announced.
     fn is_done(&self) -> bool {
         false
     }
 
+    /// Returns the greatest number: the count alone ends a command.
     fn ready(&self) -> u32 {
         u32::MAX
     }
 
+    /// Returns the next byte of the card or sense that is read, or zero if none is left.
     fn give(&mut self) -> u8 {
         self.giving.give()
     }
 
+    /// Does nothing: no command of a reader takes bytes.
     fn take(&mut self, _byte: u8) {}
 
+    /// Returns no status beyond the end of the command.
     fn finish(&mut self) -> UnitStatus {
         UnitStatus::NONE
     }
@@ -164,7 +170,8 @@ impl Reader {
         }
     }
 
-    /// Reads the next card.
+    /// Begins a read of the next card of the first deck, which is then current, or refuses it: at
+    /// the deck's end, which removes the deck, or if there is no deck.
     fn read(&mut self) -> Answer
         ensures answer { result ≡ read_answer (next_card self.old) }
         ensures after { self.new ≡ read_started self.old (next_card self.old) }
@@ -184,7 +191,7 @@ impl Reader {
         Answer::Input(80)
     }
 
-    /// Appends a deck to the queue. Where memory is refused the reader stays as it was.
+    /// Appends a deck to the queue.
     ///
     /// # Errors
     ///
@@ -197,7 +204,7 @@ impl Reader {
         Ok(())
     }
 
-    /// Puts the current deck, if there is one, back to the front of the queue, to be read from its
+    /// Makes the current deck, if there is one, the first of the queue again, to be read from its
     /// first card.
     pub fn put_back(&mut self)
         ensures { self.new ≡ with_deck_back self.old }
@@ -205,7 +212,7 @@ impl Reader {
         self.place = None;
     }
 
-    /// Takes the first queued deck of this label away, and says whether there was any. The current
+    /// Removes the first queued deck with this label and returns whether there was one; the current
     /// deck is not queued.
     pub fn purge(&mut self, label: u64) -> bool
         ensures found { result ≡ is_some (queued_at self.old label) }
@@ -218,7 +225,8 @@ impl Reader {
         true
     }
 
-    /// Returns the place of the first queued deck of this label among all decks.
+    /// Returns the index, among all decks, of the first queued deck with this label, if there is
+    /// one.
     fn queued_at(&self, label: u64) -> Option<usize>
         ensures { result ≡ queued_at self.now label }
     {
@@ -233,7 +241,7 @@ impl Reader {
         None
     }
 
-    /// Returns how many decks are before the queue.
+    /// Returns how many decks are current: 1 if a card of the first was read, else 0.
     fn currents(&self) -> usize
         ensures { result ≡ currents self.now.place }
     {
@@ -243,7 +251,8 @@ impl Reader {
         }
     }
 
-    /// Resets the reader: the decks stay, and so does the place in the current one.
+    /// Drops the bytes that are being given and clears the sense; the decks and the place in the
+    /// current one stay.
     pub fn reset(&mut self)
         ensures { self.new ≡ reader_reset self.old }
     {
@@ -251,28 +260,28 @@ impl Reader {
         self.giving = Outgoing::new();
     }
 
-    /// Returns how many decks the reader has, a current one included.
+    /// Returns how many decks the reader has, with a current one.
     pub fn len(&self) -> usize
         ensures { result ≡ length self.now.decks }
     {
         self.decks.len()
     }
 
-    /// Returns whether there is no deck.
+    /// Returns whether the reader has no deck.
     pub fn is_empty(&self) -> bool
         ensures { result ≡ (length self.now.decks == 0) }
     {
         self.decks.is_empty()
     }
 
-    /// Returns a deck, in their order; a current one is the first.
+    /// Borrows the deck at this index, if there is one; a current one is the first.
     pub fn get(&self, index: usize) -> Option<&Deck>
         ensures { option_copied result ≡ slice_get self.now.decks index }
     {
         self.decks.get(index)
     }
 
-    /// Returns how many cards of the current deck were read, or None where no deck is current.
+    /// Returns how many cards of the current deck were read, or `None` if no deck is current.
     pub fn place(&self) -> Option<usize>
         ensures { result ≡ self.now.place }
     {

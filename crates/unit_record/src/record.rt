@@ -25,7 +25,7 @@ impl Model for RecordBytes {
 }
 
 impl RecordBytes {
-    /// Returns a record without a byte.
+    /// Returns a record without bytes.
     pub fn new() -> RecordBytes
         ensures { result ≡ [] }
     {
@@ -34,7 +34,7 @@ impl RecordBytes {
         }
     }
 
-    /// Returns a record of these bytes.
+    /// Returns a record of these bytes, of which there are at most 132.
     pub fn of(bytes: &[u8]) -> RecordBytes
         requires { length bytes.now ≤ RECORD_LENGTH }
         ensures { result ≡ bytes.now }
@@ -46,7 +46,7 @@ impl RecordBytes {
         made
     }
 
-    /// Returns how many bytes it has.
+    /// Returns how many bytes the record has.
     pub fn len(&self) -> usize
         ensures value { result ≡ length self.now }
         ensures bound { result ≤ RECORD_LENGTH }
@@ -54,14 +54,14 @@ impl RecordBytes {
         self.bytes.len()
     }
 
-    /// Returns whether it has no byte.
+    /// Returns whether the record has no byte.
     pub fn is_empty(&self) -> bool
         ensures { result ≡ (length self.now == 0) }
     {
         self.bytes.is_empty()
     }
 
-    /// Adds a byte.
+    /// Appends a byte to the record, which has to have room for it.
     pub fn push(&mut self, byte: u8)
         requires { length self.old < RECORD_LENGTH }
         ensures { self.new ≡ self.old ++ byte ∷ [] }
@@ -69,7 +69,7 @@ impl RecordBytes {
         self.bytes.push(byte);
     }
 
-    /// Adds so many of these bytes that it has this length, unless it has it already.
+    /// Appends this byte until the record has this length, unless it has that or more already.
     pub fn pad_to(&mut self, wanted: usize, byte: u8)
         requires { wanted ≤ RECORD_LENGTH }
         ensures { self.new ≡ self.old ++ replicate (wanted - length self.old) byte }
@@ -80,7 +80,7 @@ impl RecordBytes {
         }
     }
 
-    /// Returns a byte, or zero past the end.
+    /// Returns the byte at this index, or zero past the end.
     pub fn byte(&self, index: usize) -> u8
         ensures { result ≡ slice_index self.now index }
     {
@@ -90,7 +90,7 @@ impl RecordBytes {
         }
     }
 
-    /// Returns the bytes.
+    /// Borrows the bytes of the record.
     pub fn as_slice(&self) -> &[u8]
         ensures value { result.now ≡ self.now }
         ensures bound { length result.now ≤ RECORD_LENGTH }

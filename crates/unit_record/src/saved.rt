@@ -16,7 +16,8 @@ use saved_bytes::{Input, put_bytes, put_flag, put_number, put_one, put_zero};
 use std::alloc::{AllocError, Global};
 use std::collections::VecDeque;
 
-/// Appends for whom a file is.
+/// Appends to `out` whom a file is for: a byte of 0 for the system, or a byte of 1 and the user's
+/// number.
 ///
 /// # Errors
 ///
@@ -33,7 +34,7 @@ pub fn put_target(out: &mut Vec<u8>, target: Target) -> Result<(), AllocError>
     }
 }
 
-/// Takes the target that is next.
+/// Takes from `input` whom a file is for and returns it, or `None` if that is not there or bad.
 pub fn target_of(input: &mut Input<'_>) -> Option<Target> {
     if input.flag()? {
         Some(Target::User(input.small()?))
@@ -42,7 +43,8 @@ pub fn target_of(input: &mut Input<'_>) -> Option<Target> {
     }
 }
 
-/// Appends from whom a deck is.
+/// Appends to `out` whom a deck is from: a byte of 0 for the system, or a byte of 1 and the user's
+/// number.
 ///
 /// # Errors
 ///
@@ -59,7 +61,7 @@ pub fn put_sender(out: &mut Vec<u8>, sender: Sender) -> Result<(), AllocError>
     }
 }
 
-/// Takes the sender that is next.
+/// Takes from `input` whom a deck is from and returns it, or `None` if that is not there or bad.
 pub fn sender_of(input: &mut Input<'_>) -> Option<Sender> {
     if input.flag()? {
         Some(Sender::User(input.small()?))
@@ -68,7 +70,8 @@ pub fn sender_of(input: &mut Input<'_>) -> Option<Sender> {
     }
 }
 
-/// Takes the card that is next, after how many bytes it has.
+/// Takes a card from `input`, with its length before it, and returns it, or `None` if it is not
+/// there or not 80 bytes long.
 pub fn card_of(input: &mut Input<'_>) -> Option<Card> {
     let bytes = input.bytes()?;
     let mut card = [0u8; 80];
@@ -79,7 +82,8 @@ pub fn card_of(input: &mut Input<'_>) -> Option<Card> {
     Some(card)
 }
 
-/// Takes the record that is next.
+/// Takes a record from `input`, with its length before it, and returns it, or `None` if it is not
+/// there or too long.
 pub fn record_of(input: &mut Input<'_>) -> Option<RecordBytes> {
     let bytes = input.bytes()?;
     if bytes.len() > RECORD_LENGTH {
@@ -88,7 +92,7 @@ pub fn record_of(input: &mut Input<'_>) -> Option<RecordBytes> {
     Some(RecordBytes::of(bytes))
 }
 
-/// Appends an entry.
+/// Appends to `out` the code of an entry, the number of its bytes and these bytes.
 fn put_entry(out: &mut Vec<u8>, entry: &Entry) -> Result<(), AllocError>
     ensures { OnOk result (out.new.items ≡ out.old.items ++ entry_bytes entry.now) }
 {
@@ -96,7 +100,7 @@ fn put_entry(out: &mut Vec<u8>, entry: &Entry) -> Result<(), AllocError>
     put_bytes(out, entry.bytes())
 }
 
-/// Appends the bytes of entries.
+/// Appends entries to `out`, each after a byte of 1, and then a byte of 0.
 ///
 /// # Errors
 ///
@@ -111,7 +115,8 @@ pub fn put_entries(out: &mut Vec<u8>, entries: &[Entry]) -> Result<(), AllocErro
     put_zero(out)
 }
 
-/// Takes the entries that are next.
+/// Takes entries from `input` and returns them in a new vector, or `None` if they are bad or memory
+/// is refused.
 pub fn entries_of(alloc: Global, input: &mut Input<'_>) -> Option<Vec<Entry>> {
     let mut entries = Vec::new(alloc);
     for _ in 0..u64::MAX {
@@ -125,7 +130,7 @@ pub fn entries_of(alloc: Global, input: &mut Input<'_>) -> Option<Vec<Entry>> {
     Some(entries)
 }
 
-/// Appends records.
+/// Appends records to `out`, each after a byte of 1 and its length, and then a byte of 0.
 fn put_records(out: &mut Vec<u8>, records: &[RecordBytes]) -> Result<(), AllocError>
     ensures { OnOk result (out.new.items ≡ out.old.items ++ each bytes records.now) }
 {
@@ -136,7 +141,8 @@ fn put_records(out: &mut Vec<u8>, records: &[RecordBytes]) -> Result<(), AllocEr
     put_zero(out)
 }
 
-/// Adds the records that are next to finished lines.
+/// Takes records from `input` and appends them to `lines`, or returns `None` if one is bad or
+/// memory is refused, perhaps after appending some.
 fn take_lines(lines: &mut Vec<RecordBytes>, input: &mut Input<'_>) -> Option<()> {
     for _ in 0..u64::MAX {
         if !input.flag()? {
@@ -147,7 +153,8 @@ fn take_lines(lines: &mut Vec<RecordBytes>, input: &mut Input<'_>) -> Option<()>
     Some(())
 }
 
-/// Adds the records that are next to lines that wait.
+/// Takes records from `input` and appends them to `waiting`, or returns `None` if one is bad or
+/// memory is refused, perhaps after appending some.
 fn take_waiting(waiting: &mut VecDeque<RecordBytes>, input: &mut Input<'_>) -> Option<()> {
     for _ in 0..u64::MAX {
         if !input.flag()? {
@@ -158,7 +165,8 @@ fn take_waiting(waiting: &mut VecDeque<RecordBytes>, input: &mut Input<'_>) -> O
     Some(())
 }
 
-/// Appends a command that is under way, if one is.
+/// Appends to `out` a byte of 1 and the code of the command under way, or a byte of 0 if there is
+/// none.
 fn put_command(out: &mut Vec<u8>, command: Option<u8>) -> Result<(), AllocError>
     ensures { OnOk result (out.new.items ≡ out.old.items ++ optional number command) }
 {
@@ -171,7 +179,8 @@ fn put_command(out: &mut Vec<u8>, command: Option<u8>) -> Result<(), AllocError>
     }
 }
 
-/// Takes the command that is next, if one is.
+/// Takes from `input` the code of the command under way, if there is one, and returns it, or `None`
+/// if the input is bad.
 fn command_of(input: &mut Input<'_>) -> Option<Option<u8>> {
     if input.flag()? {
         Some(Some(input.small()?))
@@ -181,7 +190,8 @@ fn command_of(input: &mut Input<'_>) -> Option<Option<u8>> {
 }
 
 impl Console {
-    /// Appends all that is seen of a console.
+    /// Appends to `out` all of a console: its finished, unfinished and waiting lines, its sense and
+    /// the command under way.
     ///
     /// # Errors
     ///
@@ -204,7 +214,7 @@ impl Console {
         self.put_command(out)
     }
 
-    /// Appends what was written and what was typed.
+    /// Appends to `out` the finished lines, the unfinished line and the waiting lines.
     fn put_lines(&self, out: &mut Vec<u8>) -> Result<(), AllocError>
         ensures { OnOk result (out.new.items ≡ out.old.items ++ console_lines_bytes self.now) }
     {
@@ -213,7 +223,8 @@ impl Console {
         self.put_waiting(out)
     }
 
-    /// Appends the command that is under way.
+    /// Appends to `out` what is left of the command under way: bytes to write, whether it ends the
+    /// line, and bytes to give.
     fn put_command(&self, out: &mut Vec<u8>) -> Result<(), AllocError>
         ensures { OnOk result (out.new.items ≡ out.old.items ++ console_command_bytes self.now) }
     {
@@ -222,7 +233,8 @@ impl Console {
         put_bytes(out, self.giving.left())
     }
 
-    /// Appends the lines that wait.
+    /// Appends the waiting lines to `out`, each after a byte of 1 and its length, and then a byte
+    /// of 0.
     fn put_waiting(&self, out: &mut Vec<u8>) -> Result<(), AllocError>
         ensures { OnOk result (out.new.items ≡ out.old.items ++ each bytes self.now.waiting) }
     {
@@ -236,7 +248,8 @@ impl Console {
         put_zero(out)
     }
 
-    /// Takes what comes next, for a console on which nothing was written or typed.
+    /// Restores a console, on which nothing was written or typed, from `input`, or returns `None`
+    /// if that is bad or memory is refused, perhaps after restoring a part.
     pub fn restore(&mut self, input: &mut Input<'_>) -> Option<()> {
         // Nothing is being written until there is room for it.
         self.ends_line = false;
@@ -259,7 +272,8 @@ impl Console {
 }
 
 impl Punch {
-    /// Appends all that is seen of a punch.
+    /// Appends to `out` all of a punch: the open file, the sense and the card that is being
+    /// punched.
     ///
     /// # Errors
     ///
@@ -280,7 +294,8 @@ impl Punch {
         put_bytes(out, card.as_slice())
     }
 
-    /// Takes what comes next, in the place of this punch.
+    /// Replaces all of a punch from `input`, or returns `None` if that is bad or memory is refused,
+    /// perhaps after replacing a part.
     pub fn restore(&mut self, alloc: Global, input: &mut Input<'_>) -> Option<()> {
         // No card is being punched until there is room for it.
         self.is_punching = false;
@@ -295,7 +310,8 @@ impl Punch {
 }
 
 impl Printer {
-    /// Appends all that is seen of a printer.
+    /// Appends to `out` all of a printer: the open file, the sense and the line that is being
+    /// printed.
     ///
     /// # Errors
     ///
@@ -316,7 +332,8 @@ impl Printer {
         put_bytes(out, line.as_slice())
     }
 
-    /// Takes what comes next, in the place of this printer.
+    /// Replaces all of a printer from `input`, or returns `None` if that is bad or memory is
+    /// refused, perhaps after replacing a part.
     pub fn restore(&mut self, alloc: Global, input: &mut Input<'_>) -> Option<()> {
         // No line is being printed until there is room for it.
         self.printing = None;

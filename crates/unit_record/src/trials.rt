@@ -45,7 +45,8 @@ impl<'a> Model for ConsoleTrial<'a> {
 impl<'a> ConsoleTrial<'a> {
     ghost use Rattle.unit_record.specs.Trials.{seen_read};
 
-    /// Begins a read of the first waiting line, as far as a dry run sees it.
+    /// Makes the next waiting line that the dry run has not read yet the one to give, or refuses
+    /// the read if there is none; the console keeps its lines.
     fn read(&mut self) -> Answer
         ensures answer { result ≡ line_answer self.old.waiting }
         ensures after { self.new ≡ seen_read self.old self.old.waiting }
@@ -70,6 +71,8 @@ impl<'a> Device for ConsoleTrial<'a> {
 
     ghost needs_memory = { nothing_needed };
 
+    /// Returns what a console would answer to a command, and keeps only the bytes to give or the
+    /// sense of a rejected one; nothing is written.
     fn command(&mut self, order: Order) -> Result<Answer, AllocError> {
         Ok(match order.command.code {
             0x01 | 0x09 => Answer::OutputUpTo(132),
@@ -86,20 +89,25 @@ impl<'a> Device for ConsoleTrial<'a> {
         })
     }
 
+    /// Returns false: no command ends before the bytes that it announced.
     fn is_done(&self) -> bool {
         false
     }
 
+    /// Returns the greatest number: the count alone ends a command.
     fn ready(&self) -> u32 {
         u32::MAX
     }
 
+    /// Returns the next byte of the line or sense that is read, or zero if none is left.
     fn give(&mut self) -> u8 {
         self.giving.give()
     }
 
+    /// Does nothing: bytes that are written in a dry run are dropped.
     fn take(&mut self, _byte: u8) {}
 
+    /// Returns no status beyond the end of the command.
     fn finish(&mut self) -> UnitStatus {
         UnitStatus::NONE
     }
@@ -127,6 +135,8 @@ impl Device for PunchTrial {
 
     ghost needs_memory = { nothing_needed };
 
+    /// Returns what a punch would answer to a command; a rejected one sets the sense, and no card
+    /// is punched.
     fn command(&mut self, order: Order) -> Result<Answer, AllocError> {
         Ok(match order.command.code {
             0x01 => Answer::Output(80),
@@ -139,20 +149,25 @@ impl Device for PunchTrial {
         })
     }
 
+    /// Returns false: no command ends before the bytes that it announced.
     fn is_done(&self) -> bool {
         false
     }
 
+    /// Returns the greatest number: the count alone ends a command.
     fn ready(&self) -> u32 {
         u32::MAX
     }
 
+    /// Returns the sense byte.
     fn give(&mut self) -> u8 {
         self.sense
     }
 
+    /// Does nothing: bytes that are punched in a dry run are dropped.
     fn take(&mut self, _byte: u8) {}
 
+    /// Returns no status beyond the end of the command.
     fn finish(&mut self) -> UnitStatus {
         UnitStatus::NONE
     }
@@ -180,6 +195,8 @@ impl Device for PrinterTrial {
 
     ghost needs_memory = { nothing_needed };
 
+    /// Returns what a printer would answer to a command; a rejected one sets the sense, and nothing
+    /// is printed.
     fn command(&mut self, order: Order) -> Result<Answer, AllocError> {
         Ok(match order.command.code {
             0x01 | 0x09 | 0x11 | 0x19 | 0x89 => Answer::OutputUpTo(132),
@@ -193,27 +210,32 @@ impl Device for PrinterTrial {
         })
     }
 
+    /// Returns false: no command ends before the bytes that it announced.
     fn is_done(&self) -> bool {
         false
     }
 
+    /// Returns the greatest number: the count alone ends a command.
     fn ready(&self) -> u32 {
         u32::MAX
     }
 
+    /// Returns the sense byte.
     fn give(&mut self) -> u8 {
         self.sense
     }
 
+    /// Does nothing: bytes that are printed in a dry run are dropped.
     fn take(&mut self, _byte: u8) {}
 
+    /// Returns no status beyond the end of the command.
     fn finish(&mut self) -> UnitStatus {
         UnitStatus::NONE
     }
 }
 
 impl Console {
-    /// Returns the console on trial, from now on.
+    /// Returns a console for a dry run, which begins as this one is now and leaves it as it is.
     pub fn trial(&self) -> ConsoleTrial<'_>
         ensures { result ≡ console_seen self.now }
     {
@@ -227,7 +249,8 @@ impl Console {
 }
 
 impl Punch {
-    /// Returns the punch on trial, from now on.
+    /// Returns a punch for a dry run, which begins with the sense of this one and leaves it as it
+    /// is.
     pub fn trial(&self) -> PunchTrial
         ensures { result ≡ punch_seen self.now }
     {
@@ -238,7 +261,8 @@ impl Punch {
 }
 
 impl Printer {
-    /// Returns the printer on trial, from now on.
+    /// Returns a printer for a dry run, which begins with the sense of this one and leaves it as it
+    /// is.
     pub fn trial(&self) -> PrinterTrial
         ensures { result ≡ printer_seen self.now }
     {
@@ -248,7 +272,8 @@ impl Printer {
     }
 }
 
-/// States that what a dry run sees of a device is enough for each walk.
+/// Proves that the devices for dry runs behave as a view of the real ones in each walk; it has no
+/// effect.
 pub fn trials_view_their_devices()
     ensures console { ViewsConsole }
     ensures punch { ViewsPunch }

@@ -10,7 +10,7 @@ pub trait Named {
     /// The name's characters.
     ghost name: { Self → List ℕ };
 
-    /// Returns the name's characters.
+    /// Returns the characters of the user's name.
     fn name(&self) -> &[u8]
         ensures { result.now ≡ name self.now };
 }
@@ -18,6 +18,7 @@ pub trait Named {
 impl Named for Vec<u8> {
     ghost name = { λ s. s.items };
 
+    /// Returns the vector's bytes as the name.
     fn name(&self) -> &[u8] {
         self
     }
@@ -26,12 +27,13 @@ impl Named for Vec<u8> {
 impl Named for &[u8] {
     ghost name = { λ s. s.now };
 
+    /// Returns the bytes themselves as the name.
     fn name(&self) -> &[u8] {
         *self
     }
 }
 
-/// Returns the number of the first user of this name.
+/// Returns the number of the first user with this name, if there is one.
 pub fn user_of<N: Named>(users: &[N], name: &[u8]) -> Option<UserNo>
     requires { length users.now ≤ MOST_USERS }
     ensures within { IfSome result (λ user. user < length users.now) }
@@ -41,7 +43,7 @@ pub fn user_of<N: Named>(users: &[N], name: &[u8]) -> Option<UserNo>
     Some(UserNo::new(place as u8))
 }
 
-/// Returns the place of the first user of this name.
+/// Returns the index of the first user with this name, if there is one.
 fn place_of<N: Named>(users: &[N], name: &[u8]) -> Option<usize>
     ensures within { IfSome result (λ user. user < length users.now) }
     ensures value { result ≡ user_of (map N.name users.now) name.now }
@@ -49,7 +51,7 @@ fn place_of<N: Named>(users: &[N], name: &[u8]) -> Option<usize>
     users.iter().position(|user| name == user.name())
 }
 
-/// Returns the name of a user, empty for a number that no user has.
+/// Returns the name of the user with this number, or an empty name if there is no such user.
 pub fn name_of<N: Named>(users: &[N], user: UserNo) -> &[u8]
     ensures { result.now ≡ name_of (map N.name users.now) user }
 {

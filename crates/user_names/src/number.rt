@@ -25,7 +25,7 @@ impl Model for UserNo {
 }
 
 impl UserNo {
-    /// Returns the user of this number.
+    /// Returns the user with this number, which is an index into the directory.
     #[inline(always)]
     pub fn new(number: u8) -> UserNo
         requires { number < MOST_USERS }
@@ -43,7 +43,7 @@ impl UserNo {
         self.number
     }
 
-    /// Returns the user's place in the directory.
+    /// Returns the user's number as an index into the directory.
     #[inline(always)]
     pub fn index(self) -> usize
         ensures value { result ≡ self }

@@ -20,7 +20,7 @@ pub struct Counted<F> {
 }
 
 impl<F> Counted<F> {
-    /// Returns the file, of which no call has failed yet.
+    /// Returns a counted file around `file`, with a count of zero failures.
     pub fn new(file: F) -> Counted<F>
         ensures file { file_of result ≡ file }
         ensures none { failures_of result ≡ 0 }
@@ -28,7 +28,7 @@ impl<F> Counted<F> {
         Counted { file, failures: 0 }
     }
 
-    /// Counts a failure, and returns it.
+    /// Adds one to the count of failures, and returns `HostFault::Device` with the new count.
     fn fail(&mut self) -> HostFault
         ensures file { self.new.file ≡ self.old.file }
         ensures more { self.new.failures ≡ one_more self.old.failures }
@@ -42,6 +42,7 @@ impl<F> Counted<F> {
 impl<F> HostFile for Counted<F> {
     ghost failures = { λ s. s.failures };
 
+    /// Returns the count of failures.
     fn failures(&self) -> u64 {
         self.failures
     }
@@ -50,6 +51,8 @@ impl<F> HostFile for Counted<F> {
 impl<R: Read> HostReader for Counted<R> {
     ghost remaining = { λ s. R.remaining s.file };
 
+    /// Reads bytes of the host's file into the front of `buf` and returns how many; an interrupted
+    /// read is tried again, and any other failure is counted.
     fn read(&mut self, buf: &mut [u8]) -> Result<usize, HostFault> {
         'tries: for _ in 0..u64::MAX {
             match self.file.read(buf) {
@@ -72,6 +75,8 @@ impl<W: Write + Drop, A: Allocator> HostWriter for Counted<BufWriter<W, A>> {
 
     ghost held = { λ s. writer_buffer s.file };
 
+    /// Writes a front part of `bytes` to the host's file and returns how many; an interrupted write
+    /// is tried again, and any other failure is counted.
     fn write(&mut self, bytes: &[u8]) -> Result<usize, HostFault> {
         'tries: for _ in 0..u64::MAX {
             match self.file.write(bytes) {
@@ -91,6 +96,7 @@ impl<W: Write + Drop, A: Allocator> HostWriter for Counted<BufWriter<W, A>> {
         Err(self.fail())
     }
 
+    /// Flushes the host's file; a failure is counted.
     fn flush(&mut self) -> Result<(), HostFault> {
         match self.file.flush() {
             Ok(()) => Ok(()),

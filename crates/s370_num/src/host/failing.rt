@@ -18,7 +18,7 @@ pub struct Failing<F> {
 }
 
 impl<F> Failing<F> {
-    /// Returns a file of which the call after `left` more of them fails.
+    /// Returns a file that passes `left` calls on to `file`, and then fails the next call.
     pub fn new(file: F, left: u64) -> Failing<F>
         ensures file { result.file ≡ file }
         ensures left { result.left ≡ left }
@@ -31,7 +31,8 @@ impl<F> Failing<F> {
         }
     }
 
-    /// Counts a call, and returns whether it is the one that fails.
+    /// Counts `left` down by one, and returns whether it was zero: this call is then the one to
+    /// fail.
     fn is_due(&mut self) -> bool
         ensures due { result ≡ (self.old.left == 0) }
         ensures file { self.new.file ≡ self.old.file }
@@ -42,7 +43,7 @@ impl<F> Failing<F> {
         is_due
     }
 
-    /// Counts a failure, and returns it.
+    /// Adds one to the count of failures, and returns `HostFault::Device` with the new count.
     fn fail(&mut self) -> HostFault
         ensures file { self.new.file ≡ self.old.file }
         ensures more { self.new.failures ≡ one_more self.old.failures }
@@ -56,6 +57,7 @@ impl<F> Failing<F> {
 impl<F> HostFile for Failing<F> {
     ghost failures = { λ s. s.failures };
 
+    /// Returns the count of failures: the one made here, and those of the inner file.
     fn failures(&self) -> u64 {
         self.failures
     }
@@ -64,6 +66,8 @@ impl<F> HostFile for Failing<F> {
 impl<R: HostReader> HostReader for Failing<R> {
     ghost remaining = { λ s. R.remaining s.file };
 
+    /// Reads from the inner file, or fails if this is the call to fail; each `Device` failure is
+    /// counted.
     fn read(&mut self, buf: &mut [u8]) -> Result<usize, HostFault> {
         if self.is_due() {
             return Err(self.fail());
@@ -80,6 +84,8 @@ impl<W: HostWriter> HostWriter for Failing<W> {
 
     ghost held = { λ s. W.held s.file };
 
+    /// Writes to the inner file, or fails if this is the call to fail; each `Device` failure is
+    /// counted.
     fn write(&mut self, bytes: &[u8]) -> Result<usize, HostFault> {
         if self.is_due() {
             return Err(self.fail());
@@ -90,6 +96,8 @@ impl<W: HostWriter> HostWriter for Failing<W> {
         }
     }
 
+    /// Flushes the inner file, or fails if this is the call to fail; each `Device` failure is
+    /// counted.
     fn flush(&mut self) -> Result<(), HostFault> {
         if self.is_due() {
             return Err(self.fail());

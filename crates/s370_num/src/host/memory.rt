@@ -13,7 +13,7 @@ pub struct Bytes<'a> {
 }
 
 impl<'a> Bytes<'a> {
-    /// Returns the bytes, of which none has been read yet.
+    /// Returns a reader of these bytes, which begins at the first.
     pub fn new(bytes: &'a [u8]) -> Bytes<'a>
         ensures { result.rest.now ≡ bytes.now }
     {
@@ -24,6 +24,7 @@ impl<'a> Bytes<'a> {
 impl HostFile for Bytes<'_> {
     ghost failures = { λ _. 0 };
 
+    /// Returns zero: reading from memory never fails.
     fn failures(&self) -> u64 {
         0
     }
@@ -32,6 +33,8 @@ impl HostFile for Bytes<'_> {
 impl HostReader for Bytes<'_> {
     ghost remaining = { λ s. Some s.rest.now };
 
+    /// Copies as many bytes as are left and `buf` has room for into the front of `buf`, and returns
+    /// how many.
     fn read(&mut self, buf: &mut [u8]) -> Result<usize, HostFault>
         ensures always { IsOk result }
         ensures bound { IfOk result (λ n. n ≤ length buf.new) }
@@ -51,6 +54,7 @@ impl HostReader for Bytes<'_> {
 impl HostFile for Vec<u8> {
     ghost failures = { λ _. 0 };
 
+    /// Returns zero: no device is involved.
     fn failures(&self) -> u64 {
         0
     }
@@ -61,6 +65,8 @@ impl HostWriter for Vec<u8> {
 
     ghost held = { λ _. [] };
 
+    /// Appends all of `bytes` to the vector and returns how many there are; fails only if memory is
+    /// refused.
     fn write(&mut self, bytes: &[u8]) -> Result<usize, HostFault>
         ensures whole { IfOk result (λ n. n ≡ length bytes.now) }
         ensures bound { IfOk result (λ n. n ≤ length bytes.now) }
@@ -72,6 +78,7 @@ impl HostWriter for Vec<u8> {
         Ok(bytes.len())
     }
 
+    /// Does nothing: no byte is held back.
     fn flush(&mut self) -> Result<(), HostFault> {
         Ok(())
     }
