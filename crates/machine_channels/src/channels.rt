@@ -33,7 +33,7 @@ pub trait Disks {
     /// The programs that are kept of those that ran are dropped.
     ghost Forgets: { Self → Self → Type 0 };
 
-    /// Returns the index of the first disk with this address.
+    /// Returns the index of the first disk with this address, if there is one.
     fn disk_at(&self, device: u16) -> Option<usize>
         ensures index { result ≡ position (is_disk_at device) (disks self.now) }
         ensures inside { IfSome result (λ index. index < length (disks self.now)) };
