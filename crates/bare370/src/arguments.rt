@@ -28,10 +28,11 @@ pub struct BareOptions<'a> {
     pub volumes: Vec<&'a str>,
 }
 
-/// Reads the arguments, the first of which is the name that the program was started by; `program`
-/// is its name in a usage text. Words are read as `clap` reads them: `--` before the paths is
-/// allowed, and `--help` is a request for the text of [`UsageError::Usage`]. The storage is written
-/// as in a directory.
+/// Returns the options that the words of a command line name, of which the first is the name that
+/// the program was started by; `program` is its name in a usage text.
+///
+/// Words are read as `clap` reads them: `--` before the paths is allowed, and `--help` is a request
+/// for the text of [`UsageError::Usage`]. The storage is written as in a directory.
 ///
 /// # Errors
 ///
@@ -55,7 +56,8 @@ pub fn bare_arguments<'a, S: AsStr>(
     options_in(alloc, &matches)
 }
 
-/// Returns the options that were found in the words.
+/// Returns the options that `clap` has found in words; a usage error if one is missing, malformed
+/// or too many.
 fn options_in<'a>(alloc: Global, matches: &ArgMatches<'a>) -> Result<BareOptions<'a>, UsageError>
     ensures ok { IfOk result (IsNamed (rows_of (found_of matches.now))) }
     ensures few { IfOk result (λ options. length options.volumes.items ≤ MOST_VOLUMES) }
@@ -86,14 +88,15 @@ fn options_in<'a>(alloc: Global, matches: &ArgMatches<'a>) -> Result<BareOptions
     })
 }
 
-/// Returns the size of the storage, if it is well written and a machine may have it.
+/// Returns the size of storage that was given; None if it is missing, malformed, or one that no
+/// machine has.
 pub(crate) fn storage_in(matches: &ArgMatches<'_>) -> Option<StorageSize>
     ensures { result ≡ storage_named (rows_of (found_of matches.now)) }
 {
     storage_of(text_of(matches, "STORAGE")?.as_bytes())
 }
 
-/// Returns what `clap` finds in the words.
+/// Returns what `clap` finds in the words of a command line, or the usage error.
 fn matched<'a, S: AsStr>(
     alloc: Global,
     program: &'a str,
@@ -112,7 +115,7 @@ fn matched<'a, S: AsStr>(
     }
 }
 
-/// Returns the program's words, as they are described to `clap`.
+/// Returns the description of the program's command line for `clap`.
 fn command<'a>(alloc: Global, program: &'a str) -> Result<Command<'a>, AllocError>
     ensures { IfOk result (λ c. app_of c ≡ command_of program.entry.now) }
 {
@@ -125,7 +128,7 @@ fn command<'a>(alloc: Global, program: &'a str) -> Result<Command<'a>, AllocErro
     Ok(command)
 }
 
-/// Returns the first word, which is the size of the storage.
+/// Returns the description of the argument `STORAGE`, the size of the storage, for `clap`.
 pub(crate) fn storage<'a>(alloc: Global) -> Arg<'a>
     ensures rule { rule_of result ≡ storage_rule }
     ensures local { result.global ≡ false }
@@ -135,7 +138,7 @@ pub(crate) fn storage<'a>(alloc: Global) -> Arg<'a>
         .help("The size of the machine's storage, as 8K or 1M")
 }
 
-/// Returns the second word, which is the path of the script.
+/// Returns the description of the argument `SCRIPT`, the path of the script, for `clap`.
 fn script<'a>(alloc: Global) -> Arg<'a>
     ensures rule { rule_of result ≡ script_rule }
     ensures local { result.global ≡ false }
@@ -145,7 +148,7 @@ fn script<'a>(alloc: Global) -> Arg<'a>
     )
 }
 
-/// Returns the words after them, which are the paths of images.
+/// Returns the description of the arguments `VOLUME`, the paths of images, for `clap`.
 pub(crate) fn volumes<'a>(alloc: Global) -> Arg<'a>
     ensures rule { rule_of result ≡ volume_rule }
     ensures local { result.global ≡ false }

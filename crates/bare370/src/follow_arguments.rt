@@ -27,8 +27,8 @@ pub struct MachineFollowOptions<'a> {
     pub volumes: Vec<&'a str>,
 }
 
-/// Reads the arguments of a run that follows parts, as
-/// [`bare_arguments`](crate::arguments::bare_arguments) does those of a script.
+/// Returns the options of a run that follows parts of a script, as
+/// [`bare_arguments`](crate::arguments::bare_arguments) does those of one that plays a script.
 ///
 /// # Errors
 ///
@@ -51,7 +51,8 @@ pub fn follow_arguments<'a, S: AsStr>(
     options_in(alloc, &matches)
 }
 
-/// Returns the options that were found in the words.
+/// Returns the options that `clap` has found in words; a usage error if one is missing, malformed
+/// or too many.
 fn options_in<'a>(
     alloc: Global,
     matches: &ArgMatches<'a>,
@@ -81,7 +82,7 @@ fn options_in<'a>(
     })
 }
 
-/// Returns what `clap` finds in the words.
+/// Returns what `clap` finds in the words of a command line, or the usage error.
 fn matched<'a, S: AsStr>(
     alloc: Global,
     program: &'a str,
@@ -100,7 +101,7 @@ fn matched<'a, S: AsStr>(
     }
 }
 
-/// Returns the program's words, as they are described to `clap`.
+/// Returns the description of the program's command line with `--follow` for `clap`.
 fn command<'a>(alloc: Global, program: &'a str) -> Result<Command<'a>, AllocError>
     ensures { IfOk result (λ c. app_of c ≡ command_of program.entry.now) }
 {

@@ -70,7 +70,7 @@ impl Model for OneMachine {
 }
 
 impl OneMachine {
-    /// Returns a machine, whose devices scripts may name.
+    /// Returns the installation of a machine, whose devices scripts may name.
     ///
     /// # Errors
     ///
@@ -95,54 +95,67 @@ impl OneMachine {
 impl Installation for OneMachine {
     ghost goes = { machine_goes };
 
+    /// Returns 1: there is one user.
     fn users(&self) -> usize {
         1
     }
 
+    /// Returns `BARE` for user 0, and an empty name for any other.
     fn name(&self, user: UserNo) -> &[u8] {
         if user.number() == 0 { BARE } else { &[] }
     }
 
+    /// Returns a new list of the addresses of the machine's devices, whichever user is asked for.
     fn addresses(&self, alloc: Global, _user: UserNo) -> Result<Vec<u16>, AllocError> {
         self.addresses.as_slice().to_vec(alloc)
     }
 
+    /// Returns whether the machine has a device of this address.
     fn has_device(&self, _user: UserNo, address: u16) -> bool {
         has_address(self.addresses.as_slice(), address)
     }
 
+    /// Returns whether the machine is on, and whether it runs.
     fn mode(&self, _user: UserNo) -> Mode {
         self.machine.mode()
     }
 
+    /// Returns whether the machine is ready for a slice.
     fn is_ready(&self, _user: UserNo) -> bool {
         self.machine.is_ready()
     }
 
+    /// Returns the subchannels of the machine.
     fn subchannels(&self, _user: UserNo) -> &[Subchannel] {
         self.machine.subchannels()
     }
 
+    /// Returns the machine's console, reader, punch and printer, with their files.
     fn devices(&self, _user: UserNo) -> SeenDevices<'_> {
         self.machine.devices()
     }
 
+    /// Returns how many lines the console has printed.
     fn printed(&self, _user: UserNo) -> usize {
         self.machine.printed()
     }
 
+    /// Returns a line that the console has printed; None past the last.
     fn console_output(&self, _user: UserNo, line: usize) -> Option<&[u8]> {
         self.machine.console_output(line)
     }
 
+    /// Returns how many files have a number.
     fn files(&self) -> usize {
         self.machine.files().len()
     }
 
+    /// Returns the owner and the kind of the file of this place, from 0, if there is one.
     fn file(&self, place: usize) -> Option<FileNote> {
         self.machine.files().get(place).copied()
     }
 
+    /// Applies an event of a script to the machine, and returns the reply.
     fn apply_event(&mut self, alloc: Global, event: &ScriptEvent<'_>) -> Result<Reply, Refused> {
         match event {
             ScriptEvent::Deck(_, cards) => {
@@ -155,26 +168,32 @@ impl Installation for OneMachine {
         }
     }
 
+    /// Drops the lines that the console has printed.
     fn forget_printed(&mut self) {
         self.machine.forget_printed();
     }
 
+    /// Returns false and appends nothing: a machine of its own has no states.
     fn save(&self, _out: &mut Vec<u8>) -> Result<bool, AllocError> {
         Ok(false)
     }
 
+    /// Returns None: a machine of its own has no states.
     fn restore(self, _input: &mut Input<'_>) -> Option<OneMachine> {
         None
     }
 
+    /// States that bytes are those of one state of a machine, and that no event changes what it was
+    /// made of.
     fn one_by_saved() {}
 
+    /// States that lines that were printed before do not matter to what follows.
     fn printed_lines_do_not_matter() {
         printed_lines_do_not_matter();
     }
 }
 
-/// Returns the addresses of these devices.
+/// Returns a new list of the addresses of these devices.
 fn addresses(alloc: Global, devices: &[Subchannel]) -> Result<Vec<u16>, AllocError>
     ensures { IfOk result (λ list. list.items ≡ addresses_of devices.now) }
 {
@@ -185,14 +204,14 @@ fn addresses(alloc: Global, devices: &[Subchannel]) -> Result<Vec<u16>, AllocErr
     Ok(list)
 }
 
-/// Returns whether an address is one of these.
+/// Returns whether `address` is one of these addresses.
 fn has_address(addresses: &[u16], address: u16) -> bool
     ensures { result ≡ list_any (λ device. device == address) addresses.now }
 {
     addresses.iter().any(|device| *device == address)
 }
 
-/// Gives the reader a deck of these cards of the operator.
+/// Gives the reader a deck of these cards of the operator, and returns the reply.
 fn give(alloc: Global, machine: &mut Bare, cards: &[Card]) -> Result<Reply, Refused>
     ensures ok { IfOk result (λ reply. (event : MachineEvent) × (as_said event ≡ Deck 0 cards.now)
         × IsApplied machine.old event reply machine.new) }
@@ -210,14 +229,14 @@ fn give(alloc: Global, machine: &mut Bare, cards: &[Card]) -> Result<Reply, Refu
     }
 }
 
-/// Returns the event that the operator gives these cards.
+/// Returns the machine's event by which the operator gives these cards.
 fn deck<'a>(cards: &'a [Card]) -> MachineEvent<'a>
     ensures { as_said result ≡ Deck 0 cards.now }
 {
     MachineEvent::Deck(cards)
 }
 
-/// Lets an event happen that a script says with all that it has.
+/// Applies an event of a script that is no deck to the machine, and returns the reply.
 fn ask(alloc: Global, machine: &mut Bare, event: &ScriptEvent<'_>) -> Result<Reply, Refused>
     requires user { IfSome (user_of_event event.now) (λ user. user < 1) }
     requires event { IsWhole event.now }
@@ -238,7 +257,8 @@ fn ask(alloc: Global, machine: &mut Bare, event: &ScriptEvent<'_>) -> Result<Rep
     }
 }
 
-/// Returns what a line of a script says with all that it has.
+/// Returns the machine's event for an event of a script; it must be neither a deck nor one of
+/// turns.
 fn happening<'a>(event: &ScriptEvent<'a>) -> MachineEvent<'a>
     requires user { IfSome (user_of_event event.now) (λ user. user < 1) }
     requires event { IsWhole event.now }
@@ -254,7 +274,7 @@ fn happening<'a>(event: &ScriptEvent<'a>) -> MachineEvent<'a>
 }
 
 /// Returns a machine that is off, with this many blocks of 2048 bytes, console, reader, punch and
-/// printer, and a disk for each of these volumes, of which there are at most [`MOST_DISKS`].
+/// printer, and a disk for each of these volumes, at most [`MOST_DISKS`].
 ///
 /// # Errors
 ///
@@ -296,7 +316,7 @@ pub fn machine_of(
     }
 }
 
-/// Returns its storage, and its disks.
+/// Returns the storage of a machine, and its disks.
 fn parts_of(
     alloc: Global,
     blocks: u32,
@@ -315,7 +335,7 @@ fn parts_of(
     Ok((storage, disks))
 }
 
-/// Returns a disk for each of these volumes, at an address of its own.
+/// Returns a disk for each of these volumes, at addresses from [`FIRST_DISK`] on.
 fn disks_of(alloc: Global, volumes: Vec<Volume>) -> Result<Vec<AttachedDisk>, AllocError>
     ensures { IfOk result (λ disks. disks.items ≡ disks_from FIRST_DISK volumes.items) }
 {
@@ -329,7 +349,7 @@ fn disks_of(alloc: Global, volumes: Vec<Volume>) -> Result<Vec<AttachedDisk>, Al
     Ok(disks)
 }
 
-/// Returns a disk over a volume.
+/// Returns a disk unit over a volume, with its arm over cylinder 0, that may be written.
 fn disk(alloc: Global, volume: Volume) -> Result<Unit, AllocError>
     ensures { IfOk result (λ unit. unit ≡ first_disk volume) }
 {

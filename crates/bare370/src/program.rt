@@ -39,7 +39,9 @@ pub fn bare_program<R: AllocGlobal + Files + Env + Input + Print + Eprint>(
 }
 
 /// Reads the arguments, the images and the script, writes the transcript, and saves the volumes if
-/// `--save` is given. A wrong use is reported here.
+/// `--save` is given; with `--follow` the script is read in parts from standard input.
+///
+/// A wrong use is reported here.
 fn run<R: AllocGlobal + Files + Env + Input + Print + Eprint>(
     rt: &R,
     is_watched: bool,

@@ -22,6 +22,7 @@ use std::alloc::Global;
 impl HasVolumes for OneMachine {
     ghost volumes = { machine_volumes };
 
+    /// Returns the volume of the disk of this index, if there is one.
     fn volume(&self, index: usize) -> Option<&Volume> {
         match self.machine().disks().get(index) {
             Some(disk) => Some(disk.unit().volume()),
@@ -96,8 +97,8 @@ pub fn follow_machine<F: FileStore, R: HostReader, W: HostWriter>(
     )
 }
 
-/// Reads the images at these paths, and makes a machine with a storage of this size and a disk over
-/// each volume.
+/// Reads the images at these paths, and returns a machine that is off, with storage of this size
+/// and a disk over each volume.
 ///
 /// # Errors
 ///
@@ -122,7 +123,8 @@ pub fn read_machine<F: FileStore>(
     made(alloc, storage.blocks(), volumes)
 }
 
-/// Makes a machine with so many blocks of storage and a disk over each of these volumes.
+/// Returns a machine that is off, with this many blocks of storage and a disk over each of these
+/// volumes.
 fn made(alloc: Global, blocks: u32, volumes: Vec<Volume>) -> Result<OneMachine, Failure>
     requires least { 4 ≤ blocks }
     requires most { blocks ≤ 2048 }
@@ -134,7 +136,8 @@ fn made(alloc: Global, blocks: u32, volumes: Vec<Volume>) -> Result<OneMachine, 
     }
 }
 
-/// Returns why no machine is made whose disks are not attached.
+/// Returns the failure of a program for an error of attaching disks: too many of them are a usage
+/// error.
 fn unattached(error: AttachError) -> Failure {
     match error {
         AttachError::Memory => Failure::Memory,
@@ -143,7 +146,7 @@ fn unattached(error: AttachError) -> Failure {
     }
 }
 
-/// Returns which lines of turns a transcript has.
+/// Returns the detail of a transcript: that of terminals if `terminals` is true, else the whole.
 fn detail_of(terminals: bool) -> Detail
     ensures { result ≡ detail_of terminals }
 {

@@ -18,6 +18,7 @@ impl UserDirectory for Alone {
 
     ghost known = { λ a. alone a.on };
 
+    /// Returns 0 for the name `BARE`, that of the only user; None for another name.
     fn user_of(&self, name: &[u8]) -> Option<u8> {
         if name == b"BARE".as_slice() {
             Some(0)
@@ -26,14 +27,17 @@ impl UserDirectory for Alone {
         }
     }
 
+    /// Returns `BARE`, the name of the only user.
     fn own_name(&self) -> &[u8] {
         b"BARE"
     }
 
+    /// Returns whether the user of this number is logged on; false of any number but 0.
     fn is_on(&self, user: u8) -> bool {
         user == 0 && self.on
     }
 
+    /// Returns how many users are logged on: 1 or 0.
     fn users_on(&self) -> u64 {
         if self.on { 1 } else { 0 }
     }

@@ -14,9 +14,11 @@ use std::alloc::{AllocError, Global};
 use unit_record::{Card, Sender};
 
 impl Bare {
-    /// Types a line in this world, and returns its outcome. What it sends goes to nobody, and a
-    /// file that it closed stays with its device alone, without a number: that is for whoever knows
-    /// the others. If memory is refused, nothing is said of the machine.
+    /// Does what a line asks that is typed in this world of users, and returns its outcome; what it
+    /// sends is delivered to nobody, and a file that it closes gets no number.
+    ///
+    /// Both are for whoever knows the other users. If memory is refused, nothing is said of the
+    /// machine.
     ///
     /// # Errors
     ///
@@ -35,8 +37,10 @@ impl Bare {
         self.answer(alloc, world, typed)
     }
 
-    /// Gives the reader a deck that another user or the operator sent, with its number among the
-    /// files of all. If memory is refused, nothing is said of the machine.
+    /// Appends a deck of these cards, with this number and this sender, to the queue of the reader.
+    ///
+    /// The number is among the files of all users. If memory is refused, nothing is said of the
+    /// machine.
     ///
     /// # Errors
     ///
@@ -55,8 +59,9 @@ impl Bare {
         self.devices.deck(&mut self.queues, number, sender, cards)
     }
 
-    /// Prints a message that another user sent, as a whole line of the console. If memory is
-    /// refused, nothing is said of the machine.
+    /// Appends a message as a whole line to those that the console has printed.
+    ///
+    /// If memory is refused, nothing is said of the machine.
     ///
     /// # Errors
     ///

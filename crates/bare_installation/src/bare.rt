@@ -114,8 +114,8 @@ impl Bare {
         }
     }
 
-    /// Returns a machine as [`Bare::new`] does, with these subchannels, which are those of the
-    /// devices and disks.
+    /// Returns a machine that is off, with this storage, which is cleared, and these devices,
+    /// queues and disks, whose subchannels these have to be.
     fn with_subchannels(
         alloc: Global,
         mut storage: PlainStorage,
@@ -200,8 +200,8 @@ impl Bare {
         }
     }
 
-    /// Returns the reply of an event that delivered nothing and says this, if the console had
-    /// printed so many lines before it.
+    /// Returns the reply to an event that ended so, shows this and delivers nothing, if the console
+    /// had printed so many lines before it.
     pub(crate) fn reply(&self, printed: usize, ended: Ended, said: UserResponse) -> Reply
         ensures { result ≡ record {
           ended = ended;
@@ -218,8 +218,10 @@ impl Bare {
         }
     }
 
-    /// Gives the reader a copy of these cards of the operator; no cards are no deck. If memory is
-    /// refused, nothing is said of the machine.
+    /// Numbers a copy of these cards as a deck of the operator, appends it to the queue of the
+    /// reader, and returns the reply; without cards it does nothing.
+    ///
+    /// If memory is refused, nothing is said of the machine.
     fn give(&mut self, alloc: Global, cards: &[Card]) -> Result<Reply, AllocError>
         ensures after { OnOk result (self.new ≡ with_deck cards.now self.old) }
         ensures reply { IfOk result
@@ -248,7 +250,8 @@ impl Bare {
         })
     }
 
-    /// Lets the machine run for at most so many units. This takes no memory.
+    /// Lets the machine run for at most so many units, and returns how many it did and why it
+    /// ended. This takes no memory.
     pub fn units(&mut self, count: u32) -> MachineRan
         ensures machine { run count self.old.equipped.machine
             ≡ record {
@@ -268,7 +271,7 @@ impl Bare {
         MachineRan::reported(ran)
     }
 
-    /// Steps the interval timer of a machine that runs. This takes no memory.
+    /// Steps the interval timer of the machine, if it runs. This takes no memory.
     pub fn tick(&mut self)
         ensures machine { self.new.equipped.machine ≡ ticked self.old.equipped.machine }
         ensures devices { self.new.equipped.devices ≡ self.old.equipped.devices }
@@ -282,9 +285,10 @@ impl Bare {
         }
     }
 
-    /// Serves the device of this address: the channel program that was started runs as a whole, and
-    /// its status is pending. Reports whether there was one; else nothing has happened. If memory
-    /// is refused, nothing is said of the machine.
+    /// Runs the channel program that was started on the device of this address, if there is one, as
+    /// a whole, and makes its status pending; returns whether there was one.
+    ///
+    /// If memory is refused, nothing is said of the machine.
     ///
     /// # Errors
     ///
@@ -309,8 +313,10 @@ impl Bare {
         }
     }
 
-    /// Gives the reader a deck from the operator; no cards are no deck. If memory is refused,
-    /// nothing is said of the machine.
+    /// Numbers a deck of the operator and appends it to the queue of the reader; without cards it
+    /// does nothing.
+    ///
+    /// If memory is refused, nothing is said of the machine.
     ///
     /// # Errors
     ///
@@ -332,7 +338,8 @@ impl Bare {
         Ok(())
     }
 
-    /// Returns the number of the next file. A list ends before numbers do, so none is used again.
+    /// Returns the number that the next file gets. A list ends before numbers do, so none is used
+    /// again.
     pub(crate) fn next_file(&self) -> u64
         ensures value { result ≡ next_file self.now.files }
         ensures fits { result ≤ 2 ^ 63 }
@@ -361,14 +368,14 @@ impl Bare {
         self.machine.cpu().psw
     }
 
-    /// Returns the bytes of storage.
+    /// Returns the bytes of the machine's storage.
     pub fn storage(&self) -> &[u8]
         ensures { result.now ≡ self.now.equipped.machine.core.processor.bytes }
     {
         self.storage.bytes()
     }
 
-    /// Returns the key in storage of a block of 2048 bytes, `None` past storage.
+    /// Returns the storage key of a block of 2048 bytes; None past storage.
     pub fn key(&self, block: u32) -> Option<StorageKey>
         ensures { result ≡ slice_get self.now.equipped.machine.core.processor.keys block }
     {
@@ -411,7 +418,7 @@ impl Bare {
         self.machine.printed()
     }
 
-    /// Returns the text of a line that the console has printed.
+    /// Returns the text of a line that the console has printed; None past the last line.
     pub fn console_output(&self, line: usize) -> Option<&[u8]>
         ensures { option_map (λ text. text.now) result
             ≡ slice_get self.now.equipped.machine.output line }
@@ -432,8 +439,8 @@ impl Bare {
         self.channels.disks()
     }
 
-    /// Returns what each file was when it was closed: the one with number 1 is first. All are those
-    /// of user 0.
+    /// Returns the owner and the kind of each file, in the order of their numbers, from 1 on. All
+    /// are files of user 0.
     pub fn files(&self) -> &[FileNote]
         ensures { result.now ≡ self.now.files }
     {

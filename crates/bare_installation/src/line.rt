@@ -26,9 +26,12 @@ use user_names::UserNo;
 const USERS: u8 = 1;
 
 impl Bare {
-    /// Types a line, and returns the reply. Memory is refused only where it closes a file, sends a
-    /// message, resets or loads the machine, waits for the console, or is one for which a machine
-    /// makes room; nothing is said of the machine then.
+    /// Does what a line asks that is typed, numbers the files that it closed, delivers what it
+    /// sends to the user himself, and returns the reply.
+    ///
+    /// Memory is refused only where it closes a file, sends a message, resets or loads the machine,
+    /// waits for the console, or is one for which a machine makes room; nothing is said of the
+    /// machine then.
     ///
     /// # Errors
     ///
@@ -54,7 +57,7 @@ impl Bare {
         })
     }
 
-    /// Returns the small world of its one user.
+    /// Returns the world of the machine's only user: whether he is logged on.
     fn world(&self) -> Alone
         ensures { alone result.on ≡ world_of self.now }
     {
@@ -63,8 +66,10 @@ impl Bare {
         }
     }
 
-    /// Does what a line asks for in this world, and returns the reply. If memory is refused,
-    /// nothing is said of the machine.
+    /// Does what a line asks that is typed in this world of users, and returns its outcome; files
+    /// are not numbered and nothing is delivered yet.
+    ///
+    /// If memory is refused, nothing is said of the machine.
     pub(crate) fn answer<W: UserDirectory>(
         &mut self,
         alloc: Global,
@@ -95,8 +100,8 @@ impl Bare {
         }
     }
 
-    /// Does what follows from a line: numbers each file that it closed, and delivers the deck or
-    /// the message that is for its user.
+    /// Numbers each file that a line closed, delivers the deck or the message that is for the only
+    /// user, and returns what was delivered, if anything was.
     fn follow(&mut self, reported: &LineOutcome) -> Result<Option<Delivered>, AllocError>
         ensures delivered { let before = stands_in (files_closed reported.now).punched
             self.old.equipped.devices.punched in
@@ -120,7 +125,8 @@ impl Bare {
         }
     }
 
-    /// Numbers each of these files, the punched one first.
+    /// Appends these closed files to the list of files, that of the punch first, which numbers
+    /// them.
     fn note_closed(&mut self, closed: ClosedFiles) -> Result<(), AllocError>
         ensures ok { OnOk result
             (self.new ≡ record self.old { files = self.old.files ++ noted 0 closed }) }
@@ -135,7 +141,7 @@ impl Bare {
         Ok(())
     }
 
-    /// Notes that the next file is one of this kind.
+    /// Appends a file of this kind to the list of files, by which it has the next number.
     fn note(&mut self, kind: FileKind) -> Result<(), AllocError>
         ensures { OnOk result (self.new ≡ record self.old {
           files = self.old.files ++ record { user = 0; kind = kind } ∷ [];
@@ -148,7 +154,8 @@ impl Bare {
         Ok(())
     }
 
-    /// Delivers a message to the user of this number, if it is the machine's own.
+    /// Prints a message on the console, if it is for the machine's own user, number 0, and returns
+    /// what was delivered.
     fn send(&mut self, to: u8, line: ConsoleLine) -> Result<Option<Delivered>, AllocError>
         ensures delivered { IfOk result
             (λ delivered. delivered ≡ delivery_to 1 to (Delivery.Message line)) }
@@ -169,7 +176,8 @@ impl Bare {
     }
 
     /// Appends the punch's closed file at this place to the reader's queue, as a deck with this
-    /// number, if it is for the machine's own user; the punch keeps it too.
+    /// number, if it is for the machine's own user; returns what was delivered. The punch keeps it
+    /// too.
     fn deliver_punched(
         &mut self,
         place: Option<usize>,
@@ -199,7 +207,8 @@ impl Bare {
         }
     }
 
-    /// Returns the user for whom the punch's closed file of this index is, if there is one.
+    /// Returns the number of the user for whom the punch's closed file of this index is, if it is
+    /// for one.
     fn receiver_of(&self, index: usize) -> Option<u8>
         ensures { result ≡ receiver_of (slice_get self.now.equipped.devices.punched index) }
     {

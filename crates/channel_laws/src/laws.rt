@@ -3,8 +3,8 @@ ghost use Rattle.channel_laws.specs.Laws as laws;
 
 use s370_walk::Device;
 
-/// States that a copy with real addresses reaches the end to which the copy with the guest's
-/// addresses comes, with the same device, and that real storage is then still the guest's.
+/// States that a copy with real addresses ends as the copy with the guest's addresses does, with
+/// the same device, and that real storage is then still the guest's.
 pub fn real_walks_are_the_copys<D: Device>()
     ensures { laws.EndsAsTheCopy D }
 {}
@@ -16,7 +16,7 @@ pub fn real_walks_are_the_guests<D: Device>()
     ensures steady { laws.EndsAsTheSteady D }
 {}
 
-/// States that a program after one more command reaches the ends to which it comes by itself.
+/// States that a program that runs after one more command ends as it does by itself.
 pub fn prefixed_walks_are_walks<D: Device>()
     ensures raised { laws.EndsBehindACommand D }
     ensures lowered { laws.EndsByItself D }

@@ -6,7 +6,7 @@ use ckd_volume::{HEADS, Volume};
 use saved_bytes::Input;
 use std::alloc::Global;
 
-/// Takes five bytes that are next, with how many they are before them.
+/// Reads a string of five bytes from the input; returns None if it has another length.
 fn five_of(input: &mut Input<'_>) -> Option<[u8; 5]> {
     let bytes = input.bytes()?;
     let mut five = [0u8; 5];
@@ -17,7 +17,7 @@ fn five_of(input: &mut Input<'_>) -> Option<[u8; 5]> {
     Some(five)
 }
 
-/// Takes the serial number that is next.
+/// Reads a serial number of six bytes from the input; returns None if it has another length.
 fn volser_of(input: &mut Input<'_>) -> Option<[u8; 6]> {
     let bytes = input.bytes()?;
     let mut volser = [0u8; 6];
@@ -28,7 +28,8 @@ fn volser_of(input: &mut Input<'_>) -> Option<[u8; 6]> {
     Some(volser)
 }
 
-/// Takes the record that is next, to the end of a track.
+/// Reads a record from the input and appends it to a track; returns None if malformed, if it does
+/// not fit, or if memory is refused.
 fn take_record(track: &mut Track, input: &mut Input<'_>) -> Option<()> {
     let id = five_of(input)?;
     let key = input.bytes()?;
@@ -36,7 +37,8 @@ fn take_record(track: &mut Track, input: &mut Input<'_>) -> Option<()> {
     track.push(id, key, content).ok()
 }
 
-/// Takes the home address and the records that are next, for a track that has no record.
+/// Reads a home address and records from the input into a track that has no record; returns None if
+/// malformed or too long, or if memory is refused.
 fn take_track(track: &mut Track, input: &mut Input<'_>) -> Option<()> {
     track.set_home(five_of(input)?);
     for _ in 0..u64::MAX {
@@ -48,7 +50,8 @@ fn take_track(track: &mut Track, input: &mut Input<'_>) -> Option<()> {
     Some(())
 }
 
-/// Takes the tracks that are next, for a cylinder without records.
+/// Reads the tracks of a cylinder from the input into one without records; returns None if
+/// malformed or too long, or if memory is refused.
 fn take_cylinder(volume: &mut Volume, cylinder: usize, input: &mut Input<'_>) -> Option<()> {
     for head in 0..HEADS {
         if !input.flag()? {
@@ -62,7 +65,7 @@ fn take_cylinder(volume: &mut Volume, cylinder: usize, input: &mut Input<'_>) ->
     if input.flag()? { None } else { Some(()) }
 }
 
-/// Returns the volume that is next, if one is, and if there is memory for it.
+/// Reads a volume from the input; returns None if it is malformed, or if memory is refused.
 pub fn volume_of(alloc: Global, input: &mut Input<'_>) -> Option<Volume> {
     let volser = volser_of(input)?;
     let count = input.half()?;

@@ -9,7 +9,7 @@ use ckd_volume::{Cylinder, Volume};
 use saved_bytes::{put_bytes, put_number, put_one, put_zero};
 use std::alloc::AllocError;
 
-/// Appends a record.
+/// Appends the id, the key and the data of a record, each with its length.
 fn put_record(out: &mut Vec<u8>, id: &[u8], key: &[u8], content: &[u8]) -> Result<(), AllocError>
     ensures { OnOk result (out.new.items ≡ out.old.items
         ++ record_bytes (record { id = id.now; key = key.now; content = content.now })) }
@@ -19,7 +19,7 @@ fn put_record(out: &mut Vec<u8>, id: &[u8], key: &[u8], content: &[u8]) -> Resul
     put_bytes(out, content)
 }
 
-/// Appends the records of a track.
+/// Appends the records of a track, in order.
 fn put_records(out: &mut Vec<u8>, track: &Track) -> Result<(), AllocError>
     ensures { OnOk result (out.new.items ≡ out.old.items ++ each record_bytes track.now.records) }
 {
@@ -31,7 +31,7 @@ fn put_records(out: &mut Vec<u8>, track: &Track) -> Result<(), AllocError>
     put_zero(out)
 }
 
-/// Appends a track.
+/// Appends the home address and the records of a track.
 fn put_track(out: &mut Vec<u8>, track: &Track) -> Result<(), AllocError>
     ensures { OnOk result (out.new.items ≡ out.old.items ++ track_bytes track.now) }
 {
@@ -39,7 +39,7 @@ fn put_track(out: &mut Vec<u8>, track: &Track) -> Result<(), AllocError>
     put_records(out, track)
 }
 
-/// Appends the tracks of a cylinder.
+/// Appends the tracks of a cylinder, in order.
 fn put_cylinder(out: &mut Vec<u8>, cylinder: &Cylinder) -> Result<(), AllocError>
     ensures { OnOk result (out.new.items ≡ out.old.items ++ cylinder_bytes cylinder.now) }
 {
@@ -50,7 +50,7 @@ fn put_cylinder(out: &mut Vec<u8>, cylinder: &Cylinder) -> Result<(), AllocError
     put_zero(out)
 }
 
-/// Appends the cylinders of a volume.
+/// Appends the cylinders of a volume, in order.
 fn put_cylinders(out: &mut Vec<u8>, volume: &Volume) -> Result<(), AllocError>
     ensures { OnOk result (out.new.items ≡ out.old.items
         ++ each cylinder_bytes volume.now.cylinders) }
@@ -62,7 +62,8 @@ fn put_cylinders(out: &mut Vec<u8>, volume: &Volume) -> Result<(), AllocError>
     put_zero(out)
 }
 
-/// Appends the bytes of a volume, of which it can be restored.
+/// Appends the serial number, the number of cylinders and the cylinders of a volume, from which it
+/// can be restored.
 ///
 /// # Errors
 ///

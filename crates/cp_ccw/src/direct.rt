@@ -18,7 +18,8 @@ use s370_channel::Caw;
 use s370_store::{Page, Storage};
 use std::alloc::{AllocError, Global};
 
-/// Notes a page that lies whole in storage, with the frame in which it is.
+/// Appends a page, which has to be in a frame, and its frame to a list, if the page is whole in
+/// storage.
 fn place(dat: &Dat, page: Page, held: &mut Vec<PageInFrame>) -> Result<(), AllocError>
     requires { page.0 * 4096 + 4096 ≤ length (lent_bytes dat.now)
         → is_lent_page dat.now page.0 ≡ true }
@@ -37,7 +38,8 @@ fn place(dat: &Dat, page: Page, held: &mut Vec<PageInFrame>) -> Result<(), Alloc
     }
 }
 
-/// Returns the frames of these pages, of those that lie whole in storage.
+/// Returns these pages, each with the frame that it has to be in; those that are not whole in
+/// storage are left out.
 fn places_of(alloc: Global, dat: &Dat, pages: &[Page]) -> Result<Vec<PageInFrame>, AllocError>
     requires { (page : Page) → Contains pages.now page
         → page.0 * 4096 + 4096 ≤ length (lent_bytes dat.now)
@@ -54,8 +56,10 @@ fn places_of(alloc: Global, dat: &Dat, pages: &[Page]) -> Result<Vec<PageInFrame
     Ok(held)
 }
 
-/// Returns what has to be known to run a program again that no input can change, as
-/// [`cp_needs::analyze`] found it.
+/// Returns what has to be known to run a program again that no input can change: its address word,
+/// the size of storage, its words and lists, and its pages with their frames.
+///
+/// [`cp_needs::analyze`] finds words and pages; all of them are in frames.
 ///
 /// # Errors
 ///
@@ -85,7 +89,8 @@ pub fn know(
     })
 }
 
-/// Returns whether all that is known of a program is as it was, for this address word.
+/// Returns whether address word, size of storage, words and lists, and the frames of the areas are
+/// as they were cached.
 fn is_as_cached(known: &CachedPages, dat: &Dat, caw: Caw) -> bool
     ensures as_cached { result ≡ true → IsAsKnown known.now dat.now caw }
     ensures other { IsAsKnown known.now dat.now caw → result ≡ true }
@@ -109,9 +114,11 @@ fn is_as_cached(known: &CachedPages, dat: &Dat, caw: Caw) -> bool
     are_in_frames(dat, held)
 }
 
-/// Returns whether a program that was known may run for this address word where it is: yes exactly
-/// where all that is known of it is as it was: the address word, the words and lists, each on a
-/// page that is in a frame, and the frames of its areas.
+/// Returns whether a program may run again where it is, for this address word: whether all that is
+/// known of it is as it was.
+///
+/// That is the address word, the size of storage, the words and lists, each on a page that is in a
+/// frame, and the frames of its areas.
 pub fn is_valid(known: &CachedPages, dat: &Dat, caw: Caw) -> bool
     ensures as_cached { result ≡ true → IsAsKnown known.now dat.now caw }
     ensures other { IsAsKnown known.now dat.now caw → result ≡ true }

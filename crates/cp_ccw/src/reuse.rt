@@ -24,7 +24,7 @@ use s370_store::{Page, Storage};
 use s370_walk::{Device, Ending};
 use std::alloc::{AllocError, Global};
 
-/// Notes the page of an address, and its frame.
+/// Adds the page of an address and its frame to a list, if the page is in a frame.
 fn note_entry(dat: &Dat, said: Option<u32>, held: &mut Vec<PageInFrame>) -> Result<(), AllocError>
     ensures grows { OnOk result (Grows held.old.items held.new.items) }
     ensures noted { OnOk result (IsNoted dat.now held.new.items said) }
@@ -50,7 +50,7 @@ fn note_entry(dat: &Dat, said: Option<u32>, held: &mut Vec<PageInFrame>) -> Resu
     Ok(())
 }
 
-/// Notes the pages of the addresses of a list, and their frames.
+/// Adds the pages of these addresses and their frames to a list, of those that are in frames.
 fn note_list(dat: &Dat, list: &[Option<u32>], held: &mut Vec<PageInFrame>) -> Result<(), AllocError>
     ensures grows { OnOk result (Grows held.old.items held.new.items) }
     ensures noted { OnOk result (All (IsNoted dat.now held.new.items) list.now) }
@@ -66,7 +66,8 @@ fn note_list(dat: &Dat, list: &[Option<u32>], held: &mut Vec<PageInFrame>) -> Re
     Ok(())
 }
 
-/// Returns the pages that the lists of a program name, and their frames.
+/// Returns the pages that the lists of a program name, each with its frame; those in no frame are
+/// left out.
 fn frames_of(alloc: Global, dat: &Dat, nodes: &[Node]) -> Result<Vec<PageInFrame>, AllocError>
     ensures noted { IfOk result (λ held. AreNoted dat.now held.items (program_of nodes.now)) }
     ensures only { IfOk result (λ held. AreNotedOnly held.items (program_of nodes.now)) }
@@ -81,7 +82,7 @@ fn frames_of(alloc: Global, dat: &Dat, nodes: &[Node]) -> Result<Vec<PageInFrame
     Ok(held)
 }
 
-/// Returns whether a page is in the frame in which it was.
+/// Returns whether a page is in the same frame as it was.
 fn is_in_frame(dat: &Dat, held: &PageInFrame) -> bool
     ensures in_frame { result ≡ true → IsFrame dat.now held.now }
     ensures other { IsFrame dat.now held.now → result ≡ true }
@@ -97,7 +98,7 @@ fn is_in_frame(dat: &Dat, held: &PageInFrame) -> bool
     }
 }
 
-/// Returns whether each of these pages is in the frame in which it was.
+/// Returns whether each of these pages is in the same frame as it was.
 pub(crate) fn are_in_frames(dat: &Dat, held: &[PageInFrame]) -> bool
     ensures in_frames { result ≡ true → All (IsFrame dat.now) held.now }
     ensures other { All (IsFrame dat.now) held.now → result ≡ true }
@@ -110,7 +111,10 @@ pub(crate) fn are_in_frames(dat: &Dat, held: &[PageInFrame]) -> bool
     true
 }
 
-/// Copies a program that no input can change, as [`cp_needs::analyze`] found it, to be run again.
+/// Returns a copy with real addresses of a program that no input can change, and what has to be as
+/// it is to run the copy again.
+///
+/// [`cp_needs::analyze`] finds the words of such a program; its pages are in frames.
 ///
 /// # Errors
 ///
@@ -154,9 +158,11 @@ pub fn cache_program(
     })
 }
 
-/// Returns whether a program that was kept may run for this address word: yes exactly where all
-/// that it was copied from is as it was: the address word, the words and lists, each on a page that
-/// is in a frame, and the frames of its data.
+/// Returns whether a cached program may run again for this address word: whether all that it was
+/// copied from is as it was.
+///
+/// That is the address word, the size of storage, the words and lists, each on a page that is in a
+/// frame, and the frames of its data.
 pub fn reusable(kept: &CachedProgram, dat: &Dat, caw: Caw) -> bool
     ensures at_base { result ≡ true → IsAtBase kept.now dat.now caw }
     ensures other { IsAtBase kept.now dat.now caw → result ≡ true }
@@ -181,9 +187,10 @@ pub fn reusable(kept: &CachedProgram, dat: &Dat, caw: Caw) -> bool
     are_in_frames(dat, held)
 }
 
-/// Runs a cached program for which [`reusable`] says yes, or right after [`cache_program`]: it ends
-/// as the program does whose words are read as they are reached. It stops only if memory is
-/// refused.
+/// Runs the copy of a cached program over the frames of a user's storage, and returns how it ended.
+///
+/// [`reusable`] has to say yes, or it has just been cached: it ends as the program does whose words
+/// are read as they are reached. It stops only if memory is refused.
 ///
 /// # Errors
 ///

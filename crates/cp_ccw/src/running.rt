@@ -19,7 +19,7 @@ use s370_walk::{Device, Ending};
 /// Links past the places stand for addresses at which the guest has no word.
 const PAST: u32 = 0x8000_0000;
 
-/// Returns the guest's address of a place.
+/// Returns the guest's address of a place in a table, or of a link past all places.
 fn guest_address(table: &Table, at: u32) -> u32
     ensures { result ≡ guest_of table.now.places.items at }
 {
@@ -29,9 +29,10 @@ fn guest_address(table: &Table, at: u32) -> u32
     }
 }
 
-/// Runs a translated program over real storage: it ends as the guest's own program does over his
-/// storage, where its words stay as they were when they were copied. The address of the ending is
-/// the guest's.
+/// Runs a translated program over real storage, and returns how it ended, with the guest's address.
+///
+/// It ends as the guest's own program does over his storage, where its words stay as they were when
+/// they were copied.
 ///
 /// No page is ever absent; an error is reported only where the device is refused memory.
 ///
@@ -69,8 +70,8 @@ pub fn run_translated<'a, 'b, 'c, D: Device>(
     })
 }
 
-/// Runs a translated program over the frames of a user's storage, as [`run_translated`] does over
-/// real storage.
+/// Runs a translated program over the frames of a user's storage, and returns how it ended, as
+/// [`run_translated`] does over real storage.
 pub(crate) fn run_lent<'a, D: Device>(
     table: &Table,
     storage: &mut Dat<'a>,

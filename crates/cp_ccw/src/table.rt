@@ -22,7 +22,7 @@ pub struct Table {
     pub nodes: Vec<Node>,
 }
 
-/// Returns the real address of a user's byte, where its page is in a frame.
+/// Returns the real address of a user's byte, if its page is whole in his storage and in a frame.
 fn real_address(dat: &Dat, address: u32) -> Option<u32>
     ensures { result ≡ real_in dat.now address }
 {
@@ -36,7 +36,7 @@ fn real_address(dat: &Dat, address: u32) -> Option<u32>
     Some(frame.0 as u32 * 4096 + address % 4096)
 }
 
-/// Returns the real address for what an entry says.
+/// Returns the real address of a user's address, if there is one and its page is in a frame.
 fn real_entry(dat: &Dat, said: Option<u32>) -> Option<u32>
     ensures { result ≡ real_place (real_in dat.now) said }
 {
@@ -46,7 +46,7 @@ fn real_entry(dat: &Dat, said: Option<u32>) -> Option<u32>
     }
 }
 
-/// Gives the entries of a list real addresses.
+/// Replaces each address in a list by its real address, or by None if its page is in no frame.
 fn list_to_real(dat: &Dat, list: &mut Vec<Option<u32>>)
     ensures { AreReal (real_in dat.now) (length list.old.items) list.old.items list.new.items }
 {
@@ -57,7 +57,8 @@ fn list_to_real(dat: &Dat, list: &mut Vec<Option<u32>>)
     }
 }
 
-/// Gives the lists of all words real addresses.
+/// Replaces each address in the lists of these words by its real address, or by None if its page is
+/// in no frame.
 pub(crate) fn nodes_to_real(dat: &Dat, nodes: &mut Vec<Node>)
     ensures { AreRealNodes (real_in dat.now) nodes.old.items nodes.new.items }
 {
@@ -71,6 +72,7 @@ pub(crate) fn nodes_to_real(dat: &Dat, nodes: &mut Vec<Node>)
 impl WordForm for Table {
     ghost written = { λ t. table_written t.nodes.items };
 
+    /// Returns the word at the place `at` of the table, if there is one; storage is not looked at.
     fn fetch<S: Storage>(&self, _storage: &S, at: u32) -> Result<Option<Ccw>, Page> {
         match self.nodes.get(at as usize) {
             Some(node) => Ok(node.word),
@@ -78,6 +80,8 @@ impl WordForm for Table {
         }
     }
 
+    /// Returns the real address of block `number` of a word, if the list in the table has one;
+    /// storage is not looked at.
     fn block<S: Storage>(
         &self,
         _storage: &S,

@@ -29,7 +29,8 @@ abbrev pub ServeHadFrames : ℕ → ℕ → Equipped → FrameSupply → FrameSu
 ServeHadFrames device user e before after =
     HadFrames user e before after (λ old new. ServeHadRoom as_reached HadRoom old new device e)
 
--- the same for a line, if it is an IPL, but that page 0 may have come before
+-- for a line that is an IPL: but for page 0, which may have been paged in before, no page has
+-- moved, or each page has its place that the loading needs
 pub record LineHadFrames (typed : List ℕ) (user : ℕ) (e : Equipped)
     (before after : FrameSupply) : Type 0 where
   pub loading : is_ipl (requested typed e) ≡ true

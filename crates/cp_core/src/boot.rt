@@ -45,8 +45,8 @@ impl Model for Sizes {
 }
 
 impl Sizes {
-    /// Returns the sizes of this many frames of real storage and slots for pages, if there are no
-    /// more than 4096 and 65,536.
+    /// Returns the sizes of a system with this many frames of real storage and slots for pages;
+    /// None if they are more than 4096 frames or 65,536 slots.
     pub fn new(frames: u32, slots: u32) -> Option<Sizes>
         ensures some { IsSome result ↔ ((frames ≤ 4096) × (slots ≤ 65536)) }
         ensures value { IfSome result (λ sizes. sizes ≡ record { frames = frames; slots = slots }) }
@@ -63,7 +63,7 @@ impl Sizes {
         })
     }
 
-    /// Returns how many frames.
+    /// Returns how many frames of real storage there are.
     pub fn frames(self) -> u16
         ensures value { result ≡ self.frames }
         ensures most { result ≤ 4096 }
@@ -71,7 +71,7 @@ impl Sizes {
         self.frames
     }
 
-    /// Returns how many slots.
+    /// Returns how many slots for pages there are.
     pub fn slots(self) -> u32
         ensures value { result ≡ self.slots }
         ensures most { result ≤ 65536 }
@@ -167,7 +167,7 @@ impl System {
     }
 }
 
-/// Returns why no system is booted whose devices are not attached.
+/// Returns the error of a boot for an error of attaching a user's devices.
 fn boot_error(error: AttachError) -> BootError
     ensures { result ≡ boot_error error }
 {
@@ -177,7 +177,7 @@ fn boot_error(error: AttachError) -> BootError
     }
 }
 
-/// Returns where the devices of a user are.
+/// Returns the addresses of a user's console, reader, punch and printer, as his machine has them.
 fn places_in(devices: UserDevices) -> Places
     ensures { result ≡ places_in devices }
 {
@@ -189,7 +189,7 @@ fn places_in(devices: UserDevices) -> Places
     }
 }
 
-/// Returns a machine for each user, with his minidisks on these volumes.
+/// Returns a new machine for each user, with his devices, and his minidisks on these volumes.
 fn machines_of(
     alloc: Global,
     volumes: &[Volume],
@@ -222,7 +222,7 @@ fn machines_of(
     Ok(machines)
 }
 
-/// Returns how many pages of storage each user has.
+/// Returns a new list of how many pages of storage each user has.
 fn pages_of(alloc: Global, users: &[User]) -> Result<Vec<u32>, AllocError>
     ensures pages { IfOk result (λ pages. pages.items ≡ map (λ user. user.pages) users.now) }
     ensures few { IfOk result (λ pages. All (λ count. count ≤ 1024) pages.items) }

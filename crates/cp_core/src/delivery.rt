@@ -20,7 +20,7 @@ pub(crate) enum Parcel {
 impl Parcel {
     ghost use Rattle.cp_core.specs.Parcels.{note_of};
 
-    /// Returns how a delivery is reported.
+    /// Returns what a reply reports of the parcel: the number of its deck, or its message.
     pub(crate) fn note(&self) -> Delivery
         ensures { result ≡ note_of self.now }
     {

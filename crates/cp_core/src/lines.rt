@@ -34,7 +34,7 @@ use std::alloc::AllocError;
 use unit_record::{Card, Target};
 use user_names::UserNo;
 
-/// Returns, for each of these users, whether he is logged on.
+/// Returns a list of flags, one for each of these users: whether he is logged on.
 fn logged_on_among(users: &[UserMachine]) -> ArrayVec<bool, 64>
     requires { length users.now ≤ 64 }
     ensures { result.items ≡ map (λ user. is_logged_on user.parts.mode) users.now }
@@ -47,7 +47,8 @@ fn logged_on_among(users: &[UserMachine]) -> ArrayVec<bool, 64>
 }
 
 impl System {
-    /// Types a line for a user, and does what follows from it for files and for other users.
+    /// Does what a line asks that a user typed, numbers the files that it closed, delivers what it
+    /// sends to another user, and returns the reply.
     pub(crate) fn line(&mut self, user: usize, typed: &[u8]) -> Result<Reply, AllocError>
         requires { user < length self.old.users }
         ensures step { IfOk result
@@ -82,14 +83,15 @@ impl System {
         }
     }
 
-    /// Returns, for each user, whether he is logged on.
+    /// Returns a list of flags, one for each user: whether he is logged on.
     fn logged_on(&self) -> ArrayVec<bool, 64>
         ensures { result.items ≡ logged_on_of self.now.users }
     {
         logged_on_among(&self.users)
     }
 
-    /// Types a line of a user, in his world.
+    /// Does what a line asks that a user typed, and returns its outcome; files are not numbered and
+    /// nothing is delivered yet.
     fn type_line(&mut self, user: usize, typed: &[u8]) -> Result<LineOutcome, LineError>
         requires { user < length self.old.users }
         ensures typed { HasTyped (world_of self.old user) user typed.now (user_at self.old user)
@@ -117,8 +119,8 @@ impl System {
         self.with_user(user, &line)
     }
 
-    /// Does what follows from a line: numbers each file that it closed, and delivers the deck or
-    /// the message that is for a user.
+    /// Numbers each file that a line closed, delivers the deck or the message that it sends to a
+    /// user, and returns what was delivered to whom, if anything was.
     fn follow(
         &mut self,
         user: usize,
@@ -154,7 +156,8 @@ impl System {
         }
     }
 
-    /// Numbers each of these files of a user, that of the punch first.
+    /// Appends these closed files of a user to the list of files, that of the punch first, which
+    /// numbers them.
     fn note_closed(&mut self, user: usize, closed: ClosedFiles) -> Result<(), AllocError>
         requires { user < length self.old.users }
         ensures ok { OnOk result (self.new
@@ -173,7 +176,7 @@ impl System {
     }
 
     /// Appends the punch's closed file at this place to its receiver's queue, as a deck with this
-    /// number, if it is for a user; the punch keeps it too.
+    /// number, if it is for a user; returns what was delivered. The punch keeps it too.
     fn deliver_punched(
         &mut self,
         user: usize,
@@ -203,7 +206,8 @@ impl System {
         self.deliver_to(to, Parcel::File(from, index, number))
     }
 
-    /// Returns the user for whom the punch's closed file of this index is, if there is one.
+    /// Returns the number of the user for whom the punch's closed file of this index is, if it is
+    /// for one.
     fn receiver_of(&self, user: usize, index: usize) -> Option<u8>
         requires { user < length self.now.users }
         ensures { result ≡ receiver_of (slice_get (user_at self.now user).devices.punched index) }
@@ -217,7 +221,8 @@ impl System {
         }
     }
 
-    /// Delivers a parcel to the user of this number, if there is one.
+    /// Delivers a parcel to the user of this number, if there is one, and returns what was
+    /// delivered.
     fn deliver_to(&mut self, to: u8, parcel: Parcel) -> Result<Option<Delivered>, AllocError>
         requires { IsThere self.old parcel }
         ensures delivered { IfOk result
@@ -241,7 +246,8 @@ impl System {
         }))
     }
 
-    /// Gives a user a deck of these cards from the operator; no cards are no deck.
+    /// Numbers a deck of these cards of the operator, delivers it to a user's reader, and returns
+    /// the reply; without cards it does nothing.
     pub(crate) fn deck(&mut self, user: usize, cards: &[Card]) -> Result<Reply, AllocError>
         requires { user < length self.old.users }
         ensures step { IfOk result
@@ -268,7 +274,8 @@ impl System {
         })
     }
 
-    /// Gives a user a deck of these cards, with this number, which is the next.
+    /// Numbers a copy of these cards as a deck of the operator, and appends it to a user's reader's
+    /// queue; `number` has to be the next.
     fn give(&mut self, user: usize, number: u64, cards: &[Card]) -> Result<Delivered, AllocError>
         requires user { user < length self.old.users }
         requires number { number ≡ next_file self.old.files }

@@ -14,7 +14,7 @@ impl System {
     ghost use Rattle.std.specs.Borrow.{sem};
     ghost use Rattle.cp_core.specs.Loan.{LendsFrame};
 
-    /// Returns whether a user's storage has this page.
+    /// Returns whether a user's storage has this page; false if there is no such user.
     fn has_page(&self, user: UserNo, page: Page) -> bool
         ensures inside { result ≡ nat_lt (page.0 * 4096)
             (length (machine_at self.now user).core.processor.bytes) }
@@ -26,8 +26,10 @@ impl System {
         u64::from(page.0) * u64::from(PAGE_SIZE) < u64::from(self.frames.size(user))
     }
 
-    /// Returns the frame that holds a page of a user's storage, and no other page; `None` past
-    /// storage too. A page that is in none, and in no slot, is all zero. This takes no memory.
+    /// Returns the frame that a page of a user's storage is in, if it is in one; None past his
+    /// storage, or if there is no such user.
+    ///
+    /// A page that is in no frame and in no slot is all zero. This takes no memory.
     pub fn frame_of(&self, user: UserNo, page: Page) -> Option<FrameNo>
         ensures frame { number_of result ≡ frame_at self.now user page.0 }
         ensures apart { IsSome result → slot_at self.now user page.0 ≡ None }
@@ -45,8 +47,10 @@ impl System {
         self.frames.frame_of(user, page)
     }
 
-    /// Returns the slot that holds a page of a user's storage, and no other page; `None` past
-    /// storage too. A page that is in none, and in no frame, is all zero. This takes no memory.
+    /// Returns the slot that a page of a user's storage is in, if it is in one; None past his
+    /// storage, or if there is no such user.
+    ///
+    /// A page that is in no slot and in no frame is all zero. This takes no memory.
     pub fn slot_of(&self, user: UserNo, page: Page) -> Option<usize>
         ensures slot { result ≡ slot_at self.now user page.0 }
         ensures apart { IsSome result → frame_at self.now user page.0 ≡ None }
@@ -64,8 +68,10 @@ impl System {
         self.frames.slot_of(user, page)
     }
 
-    /// Borrows a frame's bytes, `None` past the frames: they are the content of the page that is in
-    /// the frame. What is written there is its content from then on. This takes no memory.
+    /// Borrows the bytes of a frame for reading and writing; None if there is no such frame.
+    ///
+    /// They are the content of the page that is in the frame, and so is what is written there. This
+    /// takes no memory.
     pub fn frame_mut(&mut self, frame: FrameNo) -> Option<&mut [u8; FRAME_SIZE]>
         ensures* writes_back { sem 𝓛 (LendsFrame self.entry frame.0 result) }
         ensures content { IfSome result

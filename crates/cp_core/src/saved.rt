@@ -25,7 +25,8 @@ use s370_num::StorageKey;
 use saved_bytes::{Input, put_flag, put_number, put_one, put_zero};
 use std::alloc::{AllocError, Global};
 
-/// Appends minidisks.
+/// Appends the addresses, volumes, extents, arms and senses of these minidisks, but not their
+/// cylinders.
 fn put_minidisks(out: &mut Vec<u8>, minidisks: &[SharedDisk]) -> Result<(), AllocError>
     ensures { OnOk result (out.new.items ≡ out.old.items ++ each disk_bytes minidisks.now) }
 {
@@ -36,7 +37,8 @@ fn put_minidisks(out: &mut Vec<u8>, minidisks: &[SharedDisk]) -> Result<(), Allo
     put_zero(out)
 }
 
-/// Restores the arm and the sense of each of these minidisks.
+/// Reads the arm and the sense of each of these minidisks from the input and sets them; returns
+/// None if malformed, or if there are more or fewer.
 fn restore_minidisks(minidisks: &mut [SharedDisk], input: &mut Input<'_>) -> Option<()>
     ensures { placements_of minidisks.new ≡ placements_of minidisks.old }
 {
@@ -49,7 +51,7 @@ fn restore_minidisks(minidisks: &mut [SharedDisk], input: &mut Input<'_>) -> Opt
     if input.flag()? { None } else { Some(()) }
 }
 
-/// Appends storage keys.
+/// Appends these storage keys, in order.
 #[tactic(auto, using(saved_bytes::proofs::Codes::each_on))]
 fn put_keys(out: &mut Vec<u8>, keys: &[StorageKey]) -> Result<(), AllocError>
     ensures { OnOk result (out.new.items ≡ out.old.items ++ each number keys.now) }
@@ -61,7 +63,7 @@ fn put_keys(out: &mut Vec<u8>, keys: &[StorageKey]) -> Result<(), AllocError>
     put_zero(out)
 }
 
-/// Reads a storage key.
+/// Reads a storage key from the input; returns None if it is none.
 fn key_of(input: &mut Input<'_>) -> Option<StorageKey> {
     let key = input.small()?;
     if key < 32 {
@@ -71,7 +73,8 @@ fn key_of(input: &mut Input<'_>) -> Option<StorageKey> {
     }
 }
 
-/// Restores each of these storage keys.
+/// Reads a key for each of these storage keys from the input and sets it; returns None if
+/// malformed, or if there are more or fewer.
 fn restore_keys(keys: &mut [StorageKey], input: &mut Input<'_>) -> Option<()>
     ensures { length keys.new ≡ length keys.old }
 {
@@ -85,7 +88,8 @@ fn restore_keys(keys: &mut [StorageKey], input: &mut Input<'_>) -> Option<()>
 }
 
 impl UserMachine {
-    /// Appends the machine, the devices and their files.
+    /// Appends the states of the machine and of its devices, and the user's files, which are in
+    /// `queues`.
     fn put_devices(&self, queues: &Queues, out: &mut Vec<u8>) -> Result<(), AllocError>
         ensures { OnOk result (out.new.items
             ≡ out.old.items ++ devices_part_bytes (saved_user queues.now self.now)) }
@@ -95,7 +99,7 @@ impl UserMachine {
         queues.save(self.devices.user(), out)
     }
 
-    /// Appends the minidisks and the storage keys.
+    /// Appends the minidisks, without their cylinders, and the storage keys.
     fn put_lists(&self, out: &mut Vec<u8>) -> Result<(), AllocError>
         ensures { OnOk result (out.new.items
             ≡ out.old.items ++ (each disk_bytes self.now.minidisks ++ each number self.now.keys)) }
@@ -104,7 +108,8 @@ impl UserMachine {
         put_keys(out, &self.keys)
     }
 
-    /// Appends all but the storage, the cylinders, and the programs that are kept.
+    /// Appends a user's machine, devices, files, minidisks and storage keys, but neither storage,
+    /// nor cylinders, nor cached programs.
     fn save(&self, queues: &Queues, out: &mut Vec<u8>) -> Result<(), AllocError>
         ensures { OnOk result (out.new.items ≡ out.old.items ++ seat_bytes queues.now self.now) }
     {
@@ -120,8 +125,11 @@ impl UserMachine {
         self.put_lists(out)
     }
 
-    /// Restores a machine that was never switched on. Its user, the places of its minidisks and the
-    /// number of its keys stay the same, whatever the bytes are.
+    /// Reads a user's machine, devices, files, minidisks and keys from the input into a machine
+    /// that was never switched on; returns None if malformed, or if memory is refused.
+    ///
+    /// Its user, the places of its minidisks and the number of its keys stay the same, whatever the
+    /// bytes are.
     fn restore(&mut self, alloc: Global, queues: &mut Queues, input: &mut Input<'_>) -> Option<()>
         ensures base { base_of self.new ≡ base_of self.old }
         ensures queues { length queues.new.users ≡ length queues.old.users }
@@ -134,7 +142,7 @@ impl UserMachine {
     }
 }
 
-/// Appends the users.
+/// Appends these users' machines, devices, files, minidisks and storage keys, in order.
 fn put_users(out: &mut Vec<u8>, users: &[UserMachine], queues: &Queues) -> Result<(), AllocError>
     ensures { OnOk result (out.new.items ≡ out.old.items
         ++ each (seat_bytes queues.now) users.now) }
@@ -146,7 +154,8 @@ fn put_users(out: &mut Vec<u8>, users: &[UserMachine], queues: &Queues) -> Resul
     put_zero(out)
 }
 
-/// Restores each of these users.
+/// Reads each of these users' machines, devices, files, minidisks and keys from the input; returns
+/// None if malformed, if there are more or fewer, or if memory is refused.
 fn restore_users(
     alloc: Global,
     users: &mut [UserMachine],
@@ -165,7 +174,7 @@ fn restore_users(
     if input.flag()? { None } else { Some(()) }
 }
 
-/// Appends the notes of files.
+/// Appends the user, kind and place of each of these files, in order.
 fn put_notes(out: &mut Vec<u8>, notes: &[FileNote]) -> Result<(), AllocError>
     ensures { OnOk result (out.new.items ≡ out.old.items ++ each note_bytes notes.now) }
 {
@@ -176,7 +185,8 @@ fn put_notes(out: &mut Vec<u8>, notes: &[FileNote]) -> Result<(), AllocError>
     put_zero(out)
 }
 
-/// Reads a list of notes.
+/// Reads a list of the users, kinds and places of files from the input; returns None if malformed,
+/// or if memory is refused.
 fn notes_of(alloc: Global, input: &mut Input<'_>) -> Option<Vec<FileNote>> {
     let mut notes = Vec::new(alloc);
     for _ in 0..u64::MAX {
@@ -188,7 +198,7 @@ fn notes_of(alloc: Global, input: &mut Input<'_>) -> Option<Vec<FileNote>> {
     Some(notes)
 }
 
-/// Appends the volumes.
+/// Appends these volumes with their cylinders, in order.
 fn put_volumes(out: &mut Vec<u8>, volumes: &Volumes) -> Result<(), AllocError>
     requires { AreThere volumes.now }
     ensures { OnOk result (out.new.items ≡ out.old.items ++ each volume_bytes volumes.now) }
@@ -203,7 +213,7 @@ fn put_volumes(out: &mut Vec<u8>, volumes: &Volumes) -> Result<(), AllocError>
     put_zero(out)
 }
 
-/// Reads a list of volumes.
+/// Reads a list of volumes from the input; returns None if malformed, or if memory is refused.
 fn volumes_of(alloc: Global, input: &mut Input<'_>) -> Option<Vec<Volume>> {
     let mut volumes = Vec::new(alloc);
     for _ in 0..u64::MAX {
@@ -215,7 +225,8 @@ fn volumes_of(alloc: Global, input: &mut Input<'_>) -> Option<Vec<Volume>> {
     Some(volumes)
 }
 
-/// Returns whether a volume has the size and the serial number of another. There may be no other.
+/// Returns whether a volume has the size and the serial number of another; false if there is no
+/// other.
 fn is_alike(volume: &Volume, other: Option<&Volume>) -> bool
     ensures { result ≡ true
         → length volume.now.cylinders
@@ -242,7 +253,8 @@ fn are_alike(volumes: &[Volume], old: &Volumes) -> bool
     true
 }
 
-/// Reads volumes that have the sizes and the serial numbers of these.
+/// Reads volumes from the input; returns None if their sizes and serial numbers are not those of
+/// `old`, or if memory is refused.
 fn restored_volumes(alloc: Global, old: &Volumes, input: &mut Input<'_>) -> Option<Volumes>
     ensures there { IfSome result (λ made. AreThere made) }
     ensures large { IfSome result (λ made. AreAsLarge old.now made) }
@@ -258,7 +270,8 @@ fn restored_volumes(alloc: Global, old: &Volumes, input: &mut Input<'_>) -> Opti
 }
 
 impl System {
-    /// Appends the bytes of its state.
+    /// Appends the state of the system: volumes, users, storage, notes of files and whether it is
+    /// spent.
     ///
     /// The directory and the programs that are kept are not in them.
     ///
@@ -287,8 +300,8 @@ impl System {
         put_flag(out, *is_spent)
     }
 
-    /// Restores the state that the next bytes are, in a system to which no event was applied. It is
-    /// None if they are no state of such a system, or if there is no memory for it.
+    /// Restores from the input the state of a system to which no event was applied, and returns
+    /// that system; None if it has no state of such a system, or if memory is refused.
     ///
     /// Nothing is proved of what the bytes hold: save the system again, and compare.
     pub fn restore(self, input: &mut Input<'_>) -> Option<System>

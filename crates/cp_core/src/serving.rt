@@ -28,7 +28,8 @@ use s370_num::DevAddr;
 use s370_store::{Storage, UnitSupply};
 use std::alloc::Global;
 
-/// Serves a device whose program runs as a whole or not at all.
+/// Runs the channel program that was started on a device, as a whole or not at all, and makes its
+/// status pending; returns whether there was one.
 pub(crate) fn serve_supplied<S: Storage, C: Channels<S>>(
     devices: &mut Devices,
     queues: &mut Queues,
@@ -100,8 +101,8 @@ pub(crate) fn serve_supplied<S: Storage, C: Channels<S>>(
     }
 }
 
-/// Types a line of a user whose pages are brought as it needs them. It holds what it brings until
-/// it ends.
+/// Does what a line asks that a user typed, with the pages that this needs paged in, unpins all
+/// frames, and returns the line's outcome.
 pub(crate) fn type_supplied<W: UserDirectory>(
     alloc: Global,
     devices: &mut Devices,

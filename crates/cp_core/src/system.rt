@@ -108,15 +108,16 @@ impl System {
         *is_spent
     }
 
-    /// Returns how many pages have come into a frame since boot.
+    /// Returns how many pages have been paged in since boot.
     pub fn page_ins(&self) -> u64
         ensures { result ≡ self.now.supply.page_ins }
     {
         self.frames.page_ins()
     }
 
-    /// Returns how many programs of devices were run again as they were kept, since boot. It stays
-    /// at its greatest value. Nothing is said of the work that was saved.
+    /// Returns how many times a cached program of a device was run again since boot.
+    ///
+    /// It stays at its greatest value. Nothing is said of the work that was saved.
     pub fn reuses(&self) -> u64
         ensures { result ≡ reuses_in self.now.kept }
     {
@@ -138,15 +139,16 @@ impl System {
         self.volumes.count()
     }
 
-    /// Returns the volume of this index, in the order of the boot, as users have written to their
-    /// minidisks on it.
+    /// Returns the volume of this index, if there is one, in the order of the boot, as users have
+    /// written to it.
     pub fn volume(&self, index: usize) -> Option<&Volume>
         ensures { option_copied result ≡ slice_get self.now.volumes index }
     {
         self.volumes.volume(index)
     }
 
-    /// Returns the number of the next file. A list ends before numbers do, so none is used again.
+    /// Returns the number that the next file gets. A list ends before numbers do, so none is used
+    /// again.
     pub(crate) fn next_file(&self) -> u64
         ensures value { result ≡ next_file self.now.files }
         ensures fits { result ≤ 2 ^ 63 }
@@ -155,7 +157,7 @@ impl System {
         self.files.len() as u64 + 1
     }
 
-    /// Ends the system for lack of memory.
+    /// Marks the system as spent for lack of memory, and returns that error.
     fn spend(&mut self) -> CpError
         ensures error { result ≡ CpError.Memory }
         ensures spent { self.new ≡ record self.old { is_spent = true } }
@@ -164,7 +166,8 @@ impl System {
         CpError::Memory
     }
 
-    /// Returns the place of a user's machine, in a system that applies events.
+    /// Returns the index of a user's machine; an error if the system is spent, or there is no such
+    /// user.
     fn place_of(&self, user: UserNo) -> Result<usize, CpError>
         ensures place { IfOk result (λ place. place ≡ user) }
         ensures inside { IsOk result → user < length self.now.users }
@@ -186,7 +189,7 @@ impl System {
         Ok(place)
     }
 
-    /// Returns whether the directory gives a user a device of this address.
+    /// Returns whether the directory gives a user a device or a minidisk of this address.
     fn states_device(&self, user: usize, device: DevAddr) -> bool
         ensures { result ≡ states_device device (slice_get self.now.directory user) }
     {
@@ -196,7 +199,7 @@ impl System {
         }
     }
 
-    /// Returns the number of a user.
+    /// Returns the user of this index.
     pub(crate) fn number_of(&self, user: usize) -> UserNo
         requires { user < length self.now.users }
         ensures { result ≡ user }
@@ -206,7 +209,7 @@ impl System {
         UserNo::new(user as u8)
     }
 
-    /// Returns the devices of a user, with their files.
+    /// Returns the devices of the user of this index, with their files.
     pub(crate) fn devices_of(&self, user: usize) -> SeenDevices<'_>
         requires { user < length self.now.users }
         ensures { result ≡ (user_at self.now user).devices }
@@ -214,7 +217,7 @@ impl System {
         SeenDevices::new(&self.users[user].devices, &self.queues)
     }
 
-    /// Returns how many lines the console of a user has printed.
+    /// Returns how many lines the console of the user of this index has printed.
     pub(crate) fn printed_by(&self, user: usize) -> usize
         requires { user < length self.now.users }
         ensures { result ≡ length (machine_at self.now user).output }
@@ -222,7 +225,8 @@ impl System {
         self.users[user].machine.printed()
     }
 
-    /// Does an operation with a user's machine, whose storage is borrowed from the frames.
+    /// Does an operation with the machine of the user of this index, whose storage is borrowed from
+    /// the frames, and returns its answer.
     #[inline(always)]
     pub(crate) fn with_user<W: UserOp>(&mut self, user: usize, work: &W) -> W::Answer
         requires { user < length self.old.users }
@@ -268,7 +272,8 @@ impl System {
         )
     }
 
-    /// Delivers a parcel to a user. If memory is refused, each user's machine stays.
+    /// Delivers a deck to the reader's queue of a user, or a message to the lines that his console
+    /// has printed. If memory is refused, each user's machine stays.
     pub(crate) fn deliver(&mut self, to: usize, parcel: Parcel) -> Result<(), AllocError>
         requires to { to < length self.old.users }
         requires there { IsThere self.old parcel }
@@ -282,7 +287,8 @@ impl System {
         self.users[to].receive(&mut self.queues, parcel)
     }
 
-    /// Gives a file of a user the next number.
+    /// Appends a file of this user and this kind to the list of files, by which it has the next
+    /// number.
     pub(crate) fn note(&mut self, user: UserNo, kind: FileKind) -> Result<(), AllocError>
         ensures ok { OnOk result (self.new
             ≡ record self.old {
@@ -295,8 +301,12 @@ impl System {
         Ok(())
     }
 
-    /// Applies an event: to the user whom it names, and to whom it delivers something, it is what
-    /// happens to a machine of his own; every other user's machine stays.
+    /// Applies an event to the machine of the user whom it names, delivers what it sends to another
+    /// user, and returns the reply; an error if there is no such user or device, or the system is
+    /// spent.
+    ///
+    /// To the user whom it names, and to whom it delivers something, it is what happens to a
+    /// machine of his own; every other user's machine stays.
     ///
     /// A system for which memory was refused is spent: from then on it answers nothing else.
     ///
@@ -374,8 +384,10 @@ impl System {
         }
     }
 
-    /// Applies an event that is no run. It is out of line, so that a run need not make room for
-    /// what the others say.
+    /// Applies an event that is no run, and returns the reply; if memory is refused, it marks the
+    /// system as spent.
+    ///
+    /// It is out of line, so that a run need not make room for what the others say.
     #[inline(never)]
     fn apply_apart(&mut self, event: Event<'_>) -> Result<Reply, CpError>
         requires { IsNoRun event }
@@ -445,7 +457,8 @@ impl System {
         }
     }
 
-    /// Lets a user's machine run. This takes no memory.
+    /// Lets a user's machine run for at most so many units, and returns the reply. This takes no
+    /// memory.
     #[inline(always)]
     fn run(&mut self, user: usize, units: u32) -> Reply
         requires { user < length self.old.users }
@@ -468,7 +481,7 @@ impl System {
         }
     }
 
-    /// Steps the interval timer of a user's machine. This takes no memory.
+    /// Steps the interval timer of a user's machine, and returns the reply. This takes no memory.
     fn tick(&mut self, user: usize) -> Reply
         requires { user < length self.old.users }
         ensures step { IsReplied self.old
@@ -486,7 +499,8 @@ impl System {
         }
     }
 
-    /// Serves a device of a user's machine.
+    /// Runs the channel program that was started on a device of a user, if there is one, and
+    /// returns the reply.
     fn serve(&mut self, user: usize, device: DevAddr) -> Result<Reply, AllocError>
         requires { user < length self.old.users }
         ensures step { IfOk result
@@ -521,7 +535,7 @@ impl System {
     }
 }
 
-/// Returns how often programs of these users' devices were run again.
+/// Returns the sum of how often cached programs of these users' devices were run again.
 fn reuses_of(users: &[UserMachine]) -> u64
     ensures { result ≡ reuses_in (map (λ user. user.reuse) users.now) }
 {

@@ -94,7 +94,8 @@ impl UserMachine {
         }
     }
 
-    /// Receives a parcel for the user. If memory is refused, his machine stays.
+    /// Appends a deck of a parcel to the user's reader's queue, or its message to the lines that
+    /// his console has printed. If memory is refused, his machine stays.
     pub(crate) fn receive(&mut self, queues: &mut Queues, parcel: Parcel) -> Result<(), AllocError>
         requires owner { self.old.devices.user < length queues.old.users }
         requires there { IsThereIn queues.old parcel }
@@ -125,7 +126,7 @@ impl UserMachine {
     }
 }
 
-/// Returns the address of each of these minidisks.
+/// Returns a new list of the addresses of these minidisks.
 fn addresses_of(alloc: Global, minidisks: &[SharedDisk]) -> Result<Vec<DevAddr>, AllocError>
     ensures { IfOk result (λ made. made.items ≡ map (λ disk. disk.address) minidisks.now) }
 {

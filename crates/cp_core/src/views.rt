@@ -21,7 +21,8 @@ use s370_subchannels::Subchannel;
 use user_names::UserNo;
 
 impl System {
-    /// Returns a user's machine with its devices but for the bytes of its storage.
+    /// Returns a user's machine with its devices, but without the bytes of its storage; None if
+    /// there is no such user.
     pub(crate) fn user(&self, user: UserNo) -> Option<&UserMachine>
         ensures some { IsSome result ↔ (user < length self.now.users) }
         ensures user { IfSome result
@@ -36,7 +37,7 @@ impl System {
         Some(&self.users[place])
     }
 
-    /// Returns the general registers.
+    /// Returns the general registers of a user's machine; None if there is no such user.
     pub fn registers(&self, user: UserNo) -> Option<[u32; 16]>
         ensures some { IsSome result ↔ (user < length self.now.users) }
         ensures value { IfSome result
@@ -48,7 +49,7 @@ impl System {
         }
     }
 
-    /// Returns the control registers.
+    /// Returns the control registers of a user's machine; None if there is no such user.
     pub fn control(&self, user: UserNo) -> Option<[u32; 16]>
         ensures some { IsSome result ↔ (user < length self.now.users) }
         ensures value { IfSome result
@@ -60,7 +61,7 @@ impl System {
         }
     }
 
-    /// Returns the PSW.
+    /// Returns the PSW of a user's machine; None if there is no such user.
     pub fn psw(&self, user: UserNo) -> Option<Psw>
         ensures some { IsSome result ↔ (user < length self.now.users) }
         ensures value { IfSome result
@@ -72,7 +73,7 @@ impl System {
         }
     }
 
-    /// Returns whether the machine is on, and whether it runs.
+    /// Returns whether a user's machine is on, and whether it runs; None if there is no such user.
     pub fn mode(&self, user: UserNo) -> Option<Mode>
         ensures some { IsSome result ↔ (user < length self.now.users) }
         ensures value { IfSome result (λ mode. mode ≡ (machine_at self.now user).mode) }
@@ -83,7 +84,8 @@ impl System {
         }
     }
 
-    /// Returns the external conditions that are pending.
+    /// Returns the external conditions that are pending for a user's machine; None if there is no
+    /// such user.
     pub fn pending(&self, user: UserNo) -> Option<Pending>
         ensures some { IsSome result ↔ (user < length self.now.users) }
         ensures value { IfSome result
@@ -95,8 +97,11 @@ impl System {
         }
     }
 
-    /// Returns the subchannels of the devices, in the order of their addresses: each with the state
-    /// of its device, and the program that it was given or the status that is pending.
+    /// Returns the subchannels of a user's devices, in the order of their addresses; None if there
+    /// is no such user.
+    ///
+    /// Each has the state of its device, and the program that it was given or the status that is
+    /// pending.
     pub fn subchannels(&self, user: UserNo) -> Option<&[Subchannel]>
         ensures some { IsSome result ↔ (user < length self.now.users) }
         ensures value { IfSome result
@@ -109,7 +114,8 @@ impl System {
         }
     }
 
-    /// Returns the key of a block of 2048 bytes, `None` past storage too.
+    /// Returns the storage key of a block of 2048 bytes of a user; None past his storage, or if
+    /// there is no such user.
     pub fn key(&self, user: UserNo, block: u32) -> Option<StorageKey>
         ensures { result ≡ slice_get (machine_at self.now user).core.processor.keys block }
     {
@@ -119,7 +125,7 @@ impl System {
         }
     }
 
-    /// Returns a byte of storage, `None` past storage too.
+    /// Returns a byte of a user's storage; None past it, or if there is no such user.
     pub fn storage(&self, user: UserNo, address: u32) -> Option<u8>
         ensures { result ≡ slice_get (machine_at self.now user).core.processor.bytes address }
     {
@@ -129,7 +135,7 @@ impl System {
         self.frames.byte(user, address)
     }
 
-    /// Returns how many lines the console has printed.
+    /// Returns how many lines a user's console has printed; None if there is no such user.
     pub fn printed(&self, user: UserNo) -> Option<usize>
         ensures some { IsSome result ↔ (user < length self.now.users) }
         ensures value { IfSome result (λ lines. lines ≡ length (machine_at self.now user).output) }
@@ -140,8 +146,10 @@ impl System {
         }
     }
 
-    /// Returns the text of a line that the console has printed; `None` past the last line too. The
-    /// line that is not finished and those that wait are in [`System::spool`]'s console.
+    /// Returns the text of a line that a user's console has printed; None past the last line, or if
+    /// there is no such user.
+    ///
+    /// The line that is not finished and those that wait are in [`System::spool`]'s console.
     pub fn console_output(&self, user: UserNo, line: usize) -> Option<&[u8]>
         ensures { option_map (λ text. text.now) result
             ≡ slice_get (machine_at self.now user).output line }
@@ -152,8 +160,11 @@ impl System {
         }
     }
 
-    /// Returns the console, reader, punch and printer: the reader's decks with their numbers, the
-    /// open files of punch and printer, and those that they have closed, each with its target.
+    /// Returns a user's console, reader, punch and printer with their files; None if there is no
+    /// such user.
+    ///
+    /// That is the reader's decks with their numbers, the open files of punch and printer, and
+    /// those that they have closed, each with its target.
     pub fn spool(&self, user: UserNo) -> Option<SeenDevices<'_>>
         ensures some { IsSome result ↔ (user < length self.now.users) }
         ensures value { IfSome result (λ devices. devices ≡ (user_at self.now user).devices) }
@@ -165,8 +176,8 @@ impl System {
         Some(self.devices_of(place))
     }
 
-    /// Returns the disk at this address: its cylinders, its arm and its sense; `None` where the
-    /// user has none there.
+    /// Returns a user's minidisk at this address, with its cylinders, its arm and its sense; None
+    /// if he has none there, or if there is no such user.
     pub fn minidisk(&self, user: UserNo, device: DevAddr) -> Option<SeenDisk<'_>>
         ensures { option_map seen_disk result
             ≡ option_map (λ disk. disk.unit)

@@ -59,7 +59,8 @@ pub(crate) trait UserOp {
     ghost Keeps: { Self → ℕ → Equipped → FrameSupply → Self.Answer → ReuseValue → ReuseValue
         → Type 0 };
 
-    /// Does it. No frame is pinned before and after.
+    /// Does the operation with a user's machine and his storage, and returns its answer. No frame
+    /// is pinned before and after.
     fn work(
         &self,
         directory: &Directory,
@@ -80,7 +81,8 @@ pub(crate) trait UserOp {
         ensures between { IsBetweenUnits (lent_pool storage.new).supply };
 }
 
-/// Does an operation with a machine, whose storage is borrowed from the frames, with these keys.
+/// Does an operation with a user's machine, whose storage is borrowed from the frames, with these
+/// keys, and returns its answer.
 #[inline(always)]
 pub(crate) fn with_user<W: UserOp>(
     machine: &mut Machine,
@@ -145,6 +147,8 @@ impl UserOp for Units {
 
     ghost Keeps = { λ units user e supply ran old new. new ≡ old };
 
+    /// Lets the machine run for at most so many units, and returns how many it did and why it
+    /// ended.
     #[inline(always)]
     fn work(&self, _directory: &Directory, lent: &mut Lent<'_>, storage: &mut Dat<'_>) -> Ran {
         lent.machine.run::<VirtualCpu, Dat<'_>>(storage, self.0)
@@ -164,6 +168,8 @@ impl UserOp for Tick {
 
     ghost Keeps = { λ tick user e supply done old new. new ≡ old };
 
+    /// Steps the interval timer of the machine, if it runs; an error if there is no room for page
+    /// 0.
     fn work(
         &self,
         _directory: &Directory,
@@ -197,6 +203,7 @@ impl<'a> UserOp for Line<'a> {
     ghost Keeps = { λ line user e supply reported old new.
         LineKeeps line.typed.now e reported old new };
 
+    /// Does what the line asks that the user typed, and returns its outcome.
     fn work(
         &self,
         directory: &Directory,
@@ -246,6 +253,8 @@ impl UserOp for Service {
 
     ghost Keeps = { λ service. ServeKeeps service.device };
 
+    /// Runs the channel program that was started on the device, if there is one, and returns
+    /// whether there was one.
     fn work(
         &self,
         _directory: &Directory,

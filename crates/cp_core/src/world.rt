@@ -22,6 +22,7 @@ impl<'a> UserDirectory for UserList<'a> {
 
     ghost known = { known_of };
 
+    /// Returns the number of the user of this name, if there is one.
     fn user_of(&self, name: &[u8]) -> Option<u8> {
         match user_of(self.users, name) {
             Some(user) => Some(user.number()),
@@ -29,10 +30,12 @@ impl<'a> UserDirectory for UserList<'a> {
         }
     }
 
+    /// Returns the name of the user whose machine it is.
     fn own_name(&self) -> &[u8] {
         name_of(self.users, self.own)
     }
 
+    /// Returns whether the user of this number is logged on; false if there is no such user.
     fn is_on(&self, user: u8) -> bool {
         match self.on.get(usize::from(user)) {
             Some(on) => *on,
@@ -40,6 +43,7 @@ impl<'a> UserDirectory for UserList<'a> {
         }
     }
 
+    /// Returns how many users are logged on.
     fn users_on(&self) -> u64 {
         self.on.iter().filter(|on| **on).count() as u64
     }

@@ -21,7 +21,8 @@ impl<'a> Dat<'a> {
     ghost use Rattle.cp_dat.specs.Lent.{is_lent_page, user_of};
     ghost use Rattle.cp_dat.specs.Supplied.{HasNoRoom, IsBetweenUnits, Stands};
 
-    /// Copies 256 bytes of a page out, wherever it is.
+    /// Fills `into` with 256 bytes of one page from `start` on, wherever the page is; with zeros if
+    /// it is in no frame and in no slot.
     fn copy_chunk(&self, start: u32, into: &mut [u8])
         requires aligned { start % 256 ≡ 0 }
         requires inside { start + 256 ≤ length (lent_bytes self.now) }
@@ -39,7 +40,7 @@ impl<'a> Dat<'a> {
         }
     }
 
-    /// Copies 256 bytes out, one by one.
+    /// Fills `into` with 256 bytes of the storage from `start` on, one by one.
     fn copy_bytes(&self, start: u32, into: &mut [u8])
         requires inside { start + 256 ≤ length (lent_bytes self.now) }
         requires long { length into.old ≡ 256 }
@@ -55,7 +56,7 @@ impl<'a> Dat<'a> {
         }
     }
 
-    /// Returns all bytes of the storage. No page has to be in a frame for that.
+    /// Returns a new copy of all bytes of the storage. No page has to be in a frame for that.
     ///
     /// # Errors
     ///
@@ -74,7 +75,7 @@ impl<'a> Dat<'a> {
         Ok(made)
     }
 
-    /// Returns the key of each block.
+    /// Returns a new list of the storage keys, one for each block of 2048 bytes.
     ///
     /// # Errors
     ///
@@ -89,8 +90,9 @@ impl<'a> Dat<'a> {
         Ok(made)
     }
 
-    /// Brings a page into a frame, if it is in none, and unpins it. A page that is somewhere is
-    /// never refused.
+    /// Pages a page in if it is in no frame, and then unpins all frames.
+    ///
+    /// A page that is in a slot is never refused.
     ///
     /// # Errors
     ///
@@ -115,8 +117,8 @@ impl<'a> Dat<'a> {
         brought
     }
 
-    /// Brings each wanted page that is nowhere, so that each is in a frame or in a slot. If there
-    /// is no room for one, this is reported; no byte has changed.
+    /// Pages in each wanted page that is in no frame, and ends with an error at the first for which
+    /// there is no room; no byte changes.
     ///
     /// # Errors
     ///
@@ -141,9 +143,10 @@ impl<'a> Dat<'a> {
         Ok(())
     }
 
-    /// Brings the page that begins at an address into a frame, if it is in none; at an address
-    /// within a page, which is in a frame then, it does nothing.
-    fn fetch_first(&mut self, start: u32)
+    /// Pages in the page that begins at an address, unless it is in a frame.
+    ///
+    /// At any other address nothing is done: the page of that is in a frame.
+    fn fetch_at(&mut self, start: u32)
         requires inside { start < length (lent_bytes self.old) }
         requires stands { Stands (lent_pool self.old).supply (user_of self.old) (start / 4096) }
         requires within { start % 4096 ≢ 0 → is_lent_page self.old (start / 4096) ≡ true }
@@ -163,8 +166,10 @@ impl<'a> Dat<'a> {
         }
     }
 
-    /// Puts bytes into the wanted pages, which are somewhere; the others have these bytes. Nothing
-    /// refuses it.
+    /// Pages in each wanted page, and copies its bytes from `from`; the other pages have these
+    /// bytes.
+    ///
+    /// Each wanted page is in a frame or in a slot, so none is refused.
     pub fn put_back(&mut self, from: &[u8], wanted: &[bool])
         requires long { length from.now ≡ length (lent_bytes self.old) }
         requires flags { length wanted.now * 4096 ≡ length (lent_bytes self.old) }
@@ -178,7 +183,7 @@ impl<'a> Dat<'a> {
         let mut start = 0u32;
         while start < self.size {
             if wanted[(start / PAGE_SIZE) as usize] {
-                self.fetch_first(start);
+                self.fetch_at(start);
                 let first = start as usize;
                 self.store(start, &from[first..first + 256]);
             }

@@ -63,7 +63,9 @@ impl<'a> Dat<'a> {
         self.frames.count()
     }
 
-    /// Returns the frame in which a page is. A page that is in none, and in no slot, is all zero.
+    /// Returns the frame that a page of this user is in, if it is in one.
+    ///
+    /// A page that is in no frame and in no slot is all zero.
     pub fn frame_of(&self, page: Page) -> Option<FrameNo>
         requires { page.0 * 4096 < length (lent_bytes self.now) }
         ensures frame { number_of result ≡ lent_frame self.now page.0 }
@@ -106,7 +108,8 @@ impl<'a> Dat<'a> {
         }
     }
 
-    /// Brings a page into a frame, where it is in none. No byte of any user changes.
+    /// Returns the frame that a page is in, after paging it in if it is in none. No user's bytes
+    /// change.
     ///
     /// # Errors
     ///
@@ -129,7 +132,7 @@ impl<'a> Dat<'a> {
         self.frames.bring(self.user, page)
     }
 
-    /// Marks a frame: the page in it is not to be given up for another.
+    /// Pins a frame if a page is in it: that page is not given up for another until it is unpinned.
     pub fn pin(&mut self, frame: FrameNo)
         ensures rest { KeepsFrames self.old self.new }
         ensures storages { (lent_pool self.new).storages ≡ (lent_pool self.old).storages }
@@ -143,7 +146,7 @@ impl<'a> Dat<'a> {
         self.frames.pin(frame);
     }
 
-    /// Unpins all frames.
+    /// Unpins all frames, whoever's pages are in them.
     pub fn unpin_all(&mut self)
         ensures rest { KeepsFrames self.old self.new }
         ensures storages { (lent_pool self.new).storages ≡ (lent_pool self.old).storages }
@@ -157,8 +160,8 @@ impl<'a> Dat<'a> {
         self.frames.unpin_all();
     }
 
-    /// Returns the place among the bytes of all frames of an access within one block that one look
-    /// grants: size and key pass it, and its page is in a frame.
+    /// Returns the place among the bytes of all frames of a range in one block, if size and key let
+    /// the access pass and the page is in a frame.
     #[inline(always)]
     fn open_place(&self, range: Range, access: Access, key: AccessKey) -> Option<usize>
         requires some { 0 < range.count }
@@ -183,7 +186,7 @@ impl<'a> Dat<'a> {
     }
 }
 
-/// Returns the page of an address, for a page that is absent.
+/// Returns the page that an address is in.
 ///
 /// It is out of line so that the page's number is needed for nothing but the slot's place where the
 /// page is present: then the place has one form in the test and in the access that follows it, and
@@ -208,11 +211,14 @@ impl<'a> Storage for Dat<'a> {
 
     ghost IsPlaced = { IsInFrame };
 
+    /// Returns how many bytes the storage has.
     #[inline]
     fn size(&self) -> u32 {
         self.size
     }
 
+    /// Tests that size and keys let an access of at most 256 bytes pass and that its pages are in
+    /// frames; returns the fault if not.
     #[inline(always)]
     fn check(&self, range: Range, access: Access, key: AccessKey) -> Result<(), Fault> {
         test_range(self.size, &KeySlice { keys: self.keys }, range, access, key)?;
@@ -234,6 +240,9 @@ impl<'a> Storage for Dat<'a> {
         Ok(())
     }
 
+    /// Copies bytes from one place to another and returns true, if there are any, each place is in
+    /// one block, size and keys let both accesses pass and both pages are in frames; else returns
+    /// false.
     #[inline(always)]
     fn copy_at_once(&mut self, from: u32, to: u32, count: u32, key: AccessKey) -> bool {
         if count == 0 {
@@ -258,6 +267,8 @@ impl<'a> Storage for Dat<'a> {
         true
     }
 
+    /// Returns the block of an address, if the size and its key let the access pass and its page is
+    /// in a frame.
     #[inline(always)]
     fn find_block(&self, start: u32, access: Access, key: AccessKey) -> Option<Block> {
         if !may_access_block(self.size, &KeySlice { keys: self.keys }, start, access, key) {
@@ -273,6 +284,7 @@ impl<'a> Storage for Dat<'a> {
         }
     }
 
+    /// Fills `into` with bytes from `start` on, in a block that was found.
     #[inline(always)]
     fn load_in(&self, block: Block, start: u32, into: &mut [u8]) {
         // The place of an address is one addition, so that the next instruction waits for no more.
@@ -280,12 +292,14 @@ impl<'a> Storage for Dat<'a> {
         self.frames.load_in(self.user, place, start, into);
     }
 
+    /// Copies bytes into the storage from `start` on, in a block that was found.
     #[inline(always)]
     fn store_in(&mut self, block: Block, start: u32, from: &[u8]) {
         let place = block.place.wrapping_add(start as usize);
         self.frames.store_placed(self.user, place, start, from);
     }
 
+    /// Copies bytes from one block that was found into another or the same.
     #[inline(always)]
     fn copy_in(&mut self, source: Block, from: u32, target: Block, to: u32, count: u32) {
         let source_place = source.place.wrapping_add(from as usize);
@@ -294,16 +308,19 @@ impl<'a> Storage for Dat<'a> {
             .copy_placed(self.user, source_place, from, target_place, to, count);
     }
 
+    /// Fills `into` with bytes of the storage from `start` on, whose pages have to be in frames.
     #[inline(always)]
     fn load(&self, start: u32, into: &mut [u8]) {
         self.frames.load(self.user, start, into);
     }
 
+    /// Copies bytes into the storage from `start` on, whose pages have to be in frames.
     #[inline(always)]
     fn store(&mut self, start: u32, from: &[u8]) {
         self.frames.store(self.user, start, from);
     }
 
+    /// Copies bytes from one place of the storage to another; their pages have to be in frames.
     #[inline(always)]
     fn copy(&mut self, from: u32, to: u32, count: u32) {
         self.frames.copy(self.user, from, to, count);
@@ -327,11 +344,13 @@ impl<'a> Keyed for Dat<'a> {
 
     ghost KeepsRest = { KeepsRest };
 
+    /// Returns the storage key of a block of 2048 bytes.
     #[inline]
     fn key_of(&self, block: u32) -> StorageKey {
         self.keys[block as usize]
     }
 
+    /// Sets the storage key of a block of 2048 bytes.
     #[inline]
     fn set_key(&mut self, block: u32, key: StorageKey) {
         self.keys[block as usize] = key;
@@ -362,11 +381,14 @@ impl<'a> Supply for Dat<'a> {
 
     ghost Cleared = { GivesBack };
 
+    /// Makes all bytes and keys zero: the pages leave their frames and slots, and all frames are
+    /// unpinned.
     fn clear(&mut self) {
         self.frames.release(self.user);
         self.keys.fill(StorageKey::ZERO);
     }
 
+    /// Pages a page in if it is in no frame, and pins the frame that it is in.
     fn bring(&mut self, page: Page) -> Result<(), FramesOut> {
         match Dat::bring(self, page) {
             Ok(frame) => {
@@ -400,6 +422,7 @@ impl<'a> UnitSupply for Dat<'a> {
 
     ghost LetsGo = { TakesPins };
 
+    /// Unpins all frames.
     fn let_go(&mut self) {
         self.unpin_all();
     }

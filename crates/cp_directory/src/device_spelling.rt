@@ -16,7 +16,7 @@ use text_words::numbers::{decimal_of, hexadecimal_of};
 /// The highest address of a device.
 const HIGHEST_ADDRESS: u32 = 0x5FF;
 
-/// Reads `CONSOLE address 3215`.
+/// Returns what `CONSOLE address 3215` states, of which these are the operands; None if malformed.
 pub fn read_console<'a>(operands: &[&'a [u8]]) -> Option<Statement<'a>>
     ensures { option_map stated result ≡ console_stated (map (λ w. w.now) operands.now) }
 {
@@ -26,7 +26,8 @@ pub fn read_console<'a>(operands: &[&'a [u8]]) -> Option<Statement<'a>>
     }
 }
 
-/// Returns the console that these words state.
+/// Returns the statement of a console at this address; None if the address or the model is
+/// malformed.
 fn console_of<'a>(address: &'a [u8], model: &[u8]) -> Option<Statement<'a>>
     ensures { option_map stated result ≡ console_of address.now model.now }
 {
@@ -36,7 +37,7 @@ fn console_of<'a>(address: &'a [u8], model: &[u8]) -> Option<Statement<'a>>
     Some(Statement::Device(DeviceKind::Console, address_of(address)?))
 }
 
-/// Reads `SPOOL address kind`.
+/// Returns what `SPOOL address kind` states, of which these are the operands; None if malformed.
 pub fn read_spool<'a>(operands: &[&'a [u8]]) -> Option<Statement<'a>>
     ensures { option_map stated result ≡ spool_stated (map (λ w. w.now) operands.now) }
 {
@@ -46,7 +47,8 @@ pub fn read_spool<'a>(operands: &[&'a [u8]]) -> Option<Statement<'a>>
     }
 }
 
-/// Returns the spooled device that these words state.
+/// Returns the statement of a device of this kind at this address; None if one of them is
+/// malformed.
 fn spool_of<'a>(address: &'a [u8], kind: &[u8]) -> Option<Statement<'a>>
     ensures { option_map stated result ≡ spool_of address.now kind.now }
 {
@@ -55,7 +57,8 @@ fn spool_of<'a>(address: &'a [u8], kind: &[u8]) -> Option<Statement<'a>>
     Some(Statement::Device(kind, address))
 }
 
-/// Returns what is spooled.
+/// Returns the kind of device that a word names: `READER`, `PUNCH` or `PRINTER`; None of another
+/// word.
 fn spool_kind_of(word: &[u8]) -> Option<DeviceKind>
     ensures { result ≡ spool_kind_of word.now }
 {
@@ -70,7 +73,8 @@ fn spool_kind_of(word: &[u8]) -> Option<DeviceKind>
     }
 }
 
-/// Reads `MDISK address 3330 start count volser mode`.
+/// Returns what `MDISK address 3330 start count volser mode` states, of which these are the
+/// operands; None if malformed.
 pub fn read_minidisk<'a>(operands: &[&'a [u8]]) -> Option<Statement<'a>>
     ensures { option_map stated result ≡ disk_stated (map (λ w. w.now) operands.now) }
 {
@@ -82,7 +86,8 @@ pub fn read_minidisk<'a>(operands: &[&'a [u8]]) -> Option<Statement<'a>>
     }
 }
 
-/// Returns the minidisk that these words state.
+/// Returns the statement of a minidisk at this address with this extent; None if there is no
+/// extent, or the address or the model is malformed.
 fn disk_of<'a>(
     address: &'a [u8],
     model: &[u8],
@@ -98,7 +103,8 @@ fn disk_of<'a>(
     Some(Statement::Minidisk(address, extent))
 }
 
-/// Returns the cylinders of a volume, and how they may be used.
+/// Returns the extent that these words spell; None if one of them is malformed. Whether a volume
+/// can have it is not checked.
 fn extent_spelled(start: &[u8], count: &[u8], volser: &[u8], mode: &[u8]) -> Option<SpelledExtent>
     ensures { result ≡ extent_spelled start.now count.now volser.now mode.now }
 {
@@ -114,14 +120,14 @@ fn extent_spelled(start: &[u8], count: &[u8], volser: &[u8], mode: &[u8]) -> Opt
     })
 }
 
-/// Returns the address of a device: three hexadecimal digits.
+/// Returns the address that three hexadecimal digits spell; None if malformed or above 5FF.
 fn address_of(word: &[u8]) -> Option<DevAddr>
     ensures { result ≡ address_of word.now }
 {
     low_address(hexadecimal_of(3, 3, word)?)
 }
 
-/// Returns the address, where a device may have it.
+/// Returns this number as the address of a device; None if it is above 5FF.
 fn low_address(address: u32) -> Option<DevAddr>
     ensures { result ≡ low_address address }
 {

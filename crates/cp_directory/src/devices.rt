@@ -34,7 +34,7 @@ impl UserDevices {
         printer: None,
     };
 
-    /// Returns the address of the device of this kind.
+    /// Returns the address of the device of this kind, if the user has one.
     pub fn place_of(&self, kind: DeviceKind) -> Option<DevAddr>
         ensures { result ≡ place_of self.now kind }
     {
@@ -46,7 +46,7 @@ impl UserDevices {
         }
     }
 
-    /// Returns whether one of them has this address.
+    /// Returns whether console, reader, punch or printer has this address.
     pub fn has(&self, address: DevAddr) -> bool
         ensures { result ≡ list_any (λ other. other == address) (places_of self.now) }
     {
@@ -63,7 +63,7 @@ impl UserDevices {
             || is_there(*printer, address)
     }
 
-    /// Returns how many devices a user has.
+    /// Returns how many of console, reader, punch and printer a user has.
     pub fn count(&self) -> usize
         ensures value { result ≡ length (places_of self.now) }
         ensures few { result ≤ 4 }
@@ -74,7 +74,7 @@ impl UserDevices {
             + count_of(self.printer)
     }
 
-    /// Puts the device of this kind at this address.
+    /// Sets the address of the device of this kind, in place of one that it had.
     pub(crate) fn put(&mut self, kind: DeviceKind, address: DevAddr)
         ensures { self.new ≡ with_place self.old kind address }
     {
@@ -87,7 +87,7 @@ impl UserDevices {
     }
 }
 
-/// Returns whether a device has this address.
+/// Returns whether a device, if the user has it, has this address.
 fn is_there(place: Option<DevAddr>, address: DevAddr) -> bool
     ensures { result ≡ list_any (λ other. other == address) (option_to_list place) }
 {
@@ -97,7 +97,7 @@ fn is_there(place: Option<DevAddr>, address: DevAddr) -> bool
     }
 }
 
-/// Returns 1 for a device, and 0 for none.
+/// Returns 1 for a device that has an address, and 0 for one that has none.
 fn count_of(place: Option<DevAddr>) -> usize
     ensures value { result ≡ length (option_to_list place) }
     ensures few { result ≤ 1 }

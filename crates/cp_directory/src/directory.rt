@@ -55,14 +55,14 @@ impl User {
         }
     }
 
-    /// Returns the characters of the name.
+    /// Returns the characters of the user's name.
     pub fn name(&self) -> &[u8]
         ensures { result.now ≡ self.now.name }
     {
         self.name.as_bytes()
     }
 
-    /// Returns the size of the storage.
+    /// Returns the size of the user's storage.
     pub fn storage(&self) -> StorageSize
         ensures { result ≡ self.now.pages }
     {
@@ -76,7 +76,7 @@ impl User {
         *storage
     }
 
-    /// Returns the devices that are no disks.
+    /// Returns the addresses of the user's console, reader, punch and printer.
     pub fn devices(&self) -> UserDevices
         ensures { result ≡ self.now.devices }
     {
@@ -90,21 +90,22 @@ impl User {
         self.minidisks.as_slice()
     }
 
-    /// Returns whether a device of the user has this address.
+    /// Returns whether a device or a minidisk of the user has this address.
     pub fn has_device(&self, address: DevAddr) -> bool
         ensures { result ≡ has_device address self.now }
     {
         self.devices.has(address) || self.minidisks.iter().any(|disk| disk.address == address)
     }
 
-    /// Returns whether the user has as many devices as one may have.
+    /// Returns whether the user has 32 devices and minidisks: as many as a user may have.
     pub fn is_full(&self) -> bool
         ensures { result ≡ is_full self.now }
     {
         self.minidisks.len() >= MOST_DEVICES - self.devices.count()
     }
 
-    /// Returns the line of the first minidisk that conflicts with an extent.
+    /// Returns the number of the line that states the first of the user's minidisks that conflicts
+    /// with an extent, if one does.
     fn first_conflict(&self, extent: &DiskExtent) -> Option<usize>
         ensures { result ≡ first_conflict extent.now self.now.minidisks }
     {
@@ -122,14 +123,14 @@ impl User {
         None
     }
 
-    /// Puts the device of this kind at this address.
+    /// Sets the address of the user's device of this kind, in place of one that it had.
     fn put(&mut self, kind: DeviceKind, address: DevAddr)
         ensures { self.new ≡ with_device kind address self.old }
     {
         self.devices.put(kind, address);
     }
 
-    /// Adds a minidisk after the others. If the growth is refused, nothing is added.
+    /// Appends a minidisk to those of the user. If the growth is refused, nothing is added.
     fn add_minidisk(&mut self, disk: MinidiskStatement) -> Result<(), AllocError>
         ensures ok { IfOk result (λ _. self.new ≡ with_minidisk disk self.old) }
         ensures err { OnErr result (self.new ≡ self.old) }
@@ -149,6 +150,7 @@ impl User {
 impl Named for User {
     ghost name = { λ user. user.name };
 
+    /// Returns the characters of the user's name.
     fn name(&self) -> &[u8] {
         self.name.as_bytes()
     }
@@ -183,7 +185,7 @@ impl Directory {
         }
     }
 
-    /// Adds a user without minidisks after the others. If the growth is refused, nothing is added.
+    /// Appends a user, who must not have minidisks. If the growth is refused, nothing is added.
     ///
     /// # Errors
     ///
@@ -224,7 +226,7 @@ impl Directory {
         self.users.is_empty()
     }
 
-    /// Returns the last user, to whom device statements belong.
+    /// Returns the last user, if there is one: device statements belong to him.
     pub(crate) fn last(&self) -> Option<&User>
         ensures { MatchOption result (self.now ≡ [])
             (λ user. (0 < length self.now) × (user.now ≡ last_user self.now)) }
@@ -232,7 +234,7 @@ impl Directory {
         self.users.as_slice().last()
     }
 
-    /// Gives the last user the device of this kind at this address.
+    /// Sets the address of the last user's device of this kind, in place of one that it had.
     pub(crate) fn put_device(&mut self, kind: DeviceKind, address: DevAddr)
         requires { 0 < length self.old }
         ensures { self.new ≡ with_last (with_device kind address) self.old }
@@ -241,8 +243,9 @@ impl Directory {
         self.users[last].put(kind, address);
     }
 
-    /// Gives the last user one minidisk more, which conflicts with no other. If the growth is
-    /// refused, nothing is added.
+    /// Appends a minidisk to those of the last user; it must conflict with no other.
+    ///
+    /// If the growth is refused, nothing is added.
     pub(crate) fn add_minidisk(&mut self, disk: MinidiskStatement) -> Result<(), AllocError>
         requires some { 0 < length self.old }
         requires free { first_conflict disk.extent (minidisks_of self.old) ≡ None }
@@ -252,7 +255,8 @@ impl Directory {
         self.users[last].add_minidisk(disk)
     }
 
-    /// Returns the line of the first minidisk of any user that conflicts with an extent.
+    /// Returns the number of the line that states the first minidisk of any user that conflicts
+    /// with an extent, if one does.
     pub(crate) fn first_conflict(&self, extent: &DiskExtent) -> Option<usize>
         ensures { result ≡ first_conflict extent.now (minidisks_of self.now) }
     {

@@ -18,7 +18,7 @@ pub enum DiskMode {
 }
 
 impl DiskMode {
-    /// Returns the mode that a word spells: `R` or `W`.
+    /// Returns the mode that a word spells: `R` is read-only, `W` writable; None of another word.
     pub fn new(word: &[u8]) -> Option<DiskMode>
         ensures { result ≡ mode_of word.now }
     {
@@ -66,7 +66,8 @@ impl Model for Volser {
 impl Volser {
     ghost use Rattle.std.specs.Prelude.{true};
 
-    /// Returns the serial number that a word spells.
+    /// Returns the serial number that a word spells; None if it is not one to six letters and
+    /// digits.
     pub fn new(word: &[u8]) -> Option<Volser>
         ensures { result ≡ (if is_volser word.now then Some word.now else None) }
     {
@@ -89,7 +90,8 @@ impl Volser {
         &self.bytes[..self.len]
     }
 
-    /// Returns the six characters that are on the volume, blanks after the others.
+    /// Returns the six characters of the serial number as they are on the volume, filled with
+    /// blanks.
     pub fn padded(&self) -> [u8; 6]
         ensures { result ≡ padded self.now }
     {
@@ -97,7 +99,7 @@ impl Volser {
     }
 }
 
-/// Returns whether a word is one to six letters and digits.
+/// Returns whether a word is one to six characters of `A` to `Z` and `0` to `9`.
 fn is_volser(word: &[u8]) -> bool
     ensures { result ≡ is_volser word.now }
 {
@@ -163,7 +165,7 @@ impl Model for DiskExtent {
 }
 
 impl DiskExtent {
-    /// Returns the extent that is spelled, where a minidisk may have it.
+    /// Returns the extent that is spelled; None if it has no cylinder, or one past 807.
     pub fn new(spelled: SpelledExtent) -> Option<DiskExtent>
         ensures { result ≡ extent_of spelled }
     {
@@ -191,7 +193,7 @@ impl DiskExtent {
         self.volser
     }
 
-    /// Returns the first cylinder.
+    /// Returns the first cylinder of the extent.
     pub fn start(&self) -> u16
         ensures value { result ≡ self.now.start }
         ensures within { result + self.now.count ≤ MOST_CYLINDERS }
@@ -199,7 +201,7 @@ impl DiskExtent {
         self.start
     }
 
-    /// Returns how many cylinders.
+    /// Returns how many cylinders the extent has.
     pub fn count(&self) -> u16
         ensures value { result ≡ self.now.count }
         ensures some { 0 < result }
@@ -208,7 +210,7 @@ impl DiskExtent {
         self.count
     }
 
-    /// Returns whether they may be written to.
+    /// Returns whether the cylinders of the extent may be written to.
     pub fn mode(&self) -> DiskMode
         ensures { result ≡ self.now.mode }
     {
@@ -231,7 +233,7 @@ impl DiskExtent {
             && !(self.mode.is_read_only() && other.mode.is_read_only())
     }
 
-    /// Returns whether a cylinder of one number is in both.
+    /// Returns whether both extents have a cylinder of the same number, on whichever volumes.
     fn shares_cylinder(&self, other: &DiskExtent) -> bool
         ensures { result ≡ shares_cylinder self.now other.now }
     {

@@ -63,7 +63,7 @@ pub enum StatementError {
 impl LineFault {
     ghost use Rattle.cp_directory.specs.Directories.{reported};
 
-    /// Returns the refusal of a directory for this fault of the line of this number.
+    /// Returns the error of a directory whose line of this number has this fault.
     pub fn at(self, line: usize) -> DirError
         ensures { result ≡ reported line self }
     {

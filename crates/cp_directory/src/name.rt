@@ -26,7 +26,7 @@ impl Model for UserName {
 impl UserName {
     ghost use Rattle.std.specs.Prelude.{true};
 
-    /// Returns the name that a word spells.
+    /// Returns the name that a word spells; None if it is no user's name.
     pub fn new(word: &[u8]) -> Option<UserName>
         ensures { result ≡ (if is_name word.now then Some word.now else None) }
     {
@@ -62,7 +62,8 @@ fn is_name(word: &[u8]) -> bool
     is_letter(word[0])
 }
 
-/// Returns whether a word is one to eight letters and digits, as a password is.
+/// Returns whether a word is one to eight characters of `A` to `Z` and `0` to `9`, as a password
+/// is.
 pub fn is_short_word(word: &[u8]) -> bool
     ensures { result ≡ is_short_word word.now }
 {
@@ -79,7 +80,7 @@ pub fn is_letter_or_digit(c: u8) -> bool
     is_letter(c) || is_digit(c)
 }
 
-/// Returns whether a byte is a capital letter.
+/// Returns whether a byte is one of `A` to `Z`.
 fn is_letter(c: u8) -> bool
     ensures { result ≡ is_letter c }
 {

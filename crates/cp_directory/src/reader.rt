@@ -19,7 +19,8 @@ use text_words::lines::{is_comment, numbered_lines};
 use text_words::words::words_of;
 use user_names::MOST_USERS;
 
-/// Returns the directory that a text states.
+/// Returns the directory that a text states, or the number of its first faulty line and that line's
+/// first fault.
 ///
 /// A text outside the grammar is refused by its first faulty line and that line's first fault, and
 /// [`DirError::Memory`] is the answer only where a growth was refused. A directory has at most 64
@@ -57,7 +58,8 @@ pub fn read_directory(alloc: Global, text: &[u8]) -> Result<Directory, DirError>
     Ok(directory)
 }
 
-/// Reads the line of this number after those that the directory has.
+/// Adds what the line of this number states to the directory, or returns its first fault; a comment
+/// or an empty line adds nothing.
 fn read_line(
     alloc: Global,
     directory: &mut Directory,
@@ -82,7 +84,8 @@ fn read_line(
     }
 }
 
-/// Adds what a statement states, or finds its first fault by what the directory has.
+/// Adds what a statement states to the directory, or returns its first fault by what the directory
+/// has.
 fn place(
     alloc: Global,
     directory: &mut Directory,
@@ -98,7 +101,8 @@ fn place(
     }
 }
 
-/// Adds a user to the directory, or returns why that cannot be.
+/// Adds a user to the directory, or returns the fault: a name that is taken, a size that no user
+/// may have, or too many users.
 fn place_user(
     alloc: Global,
     directory: &mut Directory,
@@ -124,7 +128,8 @@ fn place_user(
     }
 }
 
-/// Adds a device to the last user, or returns why that cannot be.
+/// Adds a device to the last user, or returns the fault: no user, an address that is taken, or too
+/// many devices, or two of one kind.
 fn place_device(
     directory: &mut Directory,
     kind: DeviceKind,
@@ -146,7 +151,8 @@ fn place_device(
     Ok(())
 }
 
-/// Adds a minidisk to the last user, or returns why that cannot be.
+/// Adds a minidisk to the last user, or returns the fault: no user, an address that is taken, a bad
+/// extent, a conflict or too many devices.
 fn place_minidisk(
     directory: &mut Directory,
     line: usize,

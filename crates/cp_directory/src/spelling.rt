@@ -42,7 +42,8 @@ pub enum Statement<'a> {
     Minidisk(DevAddr, SpelledExtent),
 }
 
-/// Returns the statement that begins with this word and has these operands.
+/// Returns the statement that begins with this word and has these operands, or its fault: an
+/// unknown word or malformed operands.
 ///
 /// # Errors
 ///
@@ -63,7 +64,7 @@ pub fn read_statement<'a>(verb: &[u8], operands: &[&'a [u8]]) -> Result<Statemen
     }
 }
 
-/// Operands that do not have the form of their statement are a fault of syntax.
+/// Returns the statement, or a fault of syntax if there is none.
 fn well_formed(statement: Option<Statement<'_>>) -> Result<Statement<'_>, LineFault>
     ensures { stated_result result ≡ well_formed (option_map stated statement.entry) }
 {
@@ -73,7 +74,8 @@ fn well_formed(statement: Option<Statement<'_>>) -> Result<Statement<'_>, LineFa
     }
 }
 
-/// Reads `USER name password storage`.
+/// Returns what `USER name password storage` states, of which these are the operands; None if
+/// malformed.
 fn read_user<'a>(operands: &[&'a [u8]]) -> Option<Statement<'a>>
     ensures { option_map stated result ≡ user_stated (map (λ w. w.now) operands.now) }
 {
@@ -83,7 +85,8 @@ fn read_user<'a>(operands: &[&'a [u8]]) -> Option<Statement<'a>>
     }
 }
 
-/// Returns the user that these words state.
+/// Returns the statement of a user of this name and size; None if a word is malformed. The password
+/// is only checked.
 fn user_of<'a>(name: &[u8], password: &[u8], size: &'a [u8]) -> Option<Statement<'a>>
     ensures { option_map stated result ≡ user_of name.now password.now size.now }
 {
@@ -95,7 +98,7 @@ fn user_of<'a>(name: &[u8], password: &[u8], size: &'a [u8]) -> Option<Statement
     Some(Statement::User(name, size))
 }
 
-/// Returns a number and the letter of a unit.
+/// Returns the number and the unit that a word such as `4M` spells; None if it is malformed.
 fn read_size(word: &[u8]) -> Option<SpelledSize<'_>>
     ensures { option_map kilobytes result ≡ kilobytes_of word.now }
 {
@@ -105,7 +108,7 @@ fn read_size(word: &[u8]) -> Option<SpelledSize<'_>>
     }
 }
 
-/// Returns the size of these digits and this letter.
+/// Returns the size of these digits and this letter; None if it is not a number and a unit.
 fn size_by(digits: &[u8], letter: u8) -> Option<SpelledSize<'_>>
     ensures { option_map kilobytes result ≡ kilobytes_by digits.now letter }
 {
@@ -116,7 +119,7 @@ fn size_by(digits: &[u8], letter: u8) -> Option<SpelledSize<'_>>
     Some(SpelledSize { digits, unit })
 }
 
-/// Returns the unit that the last letter of a size stands for.
+/// Returns the unit that a letter names: `K` is kilobytes, `M` megabytes; None of another letter.
 fn unit_of(letter: u8) -> Option<SizeUnit>
     ensures { option_map kilobytes_in result ≡ unit_of letter }
 {
@@ -144,8 +147,8 @@ fn all_digits(digits: &[u8]) -> bool
     digits.iter().all(|c| is_digit(*c))
 }
 
-/// Returns the storage that a word spells as the operand of a user's statement does, where it is
-/// written so and a user may have it.
+/// Returns the size of storage that a word such as `8K` spells; None if it is malformed, or no user
+/// may have that size.
 ///
 /// `storage_of(b"8K")` is a storage of two pages; `8k` and `6K` are none.
 pub fn storage_of(word: &[u8]) -> Option<StorageSize>
@@ -154,7 +157,7 @@ pub fn storage_of(word: &[u8]) -> Option<StorageSize>
     size_of(read_size(word)?)
 }
 
-/// Returns the size that is spelled, where a storage may have it.
+/// Returns the size of storage that is spelled; None if no user may have it.
 pub fn size_of(spelled: SpelledSize<'_>) -> Option<StorageSize>
     ensures { result ≡ pages_of (kilobytes spelled.entry) }
 {

@@ -23,7 +23,7 @@ impl Model for StorageSize {
 }
 
 impl StorageSize {
-    /// Returns the size of so many kilobytes: 8 to 4096, in steps of 4.
+    /// Returns the size of this many kilobytes: 8 to 4096, in steps of 4; None of another number.
     pub fn from_kilobytes(kilobytes: u32) -> Option<StorageSize>
         ensures { result ≡ pages_of kilobytes }
     {
@@ -36,7 +36,7 @@ impl StorageSize {
         }
     }
 
-    /// Returns how many pages of 4096 bytes.
+    /// Returns how many pages of 4096 bytes the storage has.
     pub fn pages(self) -> u32
         ensures pages { result ≡ self }
         ensures least { 2 ≤ result }
@@ -52,7 +52,7 @@ impl StorageSize {
         2 * self.pages
     }
 
-    /// Returns how many bytes.
+    /// Returns how many bytes the storage has.
     pub fn bytes(self) -> u32
         ensures { result ≡ 4096 * self }
     {

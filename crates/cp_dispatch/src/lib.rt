@@ -2,9 +2,9 @@
 //! is served next.
 //!
 //! Its one theorem: nobody who is ready waits for ever. Users are in a queue by their logging on,
-//! started programs in a line by their starts. A turn takes the first who is ready, who then goes
-//! to the end ([`Policy::slice`], [`Policy::serve`]); so whoever has j others before has one of the
-//! next j + 1 turns, whoever comes or goes meanwhile ([`is_fair`] carries that law).
+//! started programs in the serve queue by their starts. A turn takes the first who is ready, who
+//! then goes to the end ([`Policy::slice`], [`Policy::serve`]); so whoever has j others before has
+//! one of the next j + 1 turns, whoever logs on or off meanwhile ([`is_fair`] states that law).
 //!
 //! It is given who logs on and off, and which programs are started and ended. [`Policy::new`] and
 //! [`Policy::started`] take memory, and no other call.

@@ -1,4 +1,4 @@
-//! The policy: the queue of users and the line of programs.
+//! The policy: the queue of users and the serve queue, which has programs.
 ghost use Rattle.std.specs.Prelude.{◌≡◌, ◌<◌, ◌≤◌, [], IfOk, OnErr, OnOk, length};
 ghost use Rattle.std.specs.List.{position};
 ghost use Rattle.std.specs.Vec.{vec_capacity};
@@ -39,8 +39,10 @@ impl Model for Policy {
 }
 
 impl Policy {
-    /// Returns a policy for so many users, of whom nobody is logged on; no program was started. Of
-    /// the other calls only [`Policy::started`] takes memory.
+    /// Returns a policy for this many users, with nobody in the queue of users and no program in
+    /// the serve queue.
+    ///
+    /// Of the other calls only [`Policy::started`] takes memory.
     ///
     /// # Errors
     ///
@@ -56,7 +58,7 @@ impl Policy {
         })
     }
 
-    /// Puts a user who logs on at the end of the queue.
+    /// Moves a user who logs on to the end of the queue, or adds him there if he was not in it.
     pub fn join(&mut self, user: UserNo)
         requires { user < self.old.most_users }
         ensures { self.new ≡ record
@@ -65,19 +67,20 @@ impl Policy {
         put_user(&mut self.users, user);
     }
 
-    /// Removes a user who logs off from the queue.
+    /// Removes a user who logs off from the queue of users, if he is in it.
     pub fn leave(&mut self, user: UserNo)
         ensures { self.new ≡ record self.old { users = without (same_user user) self.old.users } }
     {
         take_out_user(&mut self.users, user);
     }
 
-    /// Puts the program of a user's device, which was started, at the end of the line, also if it
-    /// was in it before. If memory is refused, it is not in the line.
+    /// Moves the program of a user's device to the end of the serve queue, or adds it there if it
+    /// was not in it.
     ///
     /// # Errors
     ///
-    /// `AllocError` if memory is refused; what this is then is not specified.
+    /// `AllocError` if memory is refused; the program is then not in the serve queue, and nothing
+    /// else has changed.
     pub fn started(&mut self, user: UserNo, device: DevAddr) -> Result<(), AllocError>
         ensures ok { OnOk result (self.new ≡ record self.old {
           programs = at_end (is_of user device)
@@ -92,7 +95,8 @@ impl Policy {
         put_program(&mut self.programs, user, device)
     }
 
-    /// Removes the program of a user's device, which has ended or was withdrawn, from the line.
+    /// Removes the program of a user's device, which has ended or was withdrawn, from the serve
+    /// queue, if it is in it.
     pub fn ended(&mut self, user: UserNo, device: DevAddr)
         ensures { self.new ≡ record
             self.old { programs = without (is_of user device) self.old.programs } }
@@ -100,8 +104,8 @@ impl Policy {
         take_out_program(&mut self.programs, user, device);
     }
 
-    /// Deals a slice: to the first user in the queue who is ready, if there is one. Those before go
-    /// to the end in order, and after them the user who has the slice.
+    /// Returns the first user in the queue who is ready, if there is one, and moves all before him,
+    /// and after them him, to the end.
     pub fn slice(&mut self, ready: &Ready) -> Option<UserNo>
         ensures dealt { IsDealt (is_ready ready.now) self.old.users result self.new.users }
         ensures forward { BringsForward (is_ready ready.now) self.old.users result self.new.users }
@@ -115,7 +119,7 @@ impl Policy {
         Some(user)
     }
 
-    /// Deals a serve: to the first program in the line, if there is one, which goes to the end.
+    /// Returns the first program in the serve queue, if there is one, and moves it to the end.
     pub fn serve(&mut self) -> Option<Program>
         ensures dealt { IsDealt always self.old.programs result self.new.programs }
         ensures forward { BringsForward always self.old.programs result self.new.programs }
@@ -129,14 +133,14 @@ impl Policy {
         Some(program)
     }
 
-    /// Returns the users who are logged on, in the order in which they are dealt slices.
+    /// Returns the users in the queue, who are logged on, in the order in which they get slices.
     pub fn users(&self) -> &[UserNo]
         ensures { result.now ≡ self.now.users }
     {
         &self.users
     }
 
-    /// Returns the programs that were started, in the order in which they are served.
+    /// Returns the programs in the serve queue, in the order in which they are served.
     pub fn programs(&self) -> &[Program]
         ensures { result.now ≡ self.now.programs }
     {
@@ -144,14 +148,14 @@ impl Policy {
     }
 }
 
-/// Returns the place of the first user who is ready.
+/// Returns the index in the queue of the first user who is ready, if there is one.
 fn place_of_ready(users: &[UserNo], ready: &Ready) -> Option<usize>
     ensures { result ≡ position (is_ready ready.now) users.now }
 {
     users.iter().position(|user| ready.has(*user))
 }
 
-/// Takes a user out of the queue.
+/// Removes a user from the queue, if he is in it.
 fn take_out_user(users: &mut Vec<UserNo>, user: UserNo)
     ensures items { users.new.items ≡ without (same_user user) users.old.items }
     ensures capacity { vec_capacity users.new ≡ vec_capacity users.old }
@@ -161,7 +165,7 @@ fn take_out_user(users: &mut Vec<UserNo>, user: UserNo)
     }
 }
 
-/// Puts a user at the end of the queue.
+/// Moves a user to the end of the queue, or adds him there if he was not in it.
 fn put_user(users: &mut Vec<UserNo>, user: UserNo)
     requires { length (without (same_user user) users.old.items) < vec_capacity users.old }
     ensures items { users.new.items ≡ at_end (same_user user) user users.old.items }
@@ -173,7 +177,7 @@ fn put_user(users: &mut Vec<UserNo>, user: UserNo)
     }
 }
 
-/// Takes the program of a user's device out of the line.
+/// Removes the program of a user's device from the serve queue, if it is in it.
 fn take_out_program(programs: &mut Vec<Program>, user: UserNo, device: DevAddr)
     ensures { programs.new.items ≡ without (is_of user device) programs.old.items }
 {
@@ -182,7 +186,8 @@ fn take_out_program(programs: &mut Vec<Program>, user: UserNo, device: DevAddr)
     }
 }
 
-/// Puts the program of a user's device at the end of the line.
+/// Moves the program of a user's device to the end of the serve queue, or adds it there if it was
+/// not in it.
 fn put_program(programs: &mut Vec<Program>, user: UserNo, device: DevAddr) -> Result<(), AllocError>
     ensures ok { OnOk result (programs.new.items
         ≡ at_end (is_of user device) (record { user = user; device = device }) programs.old.items) }
@@ -194,14 +199,14 @@ fn put_program(programs: &mut Vec<Program>, user: UserNo, device: DevAddr) -> Re
     Ok(())
 }
 
-/// Returns the place of a user.
+/// Returns the index of a user in the queue, if he is in it.
 fn place_of_user(users: &[UserNo], user: UserNo) -> Option<usize>
     ensures { result ≡ position (same_user user) users.now }
 {
     users.iter().position(|other| user == *other)
 }
 
-/// Returns the place of the program of a user's device.
+/// Returns the index of the program of a user's device in the serve queue, if it is in it.
 fn place_of_program(programs: &[Program], user: UserNo, device: DevAddr) -> Option<usize>
     ensures { result ≡ position (is_of user device) programs.now }
 {

@@ -15,7 +15,7 @@ pub struct Program {
 }
 
 impl Program {
-    /// Returns whether it is of this device of this user.
+    /// Returns whether the program is one of this device of this user.
     pub(crate) fn is_of(&self, user: UserNo, device: DevAddr) -> bool
         ensures { result ≡ is_of user device self.now }
     {

@@ -24,7 +24,7 @@ impl Model for Ready {
 }
 
 impl Ready {
-    /// Returns the state in which nobody is ready.
+    /// Returns a list of flags, one for each user, in which nobody is ready.
     pub fn nobody() -> Ready
         ensures { result ≡ replicate 64 false }
     {

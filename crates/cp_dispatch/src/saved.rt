@@ -10,7 +10,7 @@ use saved_bytes::{Input, put_number, put_one, put_zero};
 use std::alloc::{AllocError, Global};
 use user_names::{MOST_USERS, UserNo};
 
-/// Appends users.
+/// Appends the numbers of these users, in order.
 #[tactic(auto, using(saved_bytes::proofs::Codes::each_on))]
 fn put_users(out: &mut Vec<u8>, users: &[UserNo]) -> Result<(), AllocError>
     ensures { OnOk result (out.new.items ≡ out.old.items ++ each number users.now) }
@@ -22,7 +22,7 @@ fn put_users(out: &mut Vec<u8>, users: &[UserNo]) -> Result<(), AllocError>
     put_zero(out)
 }
 
-/// Appends a program.
+/// Appends the user and the device of a program.
 fn put_program(out: &mut Vec<u8>, program: Program) -> Result<(), AllocError>
     ensures { OnOk result (out.new.items ≡ out.old.items ++ program_bytes program) }
 {
@@ -30,7 +30,7 @@ fn put_program(out: &mut Vec<u8>, program: Program) -> Result<(), AllocError>
     put_number(out, u64::from(program.device.get()))
 }
 
-/// Appends programs.
+/// Appends the users and the devices of these programs, in order.
 #[tactic(auto, using(saved_bytes::proofs::Codes::each_on))]
 fn put_programs(out: &mut Vec<u8>, programs: &[Program]) -> Result<(), AllocError>
     ensures { OnOk result (out.new.items ≡ out.old.items ++ each program_bytes programs.now) }
@@ -42,7 +42,8 @@ fn put_programs(out: &mut Vec<u8>, programs: &[Program]) -> Result<(), AllocErro
     put_zero(out)
 }
 
-/// Takes the user who comes next, one of so many.
+/// Reads the number of a user from the input; returns None if it is not below `users`, or
+/// malformed.
 fn next_user(input: &mut Input<'_>, users: usize) -> Option<UserNo>
     ensures { IfSome result (λ user. user < users) }
 {
@@ -56,7 +57,7 @@ fn next_user(input: &mut Input<'_>, users: usize) -> Option<UserNo>
 }
 
 impl Policy {
-    /// Appends the queue, the line and how many users there are.
+    /// Appends the queue of users, the serve queue and how many users there may be.
     ///
     /// # Errors
     ///
@@ -75,7 +76,8 @@ impl Policy {
         put_number(out, *most_users as u64)
     }
 
-    /// Takes the policy that is next, of so many users.
+    /// Reads a policy for this many users from the input; returns None if it is malformed or memory
+    /// is refused.
     pub fn read(alloc: Global, users: usize, input: &mut Input<'_>) -> Option<Policy>
         ensures { IfSome result (λ policy. policy.most_users ≡ users) }
     {
@@ -98,11 +100,12 @@ impl Policy {
         Some(policy)
     }
 
-    /// Returns the policy of so many users that is saved as these bytes, if there is one.
+    /// Returns the policy for this many users that is saved as exactly these bytes; None if there
+    /// is none, or if memory is refused while it is read.
     ///
     /// # Errors
     ///
-    /// `AllocError` if memory is refused.
+    /// `AllocError` if memory is refused after it is read.
     pub fn restored(alloc: Global, users: usize, bytes: &[u8]) -> Result<Option<Policy>, AllocError>
         ensures { IfOk result (λ found. IfSome found (λ policy. lines_bytes policy ≡ bytes.now)) }
     {

@@ -9,8 +9,9 @@ ghost use Rattle.cp_frames.specs.Layout.{AreTaken};
 use crate::UserPage;
 use std::alloc::{AllocError, Global};
 
-/// Returns the frames by their numbers, the greatest first: then frame 0 is the first that is given
-/// a page.
+/// Returns a new list of the numbers of this many frames, the greatest first.
+///
+/// Frame 0, which is last, is the first that is given a page.
 ///
 /// # Errors
 ///
@@ -26,8 +27,11 @@ pub fn all_frames(alloc: Global, frames: u16) -> Result<Vec<u16>, AllocError>
     Ok(order)
 }
 
-/// Returns the last turn whose frame is free, where each frame that has the turn `end` or a later
-/// one is taken: the turn that has the fewest frames after it, which move up when it is put last.
+/// Returns the greatest index below `end` in the order whose frame has no page in it, if there is
+/// one.
+///
+/// The frames at `end` and after it all have pages. The frame found has the fewest frames after it,
+/// which move up when it is put last.
 pub fn free_turn(order: &[u16], owners: &[Option<UserPage>], end: usize) -> Option<usize>
     requires frames { All (λ frame. frame < length owners.now) order.now }
     requires end { end ≤ length order.now }
@@ -47,7 +51,7 @@ pub fn free_turn(order: &[u16], owners: &[Option<UserPage>], end: usize) -> Opti
     None
 }
 
-/// Returns the first turn whose frame is not pinned.
+/// Returns the first index in the order whose frame is not pinned, if there is one.
 pub fn open_turn(order: &[u16], pins: &[bool]) -> Option<usize>
     requires { All (λ frame. frame < length pins.now) order.now }
     ensures within { IfSome result (λ turn. turn < length order.now) }
@@ -62,7 +66,7 @@ pub fn open_turn(order: &[u16], pins: &[bool]) -> Option<usize>
     None
 }
 
-/// Puts the frame that has this turn last.
+/// Moves the frame at the index `turn` of the order to its end; those after it move up by one.
 pub fn last(order: &mut [u16], turn: usize)
     requires { turn < length order.old }
     ensures { order.new ≡ remove order.old turn ++ slice_index order.old turn ∷ [] }
@@ -70,7 +74,7 @@ pub fn last(order: &mut [u16], turn: usize)
     order[turn..].rotate_left(1);
 }
 
-/// Returns a count plus one, which stays at its greatest value.
+/// Returns a number plus one, or the number itself if it is the greatest.
 pub fn count(number: u64) -> u64
     ensures { result ≡ counted number }
 {

@@ -12,7 +12,7 @@ use s370_store::Page;
 use std::alloc::{AllocError, Global};
 use user_names::UserNo;
 
-/// Returns this many frames or slots with no page in them.
+/// Returns a new list of which page is in each of this many frames or slots: none in any.
 ///
 /// # Errors
 ///
@@ -23,7 +23,7 @@ pub fn free_frames(alloc: Global, count: usize) -> Result<Vec<Option<UserPage>>,
     Ok(vec![in alloc; None; count]?)
 }
 
-/// Returns the pins of this many frames that are not pinned.
+/// Returns a new list of pins for this many frames, none of which is pinned.
 ///
 /// # Errors
 ///
@@ -41,7 +41,7 @@ pub fn clear_pins(pins: &mut Vec<bool>)
     pins.fill(false);
 }
 
-/// Returns the first slot with no page in it, where each slot before `low` is taken.
+/// Returns the first slot from `low` on with no page in it, if there is one.
 pub fn first_free(owners: &[Option<UserPage>], low: usize) -> Option<usize>
     requires { All IsSome (take low owners.now) }
     ensures within { IfSome result (λ slot. slot < length owners.now) }
@@ -57,7 +57,8 @@ pub fn first_free(owners: &[Option<UserPage>], low: usize) -> Option<usize>
     None
 }
 
-/// Returns before which slot each is still taken, if this one has another owner, or none.
+/// Returns `slot` if no page is in it now and it is below `low`, else `low`: no slot before is
+/// free.
 pub fn low_after(low: usize, slot: usize, owner: Option<UserPage>) -> usize
     ensures { (owners : List (Option UserPage)) → All IsSome (take low owners)
         → All IsSome (take result (slice_set owners slot owner)) }
@@ -69,7 +70,7 @@ pub fn low_after(low: usize, slot: usize, owner: Option<UserPage>) -> usize
     }
 }
 
-/// Takes each page of a user out of its frame, which the list next to the tables names.
+/// Removes each page of a user from its frame, and maps it to no frame in `tables` and in `lookup`.
 pub fn leave(
     owners: &mut Vec<Option<UserPage>>,
     tables: &mut Vec<u8>,
@@ -100,7 +101,7 @@ pub fn leave(
     }
 }
 
-/// Returns how many pages a user has: none where there is no such user.
+/// Returns how many pages a user's storage has, or 0 if there is no such user.
 fn pages_of(sizes: &[u32], user: UserNo) -> u32
     ensures { result ≡ slice_index sizes.now user }
 {
@@ -108,7 +109,7 @@ fn pages_of(sizes: &[u32], user: UserNo) -> u32
     if user < sizes.len() { sizes[user] } else { 0 }
 }
 
-/// Takes each page of a user out of its slot. If there are no slots nothing is looked at.
+/// Removes each page of a user from its slot, also in the table; without slots it does nothing.
 pub fn leave_slots(owners: &mut Vec<Option<UserPage>>, table: &mut Vec<u32>, user: UserNo)
     ensures owners { owners.new.items ≡ cleared_of user owners.old.items }
     ensures tabled { (sizes : List ℕ) → IsTabled slot_entry owners.old.items sizes table.old.items
@@ -121,7 +122,7 @@ pub fn leave_slots(owners: &mut Vec<Option<UserPage>>, table: &mut Vec<u32>, use
     forget_slots(table, user.index());
 }
 
-/// Takes each page of a user out of its slot.
+/// Removes each page of a user from the list of the pages in slots.
 fn give_back(owners: &mut Vec<Option<UserPage>>, user: UserNo)
     ensures { owners.new.items ≡ cleared_of user owners.old.items }
 {
@@ -130,7 +131,7 @@ fn give_back(owners: &mut Vec<Option<UserPage>>, user: UserNo)
     }
 }
 
-/// Returns what is left in a slot when a user leaves.
+/// Returns the page in a slot, or None if it is a page of the user who leaves.
 fn kept(owner: Option<UserPage>, user: UserNo) -> Option<UserPage>
     ensures { result ≡ without user owner }
 {

@@ -18,7 +18,8 @@ use user_names::UserNo;
 impl Frames {
     ghost use Rattle.cp_frames.specs.Layout.{bytes_of};
 
-    /// Brings a page into a frame, where it is in none. No byte of any user changes.
+    /// Returns the frame that a page is in, after paging it in if it is in none. No user's bytes
+    /// change.
     ///
     /// If no frame is free, the page longest in its frame among those not pinned is given up. It
     /// takes a free slot, or the slot that the wanted page leaves.
@@ -57,7 +58,7 @@ impl Frames {
         Ok(FrameNo(frame as u16))
     }
 
-    /// Returns the turn of the frame that a page is to come into; none where no frame is free and
+    /// Returns the index in the order of the frame for the next page; None if no frame is free and
     /// all are pinned.
     fn next_turn(&self) -> Option<usize>
         ensures within { IfSome result (λ turn. turn < length self.now.supply.order) }
@@ -77,7 +78,7 @@ impl Frames {
         open_turn(&self.order, &self.pins)
     }
 
-    /// Returns the frame that has this turn.
+    /// Returns the frame at the index `turn` of the order.
     fn frame_in_turn(&self, turn: usize) -> usize
         requires { turn < length self.now.supply.order }
         ensures frame { result ≡ slice_index self.now.supply.order turn }
@@ -88,8 +89,8 @@ impl Frames {
         self.order[turn] as usize
     }
 
-    /// Returns from which turn on all frames are taken, once a page is in the frame that has this
-    /// turn.
+    /// Returns `turn` if the frame at that index of the order is free, else 0: from there on all
+    /// frames are taken once a page is in that frame.
     fn end_after(&self, turn: usize) -> usize
         requires turn { turn < length self.now.supply.order }
         requires chosen { IsChosen self.now.supply turn }
@@ -107,7 +108,8 @@ impl Frames {
         }
     }
 
-    /// Puts a page that is in no frame into this one, and what was in it into a slot.
+    /// Puts a page that is in no frame into this one, and a page that was there into a slot; fails
+    /// if that needs a free slot and none is.
     fn put(&mut self, frame: usize, user: UserNo, page: Page) -> Result<(), FramesOut>
         requires inside { page.0 * 4096 < length (bytes_of self.old user) }
         requires frame { frame < length self.old.supply.owners }
@@ -141,7 +143,8 @@ impl Frames {
         }
     }
 
-    /// Returns a free slot, from which the next search begins.
+    /// Returns the first slot with no page in it, if there is one, and sets where the next search
+    /// begins.
     fn free_slot(&mut self) -> Option<usize>
         ensures unchanged { self.new ≡ self.old }
         ensures within { IfSome result (λ slot. slot < length self.old.supply.slots) }
@@ -157,7 +160,8 @@ impl Frames {
         found
     }
 
-    /// Exchanges what is in a frame and what is in a slot.
+    /// Exchanges the pages, if any, in a frame and in a slot, and updates the tables and search
+    /// bounds.
     pub(crate) fn exchange(&mut self, frame: usize, slot: usize)
         requires frame { frame < length self.old.supply.owners }
         requires slot { slot < length self.old.supply.slots }
@@ -180,7 +184,7 @@ impl Frames {
         swap(&mut self.frames[frame], &mut self.slots[slot]);
     }
 
-    /// Puts a page that is nowhere, and so is all zero, into a free frame.
+    /// Zeroes a free frame, and maps a page to it that was in no frame and in no slot.
     pub(crate) fn fill(&mut self, frame: usize, user: UserNo, page: Page)
         requires inside { page.0 * 4096 < length (bytes_of self.old user) }
         requires frame { frame < length self.old.supply.owners }
@@ -200,8 +204,8 @@ impl Frames {
         );
     }
 
-    /// Records that a page has been brought into the frame that has this turn, and that the frames
-    /// of the turn `end` and later ones are taken.
+    /// Moves the frame at the index `turn` of the order to its end, sets `end`, from where on all
+    /// frames are taken, and counts a page-in.
     fn come(&mut self, turn: usize, end: usize)
         requires turn { turn < length self.old.supply.order }
         requires end { end ≤ turn }

@@ -79,8 +79,8 @@ impl Frames {
     ghost use Rattle.std.specs.Borrow.{sem};
     ghost use Rattle.cp_frames.specs.Lending.{LendsFrame};
 
-    /// Returns this many free frames and slots, and a storage of zeros for each user, whose pages
-    /// are counted in `sizes`.
+    /// Returns a pool of this many free frames and slots, with a storage of zeros for each user,
+    /// whose size in pages is in `sizes`.
     ///
     /// # Errors
     ///
@@ -134,7 +134,7 @@ impl Frames {
         })
     }
 
-    /// Returns how many bytes a user has: none where there is no such user.
+    /// Returns how many bytes a user's storage has, or 0 if there is no such user.
     pub fn size(&self, user: UserNo) -> u32
         ensures bytes { result ≡ length (bytes_of self.now user) }
         ensures whole { result % 4096 ≡ 0 }
@@ -179,8 +179,9 @@ impl Frames {
         *page_ins
     }
 
-    /// Returns the frame in which a page of a user is. A page that is in none, and in no slot, is
-    /// all zero.
+    /// Returns the frame that a user's page is in, if it is in one.
+    ///
+    /// A page that is in no frame and in no slot is all zero.
     #[inline(always)]
     pub fn frame_of(&self, user: UserNo, page: Page) -> Option<FrameNo>
         requires { page.0 * 4096 < length (bytes_of self.now user) }
@@ -199,7 +200,8 @@ impl Frames {
         }
     }
 
-    /// Returns the place of a user's byte whose page is in a frame, among the bytes of all frames.
+    /// Returns the place among the bytes of all frames of a user's byte, whose page has to be in a
+    /// frame.
     #[inline(always)]
     fn place_with(&self, user: UserNo, start: u32) -> usize
         requires inside { start < length (bytes_of self.now user) }
@@ -210,8 +212,9 @@ impl Frames {
         place_in(self.lookup[entry_of(user, start / PAGE_SIZE)], start)
     }
 
-    /// Returns the slot in which a page of a user is. A page that is in none, and in no frame, is
-    /// all zero.
+    /// Returns the slot that a user's page is in, if it is in one.
+    ///
+    /// A page that is in no slot and in no frame is all zero.
     pub fn slot_of(&self, user: UserNo, page: Page) -> Option<usize>
         requires { page.0 * 4096 < length (bytes_of self.now user) }
         ensures slot { result ≡ frame_of self.now.supply.slots user page.0 }
@@ -229,8 +232,10 @@ impl Frames {
         }
     }
 
-    /// Returns the place of a user's byte among the bytes of all frames, one after another: the one
-    /// look that each access makes. None where its page is in no frame.
+    /// Returns the place of a user's byte among the bytes of all frames; None if its page is in no
+    /// frame.
+    ///
+    /// This is the one look that each access makes.
     #[inline(always)]
     pub fn place_at(&self, user: UserNo, start: u32) -> Option<usize>
         requires { start < length (bytes_of self.now user) }
@@ -269,8 +274,8 @@ impl Frames {
         &self.tables
     }
 
-    /// Returns the entry of a user's segment of 64K, by the bytes of the tables. A user who is not
-    /// there has none.
+    /// Returns a user's segment table entry for a segment of 64K; an invalid entry if there is no
+    /// such user.
     pub fn segment_entry(&self, user: UserNo, segment: u32) -> u32
         requires { segment < 64 }
         ensures { result ≡ segment_entry user (length (bytes_of self.now user) / 4096) segment }
@@ -282,8 +287,7 @@ impl Frames {
         }
     }
 
-    /// Returns the entry of a user's page, by the bytes of the tables. A user who is not there has
-    /// no page.
+    /// Returns a user's page table entry for a page; an invalid entry if there is no such user.
     pub fn page_entry(&self, user: UserNo, page: Page) -> u16
         requires { page.0 < 1024 }
         ensures { result ≡ page_entry (frame_of self.now.supply.owners user page.0) }
@@ -295,7 +299,8 @@ impl Frames {
         }
     }
 
-    /// Returns the page that is in a frame.
+    /// Returns the page that is in a frame, and whose it is; None if it is free or there is no such
+    /// frame.
     pub fn page_in(&self, frame: FrameNo) -> Option<UserPage>
         ensures page { result ≡ slice_index_or self.now.supply.owners frame.0 None }
         ensures once { (p : UserPage) → (result ≡ Some p)
@@ -310,8 +315,9 @@ impl Frames {
         }
     }
 
-    /// Marks a frame: the page in it is not to be given up for another. Nothing is done to a free
-    /// frame, or past the frames.
+    /// Pins a frame if a page is in it: that page is not given up for another until it is unpinned.
+    ///
+    /// Nothing is done to a free frame, or if there is no such frame.
     pub fn pin(&mut self, frame: FrameNo)
         ensures supply { self.new.supply
             ≡ record self.old.supply {
@@ -327,7 +333,7 @@ impl Frames {
         }
     }
 
-    /// Takes the mark from a frame. Nothing is done past the frames.
+    /// Unpins a frame; nothing is done if there is no such frame.
     pub fn unpin(&mut self, frame: FrameNo)
         ensures supply { self.new.supply
             ≡ record self.old.supply { pins = slice_set self.old.supply.pins frame.0 false } }
@@ -352,7 +358,7 @@ impl Frames {
         }
     }
 
-    /// Returns whether a frame is pinned.
+    /// Returns whether a frame is pinned; false if there is no such frame.
     pub fn is_pinned(&self, frame: FrameNo) -> bool
         ensures { result ≡ slice_index_or self.now.supply.pins frame.0 false }
     {
@@ -364,8 +370,8 @@ impl Frames {
         }
     }
 
-    /// Takes all pages of a user out of their frames and slots, after which the user's storage is
-    /// all zero, and unpins all frames.
+    /// Removes all pages of a user from frames and slots, so that his storage is all zero, and
+    /// unpins all frames, whoever's pages are in them.
     pub fn release(&mut self, user: UserNo)
         ensures storages { self.new.storages
             ≡ slice_set self.old.storages user (replicate (length (bytes_of self.old user)) 0) }
@@ -391,8 +397,9 @@ impl Frames {
         leave_slots(&mut self.slot_owners, &mut self.slot_table, user);
     }
 
-    /// Borrows a frame's bytes; None past the frames. What is written there is from then on the
-    /// content of the page in the frame; what is borrowed is that content.
+    /// Borrows the bytes of a frame for reading and writing; None if there is no such frame.
+    ///
+    /// They are the content of the page in the frame, and so is what is written there.
     pub fn frame_mut(&mut self, frame: FrameNo) -> Option<&mut [u8; FRAME_SIZE]>
         ensures* writes_back { sem 𝓛 (LendsFrame self.entry frame.0 result) }
         ensures content { IfSome result
@@ -422,7 +429,8 @@ impl Frames {
         }
     }
 
-    /// Copies bytes of a user out, whose pages are in frames.
+    /// Fills `into` with bytes of a user's storage from `start` on, whose pages have to be in
+    /// frames.
     #[inline(always)]
     pub fn load(&self, user: UserNo, start: u32, into: &mut [u8])
         requires granted { IsGranted (length (bytes_of self.now user))
@@ -445,7 +453,7 @@ impl Frames {
         }
     }
 
-    /// Copies bytes of one page out.
+    /// Fills `into` with bytes of one page of a user, which has to be in a frame.
     #[inline(always)]
     fn load_part(&self, user: UserNo, start: u32, into: &mut [u8])
         requires within { start + length into.old ≤ length (bytes_of self.now user) }
@@ -460,8 +468,8 @@ impl Frames {
         self.load_in(user, place, start, into);
     }
 
-    /// Copies bytes of one page of a user out, of which the first has this place among the bytes of
-    /// all frames.
+    /// Fills `into` with bytes of one page of a user, of which the first is at `place` among the
+    /// bytes of all frames.
     #[inline(always)]
     pub fn load_in(&self, _user: UserNo, place: usize, start: u32, into: &mut [u8])
         requires within { start + length into.old ≤ length (bytes_of self.now _user) }
@@ -476,7 +484,7 @@ impl Frames {
         copy_out_at(&self.frames, place, into);
     }
 
-    /// Copies bytes out that may lie in two pages.
+    /// Fills `into` with bytes of a user that may lie in two pages, which have to be in frames.
     #[inline(never)]
     fn load_apart(&self, user: UserNo, start: u32, into: &mut [u8])
         requires granted { IsGranted (length (bytes_of self.now user))
@@ -493,7 +501,7 @@ impl Frames {
         }
     }
 
-    /// Copies bytes of two pages out.
+    /// Fills `into` with bytes of a user that lie in two pages, which have to be in frames.
     fn load_across(&self, user: UserNo, start: u32, into: &mut [u8])
         requires granted { IsGranted (length (bytes_of self.now user))
             (is_there self.now.supply.owners user) start
@@ -508,7 +516,9 @@ impl Frames {
         self.load_part(user, start + left as u32, second);
     }
 
-    /// Copies bytes of a user in, whose pages are in frames. No other byte of any user changes.
+    /// Copies bytes into a user's storage from `start` on, whose pages have to be in frames.
+    ///
+    /// No other byte of any user changes.
     #[inline(always)]
     pub fn store(&mut self, user: UserNo, start: u32, from: &[u8])
         requires granted { IsGranted (length (bytes_of self.old user))
@@ -534,7 +544,7 @@ impl Frames {
         }
     }
 
-    /// Copies bytes into one page.
+    /// Copies bytes into one page of a user, which has to be in a frame.
     #[inline(always)]
     fn store_part(&mut self, user: UserNo, start: u32, from: &[u8])
         requires within { start + length from.now ≤ length (bytes_of self.old user) }
@@ -552,8 +562,8 @@ impl Frames {
         self.store_placed(user, place, start, from);
     }
 
-    /// Copies bytes into one page of a user, of which the first has this place among the bytes of
-    /// all frames.
+    /// Copies bytes into one page of a user, the first of them to `place` among the bytes of all
+    /// frames.
     #[inline(always)]
     pub fn store_placed(&mut self, _user: UserNo, place: usize, start: u32, from: &[u8])
         requires within { start + length from.now ≤ length (bytes_of self.old _user) }
@@ -576,7 +586,8 @@ impl Frames {
         );
     }
 
-    /// Copies bytes of one page into one page.
+    /// Copies bytes that lie in one page of a user into the same page or another; both have to be
+    /// in frames.
     #[inline(always)]
     fn copy_part(&mut self, user: UserNo, from: u32, to: u32, count: u32)
         requires source { from + count ≤ length (bytes_of self.old user) }
@@ -600,8 +611,8 @@ impl Frames {
         self.copy_placed(user, source, from, target, to, count);
     }
 
-    /// Copies at most 2048 bytes of one page of a user into one page, of which the first have these
-    /// places among the bytes of all frames.
+    /// Copies at most 2048 bytes of a user from one page to the same or another, from `source` to
+    /// `target` among the bytes of all frames.
     #[inline(always)]
     pub fn copy_placed(
         &mut self,
@@ -642,7 +653,8 @@ impl Frames {
         );
     }
 
-    /// Copies bytes that may lie in two pages, through a buffer.
+    /// Copies bytes of a user, which may lie in two pages, to where they may lie in two, by way of
+    /// a buffer.
     #[inline(never)]
     fn copy_across(&mut self, user: UserNo, from: u32, to: u32, count: u32)
         requires source { IsGranted (length (bytes_of self.old user))
@@ -691,7 +703,7 @@ impl Frames {
         }
     }
 
-    /// Copies bytes in that may lie in two pages.
+    /// Copies bytes into a user's storage that may lie in two pages, which have to be in frames.
     #[inline(never)]
     fn store_apart(&mut self, user: UserNo, start: u32, from: &[u8])
         requires granted { IsGranted (length (bytes_of self.old user))
@@ -712,7 +724,7 @@ impl Frames {
         }
     }
 
-    /// Copies bytes into two pages.
+    /// Copies bytes into a user's storage that lie in two pages, which have to be in frames.
     fn store_across(&mut self, user: UserNo, start: u32, from: &[u8])
         requires granted { IsGranted (length (bytes_of self.old user))
             (is_there self.old.supply.owners user) start

@@ -27,7 +27,7 @@ fn put_page(out: &mut Vec<u8>, page: UserPage) -> Result<(), AllocError>
     put_number(out, u64::from(page.page.0))
 }
 
-/// Appends which page is in a place, if one is.
+/// Appends which page is in a frame or slot, or that none is.
 fn put_place(out: &mut Vec<u8>, owner: Option<UserPage>) -> Result<(), AllocError>
     ensures { OnOk result (out.new.items ≡ out.old.items ++ optional page_bytes owner) }
 {
@@ -40,7 +40,7 @@ fn put_place(out: &mut Vec<u8>, owner: Option<UserPage>) -> Result<(), AllocErro
     }
 }
 
-/// Appends which pages are in these places.
+/// Appends which page, if any, is in each of these frames or slots.
 #[tactic(auto, using(saved_bytes::proofs::Codes::each_on))]
 fn put_places(out: &mut Vec<u8>, owners: &[Option<UserPage>]) -> Result<(), AllocError>
     ensures { OnOk result (out.new.items ≡ out.old.items ++ each (optional page_bytes) owners.now) }
@@ -52,7 +52,7 @@ fn put_places(out: &mut Vec<u8>, owners: &[Option<UserPage>]) -> Result<(), Allo
     put_zero(out)
 }
 
-/// Appends which frames are pinned.
+/// Appends for each frame whether it is pinned.
 #[tactic(auto, using(saved_bytes::proofs::Codes::each_on))]
 fn put_pins(out: &mut Vec<u8>, pins: &[bool]) -> Result<(), AllocError>
     ensures { OnOk result (out.new.items ≡ out.old.items ++ each flag pins.now) }
@@ -64,7 +64,7 @@ fn put_pins(out: &mut Vec<u8>, pins: &[bool]) -> Result<(), AllocError>
     put_zero(out)
 }
 
-/// Appends the numbers of frames.
+/// Appends the numbers of these frames, in their order.
 #[tactic(auto, using(saved_bytes::proofs::Codes::each_on))]
 fn put_order(out: &mut Vec<u8>, order: &[u16]) -> Result<(), AllocError>
     ensures { OnOk result (out.new.items ≡ out.old.items ++ each number order.now) }
@@ -83,7 +83,7 @@ fn is_zero(content: &[u8]) -> bool
     content.iter().all(|byte| *byte == 0)
 }
 
-/// Appends the content of a page: a mark alone where each byte is zero.
+/// Appends a one and the content of a page, or only a zero if each byte of it is zero.
 fn put_content(out: &mut Vec<u8>, content: &[u8]) -> Result<(), AllocError>
     ensures { OnOk result (out.new.items ≡ out.old.items ++ packed content.now) }
 {
@@ -124,7 +124,8 @@ impl Frames {
         }
     }
 
-    /// Appends all storages, and where each page is.
+    /// Appends where each page is, the pins, the order of frames, the number of page-ins and all
+    /// storages.
     ///
     /// # Errors
     ///
@@ -136,7 +137,8 @@ impl Frames {
         self.save_storages(out)
     }
 
-    /// Appends which page is in each frame and in each slot.
+    /// Appends the pages in frames and slots, the pins, the order of frames and the number of
+    /// page-ins.
     fn save_supply(&self, out: &mut Vec<u8>) -> Result<(), AllocError>
         ensures { OnOk result (out.new.items ≡ out.old.items ++ supply_bytes self.now.supply) }
     {
@@ -177,7 +179,7 @@ impl Frames {
         put_zero(out)
     }
 
-    /// Appends the storage of a user.
+    /// Appends the size of a user's storage and the content of each of its pages.
     fn save_storage(&self, user: UserNo, out: &mut Vec<u8>) -> Result<(), AllocError>
         ensures { OnOk result (out.new.items ≡ out.old.items
             ++ storage_bytes (bytes_of self.now user)) }
@@ -186,7 +188,7 @@ impl Frames {
         self.save_pages(user, out)
     }
 
-    /// Appends the pages of a user.
+    /// Appends the content of each page of a user, in order.
     fn save_pages(&self, user: UserNo, out: &mut Vec<u8>) -> Result<(), AllocError>
         ensures { OnOk result (out.new.items ≡ out.old.items
             ++ pages_bytes (length (bytes_of self.now user) / 4096) (bytes_of self.now user)) }
@@ -198,7 +200,7 @@ impl Frames {
         Ok(())
     }
 
-    /// Appends a page.
+    /// Appends the content of a user's page, or only a zero if it is all zero.
     fn save_page(&self, user: UserNo, page: Page, out: &mut Vec<u8>) -> Result<(), AllocError>
         requires { page.0 * 4096 < length (bytes_of self.now user) }
         ensures { OnOk result (out.new.items ≡ out.old.items
@@ -210,7 +212,8 @@ impl Frames {
         }
     }
 
-    /// Puts a page that is nowhere into a free frame. None is reported where that cannot be.
+    /// Maps a page to a free frame, which is zeroed; returns None and changes nothing if the frame
+    /// is not free, or if the page is not the user's or is in a frame or slot already.
     fn seat(&mut self, frame: usize, there: UserPage) -> Option<()>
         ensures sizes { map length self.new.storages ≡ map length self.old.storages }
         ensures pins { self.new.supply.pins ≡ self.old.supply.pins }
@@ -230,8 +233,8 @@ impl Frames {
         Some(())
     }
 
-    /// Puts a page that is nowhere into a free slot, by way of the first frame, which is free. None
-    /// is reported where that cannot be.
+    /// Puts a page of zeros into a free slot, by way of frame 0, which is left free; returns None
+    /// if the page, the slot or the frame does not allow that.
     fn seat_in_slot(&mut self, slot: usize, there: UserPage) -> Option<()>
         ensures sizes { map length self.new.storages ≡ map length self.old.storages }
         ensures pins { self.new.supply.pins ≡ self.old.supply.pins }
@@ -248,7 +251,8 @@ impl Frames {
         Some(())
     }
 
-    /// Puts these pages into the slots.
+    /// Puts each of these pages, as zeros, into the slot of its index, by way of frame 0; returns
+    /// None at the first that cannot be put there.
     fn seat_slots(&mut self, slots: &[Option<UserPage>]) -> Option<()>
         ensures sizes { map length self.new.storages ≡ map length self.old.storages }
         ensures pins { self.new.supply.pins ≡ self.old.supply.pins }
@@ -263,7 +267,8 @@ impl Frames {
         Some(())
     }
 
-    /// Puts these pages into the frames.
+    /// Maps each of these pages, as zeros, to the frame of its index; returns None at the first
+    /// that cannot be put there.
     fn seat_frames(&mut self, owners: &[Option<UserPage>]) -> Option<()>
         ensures sizes { map length self.new.storages ≡ map length self.old.storages }
         ensures pins { self.new.supply.pins ≡ self.old.supply.pins }
@@ -278,7 +283,7 @@ impl Frames {
         Some(())
     }
 
-    /// Returns the turn of a frame in the order.
+    /// Returns the index of a frame in the order, if it is there.
     fn turn_of(&self, frame: u16) -> Option<usize>
         ensures { IfSome result (λ turn. turn < length self.now.supply.order) }
     {
@@ -290,7 +295,8 @@ impl Frames {
         }
     }
 
-    /// Puts the frame that has this turn last.
+    /// Moves the frame at the index `turn` of the order to its end; the next search for a free
+    /// frame begins there.
     fn put_last(&mut self, turn: usize)
         requires { turn < length self.old.supply.order }
         ensures storages { self.new.storages ≡ self.old.storages }
@@ -301,7 +307,8 @@ impl Frames {
         last(&mut self.order, turn);
     }
 
-    /// Puts the frames into the order that is next.
+    /// Reads frame numbers from the input, and moves each frame to the end of the order; returns
+    /// None if there is no such frame or the input is malformed.
     fn restore_order(&mut self, input: &mut Input<'_>) -> Option<()>
         ensures storages { self.new.storages ≡ self.old.storages }
         ensures pins { self.new.supply.pins ≡ self.old.supply.pins }
@@ -317,7 +324,7 @@ impl Frames {
         None
     }
 
-    /// Sets how many pages have been brought into frames.
+    /// Sets the number of page-ins so far.
     fn set_page_ins(&mut self, page_ins: u64)
         ensures storages { self.new.storages ≡ self.old.storages }
         ensures pins { self.new.supply.pins ≡ self.old.supply.pins }
@@ -326,7 +333,7 @@ impl Frames {
         self.page_ins = page_ins;
     }
 
-    /// Writes the content of a page where it is. None is reported where it is nowhere.
+    /// Writes the content of a page into its frame or slot; returns None if it is in neither.
     fn write(&mut self, user: UserNo, page: Page, content: &[u8]) -> Option<()>
         requires inside { page.0 * 4096 < length (bytes_of self.old user) }
         requires full { length content.now ≡ 4096 }
@@ -349,7 +356,8 @@ impl Frames {
         }
     }
 
-    /// Takes the content of a page that is next.
+    /// Reads the content of a page from the input, and writes it to its frame or slot; a page saved
+    /// as all zero is left as it is. Returns None if that cannot be done.
     fn restore_page(&mut self, user: UserNo, page: Page, input: &mut Input<'_>) -> Option<()>
         ensures sizes { map length self.new.storages ≡ map length self.old.storages }
         ensures supply { self.new.supply ≡ self.old.supply }
@@ -364,7 +372,8 @@ impl Frames {
         self.write(user, page, content)
     }
 
-    /// Takes the storage of a user that is next.
+    /// Reads a user's storage from the input, and writes its pages; returns None if its size is
+    /// another or the input is malformed.
     fn restore_storage(&mut self, user: UserNo, input: &mut Input<'_>) -> Option<()>
         ensures sizes { map length self.new.storages ≡ map length self.old.storages }
         ensures supply { self.new.supply ≡ self.old.supply }
@@ -379,7 +388,8 @@ impl Frames {
         Some(())
     }
 
-    /// Takes the storages of all users that are next.
+    /// Reads the storages of all users from the input, and writes their pages; returns None if
+    /// there are more or fewer, or the input is malformed.
     fn restore_storages(&mut self, input: &mut Input<'_>) -> Option<()>
         ensures sizes { map length self.new.storages ≡ map length self.old.storages }
         ensures supply { self.new.supply ≡ self.old.supply }
@@ -393,9 +403,11 @@ impl Frames {
         if input.flag()? { None } else { Some(()) }
     }
 
-    /// Restores what is next in the input, in frames and slots in which no page is. None is
-    /// reported of bytes that no such frames save; what is left then is lawful, and nothing else is
-    /// said of it.
+    /// Reads from the input the pages, their places, the order of frames and the number of
+    /// page-ins, into frames and slots in which no page is; returns None if no such frames save
+    /// that.
+    ///
+    /// What is left after None is lawful, and nothing else is said of it.
     pub fn restore(&mut self, alloc: Global, input: &mut Input<'_>) -> Option<()>
         ensures sizes { map length self.new.storages ≡ map length self.old.storages }
         ensures pins { self.new.supply.pins ≡ self.old.supply.pins }
@@ -413,7 +425,8 @@ impl Frames {
     }
 }
 
-/// Takes a place that is next: a page that may be in it, or none.
+/// Reads from the input which page is in a frame or slot, or that none is; returns None if
+/// malformed.
 fn next_place(input: &mut Input<'_>) -> Option<Option<UserPage>> {
     if !input.flag()? {
         return Some(None);
@@ -429,7 +442,8 @@ fn next_place(input: &mut Input<'_>) -> Option<Option<UserPage>> {
     }))
 }
 
-/// Takes the places that are next.
+/// Reads from the input which page, if any, is in each frame or slot; returns None if malformed, or
+/// if memory is refused.
 fn next_places(alloc: Global, input: &mut Input<'_>) -> Option<Vec<Option<UserPage>>> {
     let mut places = Vec::new(alloc);
     for _ in 0..u64::MAX {
@@ -442,7 +456,8 @@ fn next_places(alloc: Global, input: &mut Input<'_>) -> Option<Vec<Option<UserPa
     None
 }
 
-/// Passes over the pins of frames, none of which is set in a saved state.
+/// Skips the pins of frames in the input; returns None if one of them is set or the input is
+/// malformed.
 fn skip_pins(input: &mut Input<'_>) -> Option<()> {
     for _ in 0..u64::MAX {
         if !input.flag()? {

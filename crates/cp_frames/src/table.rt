@@ -41,7 +41,7 @@ pub const ABSENT: u32 = 1;
 /// The entry of a page that is in no slot.
 pub const NO_SLOT: u32 = 4294967295;
 
-/// Returns the place of the entry of a user's segment.
+/// Returns the place, among the bytes of all tables, of a user's entry for a segment.
 #[inline]
 pub fn segment_place(user: usize, segment: u32) -> usize
     requires { user < 256 }
@@ -50,7 +50,7 @@ pub fn segment_place(user: usize, segment: u32) -> usize
     user * TABLES + segment as usize * 4
 }
 
-/// Returns the place of the entry of a user's page.
+/// Returns the place, among the bytes of all tables, of a user's entry for a page.
 #[inline(always)]
 pub fn page_place(user: usize, page: u32) -> usize
     requires { user < 256 }
@@ -85,8 +85,8 @@ fn put_half(tables: &mut Vec<u8>, place: usize, half: u16)
     tables[place + 1] = (half % 256) as u8;
 }
 
-/// Returns the place of an address among the bytes of all frames, by the entry of its page, which
-/// is in one.
+/// Returns the place of an address among the bytes of all frames, from the lookup entry of its
+/// page.
 #[inline(always)]
 pub fn place_in(entry: u32, address: u32) -> usize
     ensures { (frame : ℕ) → frame < 65536 → address < 4194304
@@ -96,7 +96,7 @@ pub fn place_in(entry: u32, address: u32) -> usize
     entry.wrapping_add(address) as usize
 }
 
-/// Returns the frame that the entry of a page says, which is in one.
+/// Returns the frame that a page is in, from its entry in the lookup list.
 pub fn frame_in(entry: u32, page: u32) -> usize
     requires { page < 1024 }
     ensures { (frame : ℕ) → frame < 65536 → entry ≡ frame_entry (Some frame) page → result ≡ frame }
@@ -104,7 +104,7 @@ pub fn frame_in(entry: u32, page: u32) -> usize
     place_in(entry, page * PAGE_SIZE) / FRAME_SIZE
 }
 
-/// Returns the entry in the list of a page that is in this frame.
+/// Returns the entry in the lookup list for a page that is in this frame.
 fn lookup_entry(page: u32, frame: usize) -> u32
     requires { frame < 4096 }
     ensures { result ≡ frame_entry (Some frame) page }
@@ -112,7 +112,7 @@ fn lookup_entry(page: u32, frame: usize) -> u32
     (frame as u32 * PAGE_SIZE).wrapping_sub(page.wrapping_mul(PAGE_SIZE))
 }
 
-/// Returns the entry of a page that is in this frame.
+/// Returns the page table entry for a page that is in this frame.
 fn entry_with(frame: usize) -> u16
     requires { frame < 4096 }
     ensures { result ≡ frame * 16 }
@@ -120,7 +120,7 @@ fn entry_with(frame: usize) -> u16
     frame as u16 * 16
 }
 
-/// Returns the entry of a segment of a user who has so many pages.
+/// Returns the segment table entry for a segment of a user who has this many pages.
 fn segment_entry(user: usize, pages: u32, segment: usize) -> u32
     requires user { user < 64 }
     requires segment { segment < 64 }
@@ -135,8 +135,7 @@ fn segment_entry(user: usize, pages: u32, segment: usize) -> u32
     (own - 1) * 0x1000_0000 + page_place(user, first) as u32
 }
 
-/// Returns the halfword of this number of the tables of a user who has so many pages, of which none
-/// is in a frame.
+/// Returns a halfword of the tables of a user who has this many pages, none of them in a frame.
 fn first_half(user: usize, pages: u32, half: usize) -> u16
     requires { user < 64 }
     ensures { result ≡ first_half user pages half }
@@ -152,7 +151,7 @@ fn first_half(user: usize, pages: u32, half: usize) -> u16
     }
 }
 
-/// Returns the tables of users who have so many pages each, of which none is in a frame.
+/// Returns new segment and page tables for users who have these numbers of pages, none in a frame.
 ///
 /// # Errors
 ///
@@ -177,7 +176,7 @@ pub fn new_tables(alloc: Global, sizes: &[u32]) -> Result<Vec<u8>, AllocError>
     Ok(tables)
 }
 
-/// Returns a list in which no page is in a frame.
+/// Returns a new lookup list of this many entries, in which no page is in a frame.
 ///
 /// # Errors
 ///
@@ -188,7 +187,7 @@ pub fn empty_looks(alloc: Global, count: usize) -> Result<Vec<u32>, AllocError>
     Ok(vec![in alloc; ABSENT; count]?)
 }
 
-/// Returns a table in which no page is in a slot.
+/// Returns a new table of this many entries, in which no page is in a slot.
 ///
 /// # Errors
 ///
@@ -199,7 +198,7 @@ pub fn empty_slot_table(alloc: Global, count: usize) -> Result<Vec<u32>, AllocEr
     Ok(vec![in alloc; NO_SLOT; count]?)
 }
 
-/// Returns the number of the entry of a user's page in a list.
+/// Returns the index of a user's page in the lookup list, and in the table of slots.
 #[inline(always)]
 pub fn entry_of(user: UserNo, page: u32) -> usize
     ensures { result ≡ user * 1024 + page }
@@ -207,7 +206,7 @@ pub fn entry_of(user: UserNo, page: u32) -> usize
     user.index() * PAGES + page as usize
 }
 
-/// Maps a page to this frame, in the page tables and in the list next to them.
+/// Maps a page, if one is given, to this frame, both in the page tables and in the lookup list.
 pub fn note(tables: &mut Vec<u8>, lookup: &mut Vec<u32>, owner: Option<UserPage>, frame: usize)
     requires tables { IfSome owner (λ p. page_place p.user p.page.0 + 1 < length tables.old.items) }
     requires lookup { IfSome owner (λ p. p.user * 1024 + p.page.0 < length lookup.old.items) }
@@ -225,7 +224,7 @@ pub fn note(tables: &mut Vec<u8>, lookup: &mut Vec<u32>, owner: Option<UserPage>
     }
 }
 
-/// Maps a page to no frame, in the page tables and in the list next to them.
+/// Maps a page, if one is given, to no frame, both in the page tables and in the lookup list.
 pub fn forget(tables: &mut Vec<u8>, lookup: &mut Vec<u32>, owner: Option<UserPage>)
     requires tables { IfSome owner (λ p. page_place p.user p.page.0 + 1 < length tables.old.items) }
     requires lookup { IfSome owner (λ p. p.user * 1024 + p.page.0 < length lookup.old.items) }
@@ -242,7 +241,7 @@ pub fn forget(tables: &mut Vec<u8>, lookup: &mut Vec<u32>, owner: Option<UserPag
     }
 }
 
-/// Sets the slot of a page in the list of slots.
+/// Sets the slot of a page, if one is given, in the table of slots.
 pub fn set_slot(table: &mut Vec<u32>, owner: Option<UserPage>, slot: u32)
     requires { IfSome owner (λ p. p.user * 1024 + p.page.0 < length table.old.items) }
     ensures { table.new.items ≡ reported slot_entry owner (Some slot) table.old.items }
@@ -252,7 +251,7 @@ pub fn set_slot(table: &mut Vec<u32>, owner: Option<UserPage>, slot: u32)
     }
 }
 
-/// Sets that a page is in no slot.
+/// Sets in the table of slots that a page, if one is given, is in no slot.
 pub fn forget_slot(table: &mut Vec<u32>, owner: Option<UserPage>)
     requires { IfSome owner (λ p. p.user * 1024 + p.page.0 < length table.old.items) }
     ensures { table.new.items ≡ reported slot_entry owner None table.old.items }
@@ -262,7 +261,8 @@ pub fn forget_slot(table: &mut Vec<u32>, owner: Option<UserPage>)
     }
 }
 
-/// Sets that a user's pages are in no slot.
+/// Sets in the table of slots that each page of a user is in no slot; past the table it does
+/// nothing.
 pub fn forget_slots(table: &mut Vec<u32>, user: usize)
     requires { user < 256 }
     ensures own { (page : ℕ) → page < 1024 → user * 1024 + 1024 ≤ length table.old.items

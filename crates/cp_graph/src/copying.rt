@@ -22,7 +22,8 @@ use s370_store::Storage;
 use s370_walk::{Ccw, Flags};
 use std::alloc::Global;
 
-/// Returns the node of a place: the word there with its links, whose places are added.
+/// Returns a copy of the word at a place with its list and its links; places to which it leads, if
+/// they are new, are added to `places` and `index`.
 fn copy_word<S: Storage>(
     alloc: Global,
     storage: &S,
@@ -102,7 +103,8 @@ fn copy_word<S: Storage>(
     })
 }
 
-/// Returns whether a word leads to the next one, or a transfer in channel to its address.
+/// Returns whether a word leads to another: by chaining to the next one, or by a transfer in
+/// channel to a doubleword's address.
 pub fn leads_on(word: &Ccw) -> bool
     ensures { result ≡ leads_next word.now }
 {
@@ -113,7 +115,7 @@ pub fn leads_on(word: &Ccw) -> bool
     }
 }
 
-/// Returns whether a word may lead to the one after the next.
+/// Returns whether a word may lead to the one after the next: if it chains commands and not data.
 pub fn may_skip(word: &Ccw) -> bool
     ensures { result ≡ leads_skipped word.now }
 {
@@ -122,7 +124,8 @@ pub fn may_skip(word: &Ccw) -> bool
         && !word.flags.has(Flags::CHAIN_DATA)
 }
 
-/// Returns where a word leads: a transfer in channel keeps the role, CD leads to a continuation.
+/// Returns the place to which a word leads, and whether the word there continues a data chain; a
+/// transfer in channel keeps that of `place`.
 fn next_of(word: &Ccw, place: CcwLocation) -> CcwLocation
     ensures address { result.address ≡ word.now.next }
     ensures role { result.continues ≡ role_after word.now place.continues }
@@ -138,8 +141,8 @@ fn next_of(word: &Ccw, place: CcwLocation) -> CcwLocation
     }
 }
 
-/// Copies the words that the program from an address on can reach, as they are in a storage, with
-/// the addresses that serve their bytes.
+/// Returns a copy of the words that the program from an address on can reach, as they are in a
+/// storage, with the addresses that serve their bytes.
 ///
 /// `start` is the address of a doubleword of storage, in bytes. Each address of storage that the
 /// copy names lies on a page that is present; where one does not, its page, which the program

@@ -14,7 +14,8 @@ use std::alloc::AllocError;
 /// Links past the places: each stands for an address of the guest at which he has no word.
 const PAST: u32 = 0x8000_0000;
 
-/// Returns the slot of a place in the index: two entries for each doubleword.
+/// Returns the index of a place's slot: there are two for each doubleword, the second for a
+/// continued data chain.
 fn slot(place: CcwLocation) -> usize
     ensures { result ≡ slot_of place }
 {
@@ -22,7 +23,7 @@ fn slot(place: CcwLocation) -> usize
     place.address as usize / 8 * 2 + half
 }
 
-/// Returns the number of a place, which is added if it is new.
+/// Returns the number of a place, which is added to `places` and to `index` if it is new.
 fn number_of(
     places: &mut Vec<CcwLocation>,
     index: &mut Slots,
@@ -52,8 +53,8 @@ fn number_of(
     Ok(number as u32)
 }
 
-/// Returns the link to a place, which is added if it is new; if no word lies there, or a word does
-/// not lead there, the link is past the places.
+/// Returns the number of a place, which is added if it is new; or a link past all places, if
+/// `leads` is false or the storage has no doubleword there.
 pub(crate) fn link<S: Storage>(
     storage: &S,
     places: &mut Vec<CcwLocation>,

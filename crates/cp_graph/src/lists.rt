@@ -13,8 +13,8 @@ use s370_store::{Access, Fault, Page, Range, Storage};
 use s370_walk::{Ccw, Flags};
 use std::alloc::Global;
 
-/// Returns whether a word has an area: a transfer in channel has none, and a list off a word
-/// boundary has no words.
+/// Returns whether a word has a data area: a transfer in channel has none, and neither has a word
+/// whose list is off a word boundary.
 pub fn has_area(word: &Ccw) -> bool
     ensures { result ≡ tracks.has_area word.now }
 {
@@ -22,8 +22,8 @@ pub fn has_area(word: &Ccw) -> bool
         && !(word.flags.has(Flags::INDIRECT) && word.address % 4 != 0)
 }
 
-/// Returns what word `number` says of the list that serves a word's bytes; where that is an address
-/// in storage, its page is present.
+/// Returns where block `number` of a word's data area begins, or None if that cannot be found out;
+/// the error is the absent page of that list word or of that block.
 fn entry<S: Storage>(storage: &S, word: &Ccw, number: u32) -> Result<Option<u32>, Page>
     requires { number ≤ 64 }
     ensures block { IfOk result (λ said. said ≡ area_block (S.memory storage.now) word.now number) }
@@ -52,9 +52,10 @@ fn entry<S: Storage>(storage: &S, word: &Ccw, number: u32) -> Result<Option<u32>
     }
 }
 
-/// Returns the addresses that serve the bytes of a word, up to the first word of its list that says
-/// none. A word of which no byte can move has none, so that no page is asked for which the program
-/// does not need.
+/// Returns where each block of a word's data area begins, up to the first for which that cannot be
+/// found out; none if the word has no area or a count of zero.
+///
+/// So no page is asked for which the program does not need.
 pub(crate) fn list_for<S: Storage>(
     alloc: Global,
     storage: &S,

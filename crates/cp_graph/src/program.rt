@@ -34,18 +34,21 @@ pub enum CopyError {
 }
 
 impl From<AllocError> for CopyError {
+    /// Returns the error that memory was refused.
     fn from(_: AllocError) -> Self {
         CopyError::Memory
     }
 }
 
 impl<T: Drop> From<AllocFailed<T>> for CopyError {
+    /// Returns the error that memory was refused.
     fn from(_: AllocFailed<T>) -> Self {
         CopyError::Memory
     }
 }
 
 impl From<Page> for CopyError {
+    /// Returns the error that this page is absent.
     fn from(page: Page) -> Self {
         CopyError::Absent(page)
     }

@@ -25,7 +25,7 @@ impl Model for Slots {
 }
 
 impl Slots {
-    /// Creates so many slots, each with zero. It takes no memory.
+    /// Returns this many slots, each with the number zero. It takes no memory.
     pub fn new(alloc: Global, count: usize) -> Slots
         ensures { result ≡ replicate count 0 }
     {
@@ -42,7 +42,7 @@ impl Slots {
         self.count
     }
 
-    /// Returns the number of a slot.
+    /// Returns the number of a slot; zero if none was set.
     pub fn get(&self, slot: usize) -> u32
         requires { slot < length self.now }
         ensures { result ≡ slice_index self.now slot }
@@ -53,7 +53,8 @@ impl Slots {
         }
     }
 
-    /// Gives a slot this number. Where memory is refused all stays.
+    /// Sets the number of a slot, in place of the one that it has. Where memory is refused all
+    /// stays.
     ///
     /// # Errors
     ///

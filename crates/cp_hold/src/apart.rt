@@ -13,7 +13,7 @@ use cp_needs::{Analysis, analyze};
 use s370_store::{FramesOut, PAGE_SIZE, Page, Storage, Supply};
 use std::alloc::{AllocError, Global};
 
-/// Returns a copy of a user's storage. For that no page has to be in a frame.
+/// Returns a copy of a user's storage, to analyze a program on it. No page has to be in a frame.
 fn copy_of(alloc: Global, storage: &Dat<'_>) -> Result<TrialStorage, AllocError>
     ensures memory { IfOk result (λ copy. trial_memory copy ≡ lent_memory storage.now) }
     ensures untouched { IfOk result (λ copy. (page : ℕ) → is_touched copy page ≡ false) }
@@ -42,8 +42,8 @@ fn fill(copy: &mut TrialStorage)
     }
 }
 
-/// Returns the pages of the program from an address on, wherever they are; None where an input
-/// could change one of its words or lists.
+/// Returns of each page of the storage whether the program from an address on needs it; None if an
+/// input could change one of its words or lists.
 pub(crate) fn pages_apart(
     alloc: Global,
     storage: &Dat<'_>,

@@ -10,7 +10,7 @@ use cp_needs::WordAt;
 use s370_store::{PAGE_SIZE, Page};
 use std::alloc::{AllocError, Global};
 
-/// Marks a page, where there is a flag for it.
+/// Sets the flag of a page, if there is one for it.
 fn mark(wanted: &mut Vec<bool>, page: u32)
     ensures size { length wanted.new.items ≡ length wanted.old.items }
     ensures stays { (other : ℕ) → is_wanted wanted.old.items other
@@ -25,7 +25,7 @@ fn mark(wanted: &mut Vec<bool>, page: u32)
     }
 }
 
-/// Marks the pages of fullwords.
+/// Sets the flags of the pages on which these fullwords are.
 fn mark_words(wanted: &mut Vec<bool>, words: &[WordAt])
     ensures { AreFlagged (λ w. w.start / 4096) words.now wanted.old.items wanted.new.items }
 {
@@ -34,7 +34,7 @@ fn mark_words(wanted: &mut Vec<bool>, words: &[WordAt])
     }
 }
 
-/// Marks pages.
+/// Sets the flags of these pages.
 fn mark_pages(wanted: &mut Vec<bool>, pages: &[Page])
     ensures { AreFlagged (λ page. page.0) pages.now wanted.old.items wanted.new.items }
 {
@@ -43,8 +43,8 @@ fn mark_pages(wanted: &mut Vec<bool>, pages: &[Page])
     }
 }
 
-/// Returns a flag for each page of a storage of so many: whether a word, a list or an area of a
-/// program lies on it, whose fullwords and whose areas' pages these are.
+/// Returns a new flag for each page of a storage of `count` pages: whether one of these fullwords
+/// or of these pages is that page's.
 pub(crate) fn flags_of(
     alloc: Global,
     count: u32,

@@ -28,7 +28,7 @@ pub enum LockedProgram {
     SelfModifying,
 }
 
-/// Returns the first wanted page that is in no frame.
+/// Returns the first wanted page that is in no frame, if there is one.
 fn lacking(storage: &Dat<'_>, wanted: &[bool]) -> Option<Page>
     requires { length wanted.now * 4096 ≤ length (lent_bytes storage.now) }
     ensures wanted { IfSome result (λ page. is_wanted wanted.now page.0) }
@@ -49,7 +49,8 @@ fn lacking(storage: &Dat<'_>, wanted: &[bool]) -> Option<Page>
     None
 }
 
-/// Brings and pins each wanted page that is in no frame.
+/// Pages in and pins each wanted page that is in no frame, and ends with an error at the first for
+/// which there is no room.
 fn bring_wanted(storage: &mut Dat<'_>, wanted: &[bool]) -> Result<(), FramesOut>
     requires { length wanted.now * 4096 ≤ length (lent_bytes storage.old) }
     ensures there { OnOk result
@@ -68,8 +69,10 @@ fn bring_wanted(storage: &mut Dat<'_>, wanted: &[bool]) -> Result<(), FramesOut>
     }
 }
 
-/// Brings and pins the pages of the program at an address, if no input can change it. If there is
-/// no room for one, this is reported; they are held until the pins are taken away.
+/// Pages in and pins the pages of the program at an address that are in no frame, if no input can
+/// change it, and returns its words and pages; else returns that it is self-modifying.
+///
+/// Whoever calls it unpins them, also after an error.
 ///
 /// # Errors
 ///
@@ -111,7 +114,8 @@ pub fn lock_pages(
     }
 }
 
-/// Brings and pins these pages of a program that no input can change.
+/// Pages in and pins those of these pages of a program that are in no frame, and returns its words
+/// and pages; no input must be able to change it.
 fn lock_wanted(
     alloc: Global,
     storage: &mut Dat<'_>,

@@ -34,7 +34,7 @@ impl Model for Extent {
 }
 
 impl Extent {
-    /// Returns the extent of `count` cylinders from `start` on; None where it has none, or one past
+    /// Returns the extent of `count` cylinders from `start` on; None if it has none, or one past
     /// 807, the last that a volume can have.
     pub fn new(start: u16, count: u16, writable: bool) -> Option<Extent>
         ensures some { IsSome result ↔ IsExtent
@@ -76,7 +76,7 @@ impl Extent {
         self.writable
     }
 
-    /// Returns whether a volume has all its cylinders.
+    /// Returns whether a volume has all cylinders of the extent.
     pub fn fits(self, volume: &Volume) -> bool
         ensures { result ≡ nat_le (self.start + self.count) (length volume.now.cylinders) }
     {
@@ -84,7 +84,7 @@ impl Extent {
     }
 
     /// Returns the place on the volume of a track of the minidisk; None if the minidisk has no such
-    /// cylinder. Of the head nothing is asked.
+    /// cylinder. The head is not checked.
     pub fn relocate(self, seek: Seek) -> Option<Seek>
         ensures place { result ≡ relocated self seek }
         ensures stays { IfSome result (λ place. IsWithin self place.cylinder) }
@@ -99,8 +99,10 @@ impl Extent {
         None
     }
 
-    /// Returns the argument that a seek of the minidisk has on the volume; it is one that no disk
-    /// accepts where the minidisk has no such cylinder (docs/MACHINE.md, "Disks", code 07).
+    /// Returns the argument that a seek of the minidisk has on the volume, or one that no disk
+    /// accepts if the minidisk has no such cylinder.
+    ///
+    /// What becomes of such a seek is in docs/MACHINE.md, "Disks", code 07.
     pub fn relocate_argument(self, bytes: [u8; 6]) -> [u8; 6]
         ensures { result ≡ relocated_argument self bytes }
     {

@@ -44,8 +44,8 @@ impl Model for Minidisk {
 }
 
 impl Minidisk {
-    /// Returns a minidisk that no program has used: its arm is at its first track, and it has no
-    /// sense.
+    /// Returns a minidisk with this extent that no program has used: its arm is at its first track,
+    /// and it has no sense.
     pub fn new(extent: Extent) -> Minidisk
         ensures { result ≡ minidisk_new extent }
     {
@@ -61,14 +61,14 @@ impl Minidisk {
         }
     }
 
-    /// Returns which cylinders of its volume it has.
+    /// Returns which cylinders of its volume the minidisk has.
     pub fn extent(&self) -> Extent
         ensures { result ≡ self.now.extent }
     {
         self.extent
     }
 
-    /// Returns the cylinder under its arm, the first of the extent being 0.
+    /// Returns the cylinder under the minidisk's arm, the first of the extent being 0.
     pub fn cylinder(&self) -> usize
         ensures cylinder { result ≡ self.now.cylinder }
         ensures inside { result < self.now.extent.count }
@@ -84,7 +84,7 @@ impl Minidisk {
         self.head
     }
 
-    /// Returns what a Sense command says.
+    /// Returns the sense bytes of the minidisk.
     pub fn sense(&self) -> Sense
         ensures { result ≡ self.now.sense }
     {
@@ -98,7 +98,7 @@ impl Minidisk {
         *sense
     }
 
-    /// Does a system reset: there is no sense, and the arm stays.
+    /// Clears the sense, as a system reset does; the arm stays.
     pub fn reset(&mut self)
         ensures { self.new ≡ minidisk_reset self.old }
     {
@@ -108,14 +108,14 @@ impl Minidisk {
         };
     }
 
-    /// Does a reset as [`Minidisk::reset`] does, and moves the arm to the first track.
+    /// Clears the sense, and moves the arm to the first track of the minidisk.
     pub fn clear(&mut self)
         ensures { self.new ≡ minidisk_new self.old.extent }
     {
         *self = Minidisk::new(self.extent);
     }
 
-    /// Takes arm and sense back from the unit of its volume, when its program has ended there.
+    /// Copies arm and sense from the unit of the volume, on which the minidisk was mounted.
     pub(crate) fn dismount(&mut self, unit: &Unit)
         requires { IsWithin self.old.extent unit.now.cylinder }
         ensures { self.new ≡ dismounted self.old.extent unit.now }
@@ -127,7 +127,7 @@ impl Minidisk {
     }
 }
 
-/// Appends an extent.
+/// Appends the start and the count of an extent, and whether it may be written.
 fn put_extent(out: &mut Vec<u8>, extent: Extent) -> Result<(), AllocError>
     ensures { OnOk result (out.new.items ≡ out.old.items ++ extent_bytes extent) }
 {
@@ -136,7 +136,7 @@ fn put_extent(out: &mut Vec<u8>, extent: Extent) -> Result<(), AllocError>
     put_flag(out, extent.is_writable())
 }
 
-/// Passes over an extent.
+/// Skips an extent in the input; returns None if the input is malformed.
 fn pass_extent(input: &mut Input<'_>) -> Option<()> {
     let _start = input.number()?;
     let _count = input.number()?;
@@ -144,7 +144,7 @@ fn pass_extent(input: &mut Input<'_>) -> Option<()> {
     Some(())
 }
 
-/// Appends what a Sense command says.
+/// Appends the two sense bytes.
 fn put_sense(out: &mut Vec<u8>, sense: Sense) -> Result<(), AllocError>
     ensures { OnOk result (out.new.items ≡ out.old.items ++ sense_bytes sense) }
 {
@@ -155,7 +155,7 @@ fn put_sense(out: &mut Vec<u8>, sense: Sense) -> Result<(), AllocError>
 }
 
 impl Minidisk {
-    /// Appends all that is seen of a minidisk.
+    /// Appends the extent, the place of the arm and the sense of the minidisk.
     ///
     /// # Errors
     ///
@@ -176,7 +176,8 @@ impl Minidisk {
         put_sense(out, *sense)
     }
 
-    /// Takes the arm and the sense that are next. The extent stays, whatever comes.
+    /// Reads the arm's place and the sense from the input and sets them; returns None, and changes
+    /// nothing, if they are no such. The extent is read too, but stays.
     pub fn restore(&mut self, input: &mut Input<'_>) -> Option<()>
         ensures { self.new.extent ≡ self.old.extent }
     {

@@ -36,7 +36,8 @@ impl Model for Mounted {
 }
 
 impl Minidisk {
-    /// Returns the minidisk as a device of its own, on the unit of its volume. It takes no memory.
+    /// Returns the minidisk as a device of its own, on the unit of its volume, whose arm and sense
+    /// are set to its own. It takes no memory.
     pub fn mount_on(&self, unit: Unit) -> Mounted
         requires { HasExtent unit.cylinders self.now.extent }
         ensures { result ≡ part_on (volume_of unit) self.now }
@@ -57,8 +58,10 @@ impl Minidisk {
 }
 
 impl Mounted {
-    /// Returns the unit of the volume, and what the minidisk has of its own; mounted again it is
-    /// the disk as it was left, at rest. It takes no memory.
+    /// Returns the unit of the volume, and the minidisk with the arm and the sense that the unit
+    /// has now.
+    ///
+    /// Mounted again it is the disk as it was left, at rest. It takes no memory.
     pub fn dismount(self) -> (Unit, Minidisk)
         ensures unit { result.0 ≡ unit_of self }
         ensures minidisk { result.1 ≡ minidisk_of self }
@@ -70,7 +73,8 @@ impl Mounted {
     }
 }
 
-/// Relocates the argument of a seek that has all its bytes.
+/// Replaces the argument of a seek that has all its bytes by its place on the volume; if none is
+/// under way, it does nothing.
 fn relocate_seek(extent: Extent, unit: &mut Unit)
     ensures { unit.new ≡ relocating extent unit.old }
 {
@@ -87,7 +91,9 @@ impl Device for Mounted {
 
     ghost needs_memory = { nothing_needed };
 
-    /// A command of a disk is never refused memory.
+    /// Begins a command on the unit of the volume, or refuses it.
+    ///
+    /// It is never refused memory.
     fn command(&mut self, order: Order) -> Result<Answer, AllocError>
         ensures ready { IsOk result }
         ensures answer { IfOk result (λ answer. answer ≡ part_machine.answer self.old order) }
@@ -96,30 +102,38 @@ impl Device for Mounted {
         self.unit.command(order)
     }
 
+    /// Returns whether the unit wants no more bytes, though it has fewer than it said.
     fn is_done(&self) -> bool {
         self.unit.is_done()
     }
 
+    /// Returns the next byte that the unit gives.
     fn give(&mut self) -> u8 {
         self.unit.give()
     }
 
+    /// Passes a byte to the unit.
     fn take(&mut self, byte: u8) {
         self.unit.take(byte);
     }
 
+    /// Returns how many bytes at least the unit will give or take before it is done.
     fn ready(&self) -> u32 {
         self.unit.ready()
     }
 
+    /// Fills `into` with the next bytes that the unit gives.
     fn give_bytes(&mut self, into: &mut [u8]) {
         self.unit.give_bytes(into);
     }
 
+    /// Passes bytes to the unit.
     fn take_bytes(&mut self, from: &[u8]) {
         self.unit.take_bytes(from);
     }
 
+    /// Relocates the argument of a seek, if one is under way, then ends the command and returns its
+    /// status.
     fn finish(&mut self) -> UnitStatus {
         relocate_seek(self.extent, &mut self.unit);
         self.unit.finish()

@@ -13,14 +13,15 @@ use s370_channel::fetch_block;
 use s370_store::{Page, Storage};
 use s370_walk::{Ccw, Flags};
 
-/// Returns the address of a word of a word's list.
+/// Returns the address of entry `number` of a word's list, which wraps at 16 megabytes.
 pub(crate) fn list_address(word: &Ccw, number: u32) -> u32
     ensures { result ≡ later word.now.address (4 * number) }
 {
     ((u64::from(word.address) + 4 * u64::from(number)) % 0x100_0000) as u32
 }
 
-/// Returns how many of so many bytes lie in the block of the first of them.
+/// Returns how many of `left` bytes from `start` on lie in the same block of 2048 bytes as the
+/// first.
 pub(crate) fn bytes_in_block(start: u32, left: u32) -> u32
     requires { 0 < left }
     ensures some { 0 < result }
@@ -32,8 +33,8 @@ pub(crate) fn bytes_in_block(start: u32, left: u32) -> u32
     if room < left { room } else { left }
 }
 
-/// Returns where a block of a word's area begins, or None if its list does not say; an error is a
-/// page that is not present.
+/// Returns where block `number` of a word's data area begins, or None if its list does not say; the
+/// error is the page of that list word or of that block, if it is not present.
 pub(crate) fn block_here<S: Storage>(
     storage: &S,
     word: &Ccw,
@@ -68,7 +69,8 @@ pub(crate) fn block_here<S: Storage>(
     }
 }
 
-/// Returns the first page that is not present of those of a word's list and area, block by block.
+/// Returns the first page that is not present of those of a word's list and data area, if there is
+/// one.
 pub(crate) fn absent_in_area<S: Storage>(storage: &S, word: &Ccw) -> Option<Page>
     ensures absent { IfSome result
         (λ page. IsAbsent (length (S.memory storage.now).bytes) (S.present storage.now) page.0) }

@@ -21,7 +21,8 @@ pub(crate) enum Judged {
     SelfModifying,
 }
 
-/// Returns the analysis of the program at an address, with its notes, whose words ascend.
+/// Returns what is found of the program at an address: an absent page that it needs, that an input
+/// could change it, or its notes, whose words ascend.
 pub(crate) fn judge<S: Storage>(
     alloc: Global,
     storage: &S,

@@ -6,7 +6,7 @@ ghost use Rattle.cp_needs.specs.Noted.{IsFirstFrom, IsInPiece, IsInSome};
 
 use s370_store::Range;
 
-/// Returns the first of these numbers, which ascend, from one on.
+/// Returns the first of these ascending numbers that is `from` or greater, if there is one.
 fn first_from(numbers: &[u32], from: u32) -> Option<u32>
     requires { IsNonDecreasing numbers.now }
     ensures some { IfSome result (IsFirstFrom numbers.now from) }
@@ -23,7 +23,7 @@ fn first_from(numbers: &[u32], from: u32) -> Option<u32>
     }
 }
 
-/// Returns where a piece ends, or an end that is before that.
+/// Returns the address where a piece of storage ends, or `end` if that is lower.
 fn end_of(piece: Range, end: u32) -> u64
     ensures end { result ≤ end }
     ensures piece { result ≤ piece.start + piece.count }
@@ -37,7 +37,8 @@ fn end_of(piece: Range, end: u32) -> u64
     }
 }
 
-/// Returns whether a byte of a piece, below an end, lies in one of these fullwords, which ascend.
+/// Returns whether a byte of a piece below `end` lies in one of these fullwords, which are given by
+/// ascending fourths of their addresses.
 fn touches(text: &[u32], piece: Range, end: u32) -> bool
     requires { IsNonDecreasing text.now }
     ensures some { result ≡ true
@@ -55,8 +56,8 @@ fn touches(text: &[u32], piece: Range, end: u32) -> bool
     }
 }
 
-/// Returns whether a byte of these pieces, below an end, lies in one of these fullwords, which
-/// ascend.
+/// Returns whether a byte of these pieces below `end` lies in one of these fullwords, which are
+/// given by ascending fourths of their addresses.
 pub(crate) fn meet(text: &[u32], pieces: &[Range], end: u32) -> bool
     requires { IsNonDecreasing text.now }
     ensures some { result ≡ true

@@ -21,7 +21,7 @@ pub struct WordAt {
     pub bytes: [u8; 4],
 }
 
-/// Returns whether a fullword is, on a page that is present, as it was.
+/// Returns whether a fullword has the same bytes in storage as it had, on a page that is present.
 fn is_as_it_stood<S: Storage>(storage: &S, word: &WordAt) -> bool
     ensures as_it_stood { result ≡ true
         → IsAsItStood (S.memory storage.now).bytes (S.present storage.now) word.now }
@@ -49,7 +49,8 @@ fn is_as_it_stood<S: Storage>(storage: &S, word: &WordAt) -> bool
     bytes == *as_stood
 }
 
-/// Returns whether each of these fullwords is, on a page that is present, as it was.
+/// Returns whether each of these fullwords has the same bytes in storage as it had, on a page that
+/// is present.
 pub fn stands<S: Storage>(storage: &S, text: &[WordAt]) -> bool
     ensures as_it_stood { result ≡ true
         → All (IsAsItStood (S.memory storage.now).bytes (S.present storage.now)) text.now }
@@ -64,7 +65,7 @@ pub fn stands<S: Storage>(storage: &S, text: &[WordAt]) -> bool
     true
 }
 
-/// Returns the fullword with this number, as it is.
+/// Returns the fullword at this address, with the bytes that it has in storage.
 fn fullword_from<S: Storage>(storage: &S, start: u32) -> WordAt
     requires { IsGranted (length (S.memory storage.now).bytes) (S.present storage.now) start 4 }
     ensures { result ≡ fullword_at (S.memory storage.now).bytes start }
@@ -74,7 +75,8 @@ fn fullword_from<S: Storage>(storage: &S, start: u32) -> WordAt
     WordAt { start, bytes }
 }
 
-/// Adds the fullword of a number, a fourth of its address, as it is, where it lies in storage.
+/// Appends the fullword of a number, a fourth of its address, with the bytes that it has in
+/// storage; one that is not whole in storage is left out.
 fn add<S: Storage>(storage: &S, number: u32, text: &mut Vec<WordAt>) -> Result<(), AllocError>
     requires { number * 4 + 4 ≤ length (S.memory storage.now).bytes
         → IsGranted (length (S.memory storage.now).bytes) (S.present storage.now) (number * 4) 4 }
@@ -90,8 +92,8 @@ fn add<S: Storage>(storage: &S, number: u32, text: &mut Vec<WordAt>) -> Result<(
     Ok(())
 }
 
-/// Returns the fullwords of these numbers, each a fourth of an address, that lie in storage, as
-/// they are.
+/// Returns the fullwords of these numbers, each a fourth of an address, with the bytes that they
+/// have in storage; those that are not whole in storage are left out.
 fn fullwords<S: Storage>(
     alloc: Global,
     storage: &S,
@@ -129,9 +131,11 @@ pub enum Analysis {
     SelfModifying,
 }
 
-/// Returns what is found of the program from an address on: the first of its pages that is not
-/// present, breadth first from there, of each word its own page first and then those of its area
-/// upwards; or, where all of them are, its words. An error is memory.
+/// Returns what is found of the program from an address on: its first page that is not present,
+/// else that an input could change it, or its words and the pages of its areas.
+///
+/// Pages are looked at breadth first from the start: of each word its own page first and then those
+/// of its area upwards.
 ///
 /// # Errors
 ///

@@ -26,7 +26,8 @@ pub(crate) struct Notes {
     pub(crate) pages: Vec<Page>,
 }
 
-/// Notes the word of a word's list that says where a block of its area begins.
+/// Appends the entry of this number of a word's list, as a fourth of its address, if the word has a
+/// list.
 fn note_entry(text: &mut Vec<u32>, word: &Ccw, number: u32) -> Result<(), AllocError>
     requires has { tracks.has_area word.now ≡ true }
     ensures marked { OnOk result
@@ -38,7 +39,7 @@ fn note_entry(text: &mut Vec<u32>, word: &Ccw, number: u32) -> Result<(), AllocE
     Ok(())
 }
 
-/// Notes a piece of a word's area.
+/// Appends a piece of a word's data area, unless the word skips its data.
 fn note_piece(filled: &mut Vec<Range>, word: &Ccw, piece: Range) -> Result<(), AllocError>
     ensures stored { OnOk result
         (AreStored (IsPieceByte word.now piece) filled.old.items filled.new.items) }
@@ -49,7 +50,8 @@ fn note_piece(filled: &mut Vec<Range>, word: &Ccw, piece: Range) -> Result<(), A
     Ok(())
 }
 
-/// Notes the list and the area of a word, whose pages are present, block by block.
+/// Adds the list, the data area and its pages of a word to the notes, block by block, up to one
+/// that its list does not say; their pages have to be present.
 fn note_area<S: Storage>(storage: &S, word: &Ccw, notes: &mut Notes) -> Result<(), AllocError>
     requires here { (page : ℕ) → IsAreaPage (S.memory storage.now) word.now page
         → IsPresent (length (S.memory storage.now).bytes) (S.present storage.now) page }
@@ -90,7 +92,8 @@ fn note_area<S: Storage>(storage: &S, word: &Ccw, notes: &mut Notes) -> Result<(
     Ok(())
 }
 
-/// Notes the word at an address, whose pages are present.
+/// Adds the two fullwords of the word at an address, its list, its data area and its pages to the
+/// notes; all these pages have to be present.
 fn note_word<S: Storage>(storage: &S, address: u32, notes: &mut Notes) -> Result<(), AllocError>
     requires even { address % 8 ≡ 0 }
     requires here { (page : ℕ) → IsPageAt (S.memory storage.now) address page
@@ -118,7 +121,8 @@ fn note_word<S: Storage>(storage: &S, address: u32, notes: &mut Notes) -> Result
     }
 }
 
-/// Notes the words at these addresses, whose pages are present.
+/// Returns the notes of the words at these addresses, with their lists and data areas; their pages
+/// have to be present.
 pub(crate) fn notes_of<S: Storage>(
     alloc: Global,
     storage: &S,

@@ -6,7 +6,7 @@ ghost use Rattle.s370_store.specs.Access.{IsAbsent};
 use s370_num::AccessKey;
 use s370_store::{Access, Fault, PAGE_SIZE, Page, Range, Storage};
 
-/// Returns the page of an address, where the storage has it and it is not present.
+/// Returns the page of an address, if the storage has that page and it is not present.
 pub(crate) fn absent_at<S: Storage>(storage: &S, address: u32) -> Option<Page>
     ensures page { IfSome result (λ page. page.0 ≡ address / 4096) }
     ensures absent { IfSome result

@@ -10,8 +10,10 @@ use s370_channel::{ChannelError, Guest, Limits, run};
 use s370_store::Storage;
 use s370_walk::{Device, Ending};
 
-/// Runs the program from an address on, each word read when it is reached, over a storage that has
-/// the pages which it needs, where no input can change it: it stops only if memory is refused.
+/// Runs the program from an address on, each word read when it is reached, and returns how it
+/// ended; no input must be able to change it, and the pages that it needs have to be present.
+///
+/// It stops only if memory is refused.
 ///
 /// # Errors
 ///

@@ -14,8 +14,8 @@ use s370_channel::fetch_word;
 use s370_store::{Page, Storage};
 use std::alloc::{AllocError, Global};
 
-/// Adds an address to those that are found, where a word leads there, a page of storage has it and
-/// it is new.
+/// Appends an address to `words` and marks it in `seen`, if `leads` is true, a page of storage has
+/// it and it is not marked.
 fn follow(
     words: &mut Vec<u32>,
     seen: &mut Slots,
@@ -41,8 +41,8 @@ fn follow(
     Ok(())
 }
 
-/// Looks at the word at an address: adds where it leads, and finds the first of its pages that is
-/// not present.
+/// Appends the addresses to which the word at an address leads, and returns the first page that is
+/// not present of the word, its list and its area, if there is one.
 fn visit<S: Storage>(
     storage: &S,
     words: &mut Vec<u32>,

@@ -30,7 +30,7 @@ fn has_volser(volumes: &[Volume], volser: [u8; 6]) -> bool
     volumes.iter().any(|volume| volume.volser() == volser)
 }
 
-/// Returns the first of these volumes that has this serial number.
+/// Returns the first of these volumes that has this serial number, if there is one.
 fn volume_named(volumes: &[Volume], volser: Volser) -> Option<&Volume>
     ensures { option_copied result ≡ volume_named volumes.now volser }
 {
@@ -39,14 +39,15 @@ fn volume_named(volumes: &[Volume], volser: Volser) -> Option<&Volume>
         .find(|volume| volume.volser() == volser.padded())
 }
 
-/// Returns whether there is no volume for a minidisk.
+/// Returns whether none of these volumes has the serial number of a minidisk's volume.
 fn lacks_volume(volumes: &[Volume], minidisk: &MinidiskStatement) -> bool
     ensures { result ≡ lacks_volume volumes.now minidisk.now }
 {
     volume_named(volumes, minidisk.extent.volser()).is_none()
 }
 
-/// Returns whether a minidisk ends past the last cylinder of its volume.
+/// Returns whether a minidisk ends past the last cylinder of its volume; false if that is not
+/// there.
 fn is_past(volumes: &[Volume], minidisk: &MinidiskStatement) -> bool
     ensures { result ≡ is_past volumes.now minidisk.now }
 {
@@ -59,7 +60,7 @@ fn is_past(volumes: &[Volume], minidisk: &MinidiskStatement) -> bool
     }
 }
 
-/// Returns whether there is no volume for a minidisk of a user.
+/// Returns whether a user has a minidisk whose volume is not among these.
 fn user_lacks(volumes: &[Volume], user: &User) -> bool
     ensures { result ≡ user_lacks volumes.now user.now }
 {
@@ -68,7 +69,7 @@ fn user_lacks(volumes: &[Volume], user: &User) -> bool
         .any(|minidisk| lacks_volume(volumes, minidisk))
 }
 
-/// Returns whether a minidisk of a user ends past the last cylinder of its volume.
+/// Returns whether a user has a minidisk that ends past the last cylinder of its volume.
 fn user_is_past(volumes: &[Volume], user: &User) -> bool
     ensures { result ≡ user_is_past volumes.now user.now }
 {
@@ -77,14 +78,14 @@ fn user_is_past(volumes: &[Volume], user: &User) -> bool
         .any(|minidisk| is_past(volumes, minidisk))
 }
 
-/// Returns the first user one of whose minidisks has no volume.
+/// Returns the first user one of whose minidisks is on none of these volumes, if there is one.
 fn missing_user<'a>(volumes: &[Volume], users: &'a [User]) -> Option<&'a User>
     ensures { option_copied result ≡ find (user_lacks volumes.now) users.now }
 {
     users.iter().find(|user| user_lacks(volumes, user))
 }
 
-/// Returns the first minidisk that has no volume.
+/// Returns the first of these minidisks that is on none of these volumes, if there is one.
 fn missing_minidisk<'a>(
     volumes: &[Volume],
     minidisks: &'a [MinidiskStatement],
@@ -96,7 +97,8 @@ fn missing_minidisk<'a>(
         .find(|minidisk| lacks_volume(volumes, minidisk))
 }
 
-/// Returns the serial number of the first minidisk for which there is no volume.
+/// Returns the serial number that the first minidisk that is on none of these volumes names, if
+/// there is one.
 #[tactic(auto, using(crate::proofs::Found::found_such))]
 pub fn missing_volume(volumes: &[Volume], users: &[User]) -> Option<Volser>
     ensures first { result ≡ first_missing volumes.now (find (user_lacks volumes.now) users.now) }
@@ -108,7 +110,8 @@ pub fn missing_volume(volumes: &[Volume], users: &[User]) -> Option<Volser>
     }
 }
 
-/// Returns the serial number of the first minidisk of a user for which there is no volume.
+/// Returns the serial number that a user's first minidisk on none of these volumes names; he has to
+/// have one.
 #[tactic(auto, using(crate::proofs::Found::found_any))]
 fn first_missing(volumes: &[Volume], user: &User) -> Volser
     requires { user_lacks volumes.now user.now ≡ true }
@@ -120,7 +123,8 @@ fn first_missing(volumes: &[Volume], user: &User) -> Volser
     }
 }
 
-/// Returns the place of the first user one of whose minidisks ends past its volume.
+/// Returns the index of the first user one of whose minidisks ends past its volume, if there is
+/// one.
 fn past_user(volumes: &[Volume], users: &[User]) -> Option<usize>
     ensures place { result ≡ position (user_is_past volumes.now) users.now }
     ensures inside { IfSome result (λ place. place < length users.now) }
@@ -128,7 +132,7 @@ fn past_user(volumes: &[Volume], users: &[User]) -> Option<usize>
     users.iter().position(|user| user_is_past(volumes, user))
 }
 
-/// Returns the first minidisk that ends past its volume.
+/// Returns the first of these minidisks that ends past its volume, if there is one.
 fn past_minidisk<'a>(
     volumes: &[Volume],
     minidisks: &'a [MinidiskStatement],
@@ -138,8 +142,8 @@ fn past_minidisk<'a>(
     minidisks.iter().find(|minidisk| is_past(volumes, minidisk))
 }
 
-/// Returns the first minidisk that ends past the last cylinder of its volume: whose it is, and its
-/// address.
+/// Returns whose the first minidisk is that ends past the last cylinder of its volume, and its
+/// address, if there is one.
 #[tactic(auto, using(crate::proofs::Found::position_such))]
 pub fn past_end(volumes: &[Volume], users: &[User]) -> Option<(UserNo, DevAddr)>
     requires { length users.now ≤ 64 }
@@ -152,8 +156,8 @@ pub fn past_end(volumes: &[Volume], users: &[User]) -> Option<(UserNo, DevAddr)>
     }
 }
 
-/// Returns the address of the first minidisk of a user that ends past the last cylinder of its
-/// volume.
+/// Returns the address of a user's first minidisk that ends past the last cylinder of its volume;
+/// he has to have one.
 #[tactic(auto, using(crate::proofs::Found::found_any))]
 fn first_past(volumes: &[Volume], user: &User) -> DevAddr
     requires { user_is_past volumes.now user.now ≡ true }

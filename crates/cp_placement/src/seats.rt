@@ -11,8 +11,10 @@ use cp_minidisk::Extent;
 use cp_volumes::SharedDisk;
 use std::alloc::{AllocError, Global};
 
-/// Returns a user's minidisks on these volumes, in their order, as no program has used them. No
-/// cylinder is copied.
+/// Returns a new list of a user's minidisks on these volumes, in their order, as no program has
+/// used them.
+///
+/// No cylinder is copied.
 ///
 /// # Errors
 ///
@@ -33,7 +35,7 @@ pub fn seats_of(
     Ok(seats)
 }
 
-/// Returns a minidisk on its volume, as no program has used it.
+/// Returns a minidisk on its volume, which has to be among these, as no program has used it.
 #[tactic(auto, using(crate::proofs::Found::unplaced, crate::proofs::Found::placed))]
 fn seat_of(volumes: &[Volume], minidisk: &MinidiskStatement) -> SharedDisk
     requires { lacks_volume volumes.now minidisk.now ≡ false }
@@ -47,7 +49,7 @@ fn seat_of(volumes: &[Volume], minidisk: &MinidiskStatement) -> SharedDisk
     }
 }
 
-/// Returns the index of the first of these volumes that has this serial number.
+/// Returns the index of the first of these volumes that has this serial number, if there is one.
 fn place_of(volumes: &[Volume], volser: Volser) -> Option<usize>
     ensures { result ≡ position (has_volser volser) volumes.now }
 {
@@ -56,7 +58,7 @@ fn place_of(volumes: &[Volume], volser: Volser) -> Option<usize>
         .position(|volume| volume.volser() == volser.padded())
 }
 
-/// Returns the serial number of an extent's volume.
+/// Returns the serial number of the volume that an extent is on.
 fn volser_of(extent: &DiskExtent) -> Volser
     ensures value { result ≡ extent.now.volser }
     ensures lawful { is_volser result ≡ true }
@@ -67,7 +69,7 @@ fn volser_of(extent: &DiskExtent) -> Volser
     volser
 }
 
-/// Returns the extent as a minidisk has it.
+/// Returns the extent of a directory as the extent of a minidisk.
 fn extent_in(extent: &DiskExtent) -> Extent
     ensures value { result ≡ extent_in extent.now }
     ensures some { 0 < extent.now.count }

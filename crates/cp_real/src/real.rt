@@ -31,7 +31,8 @@ impl<'a, 'b, 'c> Real<'a, 'b, 'c> {
     ghost use Rattle.cp_real.specs.Shown.{real_bytes_of, real_memory_of, is_real_page_of};
     ghost use Rattle.cp_real.specs.Shown.{KeepsReal};
 
-    /// Returns the user's page in a frame.
+    /// Returns the number of the user's page in a frame; None if none is there, or if it is not
+    /// whole in his storage.
     fn page_at(&self, frame: u32) -> Option<u32>
         requires { frame < self.now.frames }
         ensures page { result ≡ page_of self.now.dat.now frame }
@@ -60,7 +61,8 @@ impl<'a, 'b, 'c> Real<'a, 'b, 'c> {
         self.dat.key_of(block)
     }
 
-    /// Returns whether a page of real storage can be reached.
+    /// Returns whether a page of real storage can be reached: a frame if a page of the user is in
+    /// it, and every page of the area.
     fn is_here(&self, page: u32) -> bool
         ensures { result ≡ is_real_page_of self.now page }
     {
@@ -71,7 +73,8 @@ impl<'a, 'b, 'c> Real<'a, 'b, 'c> {
         }
     }
 
-    /// Copies bytes of one page out.
+    /// Fills `into` with bytes of one page of real storage, in a frame or in the area; for a frame
+    /// with no page of the user it does nothing.
     fn load_part(&self, start: u32, into: &mut [u8])
         requires some { 0 < length into.old }
         requires short { length into.old ≤ 256 }
@@ -91,7 +94,7 @@ impl<'a, 'b, 'c> Real<'a, 'b, 'c> {
         }
     }
 
-    /// Copies bytes of the area out.
+    /// Fills `into` with bytes of the area, from the real address `start` on.
     fn load_area(&self, start: u32, into: &mut [u8])
         requires begins { self.now.frames * 4096 ≤ start }
         requires inside { start + length into.old ≤ length (real_bytes_of self.now) }
@@ -102,7 +105,7 @@ impl<'a, 'b, 'c> Real<'a, 'b, 'c> {
         into.copy_from_slice(&self.area[first..end]);
     }
 
-    /// Copies bytes into the area.
+    /// Copies bytes into the area, from the real address `start` on.
     fn store_area(&mut self, start: u32, from: &[u8])
         requires begins { self.old.frames * 4096 ≤ start }
         requires inside { start + length from.now ≤ length (real_bytes_of self.old) }
@@ -113,7 +116,8 @@ impl<'a, 'b, 'c> Real<'a, 'b, 'c> {
         put_at(self.area, (start - self.frames * 4096) as usize, from);
     }
 
-    /// Copies bytes into one page.
+    /// Copies bytes into one page of real storage, in a frame or in the area; for a frame with no
+    /// page of the user it does nothing.
     fn store_part(&mut self, start: u32, from: &[u8])
         requires some { 0 < length from.now }
         requires short { length from.now ≤ 256 }
@@ -149,6 +153,7 @@ impl<'a, 'b, 'c, 'd> KeyTable for RealKeys<'a, 'b, 'c, 'd> {
 
     ghost of_blocks = { λ k. real_keys_of k.real.now };
 
+    /// Returns the storage key of a block of real storage: that of the user's block there, or zero.
     fn key_at(&self, block: u32) -> StorageKey {
         let frame = block / 2;
         if frame >= self.real.frames {
@@ -175,10 +180,13 @@ impl<'a, 'b, 'c> Storage for Real<'a, 'b, 'c> {
 
     ghost IsPlaced = { λ r block. IsInArea r block };
 
+    /// Returns how many bytes real storage has: those of all frames and of the area.
     fn size(&self) -> u32 {
         self.frames * 4096 + self.area.len() as u32
     }
 
+    /// Tests that size and keys let an access pass, and that the pages of its first and last byte
+    /// can be reached; returns the fault if not.
     fn check(&self, range: Range, access: Access, key: AccessKey) -> Result<(), Fault> {
         test_range(self.size(), &RealKeys { real: self }, range, access, key)?;
         let Range { start, count } = range;
@@ -196,20 +204,24 @@ impl<'a, 'b, 'c> Storage for Real<'a, 'b, 'c> {
         Ok(())
     }
 
-    /// Finds no block, since a channel moves each byte once. Only one of the area could be: it
-    /// moves at no time.
+    /// Returns None: it finds no block.
+    ///
+    /// A channel moves each byte once. Only one of the area could be found: it moves at no time.
     fn find_block(&self, _start: u32, _access: Access, _key: AccessKey) -> Option<Block> {
         None
     }
 
+    /// Fills `into` with bytes of the area, from the real address `start` on.
     fn load_in(&self, _block: Block, start: u32, into: &mut [u8]) {
         self.load_area(start, into);
     }
 
+    /// Copies bytes into the area, from the real address `start` on.
     fn store_in(&mut self, _block: Block, start: u32, from: &[u8]) {
         self.store_area(start, from);
     }
 
+    /// Fills `into` with bytes of real storage from `start` on, which may lie in two pages.
     fn load(&self, start: u32, into: &mut [u8]) {
         if into.is_empty() {
             return;
@@ -224,6 +236,7 @@ impl<'a, 'b, 'c> Storage for Real<'a, 'b, 'c> {
         }
     }
 
+    /// Copies bytes into real storage from `start` on, which may lie in two pages.
     fn store(&mut self, start: u32, from: &[u8]) {
         if from.is_empty() {
             return;

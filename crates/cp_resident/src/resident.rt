@@ -50,8 +50,8 @@ impl GuestChannels {
     ghost use Rattle.cp_resident.specs.GuestChannels.{hung_on, reuse_of};
     ghost use Rattle.cp_volumes.specs.Shared.{IsUsers, placements_of};
 
-    /// Takes a user's minidisks, the volumes on which they are, and his cached programs, as his
-    /// channels. It takes no memory.
+    /// Moves a user's minidisks, all volumes and his cached programs into new channels, which
+    /// leaves none in their places. It takes no memory.
     pub fn take(
         alloc: Global,
         volumes: &mut Volumes,
@@ -72,7 +72,8 @@ impl GuestChannels {
         }
     }
 
-    /// Gives minidisks, volumes and programs back. It takes no memory.
+    /// Moves minidisks, volumes and cached programs from the channels back into these places. It
+    /// takes no memory.
     pub fn give(self, volumes: &mut Volumes, minidisks: &mut Vec<SharedDisk>, reuse: &mut Reuse)
         ensures volumes { volumes.new ≡ (hung_on self).volumes }
         ensures minidisks { minidisks.new.items ≡ (hung_on self).minidisks }
@@ -95,17 +96,18 @@ impl Disks for GuestChannels {
 
     ghost Forgets = { Forgets };
 
+    /// Returns the index of the first minidisk with this address, if there is one.
     fn disk_at(&self, device: u16) -> Option<usize> {
         self.disks.disk_at(device)
     }
 
-    /// Drops the cached programs, and resets the disks.
+    /// Drops the cached programs, and resets the disks: the arms stay.
     fn reset_disks(&mut self) {
         self.reuse.clear();
         self.disks.reset();
     }
 
-    /// Drops the cached programs, and clears the disks.
+    /// Drops the cached programs, and clears the disks: the arms are at their first tracks.
     fn clear_disks(&mut self) {
         self.reuse.clear();
         self.disks.clear();
@@ -152,6 +154,9 @@ impl<'a> Channels<Dat<'a>> for GuestChannels {
     ghost ReusesDisk = { λ r d start index done s.
         HasReusedDisk (reuse_of r) d start index done (reuse_of s) };
 
+    /// Runs the program with this start for a device that is no disk, as a whole or not at all: its
+    /// cached copy if that is valid, else a new copy that is cached; a self-modifying program after
+    /// a dry run.
     fn run<D: DryRun>(
         &mut self,
         storage: &mut Dat<'a>,
@@ -189,6 +194,9 @@ impl<'a> Channels<Dat<'a>> for GuestChannels {
         }
     }
 
+    /// Runs the program with this start for the disk of this index, as a whole or not at all: at
+    /// once if it is cached and unchanged, else with its pages pinned, and then it is cached; a
+    /// self-modifying one after a dry run.
     fn run_disk(
         &mut self,
         storage: &mut Dat<'a>,
@@ -216,6 +224,8 @@ impl<'a> Channels<Dat<'a>> for GuestChannels {
         }
     }
 
+    /// Makes a dry run of the loading program of a device that is no disk, and runs it if there is
+    /// room for its pages; what is cached stays.
     fn load<D: TriedLoading>(
         &mut self,
         storage: &mut Dat<'a>,
@@ -224,6 +234,8 @@ impl<'a> Channels<Dat<'a>> for GuestChannels {
         reported(load_open(self.alloc, storage, device))
     }
 
+    /// Makes a dry run of the loading program of the disk of this index, and runs it on reset disks
+    /// if there is room for its pages; then drops what is cached.
     fn load_disk(&mut self, storage: &mut Dat<'a>, index: usize) -> Result<Ending, ChannelError> {
         match fetch_first(storage) {
             Ok(()) => {}
@@ -250,7 +262,8 @@ impl<'a> Channels<Dat<'a>> for GuestChannels {
     ghost came_keys = { λ n s t units paged_in. paged_in.keys };
 }
 
-/// Returns the channel's error for that of a dry run.
+/// Returns the channel error for an error of a dry run: if there is no room, `Absent` with page 0,
+/// whichever page it was.
 fn error_of(error: DryRunError) -> ChannelError
     ensures { result ≡ error_of error }
 {
@@ -270,8 +283,10 @@ fn reported(ran: Result<Ending, DryRunError>) -> Result<Ending, ChannelError>
     }
 }
 
-/// Copies and runs a program that no input can change, whose pages are in frames, and caches the
-/// copy. It stops only if memory is refused.
+/// Copies a program that no input can change and whose pages are in frames, runs the copy on its
+/// device, and caches it.
+///
+/// It stops only if memory is refused.
 fn run_copied<D: Device>(
     reuse: &mut Reuse,
     alloc: Global,
@@ -301,8 +316,10 @@ fn run_copied<D: Device>(
     }
 }
 
-/// Runs a minidisk's program that no input can change where it is, with its pages in frames, and
-/// caches what has to be known to run it again. It stops only if memory is refused.
+/// Caches what has to be known to run a minidisk's program again, and runs it where it is; no input
+/// must be able to change it, and its pages have to be in frames.
+///
+/// It stops only if memory is refused.
 fn run_known(
     channels: &mut GuestChannels,
     storage: &mut Dat<'_>,
@@ -341,7 +358,8 @@ fn copy_of(start: &Caw) -> Caw
     *start
 }
 
-/// Runs a minidisk's cached program again, if all from which it was made is unchanged.
+/// Runs the copy of a cached program, all from which it was made being unchanged, on its device,
+/// and returns how it ended.
 fn run_again<D: Device>(
     kept: &CachedProgram,
     storage: &mut Dat<'_>,

@@ -42,7 +42,7 @@ impl Model for Reuse {
     } };
 }
 
-/// Returns a count plus one, up to the greatest number.
+/// Returns a number plus one, or the number itself if it is the greatest.
 fn one_more(number: u64) -> u64
     ensures { result ≡ counted number }
 {
@@ -54,7 +54,7 @@ fn one_more(number: u64) -> u64
 }
 
 impl Reuse {
-    /// Returns a place for each device of a user with so many minidisks; none has a program.
+    /// Returns an empty cache for the devices of a user with this many minidisks.
     ///
     /// # Errors
     ///
@@ -72,8 +72,8 @@ impl Reuse {
         })
     }
 
-    /// Takes the cached programs of a user; until they are given back there are none. It takes no
-    /// memory.
+    /// Returns the cached programs of a user, and leaves an empty cache that has no minidisks and
+    /// has counted nothing. It takes no memory.
     pub fn take(&mut self, alloc: Global) -> Reuse
         ensures taken { result ≡ self.old }
         ensures left { self.new ≡ kept_none 0 }
@@ -114,8 +114,8 @@ impl Reuse {
         self.reuses = one_more(self.reuses);
     }
 
-    /// Returns the program of a device that is no disk, where it may run again: exactly where it
-    /// has one, and all that this was copied from is as it was.
+    /// Returns the cached program of a device that is no disk, if it has one and all that this was
+    /// copied from is as it was.
     pub fn of_unit(
         &self,
         unit: UnitRecord,
@@ -144,8 +144,8 @@ impl Reuse {
         }
     }
 
-    /// Returns whether the program of a minidisk may run again: yes exactly where one is known, and
-    /// all that is known of it is as it was.
+    /// Returns whether the program of the minidisk of this index may run again: whether one is
+    /// cached and all that is known of it is as it was.
     pub fn has_disk(&self, index: usize, storage: &Dat<'_>, start: &Caw) -> bool
         ensures known_again { result ≡ true → KnowsAgain self.now index storage.now start.now }
         ensures other { KnowsAgain self.now index storage.now start.now → result ≡ true }
@@ -158,7 +158,8 @@ impl Reuse {
         }
     }
 
-    /// Caches a program of a device that is no disk, or none. It takes no memory.
+    /// Caches a program for a device that is no disk in place of its last one, or with None only
+    /// drops that. It takes no memory.
     pub fn put_unit(&mut self, unit: UnitRecord, kept: Option<CachedProgram>)
         ensures { self.new ≡ with_unit self.old unit kept }
     {
@@ -170,7 +171,8 @@ impl Reuse {
         }
     }
 
-    /// Caches a program of a minidisk, or none.
+    /// Caches a program for the minidisk of this index, if there is one, in place of its last one,
+    /// or with None only drops that.
     pub fn put_disk(&mut self, index: usize, known: Option<CachedPages>)
         ensures { self.new ≡ with_disk self.old index known }
     {
@@ -179,7 +181,7 @@ impl Reuse {
         }
     }
 
-    /// Drops all cached programs. It takes no memory.
+    /// Drops all cached programs; the count of runs stays. It takes no memory.
     pub fn clear(&mut self)
         ensures { self.new ≡ dropped self.old }
     {

@@ -37,14 +37,14 @@ impl Model for SpoolFile {
 impl SpoolFile {
     ghost use Rattle.cp_spool.specs.File.{cards_in, contents_of, entries_in, is_deck};
 
-    /// Returns a file for this target.
+    /// Returns a file with this target and these contents.
     pub(crate) fn new(target: Target, contents: Contents) -> SpoolFile
         ensures { result ≡ record { target = target; contents = contents_of contents } }
     {
         SpoolFile { target, contents }
     }
 
-    /// Returns the user for whom it is.
+    /// Returns the target of the file: the operator or a user.
     pub fn target(&self) -> Target
         ensures { result ≡ self.now.target }
     {
@@ -56,7 +56,7 @@ impl SpoolFile {
         *target
     }
 
-    /// Returns whether it is a deck that was given.
+    /// Returns whether the file is a deck that was given, and not what a punch or a printer made.
     pub(crate) fn is_deck(&self) -> bool
         ensures { result ≡ is_deck self.now.contents }
     {
@@ -66,7 +66,7 @@ impl SpoolFile {
         }
     }
 
-    /// Returns how many cards it has as a deck.
+    /// Returns how many cards the file has as a deck: one for each of its cards or entries.
     pub fn count(&self) -> usize
         ensures { result ≡ length (cards_in self.now.contents) }
     {
@@ -76,7 +76,8 @@ impl SpoolFile {
         }
     }
 
-    /// Returns a card of it as a deck.
+    /// Returns the card of this index, if there is one; of an entry its first 80 bytes, filled with
+    /// blanks.
     pub fn card(&self, index: usize) -> Option<Card>
         ensures value { result ≡ slice_get (cards_in self.now.contents) index }
         ensures fits { IfSome result (λ _. index < usize.MAX) }
@@ -99,7 +100,7 @@ impl SpoolFile {
         }
     }
 
-    /// Returns the entries of a file that a punch or a printer made, in order.
+    /// Returns the entries that a punch or a printer made, in order; none of a deck that was given.
     pub fn entries(&self) -> &[Entry]
         ensures { result.now ≡ entries_in self.now.contents }
     {
@@ -110,7 +111,7 @@ impl SpoolFile {
     }
 }
 
-/// Returns the card with these bytes.
+/// Returns the card with the first 80 of these bytes, filled with blanks.
 fn card_of(bytes: &[u8]) -> Card
     ensures { result ≡ card_of bytes.now }
 {

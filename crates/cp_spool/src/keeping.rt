@@ -29,7 +29,8 @@ pub(crate) fn push_waiting(
     users[user.index()].push(waiting)
 }
 
-/// Records that the punch of this user closed the file of this key. This takes no memory.
+/// Appends the key of a file that this user's punch closed to his list of them, for which memory
+/// was reserved.
 pub(crate) fn push_punched(users: &mut Vec<UserQueue>, user: UserNo, key: usize)
     requires { 1 ≤ (queue_of users.old.items user).punch_room }
     ensures { users.new.items
@@ -38,7 +39,8 @@ pub(crate) fn push_punched(users: &mut Vec<UserQueue>, user: UserNo, key: usize)
     users[user.index()].push_punched(key);
 }
 
-/// Records that the printer of this user closed the file of this key. This takes no memory.
+/// Appends the key of a file that this user's printer closed to his list of them, for which memory
+/// was reserved.
 pub(crate) fn push_printed(users: &mut Vec<UserQueue>, user: UserNo, key: usize)
     requires { 1 ≤ (queue_of users.old.items user).print_room }
     ensures { users.new.items
@@ -47,7 +49,8 @@ pub(crate) fn push_printed(users: &mut Vec<UserQueue>, user: UserNo, key: usize)
     users[user.index()].push_printed(key);
 }
 
-/// Makes room for one more file that this user's punch closes, and one that his printer does.
+/// Reserves memory for the key of one more file that this user's punch closes, and of one that his
+/// printer closes.
 pub(crate) fn reserve_closed(users: &mut Vec<UserQueue>, user: UserNo) -> Result<(), AllocError>
     requires { user < length users.old.items }
     ensures rest { let queue = queue_of users.new.items user in
@@ -61,7 +64,7 @@ pub(crate) fn reserve_closed(users: &mut Vec<UserQueue>, user: UserNo) -> Result
     users[user.index()].reserve()
 }
 
-/// Takes the deck of this index out of the queue of this user's reader, and returns its key.
+/// Removes the deck of this index from the queue of this user's reader, and returns its file's key.
 pub(crate) fn take_waiting(users: &mut Vec<UserQueue>, user: UserNo, index: usize) -> usize
     requires user { user < length users.old.items }
     requires index { index < length (queue_of users.old.items user).decks }
@@ -72,7 +75,7 @@ pub(crate) fn take_waiting(users: &mut Vec<UserQueue>, user: UserNo, index: usiz
     users[user.index()].remove(index)
 }
 
-/// Sets how many cards of this user's first deck were read; None if it is not current.
+/// Sets how many cards of this user's first deck were read; with None no deck of his is current.
 pub(crate) fn place_reader(users: &mut Vec<UserQueue>, user: UserNo, place: Option<usize>)
     requires { user < length users.old.items }
     ensures { users.new.items
@@ -82,7 +85,7 @@ pub(crate) fn place_reader(users: &mut Vec<UserQueue>, user: UserNo, place: Opti
     users[user.index()].set_place(place);
 }
 
-/// Returns what is kept of this user, who is there.
+/// Returns the decks and the closed files of this user, who has to be there.
 pub(crate) fn queue_at(users: &[UserQueue], user: UserNo) -> &UserQueue
     requires { user < length users.now }
     ensures { result.now ≡ queue_of users.now user }
@@ -90,7 +93,8 @@ pub(crate) fn queue_at(users: &[UserQueue], user: UserNo) -> &UserQueue
     &users[user.index()]
 }
 
-/// Removes the file of this key if it was given; one that was made stays.
+/// Removes the file of this key if it is a deck that was given; one that a punch or a printer made
+/// stays.
 pub(crate) fn discard(files: &mut Slab<SpoolFile>, key: usize)
     ensures given { is_given (get files.old key) ≡ true → Updates files.old files.new key None }
     ensures made { is_given (get files.old key) ≡ false → files.new ≡ files.old }
@@ -100,7 +104,7 @@ pub(crate) fn discard(files: &mut Slab<SpoolFile>, key: usize)
     }
 }
 
-/// Returns whether the file of this key was given.
+/// Returns whether the file of this key is a deck that was given; false if there is no such file.
 fn is_given(files: &Slab<SpoolFile>, key: usize) -> bool
     ensures { result ≡ is_given (get files.now key) }
 {
@@ -110,7 +114,7 @@ fn is_given(files: &Slab<SpoolFile>, key: usize) -> bool
     }
 }
 
-/// Returns this many queues without files.
+/// Returns a new list of this many queues without files.
 pub(crate) fn empty_queues(alloc: Global, count: usize) -> Result<Vec<UserQueue>, AllocError>
     ensures decks { IfOk result (λ queues. (user : ℕ) → (queue_of queues.items user).decks ≡ []) }
     ensures punched { IfOk result

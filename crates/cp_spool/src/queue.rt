@@ -45,7 +45,7 @@ impl Model for UserQueue {
 }
 
 impl UserQueue {
-    /// Returns a queue without files.
+    /// Returns the queue of a user who has no decks and no closed files.
     pub(crate) fn new(alloc: Global) -> UserQueue
         ensures decks { result.decks ≡ [] }
         ensures place { result.place ≡ None }
@@ -60,7 +60,7 @@ impl UserQueue {
         }
     }
 
-    /// Appends a deck.
+    /// Appends a deck to the queue of the reader.
     pub(crate) fn push(&mut self, waiting: Waiting) -> Result<(), AllocError>
         ensures ok { OnOk result (self.new ≡ with_waiting waiting self.old) }
         ensures err { OnErr result (self.new ≡ self.old) }
@@ -69,7 +69,8 @@ impl UserQueue {
         Ok(())
     }
 
-    /// Makes room for one more file that the punch closes, and one that the printer does.
+    /// Reserves memory for the key of one more file that the punch closes, and of one that the
+    /// printer closes.
     pub(crate) fn reserve(&mut self) -> Result<(), AllocError>
         ensures rest { self.new ≡ record
             self.old { punch_room = self.new.punch_room; print_room = self.new.print_room } }
@@ -80,7 +81,7 @@ impl UserQueue {
         self.printed.reserve(1)
     }
 
-    /// Records that the punch closed the file of this key. This takes no memory.
+    /// Appends the key of a file that the punch closed, for which memory was reserved.
     pub(crate) fn push_punched(&mut self, key: usize)
         requires { 1 ≤ self.old.punch_room }
         ensures { self.new ≡ with_punched_key key self.old }
@@ -88,7 +89,7 @@ impl UserQueue {
         self.punched.push_reserved(key);
     }
 
-    /// Records that the printer closed the file of this key. This takes no memory.
+    /// Appends the key of a file that the printer closed, for which memory was reserved.
     pub(crate) fn push_printed(&mut self, key: usize)
         requires { 1 ≤ self.old.print_room }
         ensures { self.new ≡ with_printed_key key self.old }
@@ -96,7 +97,8 @@ impl UserQueue {
         self.printed.push_reserved(key);
     }
 
-    /// Removes the deck of this index, and returns its key.
+    /// Removes the deck of this index from the queue of the reader, and returns the key of its
+    /// file.
     pub(crate) fn remove(&mut self, index: usize) -> usize
         requires { index < length self.old.decks }
         ensures key { result ≡ slice_index_or (map (λ deck. deck.key) self.old.decks) index 0 }
@@ -115,7 +117,7 @@ impl UserQueue {
         }
     }
 
-    /// Sets how many cards of the first deck were read; None if it is not current.
+    /// Sets how many cards of the first deck were read; with None it is not current.
     pub(crate) fn set_place(&mut self, place: Option<usize>)
         ensures { self.new ≡ record self.old { place = place } }
     {
@@ -136,14 +138,14 @@ impl UserQueue {
         *place
     }
 
-    /// Returns how many decks there are.
+    /// Returns how many decks the queue of the reader has, a current one included.
     pub(crate) fn len(&self) -> usize
         ensures { result ≡ length self.now.decks }
     {
         self.decks.len()
     }
 
-    /// Returns the deck of this index.
+    /// Returns the deck of this index in the queue of the reader, if there is one.
     pub(crate) fn deck(&self, index: usize) -> Option<Waiting>
         ensures value { result ≡ slice_get self.now.decks index }
         ensures inside { IfSome result (λ _. index < length self.now.decks) }
@@ -156,7 +158,8 @@ impl UserQueue {
         }
     }
 
-    /// Returns the key of the punch's closed file of this index.
+    /// Returns the key of the file of this index among those that the punch closed, if there is
+    /// one.
     pub(crate) fn punched(&self, index: usize) -> Option<usize>
         ensures value { result ≡ slice_get self.now.punched index }
         ensures inside { IfSome result (λ _. index < length self.now.punched) }
@@ -164,7 +167,8 @@ impl UserQueue {
         self.punched.get(index).copied()
     }
 
-    /// Returns the key of the printer's closed file of this index.
+    /// Returns the key of the file of this index among those that the printer closed, if there is
+    /// one.
     pub(crate) fn printed(&self, index: usize) -> Option<usize>
         ensures value { result ≡ slice_get self.now.printed index }
         ensures inside { IfSome result (λ _. index < length self.now.printed) }

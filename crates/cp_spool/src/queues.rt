@@ -68,7 +68,7 @@ impl Queues {
         })
     }
 
-    /// Returns how many users the queues are of.
+    /// Returns how many users there are queues for.
     pub fn users(&self) -> usize
         ensures { result ≡ length self.now.users }
     {
@@ -77,7 +77,8 @@ impl Queues {
         users.len()
     }
 
-    /// Appends a deck of these cards to the queue of this user's reader.
+    /// Keeps these cards as a new file, and appends it as a deck to the queue of this user's
+    /// reader.
     ///
     /// # Errors
     ///
@@ -107,7 +108,8 @@ impl Queues {
         }
     }
 
-    /// Appends a deck of these cards to the queue of the reader of a user who is there.
+    /// Keeps these cards as a new file, and appends it as a deck to the reader's queue of a user
+    /// who has to be there.
     fn give(
         &mut self,
         user: UserNo,
@@ -132,8 +134,10 @@ impl Queues {
         Ok(())
     }
 
-    /// Makes room for one file that this user's punch closes, and one that his printer does: what
-    /// LOGOFF closes. So they can be closed without memory, both or neither.
+    /// Reserves memory for one file that this user's punch closes, and for one that his printer
+    /// closes.
+    ///
+    /// These are what LOGOFF closes: so both can be closed without memory.
     ///
     /// # Errors
     ///
@@ -153,7 +157,7 @@ impl Queues {
         }
     }
 
-    /// Makes room for the two files that LOGOFF of a user who is there closes.
+    /// Reserves memory for the two files that LOGOFF closes, of a user who has to be there.
     fn reserve(&mut self, user: UserNo) -> Result<(), AllocError>
         requires { user < length self.old.users }
         ensures users { self.new.users ≡ self.old.users }
@@ -164,8 +168,9 @@ impl Queues {
         Ok(())
     }
 
-    /// Closes a punch file of this user, with these entries and this target. This takes no memory,
-    /// and no entry is copied.
+    /// Keeps these entries as a new file for this target, the last that this user's punch closed.
+    ///
+    /// The memory for it was reserved, and no entry is copied.
     pub fn close_punched(&mut self, user: UserNo, to: Target, entries: Vec<Entry>)
         requires files { 1 ≤ self.old.room.files }
         requires room { 1 ≤ slice_index self.old.room.punched user }
@@ -181,8 +186,9 @@ impl Queues {
         push_punched(&mut self.users, user, key);
     }
 
-    /// Closes a printer file of this user, with these entries and this target. This takes no
-    /// memory, and no entry is copied.
+    /// Keeps these entries as a new file for this target, the last that this user's printer closed.
+    ///
+    /// The memory for it was reserved, and no entry is copied.
     pub fn close_printed(&mut self, user: UserNo, to: Target, entries: Vec<Entry>)
         requires files { 1 ≤ self.old.room.files }
         requires room { 1 ≤ slice_index self.old.room.printed user }
@@ -198,8 +204,10 @@ impl Queues {
         push_printed(&mut self.users, user, key);
     }
 
-    /// Appends the closed punch file of this index to the queue of another user's reader, as a deck
-    /// with this label. No card is copied.
+    /// Appends the file of this index that the punch of `from` closed to the reader's queue of
+    /// `to`, as a deck with this label and this sender.
+    ///
+    /// No card is copied, and the file stays among the closed ones.
     ///
     /// # Errors
     ///
@@ -234,7 +242,8 @@ impl Queues {
         }
     }
 
-    /// Appends a file that is there to the queue of the reader of a user who is there.
+    /// Appends a file that the punch of `from` closed to the reader's queue of `to`, as a deck; the
+    /// file and both users have to be there.
     fn send(
         &mut self,
         from: UserNo,
@@ -259,8 +268,8 @@ impl Queues {
         Ok(())
     }
 
-    /// Takes the first waiting deck of this label away from the reader of this user. A current deck
-    /// does not wait.
+    /// Removes the first deck of this label that is not current from the queue of this user's
+    /// reader; with an error if there is none.
     ///
     /// # Errors
     ///
@@ -287,7 +296,8 @@ impl Queues {
         }
     }
 
-    /// Returns the place of the first waiting deck of this label among all decks of this user.
+    /// Returns the index of the first deck of this label that is not current in this user's queue,
+    /// if there is one.
     fn waiting_at(&self, user: UserNo, label: u64) -> Option<usize>
         ensures value { result ≡ waiting_at (files_of self.now.users user) label }
         ensures inside { IfSome result
@@ -304,7 +314,7 @@ impl Queues {
         None
     }
 
-    /// Returns how many of a user's decks do not wait: the current one.
+    /// Returns how many of a user's decks are current: 1 or 0.
     fn currents(&self, user: UserNo) -> usize
         ensures { result ≡ currents (files_of self.now.users user).place }
     {
@@ -314,7 +324,8 @@ impl Queues {
         }
     }
 
-    /// Returns how many cards of this user's current deck were read; None where none is current.
+    /// Returns how many cards of this user's current deck were read; None if he has none, or is not
+    /// there.
     pub fn place(&self, user: UserNo) -> Option<usize>
         ensures { result ≡ (files_of self.now.users user).place }
     {
@@ -325,7 +336,8 @@ impl Queues {
         }
     }
 
-    /// Returns how many decks a user's reader has, a current one included.
+    /// Returns how many decks the queue of a user's reader has, a current one included; 0 if he is
+    /// not there.
     pub fn decks(&self, user: UserNo) -> usize
         ensures { result ≡ length (files_of self.now.users user).decks }
     {
@@ -336,7 +348,8 @@ impl Queues {
         }
     }
 
-    /// Returns a deck of this user's reader, in their order; a current one is the first.
+    /// Returns the deck of this index in the queue of a user's reader, if there is one; a current
+    /// one is the first.
     pub fn deck(&self, user: UserNo, index: usize) -> Option<SeenDeck<'_>>
         ensures value { result ≡ slice_get (files_of self.now.users user).decks index }
         ensures inside { IfSome result (λ _. index < length (files_of self.now.users user).decks) }
@@ -352,8 +365,8 @@ impl Queues {
         }
     }
 
-    /// Returns the deck that this user's reader feeds from: the current one, or that which becomes
-    /// current when a card is read.
+    /// Returns the first deck in the queue of this user's reader, from which it feeds: it is
+    /// current, or is so once a card is read.
     ///
     /// # Errors
     ///
@@ -375,7 +388,7 @@ impl Queues {
         }
     }
 
-    /// Returns how many files this user's punch closed.
+    /// Returns how many files this user's punch closed; 0 if there is no such user.
     pub fn punched_count(&self, user: UserNo) -> usize
         ensures { result ≡ length (files_of self.now.users user).punched }
     {
@@ -386,7 +399,7 @@ impl Queues {
         }
     }
 
-    /// Returns how many files this user's printer closed.
+    /// Returns how many files this user's printer closed; 0 if there is no such user.
     pub fn printed_count(&self, user: UserNo) -> usize
         ensures { result ≡ length (files_of self.now.users user).printed }
     {
@@ -397,7 +410,7 @@ impl Queues {
         }
     }
 
-    /// Returns a file that this user's punch closed, in their order.
+    /// Returns the file of this index among those that this user's punch closed, if there is one.
     pub fn punched(&self, user: UserNo, index: usize) -> Option<&SpoolFile>
         ensures { option_map closed_file (option_copied result)
             ≡ slice_get (files_of self.now.users user).punched index }
@@ -411,7 +424,7 @@ impl Queues {
         }
     }
 
-    /// Returns a file that this user's printer closed, in their order.
+    /// Returns the file of this index among those that this user's printer closed, if there is one.
     pub fn printed(&self, user: UserNo, index: usize) -> Option<&SpoolFile>
         ensures { option_map closed_file (option_copied result)
             ≡ slice_get (files_of self.now.users user).printed index }
@@ -425,8 +438,8 @@ impl Queues {
         }
     }
 
-    /// Puts the current deck of this user, if there is one, back to the front of the queue, to be
-    /// read from its first card.
+    /// Makes this user's current deck, if he has one, wait again: it is read from its first card
+    /// next.
     pub fn put_back(&mut self, user: UserNo)
         ensures { self.new.users
             ≡ with_files user (put_back (files_of self.old.users user)) self.old.users }
@@ -434,7 +447,8 @@ impl Queues {
         self.set_place(user, None);
     }
 
-    /// Sets how many cards of this user's first deck were read; None if it is not current.
+    /// Sets how many cards of this user's first deck were read, if there is such a user; with None
+    /// it is not current.
     pub(crate) fn set_place(&mut self, user: UserNo, place: Option<usize>)
         ensures { self.new.users
             ≡ with_files user (with_place place (files_of self.old.users user)) self.old.users }
@@ -444,7 +458,8 @@ impl Queues {
         }
     }
 
-    /// Takes over how far a reader of this user has read.
+    /// Removes the decks that a reader of this user has read to their ends, and sets how many cards
+    /// of the next one it has read.
     pub fn take_back(&mut self, user: UserNo, progress: ReaderProgress)
         ensures { self.new.users ≡ with_files user
             (read_on progress.ended progress.place (files_of self.old.users user)) self.old.users }
@@ -455,7 +470,8 @@ impl Queues {
         self.set_place(user, progress.place);
     }
 
-    /// Removes the first deck of this user, if there is one, which has been read.
+    /// Removes the first deck of this user from the queue, if there is one; one that was given is
+    /// dropped.
     fn end_deck(&mut self, user: UserNo)
         ensures { self.new.users
             ≡ with_files user (without_first (files_of self.old.users user)) self.old.users }
@@ -465,7 +481,8 @@ impl Queues {
         }
     }
 
-    /// Removes the deck of this index from the reader of this user. One that was given is gone.
+    /// Removes the deck of this index from the queue of this user's reader; one that was given is
+    /// dropped.
     fn take_out(&mut self, user: UserNo, index: usize)
         requires { index < length (files_of self.old.users user).decks }
         ensures { self.new.users

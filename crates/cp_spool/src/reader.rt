@@ -46,7 +46,7 @@ impl Model for SpoolReader {
 }
 
 impl SpoolReader {
-    /// Returns a reader that feeds from the queue of this user.
+    /// Returns a card reader that has no sense, and no bytes to give.
     pub fn new() -> SpoolReader
         ensures { result ≡ part_new }
     {
@@ -57,7 +57,7 @@ impl SpoolReader {
         }
     }
 
-    /// Returns the same reader once more.
+    /// Returns a copy of this reader.
     fn copy(&self) -> SpoolReader
         ensures { result ≡ self.now }
     {
@@ -68,7 +68,7 @@ impl SpoolReader {
         }
     }
 
-    /// Returns the sense byte of the last unit check.
+    /// Returns the sense byte: that of the last unit check, or zero.
     pub fn sense(&self) -> u8
         ensures { result ≡ self.now.sense }
     {
@@ -81,14 +81,14 @@ impl SpoolReader {
         *sense
     }
 
-    /// Refuses a command with a unit check and this sense byte.
+    /// Sets the sense byte, for a command that is refused with a unit check.
     fn refuse(&mut self, sense: u8)
         ensures { self.new ≡ record self.old { sense = sense } }
     {
         self.sense = sense;
     }
 
-    /// Keeps these bytes, to be given one by one.
+    /// Replaces the bytes that are to be given one by one, of which none is given yet.
     fn hold(&mut self, bytes: RecordBytes)
         ensures { self.new ≡ record self.old { giving = bytes } }
     {
@@ -96,7 +96,7 @@ impl SpoolReader {
         self.given = 0;
     }
 
-    /// Gives the next byte, or zero where none is left.
+    /// Returns the next of the bytes to be given, or zero if none is left.
     fn give(&mut self) -> u8
         ensures byte { result ≡ slice_index self.old.giving 0 }
         ensures after { self.new ≡ record self.old { giving = drop 1 self.old.giving } }
@@ -141,7 +141,10 @@ impl<'a> Device for FedReader<'a> {
 
     ghost needs_memory = { nothing_needed };
 
-    /// A command of a reader is never refused memory.
+    /// Begins a read, a no-operation or a sense; refuses any other command, and a read without a
+    /// card.
+    ///
+    /// It is never refused memory.
     fn command(&mut self, order: Order) -> Result<Answer, AllocError>
         ensures ready { IsOk result }
         ensures answer { IfOk result (λ answer. answer ≡ feed_machine.answer self.old order) }
@@ -164,32 +167,41 @@ impl<'a> Device for FedReader<'a> {
         })
     }
 
+    /// Returns false: the reader gives as many bytes as it said.
     fn is_done(&self) -> bool {
         false
     }
 
+    /// Returns the greatest number of bytes: the reader is never done before the channel is.
     fn ready(&self) -> u32 {
         u32::MAX
     }
 
+    /// Returns the next of the bytes to be given, or zero if none is left.
     fn give(&mut self) -> u8 {
         self.reader.give()
     }
 
+    /// Ignores a byte: no command of a reader takes any.
     fn take(&mut self, _byte: u8) {}
 
+    /// Returns the status with which a command ends: nothing besides its normal end.
     fn finish(&mut self) -> UnitStatus {
         UnitStatus::NONE
     }
 }
 
 impl<'a> DryRun for FedReader<'a> {
+    /// Makes a dry run of the program with this start on a copy of a storage, which it changes; the
+    /// reader and the queue stay.
     fn dry_run(&self, copy: &mut TrialStorage, start: Caw) -> Result<(), AllocError> {
         try_program(copy, start, &mut self.trial())
     }
 }
 
 impl<'a> TriedLoading for FedReader<'a> {
+    /// Makes a dry run of the program of an initial program loading on a copy of a storage, which
+    /// it changes; the reader and the queue stay.
     fn try_load(&self, copy: &mut TrialStorage) -> Result<(), AllocError> {
         try_loading(copy, &mut self.trial())
     }
@@ -198,7 +210,7 @@ impl<'a> TriedLoading for FedReader<'a> {
 impl<'a> FedReader<'a> {
     ghost use Rattle.cp_spool.specs.Reader.{next_card, read_started};
 
-    /// Creates the reader that feeds from the queue of this user.
+    /// Returns this reader as one that feeds from the queue of this user, from his current deck on.
     pub fn new(queues: &'a Queues, user: UserNo, reader: SpoolReader) -> FedReader<'a>
         ensures { result ≡ fed_by (files_of queues.now.users user) reader }
     {
@@ -213,7 +225,7 @@ impl<'a> FedReader<'a> {
         }
     }
 
-    /// Returns the reader on trial, from now on: it feeds from the same queue.
+    /// Returns a copy of this reader, which feeds from the same queue from the same place on.
     fn trial(&self) -> FedReader<'a>
         ensures { result ≡ self.now }
     {
@@ -225,7 +237,7 @@ impl<'a> FedReader<'a> {
         }
     }
 
-    /// Returns the reader, and what it has read.
+    /// Returns the reader, and how far it has read in the queue.
     pub fn into_parts(self) -> (SpoolReader, ReaderProgress)
         ensures reader { result.0 ≡ self.entry.part }
         ensures ended { result.1.ended ≡ self.entry.ended }
@@ -240,7 +252,8 @@ impl<'a> FedReader<'a> {
         (reader, progress)
     }
 
-    /// Reads the next card.
+    /// Begins to read the next card, whose 80 bytes are given then; refused if the deck has ended
+    /// or there is none.
     fn read(&mut self) -> Answer
         ensures answer { result ≡ read_answer (next_card self.old) }
         ensures after { self.new ≡ read_started self.old (next_card self.old) }
@@ -261,7 +274,8 @@ impl<'a> FedReader<'a> {
     }
 }
 
-/// Returns whether a sense command is asked for and accepted.
+/// Returns whether an order is a sense command that is the first of its program and has no chaining
+/// flag.
 fn is_sense(order: Order) -> bool
     ensures { result ≡ is_sense order }
 {

@@ -18,7 +18,7 @@ use unit_record::{Card, Sender};
 use user_names::UserNo;
 
 impl SpoolReader {
-    /// Appends all that is seen of what a reader keeps.
+    /// Appends the sense byte of the reader and the bytes that are still to be given.
     ///
     /// # Errors
     ///
@@ -36,7 +36,8 @@ impl SpoolReader {
         put_bytes(out, &bytes.as_slice()[*given..])
     }
 
-    /// Takes what comes next, in the place of what this reader keeps.
+    /// Reads the sense byte and the bytes to be given from the input and sets them; returns None,
+    /// and changes nothing, if malformed.
     pub fn restore(&mut self, input: &mut Input<'_>) -> Option<()> {
         let sense = input.small()?;
         let bytes = record_of(input)?;
@@ -49,7 +50,7 @@ impl SpoolReader {
     }
 }
 
-/// Appends the cards of a deck.
+/// Appends the cards of a deck, in order.
 fn put_cards(out: &mut Vec<u8>, deck: &SeenDeck<'_>) -> Result<(), AllocError>
     ensures { OnOk result (out.new.items ≡ out.old.items ++ each bytes deck.now.cards) }
 {
@@ -63,7 +64,7 @@ fn put_cards(out: &mut Vec<u8>, deck: &SeenDeck<'_>) -> Result<(), AllocError>
     put_zero(out)
 }
 
-/// Appends a deck.
+/// Appends the label, the sender and the cards of a deck.
 fn put_deck(out: &mut Vec<u8>, deck: &SeenDeck<'_>) -> Result<(), AllocError>
     ensures { OnOk result (out.new.items ≡ out.old.items ++ deck_bytes deck.now) }
 {
@@ -72,7 +73,7 @@ fn put_deck(out: &mut Vec<u8>, deck: &SeenDeck<'_>) -> Result<(), AllocError>
     put_cards(out, deck)
 }
 
-/// Appends a closed file.
+/// Appends the target and the entries of a closed file.
 fn put_file(out: &mut Vec<u8>, file: &SpoolFile) -> Result<(), AllocError>
     ensures { OnOk result (out.new.items ≡ out.old.items ++ file_bytes (closed_file file.now)) }
 {
@@ -80,7 +81,7 @@ fn put_file(out: &mut Vec<u8>, file: &SpoolFile) -> Result<(), AllocError>
     put_entries(out, file.entries())
 }
 
-/// Appends how many cards of a deck were read, if it is current.
+/// Appends how many cards of a deck were read, or that it is not current.
 fn put_place(out: &mut Vec<u8>, place: Option<usize>) -> Result<(), AllocError>
     ensures { OnOk result (out.new.items ≡ out.old.items ++ optional number place) }
 {
@@ -93,7 +94,8 @@ fn put_place(out: &mut Vec<u8>, place: Option<usize>) -> Result<(), AllocError>
     }
 }
 
-/// Takes how many cards of a deck were read, if it is current.
+/// Reads from the input how many cards of a deck were read, or that it is not current; returns None
+/// if malformed.
 fn place_of(input: &mut Input<'_>) -> Option<Option<usize>> {
     if input.flag()? {
         Some(Some(input.place()?))
@@ -102,7 +104,7 @@ fn place_of(input: &mut Input<'_>) -> Option<Option<usize>> {
     }
 }
 
-/// Takes the cards that are next.
+/// Reads a list of cards from the input; returns None if malformed, or if memory is refused.
 fn cards_of(alloc: Global, input: &mut Input<'_>) -> Option<Vec<Card>> {
     let mut cards = Vec::new(alloc);
     for _ in 0..u64::MAX {
@@ -115,7 +117,8 @@ fn cards_of(alloc: Global, input: &mut Input<'_>) -> Option<Vec<Card>> {
 }
 
 impl Queues {
-    /// Appends all that is seen of a user's files.
+    /// Appends a user's decks, how many cards of the first were read, and the files that his punch
+    /// and his printer closed.
     ///
     /// # Errors
     ///
@@ -130,7 +133,7 @@ impl Queues {
         self.put_printed(user, out)
     }
 
-    /// Appends the decks of a user's reader.
+    /// Appends the decks of a user's reader, in order.
     fn put_decks(&self, user: UserNo, out: &mut Vec<u8>) -> Result<(), AllocError>
         ensures { OnOk result (out.new.items
             ≡ out.old.items ++ each deck_bytes (files_of self.now.users user).decks) }
@@ -145,7 +148,7 @@ impl Queues {
         put_zero(out)
     }
 
-    /// Appends the files that a user's punch closed.
+    /// Appends the files that a user's punch closed, in order.
     fn put_punched(&self, user: UserNo, out: &mut Vec<u8>) -> Result<(), AllocError>
         ensures { OnOk result (out.new.items
             ≡ out.old.items ++ each file_bytes (files_of self.now.users user).punched) }
@@ -160,7 +163,7 @@ impl Queues {
         put_zero(out)
     }
 
-    /// Appends the files that a user's printer closed.
+    /// Appends the files that a user's printer closed, in order.
     fn put_printed(&self, user: UserNo, out: &mut Vec<u8>) -> Result<(), AllocError>
         ensures { OnOk result (out.new.items
             ≡ out.old.items ++ each file_bytes (files_of self.now.users user).printed) }
@@ -175,8 +178,10 @@ impl Queues {
         put_zero(out)
     }
 
-    /// Takes the files that are next, for a user who has none. There are as many users, whatever
-    /// comes.
+    /// Reads the decks and the closed files of a user, who has none, from the input and adds them;
+    /// returns None if malformed, or if memory is refused.
+    ///
+    /// There are as many users as before in either case.
     pub fn restore(&mut self, alloc: Global, user: UserNo, input: &mut Input<'_>) -> Option<()>
         ensures { length self.new.users ≡ length self.old.users }
     {
@@ -187,7 +192,8 @@ impl Queues {
         self.take_printed(alloc, user, input)
     }
 
-    /// Takes the decks that are next.
+    /// Reads decks from the input and appends them to the queue of a user's reader; returns None if
+    /// malformed, or if memory is refused.
     fn take_decks(&mut self, alloc: Global, user: UserNo, input: &mut Input<'_>) -> Option<()>
         ensures { length self.new.users ≡ length self.old.users }
     {
@@ -203,7 +209,8 @@ impl Queues {
         Some(())
     }
 
-    /// Takes the files that are next, as closed by a user's punch.
+    /// Reads files from the input and appends them to those that a user's punch closed; returns
+    /// None if malformed, or if memory is refused.
     fn take_punched(&mut self, alloc: Global, user: UserNo, input: &mut Input<'_>) -> Option<()>
         ensures { length self.new.users ≡ length self.old.users }
     {
@@ -219,7 +226,8 @@ impl Queues {
         Some(())
     }
 
-    /// Takes the files that are next, as closed by a user's printer.
+    /// Reads files from the input and appends them to those that a user's printer closed; returns
+    /// None if malformed, or if memory is refused.
     fn take_printed(&mut self, alloc: Global, user: UserNo, input: &mut Input<'_>) -> Option<()>
         ensures { length self.new.users ≡ length self.old.users }
     {

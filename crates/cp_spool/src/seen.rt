@@ -28,7 +28,7 @@ impl<'a> Model for SeenDeck<'a> {
 }
 
 impl<'a> SeenDeck<'a> {
-    /// Returns the deck that this file is under this label.
+    /// Returns this file as a deck with this label and this sender.
     pub(crate) fn new(label: u64, sender: Sender, file: &'a SpoolFile) -> SeenDeck<'a>
         ensures label { result.label ≡ label }
         ensures sender { result.sender ≡ sender }
@@ -55,14 +55,14 @@ impl<'a> SeenDeck<'a> {
         self.sender
     }
 
-    /// Returns how many cards it has.
+    /// Returns how many cards the deck has.
     pub fn count(&self) -> usize
         ensures { result ≡ length self.now.cards }
     {
         self.file.count()
     }
 
-    /// Returns a card of it.
+    /// Returns the card of this index of the deck, if there is one.
     pub fn card(&self, index: usize) -> Option<Card>
         ensures value { result ≡ slice_get self.now.cards index }
         ensures fits { IfSome result (λ _. index < usize.MAX) }

@@ -8,9 +8,8 @@ use s370_psw::Ilc;
 use s370_rows::Cpu;
 use s370_store::{Page, Storage};
 
-/// Interrupts a guest: its virtual program status word is stored in its own storage, with this code
-/// and instruction length, and the new one of that class is loaded. Where its page 0 is not present
-/// that is the error, and nothing is changed.
+/// Interrupts a guest: stores his virtual PSW in his page 0, with this code and instruction length,
+/// and loads the new PSW of this class from there.
 ///
 /// # Errors
 ///

@@ -26,9 +26,11 @@ pub enum Simulated {
     Absent(Page),
 }
 
-/// Carries out a privileged instruction that was handed back with this length code, as the virtual
-/// program status word has it: in the virtual problem state, and there alone, it is refused as a
-/// privileged operation.
+/// Simulates a privileged instruction on a guest's virtual registers and storage, or returns why it
+/// is not done: refused, an I/O operation, or an absent page.
+///
+/// It was handed back with this length code. In the virtual problem state, and only there, it is
+/// refused as a privileged operation.
 #[inline]
 pub fn simulate<S: Keyed>(
     cpu: &mut Cpu,

@@ -15,6 +15,8 @@ use s370_store::{Keyed, Page};
 pub struct VirtualCpu;
 
 impl Processor for VirtualCpu {
+    /// Simulates a privileged instruction of a guest, and returns how it ended as the processor
+    /// reports it.
     #[inline(always)]
     fn control<S: Keyed>(cpu: &mut Cpu, storage: &mut S, i: Instruction, ilc: Ilc) -> Stop {
         match simulate(cpu, storage, i, ilc) {
@@ -25,6 +27,8 @@ impl Processor for VirtualCpu {
         }
     }
 
+    /// Interrupts a guest: stores his virtual PSW in his page 0, and loads the new PSW of this
+    /// class from there; the error is that page, if it is absent.
     #[inline(always)]
     fn interrupt<S: Keyed>(
         cpu: &mut Cpu,

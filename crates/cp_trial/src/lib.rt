@@ -68,7 +68,7 @@ pub enum DryRunError {
     FramesOut,
 }
 
-/// Returns a copy of a user's storage, no page of which was touched.
+/// Returns a copy of a user's storage for a dry run, no page of which was touched.
 fn copy_of(alloc: Global, storage: &Dat<'_>) -> Result<TrialStorage, AllocError>
     ensures memory { IfOk result (λ copy. trial_memory copy ≡ lent_memory storage.now) }
     ensures flags { IfOk result (λ copy. (page : ℕ) → is_touched copy page ≡ false) }
@@ -78,8 +78,8 @@ fn copy_of(alloc: Global, storage: &Dat<'_>) -> Result<TrialStorage, AllocError>
     TrialStorage::new(alloc, bytes, keys, storage.size() / PAGE_SIZE)
 }
 
-/// Tries the program with this start on a copy of the storage, with a device that stands for its
-/// own. Nothing is brought.
+/// Makes a dry run of the program with this start on a copy of the storage, with the device
+/// `trial`, which changes; returns the copy. No page is paged in.
 ///
 /// # Errors
 ///
@@ -98,8 +98,8 @@ pub fn try_program<T: Device>(
     Ok(copy)
 }
 
-/// Tries the program with this start on a copy of the storage, of a device that stays as it is.
-/// Nothing is brought.
+/// Makes a dry run of the program with this start on a copy of the storage and a copy of the
+/// device, and returns the copy of the storage. No page is paged in.
 ///
 /// # Errors
 ///
@@ -160,8 +160,8 @@ pub fn run_tried<D: Device>(
     Ok(ending)
 }
 
-/// Runs the program with this start on a copy of the storage, which has then the bytes that the
-/// storage is to have.
+/// Runs the program with this start on its device, but on a copy of the storage, which is dropped,
+/// and returns how it ended.
 fn run_apart<D: Device>(
     alloc: Global,
     storage: &Dat<'_>,
@@ -180,7 +180,8 @@ fn run_apart<D: Device>(
     }
 }
 
-/// Makes a dry run of the program of an initial program loading.
+/// Makes a dry run of the program of an initial program loading on a copy of the storage, with the
+/// device `trial`, which changes; returns the copy.
 ///
 /// # Errors
 ///
@@ -198,7 +199,8 @@ pub fn try_loading<T: Device>(
     Ok(copy)
 }
 
-/// Tries the program of an initial program loading, of a device that stays as it is.
+/// Makes a dry run of the program of an initial program loading on a copy of the storage and a copy
+/// of the device, and returns the copy of the storage.
 ///
 /// # Errors
 ///
@@ -258,7 +260,8 @@ pub fn load_tried<D: Device>(
     Ok(ending)
 }
 
-/// Runs the program of an initial program loading on a copy of the storage.
+/// Runs the program of an initial program loading on its device, but on a copy of the storage,
+/// which is dropped, and returns how it ended.
 fn load_apart<D: Device>(
     alloc: Global,
     storage: &Dat<'_>,

@@ -60,8 +60,7 @@ pub fn run_open<D: DryRun>(
 }
 
 /// Makes a dry run of the program of an initial program loading, and runs it if there is room for
-/// the pages that it touches; the page of the PSW is brought for it first, and is in a frame at its
-/// end.
+/// the pages that it touches; page 0 is paged in before it and after it.
 ///
 /// # Errors
 ///
@@ -98,7 +97,7 @@ pub fn load_open<D: TriedLoading>(
     Ok(ending)
 }
 
-/// Brings the first page, before a loading.
+/// Pages in page 0 if it is in no frame, before a loading.
 ///
 /// # Errors
 ///
@@ -124,7 +123,7 @@ pub fn fetch_first(storage: &mut Dat<'_>) -> Result<(), DryRunError>
     }
 }
 
-/// Brings the first page again, which has been somewhere since before a loading.
+/// Pages in page 0 if it is in no frame, after a loading: it is in a slot then, and never refused.
 pub fn fetch_again(storage: &mut Dat<'_>)
     requires some { 0 < length (lent_bytes storage.old) }
     requires stands { Stands (lent_pool storage.old).supply (user_of storage.old) 0 }

@@ -25,8 +25,8 @@ use s370_store::Storage;
 use s370_walk::Ending;
 use std::alloc::Global;
 
-/// Runs the program with this start, which no input can change, over a storage that has the pages
-/// which it needs.
+/// Runs the program with this start, which no input can change, on a mounted minidisk, and returns
+/// how it ended; the storage has to have the pages which it needs.
 pub(crate) fn run_mounted_held<S: Storage>(
     mounted: &mut Mounted,
     storage: &mut S,
@@ -50,7 +50,8 @@ pub(crate) fn run_mounted_held<S: Storage>(
     }
 }
 
-/// Runs the program with this start, after its dry run.
+/// Runs the program with this start on a mounted minidisk, after its dry run: as a whole if there
+/// is room for the pages that it touches, else not at all.
 pub(crate) fn run_mounted(
     alloc: Global,
     mounted: &mut Mounted,
@@ -77,7 +78,8 @@ pub(crate) fn run_mounted(
     run_tried(alloc, storage, start, mounted, tried)
 }
 
-/// Runs the program of an initial program loading, after its dry run.
+/// Runs the program of an initial program loading on a mounted minidisk, after its dry run: as a
+/// whole if there is room for the pages that it touches, else not at all.
 pub(crate) fn load_mounted(
     alloc: Global,
     mounted: &mut Mounted,

@@ -28,21 +28,23 @@ pub struct SeenDisk<'a> {
 }
 
 impl<'a> SeenDisk<'a> {
-    /// Returns the volume on which it is. It is `None` for a minidisk without cylinders alone.
+    /// Returns the volume on which the minidisk is. It is `None` only for a minidisk without
+    /// cylinders.
     pub fn volume(&self) -> Option<&Volume>
         ensures { option_copied result ≡ option_copied self.now.volume }
     {
         self.volume
     }
 
-    /// Returns which cylinders of the volume it has.
+    /// Returns which cylinders of the volume the minidisk has.
     pub fn extent(&self) -> Extent
         ensures { result ≡ self.now.minidisk.extent }
     {
         self.minidisk.extent()
     }
 
-    /// Returns where its arm is, counted from its own first cylinder, and its sense.
+    /// Returns where the minidisk's arm is, counted from its own first cylinder, whether it may be
+    /// written, and its sense.
     pub fn arm(&self) -> Arm
         ensures { result ≡ own_arm self.now.minidisk }
     {
@@ -59,7 +61,7 @@ impl<'a> SeenDisk<'a> {
 impl Volumes {
     ghost use Rattle.cp_volumes.specs.Seen.{seen_disk};
 
-    /// Returns the first of these minidisks at this address, as its user sees it.
+    /// Returns the first of these minidisks at this address, as its user sees it, if there is one.
     #[tactic(auto, using(crate::proofs::Seats::unit_found))]
     pub fn seen(&self, minidisks: &[SharedDisk], device: DevAddr) -> Option<SeenDisk<'_>>
         ensures { option_map seen_disk result
@@ -74,7 +76,7 @@ impl Volumes {
     }
 }
 
-/// Returns the first of these minidisks at this address.
+/// Returns the first of these minidisks at this address, if there is one.
 fn found(minidisks: &[SharedDisk], device: DevAddr) -> Option<&SharedDisk>
     ensures { option_copied result ≡ find (λ disk. disk.address == device) minidisks.now }
 {

@@ -33,7 +33,8 @@ impl Model for SharedDisk {
 }
 
 impl SharedDisk {
-    /// Returns a minidisk that no program has used, with this extent of the volume of this index.
+    /// Returns a minidisk that no program has used, at this address, with this extent of the volume
+    /// of this index.
     pub fn new(address: DevAddr, volume: usize, extent: Extent) -> SharedDisk
         ensures { result ≡ record {
           address = address;
@@ -55,7 +56,7 @@ impl SharedDisk {
         self.address
     }
 
-    /// Returns which of the volumes it is on.
+    /// Returns the index of the volume that the minidisk is on.
     pub fn volume(&self) -> usize
         ensures { result ≡ self.now.volume }
     {
@@ -68,21 +69,21 @@ impl SharedDisk {
         *volume
     }
 
-    /// Returns what it has of its own: its extent, its arm and its sense.
+    /// Returns what the minidisk has of its own: its extent, its arm and its sense.
     pub fn minidisk(&self) -> &Minidisk
         ensures { result.now ≡ self.now.minidisk }
     {
         &self.minidisk
     }
 
-    /// Resets the minidisk: the arm stays.
+    /// Resets the minidisk: it has no sense, and the arm stays.
     pub(crate) fn reset(&mut self)
         ensures { self.new ≡ record self.old { minidisk = minidisk_reset self.old.minidisk } }
     {
         self.minidisk.reset();
     }
 
-    /// Clears the minidisk, as for a LOGON: the arm is at the first track.
+    /// Clears the minidisk, as for a LOGON: it has no sense, and the arm is at its first track.
     pub(crate) fn clear(&mut self)
         ensures { self.new ≡ record self.old { minidisk = minidisk_new self.old.minidisk.extent } }
     {
@@ -91,7 +92,8 @@ impl SharedDisk {
 }
 
 impl SharedDisk {
-    /// Appends all that is seen of a minidisk.
+    /// Appends the address of the minidisk, the index of its volume, its extent, its arm and its
+    /// sense.
     ///
     /// # Errors
     ///
@@ -110,7 +112,8 @@ impl SharedDisk {
         minidisk.save(out)
     }
 
-    /// Takes the arm and the sense that are next. The minidisk stays where it is, whatever comes.
+    /// Reads the arm and the sense from the input and sets them; returns None if they are no such.
+    /// Address, volume and extent are read too, but stay.
     pub fn restore(&mut self, input: &mut Input<'_>) -> Option<()>
         ensures { placement_of self.new ≡ placement_of self.old }
     {

@@ -45,7 +45,7 @@ impl Model for UserDisks {
 }
 
 impl UserDisks {
-    /// Returns these minidisks on these volumes.
+    /// Returns the disks of a user: these minidisks on these volumes.
     pub fn new(volumes: Volumes, minidisks: Vec<SharedDisk>) -> UserDisks
         requires { IsUsers volumes (placements_of minidisks.items) }
         ensures { result ≡ record { volumes = volumes; minidisks = minidisks.items } }
@@ -53,7 +53,7 @@ impl UserDisks {
         UserDisks { volumes, minidisks }
     }
 
-    /// Returns the volumes, and what the minidisks have next to their cylinders.
+    /// Returns the volumes, and the minidisks without their cylinders.
     pub fn into_parts(self) -> (Volumes, Vec<SharedDisk>)
         ensures volumes { result.0 ≡ self.volumes }
         ensures minidisks { result.1.items ≡ self.minidisks }
@@ -62,7 +62,7 @@ impl UserDisks {
         (self.volumes, self.minidisks)
     }
 
-    /// Returns the index of the first of them at this address.
+    /// Returns the index of the first of the minidisks at this address, if there is one.
     pub fn disk_at(&self, device: u16) -> Option<usize>
         ensures index { result ≡ position (is_disk_at device) (seen self.now) }
         ensures inside { IfSome result (λ index. index < length (seen self.now)) }
@@ -70,7 +70,7 @@ impl UserDisks {
         index_of(&self.minidisks, device)
     }
 
-    /// Resets the minidisks: the arms stay.
+    /// Resets the minidisks: they have no sense, and the arms stay.
     pub fn reset(&mut self)
         ensures reset { seen self.new ≡ map reset_disk (seen self.old) }
         ensures others { KeepsOtherDisks self.old self.new }
@@ -78,7 +78,8 @@ impl UserDisks {
         reset_each(&mut self.minidisks);
     }
 
-    /// Clears the minidisks, as for a LOGON: the arms are at the first tracks.
+    /// Clears the minidisks, as for a LOGON: they have no sense, and the arms are at their first
+    /// tracks.
     pub fn clear(&mut self)
         ensures cleared { seen self.new ≡ map cleared_disk (seen self.old) }
         ensures others { KeepsOtherDisks self.old self.new }
@@ -87,7 +88,7 @@ impl UserDisks {
     }
 
     /// Runs the program with this start, which no input can change, on the minidisk of this index,
-    /// over a storage that has the pages which it needs.
+    /// and returns how it ended; the storage has to have the pages which it needs.
     pub fn run_held<S: Storage>(&mut self, storage: &mut S, start: Caw, index: usize) -> Ending
         requires inside { index < length (seen self.old) }
         requires still { IsFixedStill (S.memory storage.old) (S.present storage.old) start.address }
@@ -140,9 +141,8 @@ impl UserDisks {
         }
     }
 
-    /// Runs the program of an initial program loading on the minidisk of this index, as a whole if
-    /// there is room for the pages that it touches, else not at all; if it runs, all minidisks are
-    /// reset first.
+    /// Resets all minidisks and runs the program of an initial program loading on that of this
+    /// index, if there is room for the pages that it touches; else does neither.
     ///
     /// # Errors
     ///
@@ -185,7 +185,7 @@ impl UserDisks {
     }
 }
 
-/// Returns the index of the first of these minidisks at this address.
+/// Returns the index of the first of these minidisks at this address, if there is one.
 fn index_of(minidisks: &[SharedDisk], device: u16) -> Option<usize>
     ensures index { result ≡ position (λ disk. disk.address == device) minidisks.now }
     ensures inside { IfSome result (λ index. index < length minidisks.now) }
@@ -195,7 +195,7 @@ fn index_of(minidisks: &[SharedDisk], device: u16) -> Option<usize>
         .position(|disk| disk.address().get() == device)
 }
 
-/// Resets each of these minidisks.
+/// Resets each of these minidisks: the arms stay.
 fn reset_each(minidisks: &mut [SharedDisk])
     ensures { minidisks.new ≡ map reset_minidisk minidisks.old }
 {
@@ -204,7 +204,7 @@ fn reset_each(minidisks: &mut [SharedDisk])
     }
 }
 
-/// Clears each of these minidisks.
+/// Clears each of these minidisks, as for a LOGON: the arms are at their first tracks.
 fn clear_each(minidisks: &mut [SharedDisk])
     ensures { minidisks.new ≡ map cleared_minidisk minidisks.old }
 {

@@ -65,7 +65,7 @@ const RESTING: Arm = Arm {
 };
 
 impl Volumes {
-    /// Returns these volumes, in their order.
+    /// Returns a list of these volumes, in their order, each on a unit of its own.
     ///
     /// # Errors
     ///
@@ -84,7 +84,7 @@ impl Volumes {
         Ok(Volumes { units })
     }
 
-    /// Creates a list without volumes. It takes no memory.
+    /// Returns a list without volumes. It takes no memory.
     pub fn none(alloc: Global) -> Volumes
         ensures { result ≡ [] }
     {
@@ -102,7 +102,7 @@ impl Volumes {
         units.len()
     }
 
-    /// Returns the volume of this index, which is here unless a program runs on it.
+    /// Returns the volume of this index, if there is one and no program runs on it.
     pub fn volume(&self, index: usize) -> Option<&Volume>
         ensures volume { IfSome result (λ volume. slice_get self.now index ≡ Some volume.now) }
         ensures at { volume_at self.now index ≡ volume_or_none (option_copied result) }
@@ -114,7 +114,7 @@ impl Volumes {
         }
     }
 
-    /// Returns a minidisk on trial, as its user sees it.
+    /// Returns the copy of a minidisk on which a program is tried, as its user sees the minidisk.
     fn trial(&self, alloc: Global, disk: &SharedDisk) -> Result<UnitTrial<'_>, AllocError>
         requires { IsSeated self.now (placement_of disk.now) }
         ensures { IfOk result (λ trial. trial ≡ (disk_on self.now disk.now).unit) }
@@ -135,7 +135,8 @@ impl Volumes {
         }
     }
 
-    /// Makes a dry run of the program with this start on a minidisk.
+    /// Makes a dry run of the program with this start on a copy of a minidisk and of a storage, and
+    /// returns that storage.
     fn try_run(
         &self,
         alloc: Global,
@@ -152,7 +153,8 @@ impl Volumes {
         try_program(alloc, storage, start, &mut trial)
     }
 
-    /// Makes a dry run of the program of an initial program loading on a minidisk.
+    /// Makes a dry run of the program of an initial program loading on a copy of a minidisk and of
+    /// a storage, and returns that storage.
     fn try_load(
         &self,
         alloc: Global,
@@ -168,8 +170,8 @@ impl Volumes {
         try_loading(alloc, storage, &mut trial)
     }
 
-    /// Runs the program with this start, which no input can change, on a minidisk, over a storage
-    /// that has the pages which it needs; the minidisk is then at rest.
+    /// Runs the program with this start, which no input can change, on a minidisk, which is at rest
+    /// after it; the storage has to have the pages which it needs.
     pub(crate) fn run_held<S: Storage>(
         &mut self,
         disk: &mut SharedDisk,
@@ -191,8 +193,8 @@ impl Volumes {
         ending
     }
 
-    /// Runs the program with this start on a minidisk, which is then at rest, as a whole if there
-    /// is room for the pages that it touches, else not at all.
+    /// Runs the program with this start on a minidisk, which is at rest after it, as a whole if
+    /// there is room for the pages that it touches, else not at all.
     pub(crate) fn run(
         &mut self,
         alloc: Global,
@@ -288,7 +290,7 @@ impl Volumes {
         }
     }
 
-    /// Mounts a minidisk on the unit of its volume, which is away meanwhile.
+    /// Takes the unit of a minidisk's volume out of the list, and mounts the minidisk on it.
     fn mount(&mut self, disk: &SharedDisk) -> Mounted
         requires { IsSeated self.old (placement_of disk.now) }
         ensures mounted { result ≡ part_on (volume_at self.old disk.now.volume) disk.now.minidisk }
@@ -303,7 +305,8 @@ impl Volumes {
         }
     }
 
-    /// Puts the unit back, and gives the minidisk what it had of its own there.
+    /// Puts the unit of a volume back into the list, and gives the minidisk the arm and the sense
+    /// that it had there.
     fn dismount(&mut self, disk: &mut SharedDisk, mounted: Mounted)
         requires { disk.old.volume < length self.old }
         ensures volumes { self.new

@@ -22,8 +22,8 @@ pub struct MapOptions<'a> {
     pub state: Option<&'a str>,
 }
 
-/// Reads the arguments, the first of which is the name that the program was started by; `program`
-/// is its name in a usage text.
+/// Returns the options that the words of a command line name, of which the first is the name that
+/// the program was started by; `program` is its name in a usage text.
 ///
 /// # Errors
 ///
@@ -52,7 +52,7 @@ pub fn arguments<'a, S: AsStr>(
     })
 }
 
-/// Returns what `clap` finds in the words.
+/// Returns what `clap` finds in the words of a command line, or the usage error.
 fn matched<'a, S: AsStr>(
     alloc: Global,
     program: &'a str,
@@ -71,7 +71,7 @@ fn matched<'a, S: AsStr>(
     }
 }
 
-/// Returns the arguments of the program, as they are described to `clap`.
+/// Returns the description of the program's command line for `clap`.
 fn command<'a>(alloc: Global, program: &'a str) -> Result<Command<'a>, AllocError>
     ensures { IfOk result (λ c. app_of c ≡ command_of program.entry.now) }
 {
@@ -80,7 +80,7 @@ fn command<'a>(alloc: Global, program: &'a str) -> Result<Command<'a>, AllocErro
     Ok(command)
 }
 
-/// Returns the argument `--state FILE`.
+/// Returns the description of the option `--state FILE` for `clap`.
 fn state<'a>(alloc: Global) -> Arg<'a>
     ensures rule { rule_of result ≡ state_rule }
     ensures local { result.global ≡ false }

@@ -14,6 +14,7 @@ mod program;
 use crate::program::program;
 use programs::ProgramEnd;
 
+/// Runs the program, and ends with its exit status.
 fn main(rt: HostRuntime) -> ProgramEnd {
     program(&rt)
 }

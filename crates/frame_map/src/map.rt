@@ -11,7 +11,7 @@ use std::alloc::{AllocError, Global};
 use user_names::name_of;
 
 /// Returns the map of a system that has so many frames and slots, as lines that are ended by LF:
-/// frames, slots, and how many pages have come into frames so far.
+/// frames, slots, and how many pages have been paged in so far.
 ///
 /// # Errors
 ///
@@ -27,8 +27,8 @@ pub fn frame_map(alloc: Global, system: &System, sizes: Sizes) -> Result<Vec<u8>
     Ok(text)
 }
 
-/// Adds the lines of these places, which are frames or slots by this word: those that have pages,
-/// and how many are free.
+/// Appends the lines of these places, which `word` calls frames or slots: one for each run of
+/// places with pages, and one of how many are free.
 fn print_places(
     alloc: Global,
     out: &mut Vec<u8>,
@@ -49,8 +49,8 @@ fn print_places(
     out.extend_from_slice(line.as_bytes())
 }
 
-/// Returns how many of the first places are one run: free ones, or such as have successive pages of
-/// one user.
+/// Returns how many of the first places are one run: free ones, or ones that have successive pages
+/// of one user.
 fn run_length(places: &[Option<Owner>]) -> usize
     requires { 0 < length places.now }
     ensures some { 0 < result }
@@ -64,7 +64,8 @@ fn run_length(places: &[Option<Owner>]) -> usize
     count
 }
 
-/// Returns whether a place belongs to the run of the one before it.
+/// Returns whether a place continues the run of the one before it: both are free, or it has the
+/// next page of the same user.
 fn follows(before: Option<Owner>, next: Option<Owner>) -> bool
     ensures { result ≡ follows before next }
 {
@@ -77,8 +78,8 @@ fn follows(before: Option<Owner>, next: Option<Owner>) -> bool
     }
 }
 
-/// Adds the line of so many places from this one on, which have the successive pages of a user from
-/// this one on.
+/// Appends the line of `count` places from `first` on, which have the successive pages of a user
+/// from this one on.
 fn print_run(
     alloc: Global,
     out: &mut Vec<u8>,
@@ -106,7 +107,7 @@ fn print_run(
     out.extend_from_slice(line.as_bytes())
 }
 
-/// Returns the address of the page that is so many after this one.
+/// Returns the address of the page that is `after` pages after this one.
 fn address_of(page: u32, after: usize) -> u64 {
     (u64::from(page))
         .saturating_add(after as u64)

@@ -10,6 +10,7 @@ pub(crate) struct Nowhere;
 impl HostFile for Nowhere {
     ghost failures = { λ _. 0 };
 
+    /// Returns how often a write has failed: never.
     fn failures(&self) -> u64 {
         0
     }
@@ -20,10 +21,12 @@ impl HostWriter for Nowhere {
 
     ghost held = { λ _. [] };
 
+    /// Drops these bytes, and returns that all of them were written.
     fn write(&mut self, bytes: &[u8]) -> Result<usize, HostFault> {
         Ok(bytes.len())
     }
 
+    /// Does nothing, as no byte is held back.
     fn flush(&mut self) -> Result<(), HostFault> {
         Ok(())
     }

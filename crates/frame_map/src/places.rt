@@ -21,14 +21,14 @@ pub(crate) struct Places {
 }
 
 impl Places {
-    /// Returns this many frames and slots that are free.
+    /// Returns places that are all free: this many frames and slots.
     fn free(alloc: Global, sizes: Sizes) -> Result<Places, AllocError> {
         let frames = vec![in alloc; None; sizes.frames() as usize]?;
         let slots = vec![in alloc; None; sizes.slots() as usize]?;
         Ok(Places { frames, slots })
     }
 
-    /// Returns what is in the frames and slots of a system that has so many.
+    /// Returns which page is in each frame and in each slot of a system that has so many.
     pub(crate) fn of_system(
         alloc: Global,
         system: &System,
@@ -43,7 +43,7 @@ impl Places {
         Ok(places)
     }
 
-    /// Puts the first pages of a user, so many of them, where they are.
+    /// Records in which frames and slots the first `pages` pages of a user are.
     fn put_user(&mut self, system: &System, user: UserNo, pages: u32) {
         for page in 0..pages {
             if let Some(frame) = system.frame_of(user, Page(page)) {
@@ -56,7 +56,7 @@ impl Places {
     }
 }
 
-/// Puts a page of a user into the place of this number.
+/// Records that a page of a user is in the place of this number, if there is one.
 fn put(places: &mut [Option<Owner>], number: usize, user: UserNo, page: u32) {
     if let Some(place) = places.get_mut(number) {
         *place = Some(Owner { user, page });

@@ -37,14 +37,16 @@ The map goes to standard output, a fault as one line to standard error. Exit sta
   4  there was not memory enough
 ";
 
-/// Runs the whole program: what it is started with names a directory, a script and volumes, and
-/// the map of what that leaves is written. A failure is reported on standard error.
+/// Runs the whole program: plays the script that its arguments name and prints the map of frames
+/// and slots that it leaves; reports a failure on standard error.
 pub fn program<R: AllocGlobal + Files + Env + Print + Eprint>(rt: &R) -> ProgramEnd {
     finish(rt, run(rt))
 }
 
-/// Reads the words, the directory, the images and the script, does the script, writes the map, and
-/// saves the volumes where that is asked for. A wrong use is reported here.
+/// Reads the arguments, the directory, the images and the script, plays the script, writes the map,
+/// and saves the volumes if `--save` is given.
+///
+/// A wrong use is reported here.
 fn run<R: AllocGlobal + Files + Env + Print + Eprint>(rt: &R) -> Result<(), Failure> {
     let alloc = rt.alloc();
     let words = words(rt, PROGRAM)?;
@@ -64,7 +66,8 @@ fn run<R: AllocGlobal + Files + Env + Print + Eprint>(rt: &R) -> Result<(), Fail
     save_images(alloc, &mut files, &machines, saved_paths(run.save, volumes))
 }
 
-/// Does the script, from the state if one is named, and returns what it leaves.
+/// Plays the script, from the state if one is named, without keeping its transcript, and returns
+/// the machines that it leaves.
 fn run_script<F: FileStore>(
     alloc: Global,
     files: &mut F,
@@ -82,7 +85,8 @@ fn run_script<F: FileStore>(
     Ok(machines)
 }
 
-/// Returns what the state at this path restores.
+/// Reads the state at this path, and returns the follower that it restores; a failure if it is none
+/// of this follower.
 fn restored<F: FileStore>(
     alloc: Global,
     files: &mut F,
@@ -97,8 +101,8 @@ fn restored<F: FileStore>(
     }
 }
 
-/// Does the script at this path as one part, and returns what it leaves. Its last line need not be
-/// ended.
+/// Does the script at this path as one part, and returns the machines that it leaves. Its last line
+/// need not be ended.
 fn follow<F: FileStore>(
     alloc: Global,
     files: &mut F,

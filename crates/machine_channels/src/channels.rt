@@ -33,12 +33,12 @@ pub trait Disks {
     /// The programs that are kept of those that ran are dropped.
     ghost Forgets: { Self → Self → Type 0 };
 
-    /// Returns the index of the first disk with this address.
+    /// Returns the index of the first disk with this address, if there is one.
     fn disk_at(&self, device: u16) -> Option<usize>
         ensures index { result ≡ position (is_disk_at device) (disks self.now) }
         ensures inside { IfSome result (λ index. index < length (disks self.now)) };
 
-    /// Resets the disks: the arms stay.
+    /// Resets the disks: they have no sense and no command under way, and their arms stay.
     fn reset_disks(&mut self)
         ensures reset { disks self.new ≡ map reset_disk (disks self.old) }
         ensures others { KeepsOthers self.old self.new }
@@ -108,9 +108,8 @@ pub trait Channels<S: Storage>: Disks {
     /// The same for the disk of this index.
     ghost ReusesDisk: { Self → S → Caw → ℕ → Bool → Self → Type 0 };
 
-    /// Runs the program with this start for a device that is no disk, which `unit` names. An error
-    /// is reported only where memory was refused, a page is not present, or there is no room for
-    /// one.
+    /// Runs the program with this start for a device that is no disk, whose kind is `unit`, and
+    /// returns how it ended.
     ///
     /// # Errors
     ///
@@ -146,7 +145,8 @@ pub trait Channels<S: Storage>: Disks {
         ensures others { Self.KeepsOthers self.old self.new }
         ensures kept { Reuses self.old storage.old start unit (is_ok result) self.new };
 
-    /// Runs the program with this start for the disk of this index, which is at rest after it.
+    /// Runs the program with this start for the disk of this index, which is at rest after it, and
+    /// returns how it ended.
     ///
     /// # Errors
     ///
@@ -181,8 +181,10 @@ pub trait Channels<S: Storage>: Disks {
         ensures others { Self.KeepsOthers self.old self.new }
         ensures kept { ReusesDisk self.old storage.old start index (is_ok result) self.new };
 
-    /// Runs the program of an initial program loading for a device that is no disk. Nothing is kept
-    /// of it, and what is kept stays.
+    /// Runs the program of an initial program loading for a device that is no disk, and returns how
+    /// it ended.
+    ///
+    /// Nothing is kept of it, and what is kept of other programs stays.
     ///
     /// # Errors
     ///
@@ -217,9 +219,11 @@ pub trait Channels<S: Storage>: Disks {
         ensures ready { IsReady storage.new }
         ensures others { Self.KeepsOthers self.old self.new };
 
-    /// Resets the disks, and runs the program of an initial program loading on that of this index,
-    /// which is at rest after it. If that is refused for lack of room they aren't reset either, and
-    /// what is kept of programs stays.
+    /// Resets the disks, runs the program of an initial program loading on that of this index,
+    /// which is at rest after it, and returns how it ended.
+    ///
+    /// If that is refused for lack of room the disks aren't reset either, and what is kept of
+    /// programs stays.
     ///
     /// # Errors
     ///

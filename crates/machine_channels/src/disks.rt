@@ -30,7 +30,7 @@ impl Model for AttachedDisk {
 }
 
 impl AttachedDisk {
-    /// Returns this unit at this address.
+    /// Returns a disk that is this unit at this address.
     pub fn new(address: DevAddr, unit: Unit) -> AttachedDisk
         ensures { result ≡ record { address = address; unit = unit } }
     {
@@ -51,8 +51,8 @@ impl AttachedDisk {
         &self.unit
     }
 
-    /// Runs the program with this start on the unit, each word read when it is reached; the unit is
-    /// then at rest.
+    /// Runs the program with this start on the unit, each word read when it is reached, and returns
+    /// how it ended; the unit is at rest after it, unless there is an error.
     pub(crate) fn run<S: Storage>(
         &mut self,
         storage: &mut S,
@@ -73,8 +73,8 @@ impl AttachedDisk {
         Ok(ending)
     }
 
-    /// Runs the program of an initial program loading on the unit, which is then at rest. It has
-    /// gone well where its ending says so.
+    /// Runs the program of an initial program loading on the unit, and returns how it ended; the
+    /// unit is at rest after it, unless there is an error.
     #[tactic(auto, using(crate::proofs::Staying::disk_lacks))]
     pub(crate) fn load<S: Storage>(&mut self, storage: &mut S) -> Result<Ending, ChannelError>
         ensures walk { IfOk result
@@ -89,14 +89,15 @@ impl AttachedDisk {
         Ok(ending)
     }
 
-    /// Resets the disk: the arm stays.
+    /// Resets the disk: it has no sense and no command under way, and the arm stays.
     pub(crate) fn reset(&mut self)
         ensures { self.new ≡ reset_disk self.old }
     {
         self.unit.reset();
     }
 
-    /// Clears the disk, as for a LOGON.
+    /// Clears the disk, as for a LOGON: it is reset, and the arm is over cylinder 0, with head 0
+    /// chosen.
     pub(crate) fn clear(&mut self)
         ensures { self.new ≡ cleared_disk self.old }
     {
@@ -104,7 +105,7 @@ impl AttachedDisk {
     }
 }
 
-/// Resets each of these disks.
+/// Resets each of these disks: the arms stay.
 pub(crate) fn reset_each(disks: &mut [AttachedDisk])
     ensures { disks.new ≡ map reset_disk disks.old }
 {
@@ -113,7 +114,7 @@ pub(crate) fn reset_each(disks: &mut [AttachedDisk])
     }
 }
 
-/// Clears each of these disks.
+/// Clears each of these disks, as for a LOGON: the arms are over cylinder 0, with head 0 chosen.
 pub(crate) fn clear_each(disks: &mut [AttachedDisk])
     ensures { disks.new ≡ map cleared_disk disks.old }
 {

@@ -19,11 +19,14 @@ impl Disks for NoDisks {
 
     ghost others_on = { λ _ _ _ _ _. tt };
 
+    /// Returns None: there is no disk.
     fn disk_at(&self, _device: u16) -> Option<usize> {
         None
     }
 
+    /// Does nothing: there is no disk.
     fn reset_disks(&mut self) {}
 
+    /// Does nothing: there is no disk.
     fn clear_disks(&mut self) {}
 }

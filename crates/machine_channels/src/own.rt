@@ -19,7 +19,7 @@ pub struct DedicatedChannels {
 }
 
 impl DedicatedChannels {
-    /// Returns the channels on which these disks hang, in this order.
+    /// Returns channels with these disks, in this order.
     pub fn new(disks: Vec<AttachedDisk>) -> DedicatedChannels
         ensures { disks_of result ≡ disks.items }
     {
@@ -33,7 +33,7 @@ impl DedicatedChannels {
         self.disks.as_slice()
     }
 
-    /// Resets the disks: the arms stay.
+    /// Resets the disks: they have no sense and no command under way, and their arms stay.
     pub fn reset(&mut self)
         ensures { disks_of self.new ≡ map reset_disk (disks_of self.old) }
     {
@@ -61,16 +61,19 @@ impl Disks for DedicatedChannels {
 
     ghost others_on = { λ _ _ _ _ _. tt };
 
+    /// Returns the index of the first disk with this address, if there is one.
     fn disk_at(&self, device: u16) -> Option<usize> {
         self.disks
             .iter()
             .position(|disk| disk.address().get() == device)
     }
 
+    /// Resets the disks: the arms stay.
     fn reset_disks(&mut self) {
         self.reset();
     }
 
+    /// Clears the disks, as for a LOGON: the arms are over cylinder 0, with head 0 chosen.
     fn clear_disks(&mut self) {
         self.clear();
     }
@@ -102,6 +105,8 @@ impl<S: Storage> Channels<S> for DedicatedChannels {
 
     ghost ReusesDisk = { λ _ _ _ _ _ _. Unit {0} };
 
+    /// Runs the program with this start for a device that is no disk, each word read when it is
+    /// reached.
     fn run<D: DryRun>(
         &mut self,
         storage: &mut S,
@@ -112,6 +117,8 @@ impl<S: Storage> Channels<S> for DedicatedChannels {
         run_live(storage, start, device)
     }
 
+    /// Runs the program with this start for the disk of this index, each word read when it is
+    /// reached.
     fn run_disk(
         &mut self,
         storage: &mut S,
@@ -121,6 +128,8 @@ impl<S: Storage> Channels<S> for DedicatedChannels {
         self.disks[index].run(storage, start)
     }
 
+    /// Runs the program of an initial program loading for a device that is no disk, each word read
+    /// when it is reached.
     fn load<D: TriedLoading>(
         &mut self,
         storage: &mut S,
@@ -129,6 +138,8 @@ impl<S: Storage> Channels<S> for DedicatedChannels {
         load_live(storage, device)
     }
 
+    /// Resets all disks, and runs the program of an initial program loading on that of this index,
+    /// each word read when it is reached.
     fn load_disk(&mut self, storage: &mut S, index: usize) -> Result<Ending, ChannelError> {
         self.reset();
         self.disks[index].load(storage)

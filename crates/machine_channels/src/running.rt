@@ -10,7 +10,8 @@ use s370_channel::{Caw, ChannelError, Guest, Limits, MOST_COMMANDS, run, run_ipl
 use s370_store::Storage;
 use s370_walk::{Device, Ending};
 
-/// Runs the program with this start, for a device, each word read when it is reached.
+/// Runs the program with this start for a device, each word read when it is reached, and returns
+/// how it ended.
 #[tactic(auto, using(crate::proofs::Away::told_away))]
 pub(crate) fn run_live<S: Storage, D: Device>(
     storage: &mut S,
@@ -35,7 +36,8 @@ pub(crate) fn run_live<S: Storage, D: Device>(
     run(&Guest, storage, start.address.get(), &limits, device)
 }
 
-/// Runs the program of an initial program loading, for a device that needs no memory.
+/// Runs the program of an initial program loading for a device, each word read when it is reached,
+/// and returns how it ended.
 pub(crate) fn load_live<S: Storage, D: Device>(
     storage: &mut S,
     device: &mut D,

@@ -426,12 +426,12 @@ sent_where : (on : Bool) (user : ℕ) (w : UserDirectory) (text : List ℕ) (rep
     → SendsWhere on user w text reported → is_sent reported ≡ true → on ≡ true
 sent_where true user w text reported is sent = refl
 sent_where false user w text reported is sent =
-    absurd (not_both {is_sent reported} (ap (λ (o : LineOutcome). is_sent o) is) sent)
+    absurd (not_both (ap (λ (o : LineOutcome). is_sent o) is) sent)
 
 sent_to : (found : Option ℕ) (w : UserDirectory) (text : List ℕ) (reported : LineOutcome)
     → SendsTo found w text reported → is_sent reported ≡ true → CanReceive found w
 sent_to None w text reported is sent =
-    absurd (not_both {is_sent reported} (ap (λ (o : LineOutcome). is_sent o) is) sent)
+    absurd (not_both (ap (λ (o : LineOutcome). is_sent o) is) sent)
 sent_to (Some user) w text reported is sent = sent_where (is_on w user) user w text reported is sent
 
 -- and one that sends

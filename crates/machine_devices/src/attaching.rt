@@ -30,8 +30,10 @@ pub enum AttachError {
 }
 
 impl Devices {
-    /// Returns the subchannels of these devices and disks, all idle: one at each address, in their
-    /// order. `Address` says, and it alone, that one of them has no address of its own on one of
+    /// Returns new idle subchannels, one for each of these devices and disks, in the order of their
+    /// addresses.
+    ///
+    /// The error `Address` says, and it alone, that one of them has no address of its own on one of
     /// channels 0 to 5, or that they are more than 32.
     ///
     /// # Errors
@@ -57,8 +59,8 @@ impl Devices {
         }
     }
 
-    /// Returns the subchannels of these devices and of disks at these addresses, as
-    /// [`Devices::subchannels`] does.
+    /// Returns new idle subchannels, one for each of these devices and for disks at these
+    /// addresses, as [`Devices::subchannels`] does.
     ///
     /// # Errors
     ///
@@ -87,7 +89,8 @@ impl Devices {
         Ok(subchannels)
     }
 
-    /// Returns whether one of these devices, or of disks at these addresses, has this one.
+    /// Returns whether one of these devices, or one of disks at these addresses, has the address
+    /// `device`.
     fn has_device(&self, addresses: &[DevAddr], device: u16) -> bool
         ensures { result ≡ has_at (devices_with self.now no_files) addresses.now device }
     {
@@ -98,14 +101,14 @@ impl Devices {
     }
 }
 
-/// Returns whether this is one of these addresses.
+/// Returns whether the address `device` is one of these addresses.
 fn is_among(addresses: &[DevAddr], device: u16) -> bool
     ensures { result ≡ list_any (λ address. address == device) addresses.now }
 {
     addresses.iter().any(|address| address.get() == device)
 }
 
-/// Returns the address of each of these disks.
+/// Returns a new list of the addresses of these disks.
 fn addresses_of(alloc: Global, disks: &[AttachedDisk]) -> Result<Vec<DevAddr>, AllocError>
     ensures { IfOk result (λ made. made.items ≡ map (λ disk. disk.address) disks.now) }
 {
@@ -116,7 +119,7 @@ fn addresses_of(alloc: Global, disks: &[AttachedDisk]) -> Result<Vec<DevAddr>, A
     Ok(made)
 }
 
-/// Adds an idle device, above all others, if it is there.
+/// Adds an idle device if `is_there` is true; its address has to be above all others.
 fn attach_if(
     subchannels: &mut Subchannels,
     device: DevAddr,

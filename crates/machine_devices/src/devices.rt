@@ -58,7 +58,7 @@ impl Devices {
         }
     }
 
-    /// Returns which of console, reader, punch and printer has this address, if any has.
+    /// Returns which of console, reader, punch and printer has this address, if one has.
     pub fn part_at(&self, device: u16) -> Option<AttachedDevice>
         ensures { result ≡ place_at self.now.places device }
     {
@@ -76,7 +76,8 @@ impl Devices {
         }
     }
 
-    /// Returns what has this address, if anything has, these disks included.
+    /// Returns which of console, reader, punch, printer and these disks has this address, if one
+    /// has.
     pub fn kind_at<D: Disks>(&self, disks: &D, device: u16) -> Option<AttachedDevice>
         ensures kind { result ≡ kind_in self.now.places (D.disks disks.now) device }
         ensures inside { IfSome result (IsAttached (D.disks disks.now)) }
@@ -90,8 +91,10 @@ impl Devices {
         }
     }
 
-    /// Resets all but the disks: no command is under way, no console line waits, and no device has
-    /// sense. Files, decks, the lines that were written and the punch's target stay.
+    /// Resets console, reader, punch and printer: no command is under way, no console line waits,
+    /// and no device has sense.
+    ///
+    /// Files, decks, the lines that were written and the punch's target stay.
     pub fn reset(&mut self)
         ensures { self.new ≡ parts_reset self.old }
     {
@@ -101,7 +104,7 @@ impl Devices {
         self.printer.reset();
     }
 
-    /// Resets all but the disks and the reader.
+    /// Resets console, punch and printer, but neither the reader nor the disks.
     pub(crate) fn reset_beside(&mut self)
         ensures { self.new ≡ record (parts_reset self.old) { reader = self.old.reader } }
     {
@@ -110,7 +113,7 @@ impl Devices {
         self.printer.reset();
     }
 
-    /// Returns where the devices are.
+    /// Returns the addresses of console, reader, punch and printer.
     pub fn places(&self) -> Places
         ensures { result ≡ self.now.places }
     {
@@ -124,14 +127,15 @@ impl Devices {
         &self.console
     }
 
-    /// Returns what the card reader has next to its decks.
+    /// Returns the state of the card reader, without its decks: the sense byte and the bytes to be
+    /// given.
     pub fn reader(&self) -> &SpoolReader
         ensures { result.now ≡ self.now.reader }
     {
         &self.reader
     }
 
-    /// Returns the user whose files are theirs.
+    /// Returns the user to whom the devices and their files belong.
     pub fn user(&self) -> UserNo
         ensures { result ≡ self.now.user }
     {

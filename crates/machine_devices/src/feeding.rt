@@ -20,8 +20,10 @@ use s370_walk::Ending;
 use std::mem::replace;
 use user_names::UserNo;
 
-/// Runs the program with this start on the reader, which feeds from the queue of this user: it
-/// walks as on a reader that has the decks itself. An error is reported only where memory was
+/// Runs the program with this start on the reader, which feeds from the queue of this user, and
+/// removes from the queue what it has read, also if there is an error.
+///
+/// It walks as on a reader that has the decks itself. An error is reported only where memory was
 /// refused, a page is not present, or there is no room for one.
 pub(crate) fn feed<S: Storage, C: Channels<S>>(
     reader: &mut SpoolReader,
@@ -72,9 +74,10 @@ pub(crate) fn feed<S: Storage, C: Channels<S>>(
     ended
 }
 
-/// Resets the reader, and runs the program of an initial program loading on it, which feeds from
-/// the queue of this user: it walks as on a reader that has the decks itself. If it is not run to
-/// its end, the reader and the queue stay.
+/// Resets the reader and runs the program of an initial program loading on it, fed from the queue
+/// of this user, from which it removes what it has read; with an error, reader and queue stay.
+///
+/// It walks as on a reader that has the decks itself.
 pub(crate) fn load_fed<S: Storage, C: Channels<S>>(
     reader: &mut SpoolReader,
     queues: &mut Queues,

@@ -25,7 +25,7 @@ use s370_channel::ChannelError;
 use s370_num::DevAddr;
 use s370_store::Storage;
 
-/// Returns what an IPL says.
+/// Returns the outcome of an IPL: silent if it went well, else the response that it failed.
 fn loaded(well: bool) -> LineOutcome
     ensures { result ≡ ipl_told well }
 {
@@ -37,11 +37,13 @@ fn loaded(well: bool) -> LineOutcome
 }
 
 impl Devices {
-    /// Loads the machine from the device of this address, a reader or a disk. If the channels are
-    /// whole and there is no room for a page that this needs, nothing has happened but that such
-    /// pages came; else, where it is not obeyed, nothing is said of the machine. Memory is taken
-    /// only for a reader or a disk: where the channels are not whole, for the answer and the notice
-    /// of the machine's stop alone.
+    /// Does IPL: loads the machine from the reader or the disk at this address, and starts it if
+    /// that ends well; else, or at any other address, the outcome says why not.
+    ///
+    /// If the channels are whole and there is no room for a page that this needs, nothing has
+    /// happened but that such pages were paged in; else, with an error, nothing is said of the
+    /// machine. Memory is taken only for a reader or a disk: where the channels are not whole, only
+    /// for the answer and the notice of the machine's stop.
     pub(crate) fn ipl<S: Storage, C: Channels<S>>(
         &mut self,
         queues: &mut Queues,
@@ -108,7 +110,8 @@ impl Devices {
         }
     }
 
-    /// Loads the machine from the reader.
+    /// Runs the loading program of the reader, resets the other devices, the disks and the machine,
+    /// and starts the machine if the program ended well.
     fn load_reader<S: Storage, C: Channels<S>>(
         &mut self,
         queues: &mut Queues,
@@ -179,7 +182,8 @@ impl Devices {
         }
     }
 
-    /// Loads the machine from the disk of this index.
+    /// Resets the disks, runs the loading program of the one of this index, resets the other
+    /// devices and the machine, and starts the machine if the program ended well.
     fn load_disk<S: Storage, C: Channels<S>>(
         &mut self,
         queues: &Queues,

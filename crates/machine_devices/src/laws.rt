@@ -14,8 +14,8 @@ pub fn attention_agrees()
     ensures later { AttentionGoesOnAgreeing }
 {}
 
-/// States that whatever happens to a machine with devices leaves one machine, whoever else is
-/// logged on.
+/// States that the same events leave the same machine with devices, whoever else is logged on at
+/// each of them.
 pub fn a_life_comes_to_one_end()
     ensures life { LivesAreOne }
     ensures line { LinesAreOne }

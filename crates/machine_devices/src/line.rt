@@ -49,7 +49,7 @@ pub enum LineOutcome {
 }
 
 impl LineOutcome {
-    /// Returns the outcome of a response, or of none.
+    /// Returns the outcome of a line with this response, or a silent one if there is none.
     #[inline]
     pub fn of(response: Option<Response>) -> LineOutcome
         ensures { result ≡ said response }
@@ -60,7 +60,7 @@ impl LineOutcome {
         }
     }
 
-    /// Returns the files that were closed.
+    /// Returns the files that the line closed: of any outcome but `Closed` and `LoggedOff` none.
     pub fn closed(&self) -> ClosedFiles
         ensures { result ≡ files_closed self.now }
     {
@@ -75,9 +75,11 @@ impl LineOutcome {
 }
 
 impl Devices {
-    /// Types a line to a machine with these devices, and returns its outcome. If it is not obeyed,
-    /// nothing has happened; but of a machine whose loading is not obeyed nothing is said, where
-    /// the channels are not whole or memory is refused.
+    /// Does what a line asks that is typed to a machine with these devices, which changes machine,
+    /// storage, devices, disks and files as the line says, and returns its outcome.
+    ///
+    /// If it is not obeyed, nothing has happened; but of a machine whose loading is not obeyed
+    /// nothing is said, where the channels are not whole or memory is refused.
     ///
     /// # Errors
     ///
@@ -209,7 +211,8 @@ impl Devices {
         }
     }
 
-    /// Does LOGOFF.
+    /// Does LOGOFF: closes the open files, switches the machine off and zeroes its storage, resets
+    /// the devices and clears the disks; returns which files it closed.
     fn leave<S: Supply, D: Disks>(
         &mut self,
         alloc: Global,
@@ -253,7 +256,7 @@ impl Devices {
         Ok(LineOutcome::LoggedOff(closed))
     }
 
-    /// Does SYSTEM RESET.
+    /// Does SYSTEM RESET: resets the machine, the devices and the disks, and returns the response.
     fn reset_machine<D: Disks>(
         &mut self,
         machine: &mut Machine,
@@ -283,7 +286,8 @@ impl Devices {
         Ok(LineOutcome::Said(Response::SystemReset))
     }
 
-    /// Types a line for the console.
+    /// Queues a line for the console, if there is one, and gives attention there; if too many lines
+    /// wait, the line is dropped, and that it was lost is printed and returned.
     fn type_line(&mut self, machine: &mut Machine, text: &[u8]) -> Result<LineOutcome, LineError>
         requires { length text.now ≤ 132 }
         ensures ok { (files : UserFiles) (disks : List DiskAt) (m : Memory)

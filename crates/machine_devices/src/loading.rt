@@ -14,8 +14,10 @@ use s370_walk::{ChannelStatus, Ending, UnitStatus};
 /// Where the device's address is stored, in the PSW that is loaded.
 const IPL_PSW: Range = Range { start: 0, count: 8 };
 
-/// Lets a machine run whose program of loading ended well, and says whether it did. There is room
-/// for a line and for the notice of the machine's stop.
+/// Stores the device's address at location 2 and starts the machine by the PSW at location 0 if the
+/// loading program ended well, else prints that it failed; returns whether it ended well.
+///
+/// There is room for a line and for the notice of the machine's stop.
 pub(crate) fn start_loaded<S: Storage>(
     machine: &mut Machine,
     storage: &mut S,
@@ -48,7 +50,7 @@ pub(crate) fn start_loaded<S: Storage>(
     Ok(true)
 }
 
-/// Returns whether nothing went wrong.
+/// Returns whether a program ended normally, and without any channel status.
 fn is_good(ending: &Ending) -> bool
     ensures { result ≡ is_good ending.now }
 {

@@ -30,7 +30,8 @@ use s370_num::DevAddr;
 use std::alloc::Global;
 use unit_record::Target;
 
-/// Returns the target that a name says: `SYSTEM` is the operator, another name is a user's.
+/// Returns the target that a name says: `SYSTEM` is the operator, another name is a user's; None if
+/// there is no such user.
 fn target_of<W: UserDirectory>(world: &W, name: &[u8]) -> Option<Target>
     ensures { result ≡ target_of (W.known world.now) name.now }
 {
@@ -43,7 +44,8 @@ fn target_of<W: UserDirectory>(world: &W, name: &[u8]) -> Option<Target>
     }
 }
 
-/// Does MSG.
+/// Does MSG: returns the line that the user of this name is to be sent, or the response that there
+/// is no such user or that he is not logged on.
 fn send<W: UserDirectory>(
     alloc: Global,
     world: &W,
@@ -70,7 +72,8 @@ fn send<W: UserDirectory>(
 }
 
 impl Devices {
-    /// Does a command to a machine with these devices. If it is not obeyed, nothing has happened.
+    /// Does a command that concerns the files of these devices or other users, and returns its
+    /// outcome. If it is not obeyed, nothing has happened.
     pub(crate) fn obey<W: UserDirectory>(
         &mut self,
         alloc: Global,
@@ -106,7 +109,8 @@ impl Devices {
         }
     }
 
-    /// Does QUERY FILES.
+    /// Does QUERY FILES: returns that the decks of the reader are to be listed, or that there are
+    /// none.
     fn tell_files(&self, queues: &Queues) -> LineOutcome
         ensures { result ≡ files_told (devices_on self.now queues.now).reader.decks }
     {
@@ -117,7 +121,8 @@ impl Devices {
         }
     }
 
-    /// Does PURGE.
+    /// Does PURGE: removes the deck of this number from the reader's queue, if one that is not
+    /// current has it, and returns the response.
     fn answer_purge(&self, queues: &mut Queues, file: u64) -> LineOutcome
         requires { self.now.user < length queues.old.users }
         ensures reported { result ≡ LineOutcome.Said
@@ -134,7 +139,8 @@ impl Devices {
         }
     }
 
-    /// Does SPOOL.
+    /// Does SPOOL: sets the punch's target by a name, if this is the address of the punch and there
+    /// is such a user, and returns the response.
     fn answer_spool<W: UserDirectory>(
         &mut self,
         world: &W,
@@ -160,7 +166,8 @@ impl Devices {
         }
     }
 
-    /// Does CLOSE.
+    /// Does CLOSE: closes the open file of the punch or printer at this address, and returns which
+    /// it closed, or the response that there is none.
     fn answer_close(
         &mut self,
         alloc: Global,
@@ -195,7 +202,8 @@ impl Devices {
         }
     }
 
-    /// Closes the open file of the punch, which will have this place, if there is one.
+    /// Closes the open file of the punch and returns that its index among the closed ones is
+    /// `place`; if `place` is None, returns the response that there is no open file.
     fn close_punched(
         &mut self,
         alloc: Global,
@@ -233,7 +241,8 @@ impl Devices {
         }
     }
 
-    /// Closes the open file of the printer, which will have this place, if there is one.
+    /// Closes the open file of the printer and returns that its index among the closed ones is
+    /// `place`; if `place` is None, returns the response that there is no open file.
     fn close_printed(
         &mut self,
         alloc: Global,

@@ -23,7 +23,7 @@ impl Places {
         printer: None,
     };
 
-    /// Returns how many of them a machine has.
+    /// Returns how many of console, reader, punch and printer a machine has.
     pub fn count(&self) -> usize
         ensures count { result ≡ length (places_of self.now) }
         ensures most { result ≤ 4 }
@@ -38,7 +38,7 @@ impl Places {
     }
 }
 
-/// Returns one if a device is there, else zero.
+/// Returns one if a device has an address, else zero.
 fn one_if(place: Option<DevAddr>) -> usize
     ensures count { result ≡ length (option_to_list place) }
     ensures most { result ≤ 1 }
@@ -60,7 +60,7 @@ pub enum AttachedDevice {
     Disk(usize),
 }
 
-/// Returns whether this is the address of the device.
+/// Returns whether a device, if it has an address, has the address `device`.
 pub(crate) fn is_there(place: Option<DevAddr>, device: u16) -> bool
     ensures { result ≡ is_there place device }
 {

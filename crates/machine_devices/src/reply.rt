@@ -33,7 +33,7 @@ pub enum UserResponse {
 }
 
 impl UserResponse {
-    /// Returns what a user is shown of a response, or of none.
+    /// Returns what a user is shown: this response, or nothing if there is none.
     #[inline]
     pub fn of(response: Option<Response>) -> UserResponse
         ensures { result ≡ saying response }
@@ -61,7 +61,8 @@ pub struct Reply {
 }
 
 impl Reply {
-    /// Returns a reply that says nothing and delivers nothing.
+    /// Returns the reply to an event that ended so, which shows nothing, adds no lines and delivers
+    /// nothing.
     pub fn silent(ended: Ended) -> Reply
         ensures { result ≡ silent ended }
     {
@@ -92,7 +93,7 @@ pub struct Delivered {
     pub what: Delivery,
 }
 
-/// Returns what a user is shown of the outcome of his line, if the next file has this number.
+/// Returns what a user is shown of the outcome of his line; a file that it closed has this number.
 pub fn said_to_line(number: u64, reported: &LineOutcome) -> UserResponse
     ensures { result ≡ said_to_line number reported.now }
 {

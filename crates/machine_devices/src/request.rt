@@ -53,7 +53,8 @@ fn on_request(mode: Mode, has_console: bool, text: &[u8]) -> Request<'_>
     }
 }
 
-/// Returns the request of a line that does not name the control program.
+/// Returns the request of a line that is not addressed to the control program: to a machine that
+/// runs, a line for its console; to one that is stopped, a command.
 fn plain_request(mode: Mode, has_console: bool, text: &[u8]) -> Request<'_>
     ensures { result ≡ plain_request mode has_console text.now }
 {
@@ -70,7 +71,7 @@ fn plain_request(mode: Mode, has_console: bool, text: &[u8]) -> Request<'_>
     }
 }
 
-/// Returns the request of a line to a machine that is off.
+/// Returns the request of a line to a machine that is off: LOGON, or only a response.
 fn off_request(text: &[u8]) -> Request<'_>
     ensures { result ≡ off_request (command_of text.now) }
 {
@@ -80,7 +81,7 @@ fn off_request(text: &[u8]) -> Request<'_>
     }
 }
 
-/// Returns the request of a command's text.
+/// Returns the request of a command's text, or that of a response if it is no command.
 fn command_request(text: &[u8]) -> Request<'_>
     ensures { result ≡ command_request (command_of text.now) }
 {
@@ -95,7 +96,7 @@ fn command_request(text: &[u8]) -> Request<'_>
     }
 }
 
-/// Returns the request of a command.
+/// Returns the request of a command to a machine that is on.
 fn request_by(command: Command<'_>) -> Request<'_>
     ensures { result ≡ command_request (Ok command.entry) }
 {

@@ -17,7 +17,7 @@ use std::alloc::{AllocError, Global};
 use unit_record::saved::{put_target, target_of};
 use user_names::{MOST_USERS, UserNo};
 
-/// Appends the address of a device, if there is one.
+/// Appends the address of a device, or that there is none.
 fn put_address(out: &mut Vec<u8>, address: Option<DevAddr>) -> Result<(), AllocError>
     ensures { OnOk result (out.new.items ≡ out.old.items ++ optional number address) }
 {
@@ -30,7 +30,8 @@ fn put_address(out: &mut Vec<u8>, address: Option<DevAddr>) -> Result<(), AllocE
     }
 }
 
-/// Takes the address of a device that is next, or that there is none.
+/// Reads from the input the address of a device, or that there is none; returns None if it is
+/// malformed.
 fn address_of(input: &mut Input<'_>) -> Option<Option<DevAddr>> {
     if input.flag()? {
         Some(Some(DevAddr::new(input.half()?)))
@@ -39,7 +40,7 @@ fn address_of(input: &mut Input<'_>) -> Option<Option<DevAddr>> {
     }
 }
 
-/// Appends where devices are.
+/// Appends the addresses of console, reader, punch and printer.
 fn put_places(out: &mut Vec<u8>, places: Places) -> Result<(), AllocError>
     ensures { OnOk result (out.new.items ≡ out.old.items ++ places_bytes places) }
 {
@@ -56,7 +57,8 @@ fn put_places(out: &mut Vec<u8>, places: Places) -> Result<(), AllocError>
     put_address(out, printer)
 }
 
-/// Takes the addresses of devices that are next.
+/// Reads from the input the addresses of console, reader, punch and printer; returns None if
+/// malformed.
 fn places_of(input: &mut Input<'_>) -> Option<Places> {
     Some(Places {
         console: address_of(input)?,
@@ -66,7 +68,8 @@ fn places_of(input: &mut Input<'_>) -> Option<Places> {
     })
 }
 
-/// Takes the user who is next.
+/// Reads the number of a user from the input; returns None if no user can have it, or it is
+/// malformed.
 fn user_of(input: &mut Input<'_>) -> Option<UserNo> {
     let number = input.small()?;
     if usize::from(number) < MOST_USERS {
@@ -77,7 +80,7 @@ fn user_of(input: &mut Input<'_>) -> Option<UserNo> {
 }
 
 impl Devices {
-    /// Appends the addresses of devices, and the console.
+    /// Appends the addresses of the devices, and the state of the console.
     fn put_console(&self, out: &mut Vec<u8>) -> Result<(), AllocError>
         ensures { OnOk result (out.new.items ≡ out.old.items ++ console_part_bytes self.now) }
     {
@@ -85,7 +88,7 @@ impl Devices {
         self.console.save(out)
     }
 
-    /// Appends reader, punch and printer.
+    /// Appends the states of reader, punch and printer.
     fn put_spooled(&self, out: &mut Vec<u8>) -> Result<(), AllocError>
         ensures { OnOk result (out.new.items ≡ out.old.items ++ spooled_bytes self.now) }
     {
@@ -94,7 +97,7 @@ impl Devices {
         self.printer.save(out)
     }
 
-    /// Appends for whom files are closed, and whose they are.
+    /// Appends the target of the punch's files, and the user to whom the devices belong.
     fn put_owner(&self, out: &mut Vec<u8>) -> Result<(), AllocError>
         ensures { OnOk result (out.new.items ≡ out.old.items ++ owner_bytes self.now) }
     {
@@ -102,7 +105,8 @@ impl Devices {
         put_number(out, u64::from(self.user.number()))
     }
 
-    /// Appends all of them but their files.
+    /// Appends the addresses and the states of the devices, the punch's target and their user, but
+    /// not the closed files and the decks.
     ///
     /// # Errors
     ///
@@ -125,9 +129,10 @@ impl Devices {
         self.put_owner(out)
     }
 
-    /// Restores what is next in the input, in devices that have done nothing, at the same places
-    /// and of the same user. None is reported of other bytes; what is left then is lawful, and
-    /// nothing else is said of it.
+    /// Restores from the input devices that have done nothing; returns None if the input has no
+    /// such devices, or devices at other addresses or of another user.
+    ///
+    /// What is left after None is lawful, and nothing else is said of it.
     pub fn restore(&mut self, alloc: Global, input: &mut Input<'_>) -> Option<()>
         ensures places { self.new.places ≡ self.old.places }
         ensures user { self.new.user ≡ self.old.user }
@@ -148,7 +153,7 @@ impl Devices {
     }
 }
 
-/// Returns what a file was when it got its number.
+/// Returns the number by which saved bytes name the kind of a file: 0, 1 or 2.
 fn number_of(kind: FileKind) -> u64
     ensures { result ≡ kind_number kind }
 {
@@ -159,7 +164,7 @@ fn number_of(kind: FileKind) -> u64
     }
 }
 
-/// Returns the place of a file among those of its device.
+/// Returns the place of a file among those that its device closed; 0 of a deck.
 fn place_of(kind: FileKind) -> usize
     ensures { result ≡ kind_place kind }
 {
@@ -170,7 +175,7 @@ fn place_of(kind: FileKind) -> usize
     }
 }
 
-/// Appends what is noted of a file.
+/// Appends the user, the kind and the place of a file.
 ///
 /// # Errors
 ///
@@ -184,7 +189,8 @@ pub fn put_note(out: &mut Vec<u8>, note: FileNote) -> Result<(), AllocError>
     put_number(out, place_of(kind) as u64)
 }
 
-/// Takes the note of a file that is next.
+/// Reads the user, the kind and the place of a file from the input; returns None if it is
+/// malformed.
 pub fn note_of(input: &mut Input<'_>) -> Option<FileNote> {
     let user = user_of(input)?;
     let number = input.small()?;

@@ -28,14 +28,14 @@ impl<'a> Model for SeenDevices<'a> {
 }
 
 impl<'a> SeenDevices<'a> {
-    /// Returns these devices, with their files among these.
+    /// Returns these devices with their files, which are in these queues, as they are seen.
     pub fn new(devices: &'a Devices, queues: &'a Queues) -> SeenDevices<'a>
         ensures { result ≡ devices_on devices.now queues.now }
     {
         SeenDevices { devices, queues }
     }
 
-    /// Returns where the devices are.
+    /// Returns the addresses of console, reader, punch and printer.
     pub fn places(&self) -> Places
         ensures { result ≡ self.now.places }
     {
@@ -49,14 +49,15 @@ impl<'a> SeenDevices<'a> {
         self.devices.console()
     }
 
-    /// Returns how many decks the reader has, a current one included.
+    /// Returns how many decks the queue of the reader has, a current one included.
     pub fn decks(&self) -> usize
         ensures { result ≡ length self.now.reader.decks }
     {
         self.queues.decks(self.devices.user())
     }
 
-    /// Returns a deck of the reader, in their order; a current one is the first.
+    /// Returns the deck of this index in the queue of the reader, if there is one; a current one is
+    /// the first.
     pub fn deck(&self, index: usize) -> Option<SeenDeck<'a>>
         ensures { result ≡ slice_get self.now.reader.decks index }
     {
@@ -70,7 +71,7 @@ impl<'a> SeenDevices<'a> {
         self.queues.place(self.devices.user())
     }
 
-    /// Returns the sense byte of the reader's last unit check.
+    /// Returns the sense byte of the reader: that of its last unit check, or zero.
     pub fn reader_sense(&self) -> u8
         ensures { result ≡ self.now.reader.sense }
     {
@@ -112,14 +113,14 @@ impl<'a> SeenDevices<'a> {
         self.queues.printed_count(self.devices.user())
     }
 
-    /// Returns a file that the punch closed, in their order.
+    /// Returns the file of this index among those that the punch closed, if there is one.
     pub fn punched(&self, index: usize) -> Option<&'a SpoolFile>
         ensures { option_map closed_file (option_copied result) ≡ slice_get self.now.punched index }
     {
         self.queues.punched(self.devices.user(), index)
     }
 
-    /// Returns a file that the printer closed, in their order.
+    /// Returns the file of this index among those that the printer closed, if there is one.
     pub fn printed(&self, index: usize) -> Option<&'a SpoolFile>
         ensures { option_map closed_file (option_copied result) ≡ slice_get self.now.printed index }
     {

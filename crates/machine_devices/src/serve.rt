@@ -30,11 +30,13 @@ use std::alloc::AllocError;
 use unit_record::Console;
 
 impl Devices {
-    /// Serves the device of this address: the channel program that was started runs as a whole on
-    /// these channels, and its status is pending. Reports whether there was one; else nothing has
-    /// happened. An error is reported only where memory was refused, or a page is not present that
-    /// the program needs. If the channels are whole, there is no room for that page then, and
-    /// nothing has happened but that pages came which the program needs.
+    /// Runs the channel program that was started on the device of this address, if there is one,
+    /// and makes its status pending; returns whether there was one.
+    ///
+    /// The program runs as a whole on these channels. If there was none, nothing has happened. An
+    /// error is reported only where memory was refused, or a page is not present that the program
+    /// needs. If the channels are whole, there is no room for that page then, and nothing has
+    /// happened but that pages were paged in which the program needs.
     ///
     /// # Errors
     ///
@@ -107,7 +109,8 @@ impl Devices {
         }
     }
 
-    /// Runs the program of the device of this kind, at this address.
+    /// Runs the program with this start on the device of this kind at this address, and makes its
+    /// status pending.
     fn run_kind<S: Storage, C: Channels<S>>(
         &mut self,
         queues: &mut Queues,
@@ -195,7 +198,8 @@ impl Devices {
         Ok(())
     }
 
-    /// Runs the program of the reader.
+    /// Runs the program with this start on the reader, removes from the queue what it has read, and
+    /// makes its status pending.
     fn run_reader<S: Storage, C: Channels<S>>(
         &mut self,
         queues: &mut Queues,
@@ -259,7 +263,8 @@ impl Devices {
         }
     }
 
-    /// Runs the program of the console.
+    /// Runs the program with this start on the console, makes its status pending, and prints the
+    /// lines that the console has finished.
     fn run_console<S: Storage, C: Channels<S>>(
         &mut self,
         queues: &Queues,
@@ -323,7 +328,7 @@ impl Devices {
     }
 }
 
-/// Prints the lines that a console has finished.
+/// Appends the lines that a console has finished to those that the machine has printed.
 fn print_written(machine: &mut Machine, console: &Console) -> Result<(), AllocError>
     ensures printed { OnOk result
         (machine.new ≡ record machine.old {

@@ -18,14 +18,15 @@ use unit_record::{Card, Entry, Sender, Target};
 use user_names::UserNo;
 
 impl Devices {
-    /// Sets the target of what is punched from now on.
+    /// Sets the target of the punch's files that are closed from now on, also of the open one.
     pub(crate) fn spool(&mut self, to: Target)
         ensures { self.new ≡ record self.old { target = to } }
     {
         self.target = to;
     }
 
-    /// Returns which files LOGOFF closes.
+    /// Returns the indices that the open files of punch and printer will have among their closed
+    /// ones; None for a device without one.
     pub(crate) fn open_files(&self, queues: &Queues) -> ClosedFiles
         ensures { result ≡ open_files (devices_on self.now queues.now) }
     {
@@ -35,8 +36,9 @@ impl Devices {
         }
     }
 
-    /// Closes the punch's open file, for its target. Where memory is refused all stays. No card is
-    /// copied.
+    /// Closes the punch's open file, if it has an entry, for the punch's target.
+    ///
+    /// Where memory is refused all stays. No card is copied.
     ///
     /// # Errors
     ///
@@ -56,8 +58,9 @@ impl Devices {
         Ok(())
     }
 
-    /// Closes the printer's open file, for the operator. Where memory is refused all stays. No line
-    /// is copied.
+    /// Closes the printer's open file, if it has an entry, for the operator.
+    ///
+    /// Where memory is refused all stays. No line is copied.
     ///
     /// # Errors
     ///
@@ -78,7 +81,7 @@ impl Devices {
         Ok(())
     }
 
-    /// Closes the punch's open file, for which there is room.
+    /// Closes the punch's open file, if it has an entry, in memory that was reserved.
     fn close_punch_reserved(&mut self, alloc: Global, queues: &mut Queues)
         requires user { self.old.user < length queues.old.users }
         requires files { 0 < length self.old.punch.entries → 1 ≤ queues.old.room.files }
@@ -96,7 +99,7 @@ impl Devices {
         }
     }
 
-    /// Closes the printer's open file, for which there is room.
+    /// Closes the printer's open file, if it has an entry, in memory that was reserved.
     fn close_printer_reserved(&mut self, alloc: Global, queues: &mut Queues)
         requires user { self.old.user < length queues.old.users }
         requires files { 0 < length self.old.printer.entries → 1 ≤ queues.old.room.files }
@@ -112,7 +115,7 @@ impl Devices {
         }
     }
 
-    /// Makes room for the files that LOGOFF closes. Without one no memory is asked for.
+    /// Reserves memory for the files that LOGOFF closes, if punch or printer has one open.
     fn make_room_for_open(&self, queues: &mut Queues) -> Result<(), AllocError>
         ensures users { queues.new.users ≡ queues.old.users }
         ensures room { OnOk result (HasClosed (open_files (devices_on self.now queues.old))
@@ -129,8 +132,10 @@ impl Devices {
         }
     }
 
-    /// Does LOGOFF: closes the open files of punch and printer, and puts the current deck back into
-    /// the queue. Where memory is refused all stays.
+    /// Closes the open files of punch and printer, and makes the reader's current deck wait again,
+    /// as LOGOFF does.
+    ///
+    /// Where memory is refused all stays.
     ///
     /// # Errors
     ///
@@ -151,8 +156,9 @@ impl Devices {
         Ok(())
     }
 
-    /// Appends a deck of these cards to the reader's queue. If memory is refused all stays, and the
-    /// cards are gone.
+    /// Appends a deck of these cards with this label and sender to the reader's queue.
+    ///
+    /// If memory is refused all stays, and the cards are gone.
     ///
     /// # Errors
     ///
@@ -178,8 +184,10 @@ impl Devices {
         }
     }
 
-    /// Appends the closed punch file of this index to the reader's queue, as a deck with this
-    /// label. Where memory is refused all stays. No card is copied.
+    /// Appends the file of this index that the punch of `from` closed to the reader's queue, as a
+    /// deck with this label.
+    ///
+    /// Where memory is refused all stays. No card is copied.
     ///
     /// # Errors
     ///
@@ -206,8 +214,8 @@ impl Devices {
         }
     }
 
-    /// Takes the queued deck of this id away, and says whether there was any. The current deck is
-    /// not queued.
+    /// Removes the first deck of this number that is not current from the reader's queue, and
+    /// returns whether there was one.
     pub fn purge(&self, queues: &mut Queues, id: u64) -> bool
         requires { self.now.user < length queues.old.users }
         ensures found { result ≡ is_some (queued_at (devices_on self.now queues.old).reader id) }
@@ -218,8 +226,8 @@ impl Devices {
         queues.purge(self.user, id).is_ok()
     }
 
-    /// Puts the current deck, if there is one, back to the front of the queue, to be read from its
-    /// first card.
+    /// Makes the reader's current deck, if there is one, wait again: it is read from its first card
+    /// next.
     pub fn put_back(&self, queues: &mut Queues)
         requires { self.now.user < length queues.old.users }
         ensures after { devices_on self.now queues.new
@@ -230,8 +238,8 @@ impl Devices {
     }
 }
 
-/// Returns the place that an open file of these entries will have, where so many were closed
-/// before; one without an entry is none.
+/// Returns the index that an open file of these entries will have after so many closed ones; None
+/// if it has no entry.
 fn place_of(entries: &[Entry], closed: usize) -> Option<usize>
     ensures { result ≡ place_of entries.now closed }
 {
@@ -242,7 +250,7 @@ fn place_of(entries: &[Entry], closed: usize) -> Option<usize>
     }
 }
 
-/// Returns a copy of the cards.
+/// Returns a new copy of these cards.
 ///
 /// # Errors
 ///

@@ -11,11 +11,11 @@ pub trait UserDirectory {
     /// What is known.
     ghost known: { Self → Known };
 
-    /// Returns the number of the user of this name.
+    /// Returns the number of the user of this name, if there is one.
     fn user_of(&self, name: &[u8]) -> Option<u8>
         ensures { result ≡ user_of (known self.now).names name.now };
 
-    /// Returns the name of the user whose machine it is.
+    /// Returns the name of the user to whom the machine of the line belongs.
     fn own_name(&self) -> &[u8]
         ensures { result.now ≡ (known self.now).own };
 
@@ -28,7 +28,7 @@ pub trait UserDirectory {
         ensures { result ≡ users_on (known self.now) };
 }
 
-/// Returns whether the user of a machine in this mode is logged on.
+/// Returns whether the user of a machine in this mode is logged on: in every mode but off.
 pub fn is_logged_on(mode: Mode) -> bool
     ensures { result ≡ is_logged_on mode }
 {

@@ -39,6 +39,7 @@ pub enum Failure {
 impl From<DirError> for Failure {
     ghost from_gives = { λ error failure. failure ≡ Directory error };
 
+    /// Returns the failure that a directory was not read.
     fn from(error: DirError) -> Failure {
         Failure::Directory(error)
     }
@@ -47,6 +48,7 @@ impl From<DirError> for Failure {
 impl From<ImageError> for Failure {
     ghost from_gives = { λ error failure. failure ≡ Image error };
 
+    /// Returns the failure that an image was not read.
     fn from(error: ImageError) -> Failure {
         Failure::Image(error)
     }
@@ -55,6 +57,7 @@ impl From<ImageError> for Failure {
 impl From<SessionError> for Failure {
     ghost from_gives = { λ error failure. failure ≡ session_failure error };
 
+    /// Returns the failure of a program for the error of its session.
     fn from(error: SessionError) -> Failure {
         match error {
             SessionError::Memory => Failure::Memory,
@@ -68,6 +71,7 @@ impl From<SessionError> for Failure {
 impl From<PlayError> for Failure {
     ghost from_gives = { λ error failure. failure ≡ play_failure error };
 
+    /// Returns the failure of a program for the error of a script's event.
     fn from(error: PlayError) -> Failure {
         match error {
             PlayError::Memory => Failure::Memory,
@@ -80,6 +84,7 @@ impl From<PlayError> for Failure {
 impl From<HostFault> for Failure {
     ghost from_gives = { λ fault failure. failure ≡ file_failure fault };
 
+    /// Returns the failure of a program for a fault of the host.
     fn from(fault: HostFault) -> Failure {
         match fault {
             HostFault::Memory => Failure::Memory,
@@ -91,6 +96,7 @@ impl From<HostFault> for Failure {
 impl From<AllocError> for Failure {
     ghost from_gives = { λ _ failure. failure ≡ Memory };
 
+    /// Returns the failure that memory was refused.
     fn from(_error: AllocError) -> Failure {
         Failure::Memory
     }
@@ -119,7 +125,7 @@ pub fn fault_line(alloc: Global, failure: &Failure) -> Result<String, AllocError
     }
 }
 
-/// Returns the line for a directory that was not read.
+/// Returns the line that reports a directory that was not read: the fault and its lines.
 fn directory_line(alloc: Global, error: DirError) -> Result<String, AllocError>
     ensures { IfOk result (λ line. string_bytes line ≡ directory_text error) }
 {
@@ -162,7 +168,8 @@ pub fn status(failure: &Failure) -> u8
     }
 }
 
-/// Returns the exit status of the program: 0 where it came to its end, else that of its failure.
+/// Returns the exit status of the program: 0 if it did all that was asked, else that of its
+/// failure.
 pub fn outcome(ended: &Result<(), Failure>) -> u8
     ensures { result ≡ outcome_of ended.now }
 {

@@ -66,7 +66,7 @@ pub struct HostFiles<'a, R> {
 }
 
 impl<'a, R> HostFiles<'a, R> {
-    /// Creates a store of the host's files.
+    /// Returns a store of the host's files.
     pub fn new(rt: &'a R) -> HostFiles<'a, R> {
         HostFiles { rt }
     }
@@ -79,10 +79,12 @@ impl<'a, R: AllocGlobal + Files> FileStore for HostFiles<'a, R> {
 
     ghost deeds = { λ _. None };
 
+    /// Opens the host's file at a path for reading.
     fn open(&mut self, path: &str) -> Result<Counted<R::File>, Failure> {
         open(self.rt, path)
     }
 
+    /// Writes the image of a volume to a path of the host, in place of the file that is there.
     fn save(&mut self, volume: &Volume, path: String) -> Result<(), Failure> {
         save_volume(self.rt, volume, path)
     }
@@ -98,7 +100,7 @@ pub trait HasVolumes {
         ensures { option_copied result ≡ slice_get (volumes self.now) index };
 }
 
-/// Reads the images at these paths, one after another, as volumes.
+/// Reads the images at these paths, one after another, and returns their volumes in this order.
 ///
 /// # Errors
 ///
@@ -128,7 +130,7 @@ pub fn read_images<F: FileStore>(
     Ok(volumes)
 }
 
-/// Returns the path at a place.
+/// Returns the path at an index.
 fn path_at<'a>(paths: &[&'a str], place: usize) -> &'a str
     requires { place < length paths.now }
     ensures { Some result ≡ slice_get paths.now place }
@@ -136,8 +138,10 @@ fn path_at<'a>(paths: &[&'a str], place: usize) -> &'a str
     paths[place]
 }
 
-/// Plays the script at a path and writes its transcript, which holds nothing back then; and saves
-/// the images of the volumes at these paths, in their order.
+/// Plays the script at a path on these machines, writes its transcript, and then saves the images
+/// of their volumes at the paths `saved`, in order.
+///
+/// The writer holds nothing back then.
 ///
 /// # Errors
 ///
@@ -167,7 +171,8 @@ pub fn run_script<F: FileStore, I: Installation + HasVolumes, W: HostWriter>(
     save_images(alloc, files, machines, saved)
 }
 
-/// Writes the images of the volumes of machines to these paths, in their order.
+/// Writes the images of the volumes of machines to these paths, in order; an error at the first
+/// path without a volume.
 ///
 /// # Errors
 ///
@@ -196,8 +201,8 @@ pub fn save_images<F: FileStore, V: HasVolumes>(
     Ok(())
 }
 
-/// Follows the parts of a script that an input has, and writes the answer to each; and saves the
-/// images of the volumes at these paths, in their order, if the end was asked for.
+/// Answers the requests of an input on these machines, and if it asked for the end, saves the
+/// images of their volumes at the paths `saved`, in order.
 ///
 /// # Errors
 ///
@@ -234,7 +239,7 @@ pub fn follow_files<
     }
 }
 
-/// Returns the paths of the images that are saved: all where that is asked for.
+/// Returns all of these paths if `save` is true, else none.
 pub fn saved_paths<'b, 'a>(save: bool, paths: &'b [&'a str]) -> &'b [&'a str]
     ensures { map (λ path. path.now) result.now ≡ saved_of save (map (λ path. path.now) paths.now) }
 {

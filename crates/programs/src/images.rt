@@ -15,8 +15,10 @@ use std::rt::Files;
 /// What is reported where the host makes, opens or renames no file: its first failure.
 const FAILED: ImageError = ImageError::Device(1);
 
-/// Returns these paths as texts of their own. They are made before an image is written, so that one
-/// that is not saved for lack of memory can be reported.
+/// Returns a new list of these paths as strings.
+///
+/// They are made before an image is written, so that one that is not saved for lack of memory can
+/// be reported.
 pub(crate) fn owned(alloc: Global, paths: &[&str]) -> Result<Vec<String>, AllocError>
     ensures { IfOk result (λ owned. map string_bytes owned.items
         ≡ map (λ path. path.now) paths.now) }
@@ -47,15 +49,19 @@ pub(crate) fn save_volume<R: AllocGlobal + Files>(
     }
 }
 
-/// Returns what is reported of a path to which no volume of the system belongs: its image is not
-/// saved. No file has failed, but an image without a volume is not whole.
+/// Returns the failure that the image of this path is not saved because no volume belongs to it.
+///
+/// No file has failed, but an image without a volume is not whole.
 pub(crate) fn without_volume(path: String) -> Failure
     ensures { result ≡ Failure.Unsaved ImageError.Truncated path }
 {
     Failure::Unsaved(ImageError::Truncated, path)
 }
 
-/// Puts the image of a volume to a path. All bytes of the image are there before a file is touched.
+/// Writes the image of a volume to a path: to a new file that then replaces the one that is there,
+/// or over that one if no new file can be made.
+///
+/// All bytes of the image are there before a file is touched.
 fn put<R: AllocGlobal + Files>(rt: &R, volume: &Volume, path: &str) -> Result<(), ImageError> {
     let place = place_of(rt, path)?;
     let Ok(bytes) = image(rt.alloc(), volume) else {
@@ -80,7 +86,8 @@ fn put<R: AllocGlobal + Files>(rt: &R, volume: &Volume, path: &str) -> Result<()
     }
 }
 
-/// Returns where the file of a path is: a link leads to it.
+/// Returns the path of the file to which a path leads by links; the path itself if that is not
+/// found.
 fn place_of<R: AllocGlobal + Files>(rt: &R, path: &str) -> Result<String, ImageError> {
     match fs::canonicalize(rt, path) {
         Ok(place) => Ok(place.into_string()),
@@ -98,8 +105,8 @@ fn keep_permissions<F: OpenFile>(old: &F, new: &F) {
     }
 }
 
-/// Writes an image to a new file, and renames that when it is whole. It is removed where that
-/// fails.
+/// Writes an image to a new file, and renames that to `place` when it is whole; removes it if
+/// either fails.
 fn replace<R: AllocGlobal + Files>(
     rt: &R,
     bytes: &[u8],
@@ -117,8 +124,9 @@ fn replace<R: AllocGlobal + Files>(
     replaced
 }
 
-/// Writes an image over the file that is at a place. What is there is read before, and written back
-/// where that fails: so a host that fails once leaves either image whole.
+/// Writes an image over the file at a place; if that fails, writes back what was there.
+///
+/// What is there is read before: so a host that fails once leaves either image whole.
 fn write_over<R: AllocGlobal + Files>(rt: &R, bytes: &[u8], place: &str) -> Result<(), ImageError> {
     let Ok(file) = fs::open(rt, place) else {
         return Err(FAILED);
@@ -135,7 +143,7 @@ fn write_over<R: AllocGlobal + Files>(rt: &R, bytes: &[u8], place: &str) -> Resu
     written
 }
 
-/// Writes these bytes over the file that is at a place, which has no others then.
+/// Writes these bytes over the file at a place, which has no others then; a file has to be there.
 fn write_at<R: AllocGlobal + Files>(rt: &R, bytes: &[u8], place: &str) -> Result<(), ImageError> {
     match OpenOptions::new().write(true).open(rt, place) {
         Ok(file) => write_whole(file, bytes),
@@ -143,8 +151,8 @@ fn write_at<R: AllocGlobal + Files>(rt: &R, bytes: &[u8], place: &str) -> Result
     }
 }
 
-/// Writes these bytes from the beginning of a file, which has no others then, until the host has
-/// all of them on its disk.
+/// Writes these bytes from the beginning of a file, which has no others then, and waits until the
+/// host has all of them on its disk.
 fn write_whole<F: Write + OpenFile + Drop>(mut file: F, bytes: &[u8]) -> Result<(), ImageError> {
     let written = match file.write_all(bytes) {
         Ok(()) => file.set_len(bytes.len() as u64),

@@ -85,7 +85,8 @@ pub fn follow_parts<R: HostReader, W: HostWriter, I: Installation + Drop>(
     Err(Failure::File(1))
 }
 
-/// Answers a request.
+/// Does what a request asks: a part, to write the state, or to go on from a state; writes the
+/// answer and returns the follower after it.
 fn answer<W: HostWriter, I: Installation + Drop>(
     alloc: Global,
     follower: Follower<I>,
@@ -114,8 +115,8 @@ fn answer<W: HostWriter, I: Installation + Drop>(
     }
 }
 
-/// Writes the state between the line with its size and the line that it is whole, or that there is
-/// none.
+/// Writes the state between a line with its size and the line `> DONE`; or the line `> REFUSED 0`
+/// if there are no states.
 fn save<W: HostWriter, I: Installation + Drop>(
     alloc: Global,
     follower: &Follower<I>,
@@ -140,7 +141,8 @@ fn save<W: HostWriter, I: Installation + Drop>(
     Ok(())
 }
 
-/// Goes on from a state, and writes that this is done.
+/// Returns the follower that a state restores, and writes the line `> DONE`; an error if it is no
+/// state of this follower.
 fn go_on<W: HostWriter, I: Installation + Drop>(
     alloc: Global,
     follower: Follower<I>,
@@ -163,7 +165,8 @@ fn go_on<W: HostWriter, I: Installation + Drop>(
     Ok(follower)
 }
 
-/// Follows a part, and writes after its lines what became of it.
+/// Does a part, which writes its transcript lines, and then writes what it reports, or which line
+/// of it is refused.
 fn follow_part<W: HostWriter, I: Installation + Drop>(
     alloc: Global,
     follower: Follower<I>,
@@ -201,8 +204,8 @@ fn follow_part<W: HostWriter, I: Installation + Drop>(
     }
 }
 
-/// Returns what a part that was done reports: the files that were closed, and who logged on or off,
-/// runs or has stopped.
+/// Returns the lines that a part which was done reports: the files that it closed, who logged on or
+/// off, runs or has stopped, and `> DONE`.
 fn news<I: Installation + Drop>(
     alloc: Global,
     follower: &Follower<I>,
@@ -224,7 +227,8 @@ fn news<I: Installation + Drop>(
     Ok(reported)
 }
 
-/// Returns the line that nobody is ready and no program waits, where such lines are reported.
+/// Returns the line `> IDLE` if `is_idle` is true and the transcript is one of terminals, else
+/// none.
 fn idle_line(detail: Detail, is_idle: bool) -> &'static [u8]
     ensures { result.now ≡ ended (idle_lines detail is_idle) }
 {
@@ -234,7 +238,7 @@ fn idle_line(detail: Detail, is_idle: bool) -> &'static [u8]
     }
 }
 
-/// Writes what became of a part, and holds nothing back.
+/// Writes these lines, and flushes the writer.
 fn tell<W: HostWriter>(writer: &mut W, reported: &[u8]) -> Result<(), HostFault>
     ensures ok { OnOk result
         (Appends (W.contents writer.old) (W.contents writer.new) reported.now) }
@@ -248,7 +252,7 @@ fn tell<W: HostWriter>(writer: &mut W, reported: &[u8]) -> Result<(), HostFault>
     writer.flush()
 }
 
-/// Writes three texts one after another, and holds nothing back.
+/// Writes three texts one after another, and flushes the writer.
 fn tell_all<W: HostWriter>(
     writer: &mut W,
     first: &[u8],

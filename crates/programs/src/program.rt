@@ -27,6 +27,7 @@ pub struct ProgramEnd {
 }
 
 impl Termination for ProgramEnd {
+    /// Returns the exit status of the program: 0, or that of its failure.
     fn report<R: Eprint>(self, _rt: &R) -> ExitCode
         ensures { exit_status result ≡ outcome_of self.ended }
     {
@@ -34,8 +35,10 @@ impl Termination for ProgramEnd {
     }
 }
 
-/// Returns the end of a program: a failure is reported on standard error, and gives the exit
-/// status. If there is no memory for its line, the failure is lack of memory.
+/// Reports the failure of a program, if there is one, on standard error, and returns the program's
+/// end, which has the exit status.
+///
+/// If there is no memory for its line, the failure is lack of memory.
 pub fn finish<R: AllocGlobal + Eprint>(rt: &R, ended: Result<(), Failure>) -> ProgramEnd
     ensures { IsReported Failure.Memory Failure.Usage ended result.ended }
 {
@@ -47,8 +50,11 @@ pub fn finish<R: AllocGlobal + Eprint>(rt: &R, ended: Result<(), Failure>) -> Pr
     }
 }
 
-/// Prints a failure's line and returns the failure, or `Memory` if there was no memory for the
-/// line; of a usage error it prints nothing. A wrong use has been reported by a longer text.
+/// Prints a failure's line on standard error and returns the failure, or `Memory` if there was no
+/// memory for the line; of a usage error it prints nothing.
+///
+/// A second line has the path of an image that is not saved. A usage error has been reported by a
+/// longer text.
 fn tell<R: AllocGlobal + Eprint>(rt: &R, failure: Failure) -> Failure
     ensures { (result ≡ failure) ⊎ ((result ≡ Failure.Memory) × (failure ≡ Failure.Usage → ⊥)) }
 {
@@ -78,7 +84,7 @@ pub type TranscriptWriter<'a, R> = Counted<io::BufWriter<io::Printer<'a, R>, Glo
 /// Standard input, as the parts of a script are read from it.
 pub type PartInput<R> = Counted<io::BufReader<R, Global>>;
 
-/// Opens standard input for the parts of a script.
+/// Opens standard input for the parts of a script, with a buffer.
 ///
 /// # Errors
 ///
@@ -90,7 +96,8 @@ pub fn input<R: AllocGlobal + Input>(rt: &R) -> Result<PartInput<R::Reader>, Fai
     }
 }
 
-/// Opens standard output for a transcript: if somebody looks on, nothing is held back.
+/// Opens standard output for a transcript: with no buffer if somebody looks on, else with one of
+/// 8192 bytes.
 ///
 /// # Errors
 ///
@@ -106,8 +113,8 @@ pub fn output<R: AllocGlobal + Print>(
     }
 }
 
-/// Returns the failure of wrong arguments. A wrong use is reported here, by its text and then this
-/// note.
+/// Prints the text of a usage error and this note on standard error, and returns the failure; of
+/// refused memory it prints nothing.
 pub fn wrong_use<R: Eprint>(rt: &R, error: &UsageError, note: &str) -> Failure {
     match error {
         UsageError::Memory => Failure::Memory,
@@ -119,8 +126,10 @@ pub fn wrong_use<R: Eprint>(rt: &R, error: &UsageError, note: &str) -> Failure {
     }
 }
 
-/// Returns the words that a program was started with, of which the first is its name. Words that
-/// are no UTF-8 are a wrong use, which is reported here: no file can be opened by such a name.
+/// Returns the words of the command line, of which the first is replaced by the program's name; a
+/// word that is no UTF-8 is a usage error, which is printed here.
+///
+/// No file can be opened by such a name.
 ///
 /// # Errors
 ///
@@ -145,7 +154,7 @@ pub fn words<R: AllocGlobal + Env + Eprint>(rt: &R, program: &str) -> Result<Vec
     }
 }
 
-/// Returns the file at a path, to be read. One that can't be opened has failed once.
+/// Opens the file at a path for reading; the failure of one that can't be opened is `File(1)`.
 ///
 /// # Errors
 ///
@@ -160,7 +169,7 @@ pub fn open<R: Files>(rt: &R, path: &str) -> Result<Counted<R::File>, Failure>
     }
 }
 
-/// Returns whether the words ask for a script to be followed: the word for that is before any `--`.
+/// Returns whether one of these words, before any `--`, is `--follow`.
 pub fn asks_to_follow(words: &[String]) -> bool
     ensures { result ≡ list_any (λ word. bytes_eq (string_bytes word) (codes "--follow"))
         (take_while (λ word. not (bytes_eq (string_bytes word) (codes "--"))) words.now) }

@@ -38,7 +38,8 @@ pub(crate) enum NextRequest {
     Nothing,
 }
 
-/// Reads what an input has next.
+/// Reads the next request of an input: a part, for the state, to go on from a state, or for the
+/// end; or that the input has ended.
 pub(crate) fn next_input<R: HostReader>(
     alloc: Global,
     reader: &mut R,
@@ -64,7 +65,7 @@ pub(crate) fn next_input<R: HostReader>(
     Ok(NextRequest::Asked(FollowRequest::Part(next_sized(alloc, reader, &word)?)))
 }
 
-/// Reads the bytes of a state, after the line with their number.
+/// Reads a line with a size, and then as many bytes of a state.
 fn next_state<R: HostReader>(alloc: Global, reader: &mut R) -> Result<Vec<u8>, HostFault>
     ensures ok { IfOk result
         (λ state. GivesSized state.items (R.remaining reader.old) (R.remaining reader.new)) }
@@ -78,7 +79,8 @@ fn next_state<R: HostReader>(alloc: Global, reader: &mut R) -> Result<Vec<u8>, H
     Ok(next_sized(alloc, reader, &digits)?)
 }
 
-/// Reads as many bytes as these digits say.
+/// Reads as many bytes as these decimal digits say; a fault if they are no number or the input ends
+/// before.
 fn next_sized<R: HostReader>(
     alloc: Global,
     reader: &mut R,
@@ -98,7 +100,8 @@ fn next_sized<R: HostReader>(
     }
 }
 
-/// Reads a line with a word or a size, without its end; `None` at the end of the input.
+/// Reads a line of at most nine characters, without its end; None at the end of the input, a fault
+/// if the line is longer or not ended.
 fn next_line<R: HostReader>(alloc: Global, reader: &mut R) -> Result<Option<Vec<u8>>, HostFault>
     ensures ok { IfOk result
         (λ line. GivesLine (option_map (λ line. line.items) line) (R.remaining reader.old)
@@ -119,7 +122,7 @@ fn next_line<R: HostReader>(alloc: Global, reader: &mut R) -> Result<Option<Vec<
     Err(BROKEN)
 }
 
-/// Reads the next bytes, this many.
+/// Reads exactly this many bytes; a fault if the input ends before.
 fn next_bytes<R: HostReader>(
     alloc: Global,
     reader: &mut R,

@@ -28,12 +28,13 @@ pub enum UsageError {
 impl From<AllocError> for UsageError {
     ghost from_gives = { λ _ error. error ≡ Memory };
 
+    /// Returns the error that memory was refused.
     fn from(_error: AllocError) -> UsageError {
         UsageError::Memory
     }
 }
 
-/// Returns a wrong use, reported by this text.
+/// Returns the usage error with this text; `Memory` if there is no memory for the text.
 pub fn usage(alloc: Global, text: &str) -> UsageError {
     match String::from_str(alloc, text) {
         Ok(text) => UsageError::Usage(text),
@@ -41,21 +42,21 @@ pub fn usage(alloc: Global, text: &str) -> UsageError {
     }
 }
 
-/// Returns the first text that the words give for an argument.
+/// Returns the first text that was given for an argument, if one was.
 pub fn text_of<'a>(matches: &ArgMatches<'a>, id: &str) -> Option<&'a str>
     ensures { option_map (λ s. s.now) result ≡ first_of id.now (rows_of (found_of matches.now)) }
 {
     matches.get_str(id)
 }
 
-/// Returns whether the words have this flag.
+/// Returns whether this flag was given.
 pub fn is_given(matches: &ArgMatches<'_>, id: &str) -> bool
     ensures { IsFlag (one_of id.now (rows_of (found_of matches.now))) result }
 {
     matches.get_flag(id)
 }
 
-/// Returns the texts that the words give for an argument, in order.
+/// Returns a new list of the texts that were given for an argument, in order; empty if none was.
 ///
 /// # Errors
 ///
@@ -74,7 +75,7 @@ pub fn paths_of<'a>(
     }
 }
 
-/// Returns the texts that the words give for an argument, where they give any.
+/// Returns the texts that were given for an argument, in order, if some were.
 fn texts_in<'b, 'a>(matches: &'b ArgMatches<'a>, id: &str) -> Option<&'b [&'a str]>
     ensures { option_map (λ texts. map (λ text. text.now) texts.now) result
         ≡ all_of id.now (rows_of (found_of matches.now)) }
@@ -82,7 +83,7 @@ fn texts_in<'b, 'a>(matches: &'b ArgMatches<'a>, id: &str) -> Option<&'b [&'a st
     matches.get_strs(id)
 }
 
-/// Returns the same texts, in a list of their own.
+/// Returns a new list of the same texts.
 fn copied<'a>(alloc: Global, texts: &[&'a str]) -> Result<Vec<&'a str>, AllocError>
     ensures { IfOk result (λ all. map (λ text. text.now) all.items
         ≡ map (λ text. text.now) texts.now) }
@@ -90,7 +91,8 @@ fn copied<'a>(alloc: Global, texts: &[&'a str]) -> Result<Vec<&'a str>, AllocErr
     texts.iter().copied().collect(alloc)
 }
 
-/// Returns the usage error for an error of `clap`, whose text is this if there was memory for it.
+/// Returns the usage error for an error of `clap`, with this text; `Memory` if memory was refused,
+/// also for the text.
 pub fn refusal(error: &ClapError, text: Option<String>) -> UsageError
     ensures memory { (result ≡ UsageError.Memory) ↔
         ((kind_of error.now ≡ OutOfMemory) ⊎ (text ≡ None)) }
@@ -106,7 +108,7 @@ pub fn refusal(error: &ClapError, text: Option<String>) -> UsageError
     }
 }
 
-/// Returns the argument `--save`.
+/// Returns the description of the flag `--save` for `clap`.
 pub fn save<'a>(alloc: Global) -> Arg<'a>
     ensures rule { rule_of result ≡ save_rule }
     ensures local { result.global ≡ false }
@@ -117,7 +119,7 @@ pub fn save<'a>(alloc: Global) -> Arg<'a>
         .help("Writes the images of the volumes back at the end")
 }
 
-/// Returns the argument `--follow`.
+/// Returns the description of the flag `--follow` for `clap`.
 pub fn follow<'a>(alloc: Global) -> Arg<'a>
     ensures rule { rule_of result ≡ follow_rule }
     ensures local { result.global ≡ false }
@@ -130,7 +132,7 @@ pub fn follow<'a>(alloc: Global) -> Arg<'a>
         )
 }
 
-/// Returns the argument `--terminals`.
+/// Returns the description of the flag `--terminals` for `clap`.
 pub fn terminals<'a>(alloc: Global) -> Arg<'a>
     ensures rule { rule_of result ≡ terminals_rule }
     ensures local { result.global ≡ false }
@@ -141,7 +143,7 @@ pub fn terminals<'a>(alloc: Global) -> Arg<'a>
         .help("Leaves out how turns ended, unless frames were lacking")
 }
 
-/// Returns the word that is the path of the script.
+/// Returns the description of the argument `SCRIPT`, the path of the script, for `clap`.
 pub fn script<'a>(alloc: Global) -> Arg<'a>
     ensures rule { rule_of result ≡ script_rule }
     ensures local { result.global ≡ false }
@@ -151,7 +153,7 @@ pub fn script<'a>(alloc: Global) -> Arg<'a>
     )
 }
 
-/// Returns the words after them, which are the paths of images.
+/// Returns the description of the arguments `VOLUME`, the paths of images, for `clap`.
 pub fn volumes<'a>(alloc: Global) -> Arg<'a>
     ensures rule { rule_of result ≡ volume_rule }
     ensures local { result.global ≡ false }

@@ -23,7 +23,7 @@ impl<'a> Cards<'a> {
     ghost use Rattle.std.specs.Option.{option_map};
     ghost use Rattle.session_script.specs.Cards.{cards_in, cards_of};
 
-    /// Returns the first so many lines of a text as cards, or nothing where it has fewer.
+    /// Returns the first `count` lines of a text as cards; None if it has fewer.
     pub(crate) fn cut(text: &'a [u8], count: usize) -> Option<Cards<'a>>
         ensures { option_map cards_of result ≡ cards_in count (lines_of text.now) }
     {
@@ -63,7 +63,7 @@ impl<'a> Cards<'a> {
     }
 }
 
-/// Returns whether a text has at least so many lines.
+/// Returns whether a text has at least this many lines.
 fn has_lines(text: &[u8], count: usize) -> bool
     ensures { result ≡ nat_le count (length (lines_of text.now)) }
 {

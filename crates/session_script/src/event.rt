@@ -23,7 +23,7 @@ pub enum ScriptEvent<'a> {
 }
 
 impl<'a> ScriptEvent<'a> {
-    /// Returns the user whom the event names; turns name nobody.
+    /// Returns the user whom the event names; None of turns, which name nobody.
     pub fn user(&self) -> Option<UserNo>
         ensures { result ≡ user_of_event self.now }
     {
@@ -37,7 +37,8 @@ impl<'a> ScriptEvent<'a> {
         }
     }
 
-    /// Returns how many of the lines that follow are cards of the event.
+    /// Returns how many of the script's next lines are cards of the event: none unless it is a
+    /// deck.
     pub(crate) fn cards(&self) -> usize
         ensures { result ≡ cards_after (said self.now) }
     {

@@ -10,7 +10,8 @@ pub(crate) const COLUMNS: usize = 80;
 /// What stands for a character that has no byte, and after the last one.
 const BLANK: u8 = 0x40;
 
-/// Returns a line as a card.
+/// Returns a card with the EBCDIC bytes of the first 80 characters of a line, and blanks after
+/// them.
 pub(crate) fn card_of(line: &[u8]) -> [u8; 80]
     ensures { result ≡ card_of line.now }
 {
@@ -22,7 +23,7 @@ pub(crate) fn card_of(line: &[u8]) -> [u8; 80]
     card
 }
 
-/// Returns the byte of a character; one that has none is a blank.
+/// Returns the EBCDIC byte of a character, or a blank if it has none.
 fn punched(character: u8) -> u8
     ensures { result ≡ punched character }
 {

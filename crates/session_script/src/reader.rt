@@ -48,9 +48,10 @@ pub enum ScriptError {
     Line(u64),
 }
 
-/// Returns the events that a script names, in the order of its lines. The whole text is judged:
-/// where one of its lines is no line of a script, the first such line is reported. The events
-/// borrow their texts from the script.
+/// Returns the events that a script names, in the order of its lines, or the number of its first
+/// line that is no line of a script.
+///
+/// The events borrow their texts from the script.
 ///
 /// # Errors
 ///
@@ -79,8 +80,8 @@ pub fn read_script<'a>(
     Ok(events)
 }
 
-/// Reads a line of this number, where it and those after it are so many cards of the last event,
-/// and says how many cards are left. What it names is added to the events before it.
+/// Reads the line of this number and returns how many cards of the last event are left: if there
+/// were some, it is one of them, else the event that it names is appended.
 fn read_line<'a>(
     users: &[ScriptUser<'_>],
     number: u64,
@@ -110,7 +111,8 @@ fn read_line<'a>(
     Ok(cards - 1)
 }
 
-/// Adds what a line of this number that is no card names to the events before it.
+/// Appends the event that a line names, unless it is empty or a comment, and returns how many of
+/// the next lines are its cards.
 fn read_entry<'a>(
     users: &[ScriptUser<'_>],
     number: u64,
@@ -143,7 +145,7 @@ fn read_entry<'a>(
     Ok(cards)
 }
 
-/// Returns whether a line is empty or a comment.
+/// Returns whether a line is empty, or is a comment, which begins with `*`.
 fn is_ignored(line: &[u8]) -> bool
     ensures { result ≡ is_ignored line.now }
 {
@@ -153,7 +155,8 @@ fn is_ignored(line: &[u8]) -> bool
     }
 }
 
-/// Returns the event that a line names before a text, by its first word.
+/// Returns the event that a line names by its first word; None if it is no line of a script. The
+/// cards of a deck are the first lines of `after`.
 fn read_event<'a>(
     users: &[ScriptUser<'_>],
     line: &'a [u8],
@@ -183,7 +186,8 @@ fn read_event<'a>(
     }
 }
 
-/// Reads `RUN u n`, after its first word.
+/// Returns the event of `RUN u n`, given what follows its first word; None if there is no such user, or n is
+/// not 1 to 1000000.
 fn read_run<'a>(users: &[ScriptUser<'_>], operands: &'a [u8]) -> Option<ScriptEvent<'a>>
     requires { length users.now ≤ MOST_USERS }
     ensures users { IfSome result (IsOfUser users.now) }
@@ -200,7 +204,8 @@ fn read_run<'a>(users: &[ScriptUser<'_>], operands: &'a [u8]) -> Option<ScriptEv
     }
 }
 
-/// Reads `LINE u text`, after its first word; an empty text may have no blank before it.
+/// Returns the event of `LINE u text`, given what follows its first word; None if there is no such user. An
+/// empty text may have no blank before it.
 fn read_typed<'a>(users: &[ScriptUser<'_>], operands: &'a [u8]) -> Option<ScriptEvent<'a>>
     requires { length users.now ≤ MOST_USERS }
     ensures users { IfSome result (IsOfUser users.now) }
@@ -215,7 +220,8 @@ fn read_typed<'a>(users: &[ScriptUser<'_>], operands: &'a [u8]) -> Option<Script
     }
 }
 
-/// Reads `TICK u`, after its first word: nothing follows the name.
+/// Returns the event of `TICK u`, given what follows its first word; None if there is no such user or more
+/// follows.
 fn read_tick<'a>(users: &[ScriptUser<'_>], operands: &'a [u8]) -> Option<ScriptEvent<'a>>
     requires { length users.now ≤ MOST_USERS }
     ensures users { IfSome result (IsOfUser users.now) }
@@ -230,7 +236,8 @@ fn read_tick<'a>(users: &[ScriptUser<'_>], operands: &'a [u8]) -> Option<ScriptE
     Some(ScriptEvent::Tick(user))
 }
 
-/// Reads `SERVE u addr`, after its first word: the device is one that the user has.
+/// Returns the event of `SERVE u addr`, given what follows its first word; None if there is no such user, or
+/// he has no such device.
 fn read_serve<'a>(users: &[ScriptUser<'_>], operands: &'a [u8]) -> Option<ScriptEvent<'a>>
     requires { length users.now ≤ MOST_USERS }
     ensures users { IfSome result (IsOfUser users.now) }
@@ -247,7 +254,7 @@ fn read_serve<'a>(users: &[ScriptUser<'_>], operands: &'a [u8]) -> Option<Script
     }
 }
 
-/// Returns how many turns `AUTO k` names, after its first word: nothing follows the number.
+/// Returns how many turns `AUTO k` names, given what follows its first word; None if k is not 1 to 100000.
 fn turns_of(operands: &[u8]) -> Option<u32>
     ensures { option_map Auto result ≡ auto_of operands.now }
 {
@@ -259,7 +266,8 @@ fn turns_of(operands: &[u8]) -> Option<u32>
     }
 }
 
-/// Reads `DECK u k`, after its first word: the first k lines of the text after it are the cards.
+/// Returns the event of `DECK u k`, given what follows its first word, with the first k lines of `after` as
+/// cards; None if there is no such user, k is not 1 to 1000, or there are fewer lines.
 fn read_deck<'a>(
     users: &[ScriptUser<'_>],
     operands: &'a [u8],

@@ -26,6 +26,7 @@ impl<'a> Model for ScriptUser<'a> {
 impl<'a> Named for ScriptUser<'a> {
     ghost name = { λ user. user.name };
 
+    /// Returns the characters of the user's name.
     fn name(&self) -> &[u8] {
         self.name
     }

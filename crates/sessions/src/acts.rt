@@ -18,7 +18,7 @@ use s370_num::host::{HostWriter, write_all};
 use session_script::ScriptEvent;
 use std::alloc::Global;
 
-/// Does what a line of the script asks for, and writes the lines that come of it.
+/// Applies an event of the script or deals its turns, and writes the transcript lines of that.
 pub(crate) fn act<I: Installation, W: HostWriter>(
     alloc: Global,
     installation: &mut I,
@@ -47,8 +47,8 @@ pub(crate) fn act<I: Installation, W: HostWriter>(
     }
 }
 
-/// Applies an event, and writes its lines. A user who logs on by it is at the end of the queue, one
-/// who logs off is in it no more.
+/// Applies an event of the script and writes its lines; a user who logs on by it is put at the end
+/// of the queue, one who logs off is removed from it.
 fn apply<I: Installation, W: HostWriter>(
     alloc: Global,
     installation: &mut I,
@@ -80,7 +80,7 @@ fn apply<I: Installation, W: HostWriter>(
     Ok(())
 }
 
-/// Deals so many turns, one after another, and writes the lines of each.
+/// Deals this many turns, one after another, and writes the lines of each.
 fn deal<I: Installation, W: HostWriter>(
     alloc: Global,
     installation: &mut I,
@@ -107,8 +107,8 @@ fn deal<I: Installation, W: HostWriter>(
     Ok(())
 }
 
-/// Deals a turn: a slice to the first in the queue who is ready, and then a serve to the first
-/// program in the line. Its lines are those of both, or that there was neither.
+/// Deals a turn: a slice to the first user in the queue who is ready, and then a serve to the first
+/// program in the serve queue; writes the lines of both, or that there was neither.
 fn turn<I: Installation, W: HostWriter>(
     alloc: Global,
     installation: &mut I,
@@ -130,7 +130,8 @@ fn turn<I: Installation, W: HostWriter>(
     serve(alloc, installation, policy, detail, had_slice, writer)
 }
 
-/// Deals a slice to the first in the queue who is ready, and says whether there was one.
+/// Lets the machine of the first user in the queue who is ready run for a slice, writes its lines,
+/// and returns whether there was such a user.
 fn slice<I: Installation, W: HostWriter>(
     alloc: Global,
     installation: &mut I,
@@ -159,8 +160,8 @@ fn slice<I: Installation, W: HostWriter>(
     Ok(true)
 }
 
-/// Deals a serve to the first program in the line. If there is none, and nobody had the slice of
-/// the turn, its line says so.
+/// Serves the first program in the serve queue and writes its lines; if there is none, and nobody
+/// had the slice of the turn, writes that the turn was idle.
 fn serve<I: Installation, W: HostWriter>(
     alloc: Global,
     installation: &mut I,
@@ -190,7 +191,7 @@ fn serve<I: Installation, W: HostWriter>(
     }
 }
 
-/// Writes that a turn had neither half, if nobody had its slice either.
+/// Writes the line of an idle turn, if nobody had its slice.
 fn pass<W: HostWriter>(detail: Detail, had_slice: bool, writer: &mut W) -> Result<(), PlayError>
     ensures ok { OnOk result
         (Appends (W.contents writer.old) (W.contents writer.new)

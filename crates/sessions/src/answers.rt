@@ -1,4 +1,4 @@
-//! An event that happens, its lines that are written, and the line of programs after it.
+//! An event that happens, its lines that are written, and the serve queue after it.
 ghost use Rattle.std.specs.Prelude.{◌≡◌, ◌<◌, ◌⊎◌, OnErr, OnOk, length};
 ghost use Rattle.session_script.specs.Script.{IsOfDevice, IsOfUser, said};
 ghost use Rattle.sessions.specs.Schedule.{IsEvent, line_after, user_said};
@@ -15,8 +15,8 @@ use session_script::ScriptEvent;
 use std::alloc::Global;
 use user_names::UserNo;
 
-/// Applies an event, and writes the lines of its reply. The programs that have ended or were
-/// withdrawn by it are in the line no more, and those that were started by it are at its end.
+/// Applies an event, writes the lines of its reply, removes the programs that have ended or were
+/// withdrawn by it from the serve queue, and appends those that were started by it.
 pub(crate) fn follow<I: Installation, W: HostWriter>(
     alloc: Global,
     installation: &mut I,
@@ -53,7 +53,7 @@ pub(crate) fn follow<I: Installation, W: HostWriter>(
     Ok(())
 }
 
-/// Returns the user whom an event names; turns, which name none, are never asked.
+/// Returns the user whom an event names; the event has to name one, which turns do not.
 pub(crate) fn user_in(event: &ScriptEvent<'_>) -> UserNo
     requires { IsEvent event.now }
     ensures { result ≡ user_said (said event.now) }

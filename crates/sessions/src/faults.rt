@@ -44,6 +44,7 @@ pub enum SessionError {
 impl From<HostFault> for PlayError {
     ghost from_gives = { λ fault error. error ≡ fault_error fault };
 
+    /// Returns the error of a script's event for a fault of the host.
     fn from(fault: HostFault) -> PlayError {
         match fault {
             HostFault::Memory => PlayError::Memory,
@@ -55,6 +56,7 @@ impl From<HostFault> for PlayError {
 impl From<Refused> for PlayError {
     ghost from_gives = { λ refused error. error ≡ refused_error refused };
 
+    /// Returns the error of a script's event for why an installation refused it.
     fn from(refused: Refused) -> PlayError {
         match refused {
             Refused::Memory => PlayError::Memory,
@@ -66,6 +68,7 @@ impl From<Refused> for PlayError {
 impl From<AllocError> for PlayError {
     ghost from_gives = { λ _ error. error ≡ Memory };
 
+    /// Returns the error that memory was refused.
     fn from(_error: AllocError) -> PlayError {
         PlayError::Memory
     }
@@ -74,6 +77,7 @@ impl From<AllocError> for PlayError {
 impl From<PlayError> for SessionError {
     ghost from_gives = { λ error end. end ≡ play_error error };
 
+    /// Returns the error of a session for that of one of its events.
     fn from(error: PlayError) -> SessionError {
         match error {
             PlayError::Memory => SessionError::Memory,
@@ -86,6 +90,7 @@ impl From<PlayError> for SessionError {
 impl From<HostFault> for SessionError {
     ghost from_gives = { λ fault end. end ≡ play_error (fault_error fault) };
 
+    /// Returns the error of a session for a fault of the host.
     fn from(fault: HostFault) -> SessionError {
         match fault {
             HostFault::Memory => SessionError::Memory,
@@ -97,6 +102,7 @@ impl From<HostFault> for SessionError {
 impl From<ScriptError> for SessionError {
     ghost from_gives = { λ refusal end. end ≡ refusal_error refusal };
 
+    /// Returns the error of a session for why its script was refused.
     fn from(refusal: ScriptError) -> SessionError {
         match refusal {
             ScriptError::Memory => SessionError::Memory,
@@ -108,6 +114,7 @@ impl From<ScriptError> for SessionError {
 impl From<AllocError> for SessionError {
     ghost from_gives = { λ _ end. end ≡ ends.Memory };
 
+    /// Returns the error that memory was refused.
     fn from(_error: AllocError) -> SessionError {
         SessionError::Memory
     }

@@ -30,8 +30,8 @@ pub enum Telling {
     Answer,
 }
 
-/// Returns the lines of all files but the first so many that were closed for the operator, by their
-/// numbers, each ended by LF.
+/// Returns the lines of all files that were closed for the operator, but not of those among the
+/// first `since` files, in the order of their numbers, each ended by LF.
 pub(crate) fn print_files<I: Installation>(
     alloc: Global,
     installation: &I,
@@ -58,7 +58,8 @@ pub(crate) fn print_files<I: Installation>(
     Ok(text)
 }
 
-/// Adds the lines of the file with this number that was noted so.
+/// Appends the lines of the file of this number, of which this is the note, if it was closed for
+/// the operator.
 fn print_noted<I: Installation>(
     alloc: Global,
     out: &mut Vec<u8>,
@@ -81,8 +82,8 @@ fn print_noted<I: Installation>(
     )
 }
 
-/// Adds the lines of a file of this kind and this number of the user of this name, where there is
-/// one.
+/// Appends the lines of this file, if there is one and it is for the operator, with its kind, its
+/// number and the name of its user.
 fn print_found(
     alloc: Global,
     out: &mut Vec<u8>,
@@ -102,8 +103,8 @@ fn print_found(
     }
 }
 
-/// Returns the file that a user's device has closed at its place, where it is none of the
-/// operator's decks.
+/// Returns the file that a user's punch or printer has closed at the place of this kind; None for a
+/// deck, or if there is no such user or file.
 fn closed_file<I: Installation>(
     installation: &I,
     user: UserNo,
@@ -123,8 +124,7 @@ fn closed_file<I: Installation>(
     }
 }
 
-/// Adds the lines of a file of this kind and this number of the user of this name, if it is for the
-/// operator: a first line, and then a line for each entry.
+/// Appends a heading and a line for each entry of a file, if it is for the operator.
 ///
 /// ```text
 /// == PRT 0001 A
@@ -151,7 +151,8 @@ fn print_file(
     }
 }
 
-/// Returns what is before the first line of a file.
+/// Returns what is written before the heading of a file: nothing in a transcript, `> ` in an
+/// answer.
 fn heading_mark(telling: Telling) -> &'static [u8]
     ensures { result.now ≡ heading_mark telling }
 {
@@ -161,7 +162,7 @@ fn heading_mark(telling: Telling) -> &'static [u8]
     }
 }
 
-/// Returns what is before an entry of a file.
+/// Returns what is written before an entry of a file: nothing in a transcript, `> |` in an answer.
 fn entry_mark(telling: Telling) -> &'static [u8]
     ensures { result.now ≡ entry_mark telling }
 {
@@ -171,7 +172,7 @@ fn entry_mark(telling: Telling) -> &'static [u8]
     }
 }
 
-/// Adds the first line of a file.
+/// Appends the heading of a file: a mark, its kind, its number and the name of its user.
 fn print_heading(
     alloc: Global,
     out: &mut Vec<u8>,
@@ -195,7 +196,7 @@ fn print_heading(
     Ok(())
 }
 
-/// Returns what makes a file of this kind, in three letters.
+/// Returns the word for a file of this kind: `PRT` or `PUN`, and no letter for a deck.
 fn kind_word(kind: FileKind) -> &'static [u8]
     ensures { result.now ≡ kind_word kind }
 {
@@ -206,7 +207,7 @@ fn kind_word(kind: FileKind) -> &'static [u8]
     }
 }
 
-/// Adds a line for each of these entries of a file of this kind.
+/// Appends a line for each of these entries of a file of this kind.
 fn print_entries(
     alloc: Global,
     out: &mut Vec<u8>,
@@ -223,7 +224,7 @@ fn print_entries(
     Ok(())
 }
 
-/// Adds the line of an entry of a file of this kind.
+/// Appends the line of an entry; of a printer's file it has the command's code before the bytes.
 fn print_entry(
     alloc: Global,
     out: &mut Vec<u8>,
@@ -244,7 +245,7 @@ fn print_entry(
     Ok(())
 }
 
-/// Adds the code of a command in two digits, and a blank.
+/// Appends the code of a command in two hexadecimal digits, and a blank.
 fn print_code(alloc: Global, out: &mut Vec<u8>, code: u8) -> Result<(), AllocError>
     ensures { OnOk result (out.new.items ≡ out.old.items ++ (two_digits code ++ 32 ∷ [])) }
 {
@@ -254,21 +255,21 @@ fn print_code(alloc: Global, out: &mut Vec<u8>, code: u8) -> Result<(), AllocErr
     Ok(())
 }
 
-/// Returns the code of a command in two digits.
+/// Returns the code of a command in two hexadecimal digits.
 fn code_text(alloc: Global, code: u8) -> Result<String, AllocError>
     ensures { IfOk result (λ text. string_bytes text ≡ two_digits code) }
 {
     format!(in alloc; "{code:02X}")
 }
 
-/// Returns the number of a file in at least four digits.
+/// Returns the number of a file in at least four decimal digits.
 fn number_text(alloc: Global, number: u64) -> Result<String, AllocError>
     ensures { IfOk result (λ text. string_bytes text ≡ file_number number) }
 {
     format!(in alloc; "{number:04}")
 }
 
-/// Adds bytes as they print.
+/// Appends bytes as the characters that they print as.
 fn print_bytes(out: &mut Vec<u8>, bytes: &[u8]) -> Result<(), AllocError>
     ensures { OnOk result (out.new.items ≡ out.old.items ++ printed_text bytes.now) }
 {

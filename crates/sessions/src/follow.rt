@@ -84,7 +84,8 @@ pub enum Part<I: Installation> {
 }
 
 impl<I: Installation + Drop> Follower<I> {
-    /// Returns a follower of an installation for which no script has been followed yet.
+    /// Returns a follower of an installation, with the policy of its users, by which no part has
+    /// been done.
     ///
     /// # Errors
     ///
@@ -107,9 +108,11 @@ impl<I: Installation + Drop> Follower<I> {
         &self.installation
     }
 
-    /// Judges a part of the script as a whole, each line of which has to be ended; then does it,
-    /// and writes its lines of the transcript as they come. What consoles have printed is forgotten
-    /// then, since it was written. After a failure there is nothing that goes on.
+    /// Does a part of the script and writes its transcript lines; if one of its lines is refused,
+    /// or the last one is not ended, does nothing and returns the number of that line.
+    ///
+    /// What consoles have printed is dropped then, since it was written. After a failure there is
+    /// nothing that goes on.
     ///
     /// # Errors
     ///
@@ -166,8 +169,8 @@ impl<I: Installation + Drop> Follower<I> {
         }))
     }
 
-    /// Ends the session: writes the files for the operator, holds nothing back, and gives the
-    /// installation.
+    /// Writes the files for the operator, flushes the writer, and returns the installation: the
+    /// session is over.
     ///
     /// # Errors
     ///
@@ -187,7 +190,8 @@ impl<I: Installation + Drop> Follower<I> {
         Ok(self.installation)
     }
 
-    /// Appends its state, and returns whether its installation has states.
+    /// Appends the state of the policy and of the installation, and returns true; if the
+    /// installation has no states, it appends nothing and returns false.
     ///
     /// # Errors
     ///
@@ -210,8 +214,8 @@ impl<I: Installation + Drop> Follower<I> {
         Ok(has_states)
     }
 
-    /// Returns what these bytes restore in the place of this one, to which nothing has happened;
-    /// `None` if that is not saved as these bytes.
+    /// Returns the follower that these bytes restore in the place of this one, by which no part has
+    /// been done; None if that follower is not saved as exactly these bytes.
     ///
     /// # Errors
     ///
@@ -229,7 +233,7 @@ impl<I: Installation + Drop> Follower<I> {
         }
     }
 
-    /// Returns whether it is saved as these bytes.
+    /// Returns whether the follower is saved as exactly these bytes.
     fn is_saved_as(&self, alloc: Global, bytes: &[u8]) -> Result<bool, AllocError>
         ensures { IfOk result (λ is. is ≡ true → IsSceneSaved I.goes self.now bytes.now) }
     {
@@ -238,7 +242,8 @@ impl<I: Installation + Drop> Follower<I> {
         Ok(has_states && again.as_slice() == bytes)
     }
 
-    /// Takes what is next in the input, in the place of this one.
+    /// Reads a policy and the state of the installation from the input, and returns this follower
+    /// with them; None if malformed, or if a program is of a device that its user has not.
     fn read(self, alloc: Global, input: &mut Input<'_>) -> Option<Follower<I>>
         ensures base { IfSome result (λ made. I.goes.HasSameBase self.world made.world) }
         ensures users { IfSome result
@@ -275,7 +280,7 @@ impl<I: Installation + Drop> Follower<I> {
         print_files(alloc, &self.installation, Telling::Answer, files)
     }
 
-    /// Returns the mode of each user's machine.
+    /// Returns a new list of the mode of each user's machine.
     ///
     /// # Errors
     ///
@@ -305,7 +310,7 @@ impl<I: Installation + Drop> Follower<I> {
         print_changes(alloc, &names, olds, &news)
     }
 
-    /// Returns whether nobody is ready for a slice, and no program waits for a serve.
+    /// Returns whether no user in the queue is ready for a slice, and the serve queue is empty.
     pub fn is_idle(&self) -> bool
         ensures { result ≡ is_idle I.goes self.now }
     {
@@ -314,7 +319,7 @@ impl<I: Installation + Drop> Follower<I> {
     }
 }
 
-/// Returns whether each of these programs is of a device of its user.
+/// Returns whether each of these programs is of a device that its user has.
 fn are_stated<I: Installation>(installation: &I, programs: &[Program]) -> bool
     ensures { result ≡ list_all (is_stated (I.goes.seen installation.now).users) programs.now }
 {
@@ -323,7 +328,7 @@ fn are_stated<I: Installation>(installation: &I, programs: &[Program]) -> bool
         .all(|program| is_stated(installation, *program))
 }
 
-/// Returns whether a program is of a device of its user.
+/// Returns whether a program is of a device that its user has.
 fn is_stated<I: Installation>(installation: &I, program: Program) -> bool
     ensures { result ≡ is_stated (I.goes.seen installation.now).users program }
 {
@@ -331,8 +336,8 @@ fn is_stated<I: Installation>(installation: &I, program: Program) -> bool
         && installation.has_device(program.user, program.device.get())
 }
 
-/// Returns the events that a part names for the users of an installation and their devices. The
-/// last line of a part is ended too.
+/// Returns the events that a part of a script names, or the number of its first line that is
+/// refused: also of a last line that is not ended.
 fn read_part<'a, I: Installation>(
     alloc: Global,
     installation: &I,
@@ -355,7 +360,7 @@ fn read_part<'a, I: Installation>(
     }
 }
 
-/// Returns the last line of a text, counted from 1, where nothing ends it.
+/// Returns the number of the last line of a text, counted from 1, if no LF ends it.
 fn unended(text: &[u8]) -> Option<u64>
     ensures { result ≡ unended_line text.now }
 {
@@ -370,7 +375,7 @@ fn unended(text: &[u8]) -> Option<u64>
     if is_ended { None } else { Some(line) }
 }
 
-/// Returns whether one of these users is ready.
+/// Returns whether one of these users is ready for a slice.
 fn has_ready(users: &[UserNo], ready: &Ready) -> bool
     ensures { result ≡ list_any (is_ready ready.now) users.now }
 {

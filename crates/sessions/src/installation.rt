@@ -86,21 +86,21 @@ pub trait Installation {
         requires { user < length ((goes).seen self.now).users }
         ensures { result ≡ length (machine_at ((goes).seen self.now) user).output };
 
-    /// Returns a line that a user's console has printed, `None` past the last.
+    /// Returns a line that a user's console has printed; None past the last.
     fn console_output(&self, user: UserNo, line: usize) -> Option<&[u8]>
         requires { user < length ((goes).seen self.now).users }
         ensures { option_map (λ text. text.now) result
             ≡ slice_get (machine_at ((goes).seen self.now) user).output line };
 
-    /// Returns how many files have got a number.
+    /// Returns how many files have a number.
     fn files(&self) -> usize
         ensures { result ≡ length ((goes).seen self.now).files };
 
-    /// Returns the owner and the kind of a file, by its place from 0.
+    /// Returns the owner and the kind of the file of this place, from 0, if there is one.
     fn file(&self, place: usize) -> Option<FileNote>
         ensures { result ≡ slice_get ((goes).seen self.now).files place };
 
-    /// Applies an event of a script.
+    /// Applies an event of a script, and returns the reply.
     ///
     /// # Errors
     ///
@@ -118,12 +118,12 @@ pub trait Installation {
         ensures alive { OnOk result ((goes).is_spent self.new ≡ false) }
         ensures spent { result ≡ Err Refused.Spent → (goes).is_spent self.old ≡ true };
 
-    /// Forgets the lines that consoles have printed, and nothing else that is seen.
+    /// Drops the lines that consoles have printed, and changes nothing else that is seen.
     fn forget_printed(&mut self)
         ensures on { (goes).GoesOnAs self.old self.new }
         ensures seen { (goes).seen self.new ≡ but_printed ((goes).seen self.old) };
 
-    /// Appends its state, and returns whether it has states.
+    /// Appends the state of the installation, and returns true; returns false if it has no states.
     ///
     /// # Errors
     ///
@@ -131,9 +131,11 @@ pub trait Installation {
     fn save(&self, out: &mut Vec<u8>) -> Result<bool, AllocError>
         ensures { IfOk result (λ is. AppendsState (goes) self.now is out.old.items out.new.items) };
 
-    /// Takes the state that is next in the input, in the place of this one, which was only booted.
-    /// (What is restored is lawful whatever the bytes are; whoever saves it again sees whether it
-    /// was saved so.)
+    /// Reads a state from the input, and returns this installation, which was only booted, with
+    /// that state; None if it has none.
+    ///
+    /// What is restored is lawful whatever the bytes are; whoever saves it again sees whether it
+    /// was saved so.
     fn restore(self, input: &mut Input<'_>) -> Option<Self>
         ensures base { IfSome result (λ made. (goes).HasSameBase self made) }
         ensures users { IfSome result
@@ -144,7 +146,8 @@ pub trait Installation {
         ensures base { KeepsBase (goes) }
         ensures saved { IsOneBySaved (goes) };
 
-    /// States what it is to go on as another: lines that were printed before do not matter.
+    /// States that lines that were printed before do not matter: what is to follow goes on as
+    /// without them.
     fn printed_lines_do_not_matter()
         ensures { IsToGoOn (goes) };
 }

@@ -8,7 +8,8 @@ use session_script::{ScriptError, ScriptEvent, ScriptUser, read_script};
 use std::alloc::{AllocError, Global};
 use user_names::UserNo;
 
-/// Returns the events that a script names for the users of an installation and their devices.
+/// Returns the events that a script names for the users of an installation and their devices, or
+/// the number of its first line that is refused.
 pub(crate) fn read_events<'a, I: Installation>(
     alloc: Global,
     installation: &I,
@@ -35,7 +36,7 @@ pub(crate) fn read_events<'a, I: Installation>(
     read_script(alloc, &users, text)
 }
 
-/// Returns the addresses of each user's devices.
+/// Returns a new list of the addresses of each user's devices.
 fn addresses<I: Installation>(alloc: Global, installation: &I) -> Result<Vec<Vec<u16>>, AllocError>
     ensures { IfOk result (λ lists. map (λ list. list.items) lists.items
         ≡ map (λ user. user.devices) (I.goes.seen installation.now).users) }
@@ -47,7 +48,8 @@ fn addresses<I: Installation>(alloc: Global, installation: &I) -> Result<Vec<Vec
     Ok(lists)
 }
 
-/// Returns the users as scripts know them, where these are the addresses of their devices.
+/// Returns a new list of the users of an installation as scripts know them: their names, with these
+/// addresses of their devices.
 fn script_users<'a, I: Installation>(
     alloc: Global,
     installation: &'a I,

@@ -10,7 +10,7 @@ use machine_panel::Mode;
 use std::alloc::{AllocError, Global};
 use user_names::UserNo;
 
-/// Returns the mode of each user's machine.
+/// Returns a new list of the mode of each user's machine.
 pub(crate) fn modes<I: Installation>(
     alloc: Global,
     installation: &I,
@@ -24,8 +24,8 @@ pub(crate) fn modes<I: Installation>(
     Ok(modes)
 }
 
-/// Returns the lines of what has changed for users of these names, whose machines were in the first
-/// modes and are in the others, each ended by LF.
+/// Returns the lines of who of these users has logged on or off, and whose machine was started or
+/// stopped, from the old modes to the new ones, each ended by LF.
 pub(crate) fn print_changes(
     alloc: Global,
     names: &[Vec<u8>],
@@ -46,7 +46,7 @@ pub(crate) fn print_changes(
     Ok(text)
 }
 
-/// Returns the mode at a place.
+/// Returns the mode at an index.
 fn mode_at(modes: &[Mode], place: usize) -> Mode
     requires { place < length modes.now }
     ensures { Some result ≡ slice_get modes.now place }
@@ -54,7 +54,8 @@ fn mode_at(modes: &[Mode], place: usize) -> Mode
     modes[place]
 }
 
-/// Adds the lines of what has changed for the user of this name.
+/// Appends the lines of whether the user of this name has logged on or off and whether his machine
+/// was started or stopped, if so.
 fn print_change(out: &mut Vec<u8>, name: &[u8], old: Mode, new: Mode) -> Result<(), AllocError>
     ensures { OnOk result (out.new.items ≡ out.old.items ++ ended (change_lines name.now old new)) }
 {
@@ -76,7 +77,7 @@ fn print_change(out: &mut Vec<u8>, name: &[u8], old: Mode, new: Mode) -> Result<
     }
 }
 
-/// Adds a line of this word and a name.
+/// Appends a line with this word and a name.
 fn print_news(out: &mut Vec<u8>, word: &[u8], name: &[u8]) -> Result<(), AllocError>
     ensures { OnOk result (out.new.items ≡ out.old.items ++ ended ((word.now ++ name.now) ∷ [])) }
 {

@@ -22,7 +22,7 @@ pub enum Detail {
     Terminals,
 }
 
-/// Returns whether a machine of this mode has a user who is logged on.
+/// Returns whether the user of a machine in this mode is logged on.
 fn is_mode_of_user(mode: Mode) -> bool
     ensures { result ≡ is_on mode }
 {
@@ -40,7 +40,8 @@ pub(crate) fn is_on<I: Installation>(installation: &I, user: UserNo) -> bool
     is_mode_of_user(installation.mode(user))
 }
 
-/// Tells the policy that a user has logged on or off, where he has.
+/// Puts a user who has logged on at the end of the queue, and removes one who has logged off from
+/// it; else it does nothing.
 pub(crate) fn note(policy: &mut Policy, user: UserNo, was_on: bool, is_on: bool)
     requires { user < policy.old.most_users }
     ensures { policy.new ≡ record
@@ -55,7 +56,7 @@ pub(crate) fn note(policy: &mut Policy, user: UserNo, was_on: bool, is_on: bool)
 }
 
 /// Returns the policy for the users of an installation: those who are on are in the queue by their
-/// numbers, and in the line are the programs of each by their starts.
+/// numbers, and their started programs in the serve queue, for each user by their starts.
 pub(crate) fn first_policy<I: Installation>(
     alloc: Global,
     installation: &I,
@@ -72,7 +73,7 @@ pub(crate) fn first_policy<I: Installation>(
     Ok(policy)
 }
 
-/// Returns who is ready for a slice.
+/// Returns which users are ready for a slice.
 pub(crate) fn ready_users<I: Installation>(installation: &I) -> Ready
     ensures ready { (user : ℕ)
         → is_flagged result user ≡ ready_in (I.goes.seen installation.now) user }

@@ -21,8 +21,9 @@ use s370_num::host::{HostReader, HostWriter, read_all, write_all};
 use session_script::ScriptEvent;
 use std::alloc::Global;
 
-/// Reads a whole script and judges it; then lets its events happen and deals its turns one after
-/// another, and writes the lines of each as they come, and at the end the files for the operator.
+/// Reads a whole script, applies its events and deals its turns, and writes the lines of each and
+/// at the end the files for the operator; if a line of it is faulty, does nothing.
+///
 /// When it ends well, nothing that was written is held back.
 ///
 /// Turns are dealt among the users who are on: those who are on at first, by their numbers, and
@@ -87,8 +88,8 @@ pub fn session<I: Installation, R: HostReader, W: HostWriter>(
     Ok(())
 }
 
-/// Lets the events happen and deals the turns one after another, and writes the lines of each as
-/// they come.
+/// Applies the events and deals the turns of a script one after another, and writes the lines of
+/// each as soon as it is done.
 pub(crate) fn play<I: Installation, W: HostWriter>(
     alloc: Global,
     installation: &mut I,
@@ -117,7 +118,7 @@ pub(crate) fn play<I: Installation, W: HostWriter>(
     Ok(())
 }
 
-/// Writes the files for the operator, and flushes the writer.
+/// Writes the lines of all files for the operator, and flushes the writer.
 pub(crate) fn close<I: Installation, W: HostWriter>(
     alloc: Global,
     installation: &I,

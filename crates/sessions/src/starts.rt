@@ -1,4 +1,4 @@
-//! The line of the programs that were started: which join it by an event, and which leave it.
+//! The serve queue of the programs that were started: which join it by an event, and which leave it.
 ghost use Rattle.std.specs.Prelude.{◌≡◌, ◌<◌, IfOk, OnOk, if◌then◌else◌, length, slice_get};
 ghost use Rattle.std.specs.List.{position};
 ghost use Rattle.s370_subchannels.specs.Starts.{works};
@@ -25,9 +25,8 @@ pub(crate) fn next_start<I: Installation>(installation: &I, user: UserNo) -> u64
     latest_start(installation.subchannels(user)).saturating_add(1)
 }
 
-/// Takes out of the line the programs of a user that have ended or were withdrawn, and puts at its
-/// end those that were started since his machine's next start had this number, in the order of
-/// their starts.
+/// Removes the programs of a user that have ended or were withdrawn from the serve queue, and
+/// appends those that were started with this number or a later one, in the order of their starts.
 pub(crate) fn line_up<I: Installation>(
     alloc: Global,
     installation: &I,
@@ -48,7 +47,7 @@ pub(crate) fn line_up<I: Installation>(
     join(policy, user, &started)
 }
 
-/// Returns the number of the latest start of these devices.
+/// Returns the number of the latest start of these devices, or 0.
 fn latest_start(list: &[Subchannel]) -> u64
     ensures { result ≡ latest_start list.now }
 {
@@ -59,8 +58,8 @@ fn latest_start(list: &[Subchannel]) -> u64
     latest
 }
 
-/// Returns the devices of a user that were started since his machine's next start had this number,
-/// in the order of their starts.
+/// Returns a new list of the devices of a user that work and were started with this number or a
+/// later one, in the order of their starts.
 fn started_since<I: Installation>(
     alloc: Global,
     installation: &I,
@@ -80,7 +79,7 @@ fn started_since<I: Installation>(
     Ok(started)
 }
 
-/// Puts a device that joins the line after those whose last start was before its own.
+/// Inserts a device into a list by the order of starts, if it joins the serve queue.
 fn put_if_joining(
     started: &mut Vec<Subchannel>,
     joins: bool,
@@ -95,8 +94,8 @@ fn put_if_joining(
     Ok(())
 }
 
-/// Returns whether a device of a user joins the line: it works, it was started with this number or
-/// a later one, and scripts know it.
+/// Returns whether a device of a user joins the serve queue: it works, it was started with this
+/// number or a later one, and the user has it.
 fn is_joining<I: Installation>(installation: &I, user: UserNo, number: u64, d: &Subchannel) -> bool
     requires { user < length (I.goes.seen installation.now).users }
     ensures { result ≡ is_joining (I.goes.seen installation.now) user number d.now }
@@ -114,7 +113,7 @@ fn works(state: DeviceState) -> bool
     }
 }
 
-/// Puts a device after those whose last start was before its own.
+/// Inserts a device into a list before the first whose last start was after its own.
 fn put_in_order(started: &mut Vec<Subchannel>, d: Subchannel) -> Result<(), AllocError>
     ensures { OnOk result (started.new.items ≡ in_order d started.old.items) }
 {
@@ -130,7 +129,8 @@ fn put_in_order(started: &mut Vec<Subchannel>, d: Subchannel) -> Result<(), Allo
     }
 }
 
-/// Returns the place of the first of these devices whose last start was after that of this one.
+/// Returns the index of the first of these devices whose last start was after that of `d`, if there
+/// is one.
 fn place_in_order(started: &[Subchannel], d: &Subchannel) -> Option<usize>
     ensures { result ≡ position (is_before d.now) started.now }
 {
@@ -139,7 +139,7 @@ fn place_in_order(started: &[Subchannel], d: &Subchannel) -> Option<usize>
         .position(|other| d.last_start < other.last_start)
 }
 
-/// Takes out of the line the programs of those of these devices of a user that do not work.
+/// Removes from the serve queue the programs of those of these devices of a user that do not work.
 fn withdraw(policy: &mut Policy, user: UserNo, list: &[Subchannel])
     ensures { policy.new ≡ record
         policy.old { programs = withdrawn user list.now policy.old.programs } }
@@ -149,7 +149,7 @@ fn withdraw(policy: &mut Policy, user: UserNo, list: &[Subchannel])
     }
 }
 
-/// Takes the program of a device of a user out of the line, if it does not work.
+/// Removes the program of a device of a user from the serve queue, if the device does not work.
 fn withdraw_one(policy: &mut Policy, user: UserNo, d: &Subchannel)
     ensures { policy.new ≡ record policy.old {
       programs = if works d.now.state then policy.old.programs
@@ -161,7 +161,7 @@ fn withdraw_one(policy: &mut Policy, user: UserNo, d: &Subchannel)
     }
 }
 
-/// Puts the program of each of these devices of a user at the end of the line.
+/// Moves the program of each of these devices of a user to the end of the serve queue, in order.
 fn join(policy: &mut Policy, user: UserNo, started: &[Subchannel]) -> Result<(), AllocError>
     ensures ok { OnOk result (policy.new
         ≡ record policy.old { programs = joined user started.now policy.old.programs }) }

@@ -53,7 +53,7 @@ pub(crate) fn print_reply<I: Installation>(
     Ok(text)
 }
 
-/// Adds the lines of what was said to this user.
+/// Appends the lines of what was said to this user: a response, or a line for each of his decks.
 fn print_said<I: Installation>(
     alloc: Global,
     out: &mut Vec<u8>,
@@ -80,7 +80,7 @@ fn print_said<I: Installation>(
     }
 }
 
-/// Returns the names of all users.
+/// Returns a new list of the names of all users.
 pub(crate) fn names<I: Installation>(
     alloc: Global,
     installation: &I,
@@ -96,7 +96,7 @@ pub(crate) fn names<I: Installation>(
     Ok(names)
 }
 
-/// Adds a line for each deck of the reader, in their order.
+/// Appends a line for each deck of a user's reader, in their order.
 #[tactic(auto, using(crate::proofs::Decks::one_more, crate::proofs::Decks::no_more))]
 fn print_queue<I: Installation>(
     alloc: Global,
@@ -123,7 +123,7 @@ fn print_queue<I: Installation>(
     Ok(())
 }
 
-/// Adds what a program has written at the console of this user while it was served.
+/// Appends the lines that a user's console has printed by an event, if that was a serve.
 fn print_written<I: Installation>(
     out: &mut Vec<u8>,
     installation: &I,
@@ -142,7 +142,7 @@ fn print_written<I: Installation>(
     }
 }
 
-/// Adds the last so many lines that the console of this user has printed.
+/// Appends the last so many lines that the console of this user has printed.
 #[tactic(auto, using(crate::proofs::Written::one_more, crate::proofs::Written::no_more))]
 fn print_last<I: Installation>(
     out: &mut Vec<u8>,
@@ -165,7 +165,7 @@ fn print_last<I: Installation>(
     Ok(())
 }
 
-/// Adds the line of a message at its receiver's terminal.
+/// Appends the line of a message at its receiver's terminal, if one was delivered.
 fn print_delivered<I: Installation>(
     out: &mut Vec<u8>,
     installation: &I,
@@ -183,7 +183,7 @@ fn print_delivered<I: Installation>(
     }
 }
 
-/// Adds the line `u: text`.
+/// Appends the line `u: text`.
 fn print_line(out: &mut Vec<u8>, name: &[u8], text: &[u8]) -> Result<(), AllocError>
     ensures { OnOk result (out.new.items ≡ out.old.items
         ++ ended (told_line name.now text.now ∷ [])) }
@@ -195,7 +195,7 @@ fn print_line(out: &mut Vec<u8>, name: &[u8], text: &[u8]) -> Result<(), AllocEr
     Ok(())
 }
 
-/// Adds the line of an ending of an event, where the transcript has one for it.
+/// Appends the line of how an event ended, if a full transcript has one for it.
 fn print_ending(
     alloc: Global,
     out: &mut Vec<u8>,
@@ -214,7 +214,7 @@ fn print_ending(
     }
 }
 
-/// Adds the line of a serve.
+/// Appends the line of how the serve of an event ended; nothing for another event.
 fn print_serve(
     alloc: Global,
     out: &mut Vec<u8>,
@@ -237,7 +237,7 @@ fn print_serve(
     }
 }
 
-/// Adds the line `= u SERVED addr`, or `= u IDLE addr`.
+/// Appends the line `= u SERVED addr`, or `= u IDLE addr`.
 fn print_served(
     alloc: Global,
     out: &mut Vec<u8>,
@@ -257,14 +257,14 @@ fn print_served(
     Ok(())
 }
 
-/// Returns whether a device was working that was served, as the transcript says it.
+/// Returns the word for whether a served device was working: `SERVED` or `IDLE`, between blanks.
 fn served_word(done: bool) -> &'static [u8]
     ensures { result.now ≡ served_word done }
 {
     if done { b" SERVED " } else { b" IDLE " }
 }
 
-/// Adds the line `= u units REASON`.
+/// Appends the line `= u units REASON`.
 fn print_ran(alloc: Global, out: &mut Vec<u8>, name: &[u8], ran: Ran) -> Result<(), AllocError>
     ensures { OnOk result (out.new.items ≡ out.old.items ++ ended (ran_line name.now ran ∷ [])) }
 {
@@ -279,7 +279,7 @@ fn print_ran(alloc: Global, out: &mut Vec<u8>, name: &[u8], ran: Ran) -> Result<
     Ok(())
 }
 
-/// Adds the line of an ending, where it is wanted and the transcript has one for it.
+/// Appends the line of how an event ended, if a transcript of this detail has one for it.
 fn print_end(
     alloc: Global,
     out: &mut Vec<u8>,
@@ -297,7 +297,7 @@ fn print_end(
     }
 }
 
-/// Adds the line of an ending where it was out of frames.
+/// Appends the line of how an event ended, if it was out of frames.
 fn print_scant(
     alloc: Global,
     out: &mut Vec<u8>,
@@ -313,7 +313,7 @@ fn print_scant(
     }
 }
 
-/// Adds the line of a run that was out of frames.
+/// Appends the line of how a run ended, if it was out of frames.
 fn print_lacking(alloc: Global, out: &mut Vec<u8>, name: &[u8], ran: Ran) -> Result<(), AllocError>
     ensures { OnOk result (out.new.items ≡ out.old.items
         ++ ended (lacking_lines name.now ran ran.reason)) }
@@ -325,7 +325,8 @@ fn print_lacking(alloc: Global, out: &mut Vec<u8>, name: &[u8], ran: Ran) -> Res
     }
 }
 
-/// Returns the line of a turn that nobody had, with its end, where the transcript has one for it.
+/// Returns the line of a turn that had neither slice nor serve, or none if the detail leaves it
+/// out.
 pub(crate) fn idle_line(detail: Detail) -> &'static [u8]
     ensures { result.now ≡ ended (idle_lines detail) }
 {
@@ -335,7 +336,7 @@ pub(crate) fn idle_line(detail: Detail) -> &'static [u8]
     }
 }
 
-/// Adds `= u FRAMES` and its end.
+/// Appends the line `= u FRAMES`.
 fn print_frames_out(out: &mut Vec<u8>, name: &[u8]) -> Result<(), AllocError>
     ensures { OnOk result (out.new.items ≡ out.old.items ++ ended (frames_line name.now ∷ [])) }
 {

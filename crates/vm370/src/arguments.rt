@@ -39,9 +39,11 @@ pub struct Options<'a> {
     pub volumes: Vec<&'a str>,
 }
 
-/// Reads the arguments, the first of which is the name that the program was started by; `program`
-/// is its name in a usage text. Words are read as `clap` reads them: `--` before the paths is
-/// allowed, and `--help` is a request for the text of [`UsageError::Usage`].
+/// Returns the options that the words of a command line name, of which the first is the name that
+/// the program was started by; `program` is its name in a usage text.
+///
+/// Words are read as `clap` reads them: `--` before the paths is allowed, and `--help` is a request
+/// for the text of [`UsageError::Usage`].
 ///
 /// # Errors
 ///
@@ -63,7 +65,8 @@ pub fn arguments<'a, S: AsStr>(
     options_of(alloc, &matches)
 }
 
-/// Returns what words name that `clap` has read for a command with the arguments of [`command`].
+/// Returns the options that `clap` has found in words, for a command with the arguments of
+/// [`command`].
 ///
 /// # Errors
 ///
@@ -90,7 +93,7 @@ pub fn options_of<'a>(alloc: Global, matches: &ArgMatches<'a>) -> Result<Options
     })
 }
 
-/// Returns a wrong use: frames or slots that there can't be.
+/// Returns the usage error for frames or slots that are too many or no numbers.
 pub(crate) fn wrong_sizes(alloc: Global) -> UsageError {
     usage(
         alloc,
@@ -98,7 +101,8 @@ pub(crate) fn wrong_sizes(alloc: Global) -> UsageError {
     )
 }
 
-/// Returns how many frames and slots are named, where there may be so many.
+/// Returns how many frames and slots are asked for, or the usual numbers; None if too many or
+/// malformed.
 pub(crate) fn sizes_in(matches: &ArgMatches<'_>) -> Option<Sizes>
     ensures some { IfSome result (IsSized (rows_of (found_of matches.now))) }
     ensures none { (sizes : SystemSizes) → IsSized (rows_of (found_of matches.now)) sizes
@@ -109,7 +113,8 @@ pub(crate) fn sizes_in(matches: &ArgMatches<'_>) -> Option<Sizes>
     Sizes::new(frames, slots)
 }
 
-/// Returns the number that the words give for an option, and this one where they give none.
+/// Returns the decimal number that was given for an option, or `default` if none was; None if
+/// malformed.
 fn number_in(matches: &ArgMatches<'_>, id: &str, default: u32) -> Option<u32>
     ensures { result ≡ number_or default (first_of id.now (rows_of (found_of matches.now))) }
 {
@@ -119,7 +124,7 @@ fn number_in(matches: &ArgMatches<'_>, id: &str, default: u32) -> Option<u32>
     }
 }
 
-/// Returns the paths of the directory and of the script, where both are given.
+/// Returns the paths of the directory and of the script; None if one of them is missing.
 fn paths_in<'a>(matches: &ArgMatches<'a>) -> Option<(&'a str, &'a str)>
     ensures directory { IfSome result
         (λ paths. first_of (codes "DIRECTORY") (rows_of (found_of matches.now))
@@ -133,7 +138,7 @@ fn paths_in<'a>(matches: &ArgMatches<'a>) -> Option<(&'a str, &'a str)>
     Some((directory, script))
 }
 
-/// Returns what `clap` finds in the words.
+/// Returns what `clap` finds in the words of a command line, or the usage error.
 fn matched<'a, S: AsStr>(
     alloc: Global,
     program: &'a str,
@@ -152,7 +157,7 @@ fn matched<'a, S: AsStr>(
     }
 }
 
-/// Returns the arguments of the program, as they are described to `clap`.
+/// Returns the description of the program's command line for `clap`.
 ///
 /// # Errors
 ///
@@ -171,7 +176,7 @@ pub fn command<'a>(alloc: Global, program: &'a str) -> Result<Command<'a>, Alloc
     Ok(command)
 }
 
-/// Returns the option `--frames N`.
+/// Returns the description of the option `--frames N` for `clap`.
 pub(crate) fn frames<'a>(alloc: Global) -> Arg<'a>
     ensures rule { rule_of result ≡ frames_rule }
     ensures local { result.global ≡ false }
@@ -184,7 +189,7 @@ pub(crate) fn frames<'a>(alloc: Global) -> Arg<'a>
         )
 }
 
-/// Returns the option `--slots N`.
+/// Returns the description of the option `--slots N` for `clap`.
 pub(crate) fn slots<'a>(alloc: Global) -> Arg<'a>
     ensures rule { rule_of result ≡ slots_rule }
     ensures local { result.global ≡ false }
@@ -197,7 +202,7 @@ pub(crate) fn slots<'a>(alloc: Global) -> Arg<'a>
         )
 }
 
-/// Returns the first word, which is the path of the directory.
+/// Returns the description of the argument `DIRECTORY`, the path of the directory, for `clap`.
 pub(crate) fn directory<'a>(alloc: Global) -> Arg<'a>
     ensures rule { rule_of result ≡ directory_rule }
     ensures local { result.global ≡ false }

@@ -11,8 +11,9 @@ use programs::{BootFault, Failure};
 use std::alloc::{AllocError, Global};
 use user_names::UserNo;
 
-/// Returns the names of users, as texts. They are kept while the system is booted, which takes the
-/// directory.
+/// Returns a new list of the names of users, as strings.
+///
+/// They are kept while the system is booted, which takes the directory.
 pub(crate) fn names_of(alloc: Global, users: &[User]) -> Result<Vec<String>, AllocError>
     ensures { IfOk result (λ names. map string_bytes names.items
         ≡ map (λ user. utf8_lossy user.name) users.now) }
@@ -24,7 +25,7 @@ pub(crate) fn names_of(alloc: Global, users: &[User]) -> Result<Vec<String>, All
     Ok(names)
 }
 
-/// Returns the name of a user, of all users' names; empty for a number that no user has.
+/// Returns the name of a user out of the names of all; empty if no user has this number.
 fn taken(alloc: Global, mut names: Vec<String>, user: UserNo) -> String
     ensures { string_bytes result ≡ name_of (map string_bytes names.items) user }
 {
@@ -35,7 +36,7 @@ fn taken(alloc: Global, mut names: Vec<String>, user: UserNo) -> String
     }
 }
 
-/// Returns the failure of a boot, for a directory whose users have these names.
+/// Returns the failure of a program for the error of a boot, if the users have these names.
 pub fn boot_failure(alloc: Global, names: Vec<String>, error: BootError) -> Failure
     ensures line { fault_text result ≡ refusal_text (map string_bytes names.items) error }
     ensures status { status_of result ≡ refusal_status error }

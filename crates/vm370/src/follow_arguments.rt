@@ -31,8 +31,8 @@ pub struct SystemFollowOptions<'a> {
     pub volumes: Vec<&'a str>,
 }
 
-/// Reads the arguments of a run that follows parts, as [`arguments`](crate::arguments::arguments)
-/// does those of a script.
+/// Returns the options of a run that follows parts of a script, as
+/// [`arguments`](crate::arguments::arguments) does those of one that plays a script.
 ///
 /// # Errors
 ///
@@ -67,7 +67,7 @@ pub fn follow_arguments<'a, S: AsStr>(
     })
 }
 
-/// Returns what `clap` finds in the words.
+/// Returns what `clap` finds in the words of a command line, or the usage error.
 fn matched<'a, S: AsStr>(
     alloc: Global,
     program: &'a str,
@@ -86,7 +86,7 @@ fn matched<'a, S: AsStr>(
     }
 }
 
-/// Returns the program's words, as they are described to `clap`.
+/// Returns the description of the program's command line with `--follow` for `clap`.
 fn command<'a>(alloc: Global, program: &'a str) -> Result<Command<'a>, AllocError>
     ensures { IfOk result (λ c. app_of c ≡ command_of program.entry.now) }
 {

@@ -42,7 +42,7 @@ impl Model for SharedMachines {
 }
 
 impl SharedMachines {
-    /// Creates the installation of a system.
+    /// Returns the installation of a system.
     pub fn new(system: System) -> SharedMachines
         ensures { result ≡ system }
     {
@@ -56,7 +56,7 @@ impl SharedMachines {
         &self.system
     }
 
-    /// Returns the place of a user whom scripts know, who is one of the system's.
+    /// Returns this user, who has to be one of the system's.
     fn place(&self, user: UserNo) -> UserNo
         requires { user < length (seen_in self.now).users }
         ensures user { result ≡ user }
@@ -72,22 +72,27 @@ impl SharedMachines {
 impl Installation for SharedMachines {
     ghost goes = { system_goes };
 
+    /// Returns how many users the system has.
     fn users(&self) -> usize {
         users_of(&self.system)
     }
 
+    /// Returns the name of a user; empty if there is no such user.
     fn name(&self, user: UserNo) -> &[u8] {
         name_in(&self.system, user)
     }
 
+    /// Returns a new list of the addresses of a user's devices and minidisks.
     fn addresses(&self, alloc: Global, user: UserNo) -> Result<Vec<u16>, AllocError> {
         addresses_in(alloc, &self.system, self.place(user))
     }
 
+    /// Returns whether the directory gives a user a device or a minidisk of this address.
     fn has_device(&self, user: UserNo, address: u16) -> bool {
         states_device(&self.system, user, DevAddr::new(address))
     }
 
+    /// Returns whether a user's machine is on, and whether it runs.
     fn mode(&self, user: UserNo) -> Mode {
         match self.system.mode(self.place(user)) {
             Some(mode) => mode,
@@ -95,10 +100,12 @@ impl Installation for SharedMachines {
         }
     }
 
+    /// Returns whether a user's machine is ready for a slice.
     fn is_ready(&self, user: UserNo) -> bool {
         self.system.is_ready(user)
     }
 
+    /// Returns the subchannels of a user's machine.
     fn subchannels(&self, user: UserNo) -> &[Subchannel] {
         match self.system.subchannels(self.place(user)) {
             Some(list) => list,
@@ -106,6 +113,7 @@ impl Installation for SharedMachines {
         }
     }
 
+    /// Returns a user's console, reader, punch and printer, with their files.
     fn devices(&self, user: UserNo) -> SeenDevices<'_> {
         match self.system.spool(self.place(user)) {
             Some(devices) => devices,
@@ -113,6 +121,7 @@ impl Installation for SharedMachines {
         }
     }
 
+    /// Returns how many lines a user's console has printed.
     fn printed(&self, user: UserNo) -> usize {
         match self.system.printed(self.place(user)) {
             Some(lines) => lines,
@@ -120,18 +129,22 @@ impl Installation for SharedMachines {
         }
     }
 
+    /// Returns a line that a user's console has printed; None past the last.
     fn console_output(&self, user: UserNo, line: usize) -> Option<&[u8]> {
         self.system.console_output(user, line)
     }
 
+    /// Returns how many files have a number.
     fn files(&self) -> usize {
         self.system.files().len()
     }
 
+    /// Returns the owner and the kind of the file of this place, from 0, if there is one.
     fn file(&self, place: usize) -> Option<FileNote> {
         self.system.files().get(place).copied()
     }
 
+    /// Applies an event of a script to the system, and returns the reply.
     fn apply_event(&mut self, alloc: Global, event: &ScriptEvent<'_>) -> Result<Reply, Refused> {
         let Ok(cards) = cards_in(alloc, event) else {
             return Err(Refused::Memory);
@@ -139,15 +152,18 @@ impl Installation for SharedMachines {
         ask(&mut self.system, event, &cards)
     }
 
+    /// Drops the lines that the consoles of all users have printed.
     fn forget_printed(&mut self) {
         self.system.forget_printed();
     }
 
+    /// Appends the state of the system, and returns true.
     fn save(&self, out: &mut Vec<u8>) -> Result<bool, AllocError> {
         self.system.save(out)?;
         Ok(true)
     }
 
+    /// Reads a state from the input, and returns this system with that state; None if it has none.
     fn restore(self, input: &mut Input<'_>) -> Option<SharedMachines> {
         let SharedMachines { system } = self;
         match system.restore(input) {
@@ -156,10 +172,13 @@ impl Installation for SharedMachines {
         }
     }
 
+    /// States that bytes are those of one state of a system, and that no event changes what it was
+    /// booted from.
     fn one_by_saved() {
         one_by_saved();
     }
 
+    /// States that lines that were printed before do not matter to what follows.
     fn printed_lines_do_not_matter() {
         printed_lines_do_not_matter();
     }
@@ -174,14 +193,14 @@ fn users_of(system: &System) -> usize
     system.users()
 }
 
-/// Returns the name of a user, empty where there is none.
+/// Returns the name of a user; empty if there is no such user.
 fn name_in(system: &System, user: UserNo) -> &[u8]
     ensures { result.now ≡ name_of (names_of (seen_in system.now)) user }
 {
     name_of(system.directory().users(), user)
 }
 
-/// Returns whether the directory gives a user a device of this address.
+/// Returns whether the directory gives a user a device or a minidisk of this address.
 fn states_device(system: &System, user: UserNo, device: DevAddr) -> bool
     ensures { result ≡ states_device device (slice_get system.now.directory user) }
 {
@@ -191,7 +210,8 @@ fn states_device(system: &System, user: UserNo, device: DevAddr) -> bool
     }
 }
 
-/// Returns the addresses of the devices of a user of the directory.
+/// Returns a new list of the addresses of the devices and minidisks of a user, who has to be in the
+/// directory.
 fn addresses_in(alloc: Global, system: &System, user: UserNo) -> Result<Vec<u16>, AllocError>
     requires { user < length system.now.directory }
     ensures { IfOk result (λ list. list.items
@@ -201,7 +221,7 @@ fn addresses_in(alloc: Global, system: &System, user: UserNo) -> Result<Vec<u16>
     Ok(list)
 }
 
-/// Returns the addresses of the devices of a user.
+/// Returns a new list of the addresses of the devices and minidisks of a user.
 fn addresses_of(alloc: Global, user: &User) -> Result<Vec<u16>, AllocError>
     ensures { IfOk result (λ list. list.items ≡ addresses_of user.now) }
 {
@@ -211,7 +231,7 @@ fn addresses_of(alloc: Global, user: &User) -> Result<Vec<u16>, AllocError>
     Ok(list)
 }
 
-/// Adds the addresses of devices that are no disks.
+/// Appends the addresses of console, reader, punch and printer, of those that a user has.
 fn add_places(list: &mut Vec<u16>, devices: UserDevices) -> Result<(), AllocError>
     ensures { OnOk result (list.new.items ≡ list.old.items ++ places_of devices) }
 {
@@ -222,7 +242,7 @@ fn add_places(list: &mut Vec<u16>, devices: UserDevices) -> Result<(), AllocErro
     Ok(())
 }
 
-/// Adds the addresses of disks.
+/// Appends the addresses of these minidisks.
 fn add_disks(list: &mut Vec<u16>, disks: &[MinidiskStatement]) -> Result<(), AllocError>
     ensures { OnOk result (list.new.items ≡ list.old.items
         ++ map (λ disk. disk.address) disks.now) }
@@ -233,7 +253,7 @@ fn add_disks(list: &mut Vec<u16>, disks: &[MinidiskStatement]) -> Result<(), All
     Ok(())
 }
 
-/// Adds the address of a device, where there is one.
+/// Appends the address of a device, if the user has it.
 fn add_place(list: &mut Vec<u16>, place: Option<DevAddr>) -> Result<(), AllocError>
     ensures { OnOk result (list.new.items ≡ list.old.items ++ option_to_list place) }
 {
@@ -246,7 +266,7 @@ fn add_place(list: &mut Vec<u16>, place: Option<DevAddr>) -> Result<(), AllocErr
     }
 }
 
-/// Returns the cards that an event gives.
+/// Returns a new list of the cards of a deck; empty for any other event.
 fn cards_in(alloc: Global, event: &ScriptEvent<'_>) -> Result<Vec<Card>, AllocError>
     ensures cards { IfOk result (λ cards. HasCards event.now cards.items) }
     ensures refused { IfErr result (λ _. GivesCards event.now) }
@@ -257,7 +277,8 @@ fn cards_in(alloc: Global, event: &ScriptEvent<'_>) -> Result<Vec<Card>, AllocEr
     }
 }
 
-/// Applies an event of a user and a device that the directory has, which gives these cards.
+/// Applies an event of a script, with these cards, to a system and returns the reply; the directory
+/// has to have its user and device.
 fn ask(system: &mut System, event: &ScriptEvent<'_>, cards: &[Card]) -> Result<Reply, Refused>
     requires user { IsOfUser (known_users system.old.directory) event.now }
     requires device { IsOfDevice (known_users system.old.directory) event.now }
@@ -287,7 +308,8 @@ fn ask(system: &mut System, event: &ScriptEvent<'_>, cards: &[Card]) -> Result<R
     }
 }
 
-/// Returns the event that a line of a script says, which gives these cards.
+/// Returns the system's event for an event of a script, with these cards; it must not be one of
+/// turns.
 fn event_of<'a>(event: &ScriptEvent<'a>, cards: &'a [Card]) -> Event<'a>
     requires event { IsEvent event.now }
     requires cards { HasCards event.now cards.now }

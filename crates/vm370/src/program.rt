@@ -40,7 +40,10 @@ pub fn program<R: AllocGlobal + Files + Env + Input + Print + Eprint>(
 }
 
 /// Reads the arguments, the directory, the images and the script, writes the transcript, and saves
-/// the volumes if `--save` is given. A wrong use is reported here.
+/// the volumes if `--save` is given; with `--follow` the script is read in parts from standard
+/// input.
+///
+/// A wrong use is reported here.
 fn run<R: AllocGlobal + Files + Env + Input + Print + Eprint>(
     rt: &R,
     is_watched: bool,

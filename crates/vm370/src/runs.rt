@@ -24,6 +24,7 @@ use std::alloc::Global;
 impl HasVolumes for SharedMachines {
     ghost volumes = { system_volumes };
 
+    /// Returns the volume of this index, if there is one.
     fn volume(&self, index: usize) -> Option<&Volume> {
         self.system().volume(index)
     }
@@ -95,7 +96,8 @@ pub fn follow_system<F: FileStore, R: HostReader, W: HostWriter>(
     )
 }
 
-/// Reads the directory and then the images at these paths, and boots the system that they state.
+/// Reads the directory at a path and then the images at these paths, boots the system that they
+/// state, and returns its machines.
 ///
 /// # Errors
 ///
@@ -131,7 +133,7 @@ fn read_users<F: FileStore>(alloc: Global, files: &mut F, path: &str) -> Result<
     Ok(directory)
 }
 
-/// Boots a system of these sizes.
+/// Boots a system of these sizes from a directory and volumes, and returns its machines.
 fn boot(
     alloc: Global,
     directory: Directory,
@@ -147,7 +149,7 @@ fn boot(
     }
 }
 
-/// Returns which lines of turns a transcript has.
+/// Returns the detail of a transcript: that of terminals if `terminals` is true, else the whole.
 fn detail_of(terminals: bool) -> Detail
     ensures { result ≡ detail_of terminals }
 {

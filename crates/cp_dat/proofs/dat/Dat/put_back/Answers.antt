@@ -21,8 +21,8 @@ store-requires-clause-granted c =
     inside c.args.self.now c.args.from.now c.args.wanted.now c.loop-start.start c.loop-start.self whole low
     c.requires.long before in
     let aligned = before.aligned in
-    let same : length (lent_bytes c.fetch_first.new.self) ≡ length (lent_bytes c.args.self.now) =
-    ap (λ (m : Memory). length m.bytes) c.fetch_first.ensures.memory ∙ size in
+    let same : length (lent_bytes c.fetch_at.new.self) ≡ length (lent_bytes c.args.self.now) =
+    ap (λ (m : Memory). length m.bytes) c.fetch_at.ensures.memory ∙ size in
     let long = c.requires.long in
     let count : length (slice_range c.args.from.now c.loop-start.start (c.loop-start.start + 256)) ≡ 256 =
     length-chunk c.args.from.now c.loop-start.start (omega (arith, long, within)) in
@@ -30,7 +30,7 @@ store-requires-clause-granted c =
       inside = omega (arith, count, same, within);
       here = λ k few. (let page : (c.loop-start.start + k) / 4096
           ≡ c.loop-start.start / 4096 = omega (arith, aligned, few, count) in
-          ap (λ i. is_lent_page c.fetch_first.new.self i) page ∙ c.fetch_first.ensures.there);
+          ap (λ i. is_lent_page c.fetch_at.new.self i) page ∙ c.fetch_at.ensures.there);
     }
 
 pub loop-start-preserved : goal.loop-start-preserved
@@ -44,8 +44,8 @@ loop-start-preserved c =
     elim c.if-wanted-start.branch [
       | then-wanted-start w ↦ rw w.self-is
           (back_on c.args.self.now c.args.from.now c.args.wanted.now c.loop-start.start c.loop-start.self whole low
-          c.requires.long before w.fetch_first.new.self w.store.new.self w.if-wanted-start.true w.fetch_first.ensures.paged_in w.fetch_first.ensures.there
-          w.fetch_first.ensures.between w.fetch_first.ensures.memory w.store.ensures.rest w.store.ensures.stored)
+          c.requires.long before w.fetch_at.new.self w.store.new.self w.if-wanted-start.true w.fetch_at.ensures.paged_in w.fetch_at.ensures.there
+          w.fetch_at.ensures.between w.fetch_at.ensures.memory w.store.ensures.rest w.store.ensures.stored)
       | else-wanted-start w ↦ rw w.self-is
           (back_by c.args.self.now c.args.from.now c.args.wanted.now c.loop-start.start c.loop-start.self whole low
           c.requires.long before c.requires.other_users w.if-wanted-start.false)

@@ -1,7 +1,7 @@
 use Rattle.std.proofs.Common.{◌≡◌, ◌*◌, ◌/◌, ◌%◌, arith, rules}
 use Rattle.cp_dat.specs.Lent.{keeps_stored_same}
 use Rattle.cp_dat.proofs.Copying.{came_fewer, came_nothing}
-use Rattle.cp_dat.proofs.dat.Dat.fetch_first.Goals as goal
+use Rattle.cp_dat.proofs.dat.Dat.fetch_at.Goals as goal
 
 pub returns-clause-paged_in : goal.returns-clause-paged_in
 returns-clause-paged_in c =
