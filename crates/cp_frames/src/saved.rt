@@ -403,9 +403,10 @@ impl Frames {
         if input.flag()? { None } else { Some(()) }
     }
 
-    /// Reads from the input the pages, their places, the order of frames and the number of
-    /// page-ins, into frames and slots in which no page is; returns None if no such frames save
-    /// that.
+    /// Reads pages, their places, the order of frames and the number of page-ins from the input
+    /// into free frames and slots; returns None if the input has no such.
+    ///
+    /// What is left after None is lawful, and nothing else is said of it.
     ///
     /// What is left after None is lawful, and nothing else is said of it.
     pub fn restore(&mut self, alloc: Global, input: &mut Input<'_>) -> Option<()>
