@@ -130,9 +130,8 @@ impl SideBySide {
         }
     }
 
-    /// Does what follows from a line at the bare machines: numbers each closed file, that of the
-    /// punch first, and delivers the message or the punch's file to its user's machine; returns
-    /// what was delivered.
+    /// Does what follows from a line at the bare machines: numbers the closed files, delivers the
+    /// message or the punch's file to its user's machine, and returns what was delivered.
     fn follow(
         &mut self,
         alloc: Global,
