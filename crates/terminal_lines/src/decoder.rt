@@ -234,7 +234,8 @@ fn add(line: &mut Bytes, character: u8) -> Result<(), AllocError>
     Ok(())
 }
 
-/// Returns the character as it is in a line: a blank for what is no printable ASCII character.
+/// Returns the character that a byte is in a line: a blank for what is no printable ASCII
+/// character.
 pub fn printable(byte: u8) -> u8
     ensures { result ≡ printable byte }
 {
