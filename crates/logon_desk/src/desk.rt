@@ -581,7 +581,7 @@ impl LogonDesk {
         out.push(DeskAction::Notes(JournalEntry::WrongPassword { user, connection }))
     }
 
-    /// Ends a connection, and adds an entry to the journal if a user was on there.
+    /// Ends a connection, and adds an entry to the journal if it was the terminal of a user.
     ///
     /// # Errors
     ///
