@@ -52,7 +52,7 @@ fn put_places(out: &mut Vec<u8>, owners: &[Option<UserPage>]) -> Result<(), Allo
     put_zero(out)
 }
 
-/// Appends for each frame whether it is pinned.
+/// Appends a flag for each frame: whether it is pinned.
 #[tactic(auto, using(saved_bytes::proofs::Codes::each_on))]
 fn put_pins(out: &mut Vec<u8>, pins: &[bool]) -> Result<(), AllocError>
     ensures { OnOk result (out.new.items ≡ out.old.items ++ each flag pins.now) }
