@@ -193,9 +193,8 @@ impl<'a> Channels<Dat<'a>> for GuestChannels {
         }
     }
 
-    /// Runs the program with this start for the disk of this index: at once if cached and
-    /// unchanged, else pinning its pages and caching it; or after a dry run if an input could
-    /// change it.
+    /// Runs the program with this start for the disk of this index: at once if its cache is valid,
+    /// else pinning its pages and caching it; or after a dry run if an input could change it.
     fn run_disk(
         &mut self,
         storage: &mut Dat<'a>,
