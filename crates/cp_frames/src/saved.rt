@@ -407,8 +407,6 @@ impl Frames {
     /// into free frames and slots; returns None if the input has no such.
     ///
     /// What is left after None is lawful, and nothing else is said of it.
-    ///
-    /// What is left after None is lawful, and nothing else is said of it.
     pub fn restore(&mut self, alloc: Global, input: &mut Input<'_>) -> Option<()>
         ensures sizes { map length self.new.storages ≡ map length self.old.storages }
         ensures pins { self.new.supply.pins ≡ self.old.supply.pins }
