@@ -133,8 +133,6 @@ impl Devices {
     /// it is malformed, or one of devices at other addresses or of another user.
     ///
     /// What is left after None is lawful, and nothing else is said of it.
-    ///
-    /// What is left after None is lawful, and nothing else is said of it.
     pub fn restore(&mut self, alloc: Global, input: &mut Input<'_>) -> Option<()>
         ensures places { self.new.places ≡ self.old.places }
         ensures user { self.new.user ≡ self.old.user }
