@@ -43,8 +43,6 @@ pub fn bare_program<R: AllocGlobal + Files + Env + Input + Print + Eprint>(
 ///
 /// It reads the images and the script, writes the transcript, and saves the volumes if `--save` is
 /// given. A wrong use is reported here.
-///
-/// A wrong use is reported here.
 fn run<R: AllocGlobal + Files + Env + Input + Print + Eprint>(
     rt: &R,
     is_watched: bool,
