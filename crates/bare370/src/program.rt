@@ -38,10 +38,11 @@ pub fn bare_program<R: AllocGlobal + Files + Env + Input + Print + Eprint>(
     finish(rt, run(rt, is_watched))
 }
 
-/// Reads the arguments, the images and the script, writes the transcript, and saves the volumes if
-/// `--save` is given; with `--follow` the script is read in parts from standard input.
+/// Reads the arguments, and does what they ask: plays a script, or follows one whose parts are read
+/// from standard input if `--follow` is given.
 ///
-/// A wrong use is reported here.
+/// It reads the images and the script, writes the transcript, and saves the volumes if `--save` is
+/// given. A wrong use is reported here.
 fn run<R: AllocGlobal + Files + Env + Input + Print + Eprint>(
     rt: &R,
     is_watched: bool,

@@ -58,8 +58,9 @@ pub fn run_files<F: FileStore, W: HostWriter>(
 }
 
 /// Makes the machine that these options name, follows the parts of a script that an input has and
-/// writes what comes of each, and saves the images of the volumes if the options ask for that and
-/// the input asked for its end.
+/// writes the answer to each, and saves the images of the volumes if asked to.
+///
+/// They are saved if the options ask for that and the input asked for its end.
 ///
 /// # Errors
 ///

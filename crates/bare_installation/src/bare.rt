@@ -73,9 +73,11 @@ impl Model for Bare {
 }
 
 impl Bare {
-    /// Returns a machine that is off, with this storage of at least 8 KiB, which is cleared,
-    /// devices at these places and these disks, each of which has an address of its own, on one of
-    /// channels 0 to 5.
+    /// Returns a machine that is off, with this storage, which is cleared, devices at these places
+    /// and these disks.
+    ///
+    /// The storage has at least 8 KiB, and each device and disk has an address of its own, on one
+    /// of channels 0 to 5.
     ///
     /// # Errors
     ///
@@ -142,8 +144,9 @@ impl Bare {
         }
     }
 
-    /// Returns a machine without devices that is off, with this storage of at least 8 KiB, which is
-    /// cleared.
+    /// Returns a machine that is off, with this storage, which is cleared, and without devices.
+    ///
+    /// The storage has at least 8 KiB.
     ///
     /// # Errors
     ///

@@ -5,7 +5,7 @@ ghost use Rattle.bare_installation.specs.Forgotten.{PrintedLinesDoNotMatter, for
 use crate::bare::Bare;
 
 impl Bare {
-    /// Forgets the lines that the console has printed, and gives back their memory.
+    /// Drops the lines that the console has printed, and gives back their memory.
     pub fn forget_printed(&mut self)
         ensures { self.new ≡ forgotten self.old }
     {
@@ -14,7 +14,7 @@ impl Bare {
 }
 
 /// States that lines that were printed before do not matter: an event leaves the same of a machine
-/// that has forgotten them.
+/// without them.
 pub fn printed_lines_do_not_matter()
     ensures { PrintedLinesDoNotMatter }
 {}

@@ -9,8 +9,8 @@ pub fn real_walks_are_the_copys<D: Device>()
     ensures { laws.EndsAsTheCopy D }
 {}
 
-/// States that a run of the copy over real addresses is the guest's own with words and lists as
-/// they were when it was copied, and the guest's own as it goes if the program is steady.
+/// States that a run of the copy over real addresses is one of the guest's own program with words
+/// and lists as they were copied, and as they become too if the program is steady.
 pub fn real_walks_are_the_guests<D: Device>()
     ensures frozen { laws.EndsAsTheFrozen D }
     ensures steady { laws.EndsAsTheSteady D }

@@ -9,7 +9,7 @@ use crate::system::System;
 use crate::user_machine::UserMachine;
 
 impl UserMachine {
-    /// Forgets the lines that the console has printed.
+    /// Drops the lines that the user's console has printed.
     fn forget_lines(&mut self)
         ensures { self.new ≡ seat_unprinted self.old }
     {
@@ -17,7 +17,7 @@ impl UserMachine {
     }
 }
 
-/// Forgets the lines that the consoles of these users have printed.
+/// Drops the lines that the consoles of these users have printed.
 fn forget_each(users: &mut [UserMachine])
     ensures { users.new ≡ map seat_unprinted users.old }
 {
@@ -27,7 +27,7 @@ fn forget_each(users: &mut [UserMachine])
 }
 
 impl System {
-    /// Forgets the lines that the consoles of all users have printed, and gives back their memory.
+    /// Drops the lines that the consoles of all users have printed, and gives back their memory.
     pub fn forget_printed(&mut self)
         ensures { self.new ≡ forgotten self.old }
     {
@@ -35,8 +35,8 @@ impl System {
     }
 }
 
-/// States that lines that consoles have printed before do not matter: a step of a system that has
-/// forgotten them is one of the system that has not.
+/// States that lines that consoles have printed before do not matter: a step of a system without
+/// them is one of the system that still has them.
 pub fn printed_lines_do_not_matter()
     ensures { StepsGoOn }
 {}

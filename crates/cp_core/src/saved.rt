@@ -300,8 +300,8 @@ impl System {
         put_flag(out, *is_spent)
     }
 
-    /// Restores from the input the state of a system to which no event was applied, and returns
-    /// that system; None if it has no state of such a system, or if memory is refused.
+    /// Reads a state from the input into this system, to which no event was applied, and returns
+    /// it; None if the input has no state of such a system, or if memory is refused.
     ///
     /// Nothing is proved of what the bytes hold: save the system again, and compare.
     pub fn restore(self, input: &mut Input<'_>) -> Option<System>

@@ -83,14 +83,14 @@ impl System {
         self.users.len()
     }
 
-    /// Returns the directory.
+    /// Returns the directory from which the system was booted.
     pub fn directory(&self) -> &Directory
         ensures { result.now ≡ self.now.directory }
     {
         &self.directory
     }
 
-    /// Returns whether lack of memory has ended the system.
+    /// Returns whether lack of memory has ended the system, so that it applies no more events.
     pub fn is_spent(&self) -> bool
         ensures { result ≡ self.now.is_spent }
     {
@@ -302,8 +302,7 @@ impl System {
     }
 
     /// Applies an event to the machine of the user whom it names, delivers what it sends to another
-    /// user, and returns the reply; an error if there is no such user or device, or the system is
-    /// spent.
+    /// user, and returns the reply.
     ///
     /// To the user whom it names, and to whom it delivers something, it is what happens to a
     /// machine of his own; every other user's machine stays.

@@ -90,7 +90,7 @@ impl<'a> Dat<'a> {
         Ok(made)
     }
 
-    /// Pages a page in if it is in no frame, and then unpins all frames.
+    /// If a page is in no frame, pages it in and then unpins all frames.
     ///
     /// A page that is in a slot is never refused.
     ///

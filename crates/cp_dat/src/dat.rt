@@ -36,8 +36,8 @@ impl<'a> Dat<'a> {
     ghost use Rattle.cp_dat.specs.Lent.{lent_bytes, lent_keys, lent_pool, lent_frame, is_lent_page};
     ghost use Rattle.cp_dat.specs.Lent.{user_of, KeepsFrames};
 
-    /// Borrows a user's pages as one storage, with a key for each 2048 bytes. A user who is not
-    /// there has no bytes.
+    /// Returns a storage that borrows a user's pages, with a key for each 2048 bytes; it has no
+    /// bytes if there is no such user.
     pub fn new(frames: &'a mut Frames, keys: &'a mut [StorageKey], user: UserNo) -> Dat<'a>
         requires { length (bytes_of frames.old user) ≤ 2048 * length keys.old }
         ensures same_frames { result.frames.ghost_name ≡ frames.entry.ghost_name }
@@ -240,9 +240,8 @@ impl<'a> Storage for Dat<'a> {
         Ok(())
     }
 
-    /// Copies bytes from one place to another and returns true, if there are any, each place is in
-    /// one block, size and keys let both accesses pass and both pages are in frames; else returns
-    /// false.
+    /// Copies some bytes of one block to a place in one block and returns true, if both accesses
+    /// are allowed and both pages in frames; else returns false.
     #[inline(always)]
     fn copy_at_once(&mut self, from: u32, to: u32, count: u32, key: AccessKey) -> bool {
         if count == 0 {

@@ -200,7 +200,7 @@ impl Directory {
         Ok(())
     }
 
-    /// Returns the users, in order.
+    /// Returns the users of the directory, in the order of their lines.
     pub fn users(&self) -> &[User]
         ensures users { result.now ≡ self.now }
         ensures few { length result.now ≤ MOST_USERS }
@@ -219,7 +219,7 @@ impl Directory {
         self.users.len()
     }
 
-    /// Returns whether there is no user.
+    /// Returns whether the directory has no user.
     pub fn is_empty(&self) -> bool
         ensures { result ≡ (length self.now == 0) }
     {
@@ -268,7 +268,7 @@ impl Directory {
         None
     }
 
-    /// Returns whether a user has this name.
+    /// Returns whether a user of the directory has this name.
     pub fn contains(&self, name: &[u8]) -> bool
         ensures { result ≡ list_any (has_name name.now) self.now }
     {

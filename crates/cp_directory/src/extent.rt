@@ -224,7 +224,8 @@ impl DiskExtent {
         *mode
     }
 
-    /// Returns whether the two are of one volume and share a cylinder, and not both are read-only.
+    /// Returns whether two extents are of one volume and share a cylinder, and not both are
+    /// read-only.
     pub fn conflicts_with(&self, other: &DiskExtent) -> bool
         ensures { result ≡ conflicts self.now other.now }
     {

@@ -189,9 +189,8 @@ fn place_minidisk(
     }
 }
 
-/// States that what [`read_directory`] reads is what the grammar says, and that it reads all of
-/// that; the fault that it says is the first fault of the first faulty line, and that is always
-/// reported.
+/// States that [`read_directory`] reads exactly the texts of the grammar, and always reports the
+/// first fault of the first faulty line of any other text.
 pub fn reads_grammar()
     ensures { ReadsGrammar }
 {}

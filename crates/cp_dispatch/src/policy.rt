@@ -215,9 +215,10 @@ fn place_of_program(programs: &[Program], user: UserNo, device: DevAddr) -> Opti
         .position(|program| program.is_of(user, device))
 }
 
-/// States that whoever is ready throughout has a turn, of the slices and of the serves: with j
-/// others before, one of the next j + 1. So of as many slices as there are users logged on each who
-/// is ready has one.
+/// States that a user who stays ready, or a program that stays started, with j others before it in
+/// its queue has one of the next j + 1 slices or serves.
+///
+/// So of as many slices as there are users logged on each who is ready has one.
 pub fn is_fair()
     ensures { IsFairPolicy }
 {}

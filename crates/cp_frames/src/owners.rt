@@ -57,8 +57,8 @@ pub fn first_free(owners: &[Option<UserPage>], low: usize) -> Option<usize>
     None
 }
 
-/// Returns `slot` if no page is in it now and it is below `low`, else `low`: no slot before is
-/// free.
+/// Returns the bound below which each slot is taken: `slot` if that is free now and below `low`,
+/// else `low`.
 pub fn low_after(low: usize, slot: usize, owner: Option<UserPage>) -> usize
     ensures { (owners : List (Option UserPage)) → All IsSome (take low owners)
         → All IsSome (take result (slice_set owners slot owner)) }

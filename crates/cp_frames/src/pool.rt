@@ -155,7 +155,7 @@ impl Frames {
         self.owners.len() as u32
     }
 
-    /// Returns how many pages have been brought into frames so far.
+    /// Returns how many pages have been paged in so far. The count stays at its greatest value.
     pub fn page_ins(&self) -> u64
         ensures { result ≡ self.now.supply.page_ins }
     {

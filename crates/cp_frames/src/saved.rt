@@ -52,7 +52,7 @@ fn put_places(out: &mut Vec<u8>, owners: &[Option<UserPage>]) -> Result<(), Allo
     put_zero(out)
 }
 
-/// Appends for each frame whether it is pinned.
+/// Appends a flag for each frame: whether it is pinned.
 #[tactic(auto, using(saved_bytes::proofs::Codes::each_on))]
 fn put_pins(out: &mut Vec<u8>, pins: &[bool]) -> Result<(), AllocError>
     ensures { OnOk result (out.new.items ≡ out.old.items ++ each flag pins.now) }
@@ -403,9 +403,8 @@ impl Frames {
         if input.flag()? { None } else { Some(()) }
     }
 
-    /// Reads from the input the pages, their places, the order of frames and the number of
-    /// page-ins, into frames and slots in which no page is; returns None if no such frames save
-    /// that.
+    /// Reads pages, their places, the order of frames and the number of page-ins from the input
+    /// into free frames and slots; returns None if the input has no such.
     ///
     /// What is left after None is lawful, and nothing else is said of it.
     pub fn restore(&mut self, alloc: Global, input: &mut Input<'_>) -> Option<()>

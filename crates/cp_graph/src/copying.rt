@@ -22,8 +22,8 @@ use s370_store::Storage;
 use s370_walk::{Ccw, Flags};
 use std::alloc::Global;
 
-/// Returns a copy of the word at a place with its list and its links; places to which it leads, if
-/// they are new, are added to `places` and `index`.
+/// Returns a copy of the word at a place, if there is one, with its list and its links; places to
+/// which it leads, if they are new, are added to `places` and `index`.
 fn copy_word<S: Storage>(
     alloc: Global,
     storage: &S,

@@ -42,8 +42,8 @@ fn fill(copy: &mut TrialStorage)
     }
 }
 
-/// Returns of each page of the storage whether the program from an address on needs it; None if an
-/// input could change one of its words or lists.
+/// Returns a flag for each page of the storage: whether the program from an address on needs it;
+/// None if an input could change one of its words or lists.
 pub(crate) fn pages_apart(
     alloc: Global,
     storage: &Dat<'_>,

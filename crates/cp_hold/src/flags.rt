@@ -43,8 +43,8 @@ fn mark_pages(wanted: &mut Vec<bool>, pages: &[Page])
     }
 }
 
-/// Returns a new flag for each page of a storage of `count` pages: whether one of these fullwords
-/// or of these pages is that page's.
+/// Returns a new list of flags, one for each of `count` pages: whether one of these fullwords is on
+/// it, or it is one of these pages.
 pub(crate) fn flags_of(
     alloc: Global,
     count: u32,

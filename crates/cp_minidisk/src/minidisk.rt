@@ -76,7 +76,7 @@ impl Minidisk {
         self.cylinder
     }
 
-    /// Returns the head that is chosen.
+    /// Returns the number of the head that is chosen.
     pub fn head(&self) -> usize
         ensures head { result ≡ self.now.head }
         ensures inside { result < 19 }

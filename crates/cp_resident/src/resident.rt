@@ -154,9 +154,8 @@ impl<'a> Channels<Dat<'a>> for GuestChannels {
     ghost ReusesDisk = { λ r d start index done s.
         HasReusedDisk (reuse_of r) d start index done (reuse_of s) };
 
-    /// Runs the program with this start for a device that is no disk, as a whole or not at all: its
-    /// cached copy if that is valid, else a new copy that is cached; a self-modifying program after
-    /// a dry run.
+    /// Runs the program with this start for a device that is no disk: its cached copy if that is
+    /// valid, else a new copy, which it caches; or after a dry run if an input could change it.
     fn run<D: DryRun>(
         &mut self,
         storage: &mut Dat<'a>,
@@ -194,9 +193,8 @@ impl<'a> Channels<Dat<'a>> for GuestChannels {
         }
     }
 
-    /// Runs the program with this start for the disk of this index, as a whole or not at all: at
-    /// once if it is cached and unchanged, else with its pages pinned, and then it is cached; a
-    /// self-modifying one after a dry run.
+    /// Runs the program with this start for the disk of this index: at once if its cache is valid,
+    /// else pinning its pages and caching it; or after a dry run if an input could change it.
     fn run_disk(
         &mut self,
         storage: &mut Dat<'a>,

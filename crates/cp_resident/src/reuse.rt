@@ -91,7 +91,7 @@ impl Reuse {
         )
     }
 
-    /// Returns how often a program was run again.
+    /// Returns how often a cached program was run again.
     pub fn reuses(&self) -> u64
         ensures { result ≡ self.now.reuses }
     {
@@ -107,7 +107,8 @@ impl Reuse {
         *reuses
     }
 
-    /// Counts that a program was run again. The number stays at its greatest value.
+    /// Adds one to the count of how often a cached program was run again, unless that is at its
+    /// greatest value.
     pub fn count(&mut self)
         ensures { self.new ≡ run_again self.old }
     {
@@ -193,7 +194,7 @@ impl Reuse {
     }
 }
 
-/// Returns this many places without a program.
+/// Returns a new list of this many places for cached programs, all of them empty.
 fn places_for(alloc: Global, minidisks: usize) -> Result<Vec<Option<CachedPages>>, AllocError>
     ensures { IfOk result (λ made. made.items ≡ replicate minidisks None) }
 {

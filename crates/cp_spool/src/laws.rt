@@ -4,8 +4,10 @@ ghost use Rattle.cp_spool.specs.Alike.{AFedReaderStops, AFedReaderTouches};
 ghost use Rattle.cp_spool.specs.Alike.{AFedReaderTouchesLoading};
 
 /// States that any program walks on a reader that feeds from a queue as on a reader that has the
-/// decks of the queue itself, and that the queue is left as that reader is, after it has taken over
-/// what was read ([`Queues::take_back`](crate::Queues::take_back)).
+/// decks of the queue itself.
+///
+/// The queue is left as that reader is, after it has taken over what was read
+/// ([`Queues::take_back`](crate::Queues::take_back)).
 pub fn a_fed_reader_is_a_reader()
     ensures walks { AFedReaderIsAReader }
     ensures loads { AFedReaderIsLoadedFrom }

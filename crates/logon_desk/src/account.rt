@@ -21,7 +21,7 @@ pub struct KeptLine {
 }
 
 impl KeptLine {
-    /// Returns a copy of the line.
+    /// Returns a new copy of the line and its minute.
     ///
     /// # Errors
     ///
@@ -52,7 +52,7 @@ impl Model for KeptLines {
 }
 
 impl KeptLines {
-    /// Creates a list of no lines.
+    /// Returns an empty list of lines.
     pub fn new(alloc: Global) -> KeptLines
         ensures { result ≡ [] }
     {
@@ -61,7 +61,7 @@ impl KeptLines {
         }
     }
 
-    /// Keeps one line more, and forgets the oldest of too many.
+    /// Appends a line, and removes the oldest if there are more than 24.
     ///
     /// # Errors
     ///
@@ -76,14 +76,14 @@ impl KeptLines {
         Ok(())
     }
 
-    /// Forgets all lines.
+    /// Removes all lines.
     pub fn clear(&mut self)
         ensures { self.new ≡ [] }
     {
         self.lines.clear();
     }
 
-    /// Returns the lines.
+    /// Returns the lines, the oldest first.
     pub fn as_slice(&self) -> &[KeptLine]
         ensures { result.now ≡ self.now }
     {
@@ -111,13 +111,14 @@ pub struct Account {
 impl Named for Account {
     ghost name = { λ a. a.name };
 
+    /// Returns the user's name.
     fn name(&self) -> &[u8] {
         self.name.as_slice()
     }
 }
 
 impl Account {
-    /// Returns a user whose machine is off.
+    /// Returns the account of a user of this name, whose machine is off and who has no terminal.
     pub fn new(alloc: Global, name: Bytes) -> Account
         ensures { result ≡ new_account name }
     {

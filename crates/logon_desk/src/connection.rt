@@ -78,7 +78,7 @@ impl Connection {
         }
     }
 
-    /// Returns a connection that has come from an address.
+    /// Returns a new connection from an address, at which one has a minute from `now` on to log on.
     pub fn opened(alloc: Global, address: u64, now: u64) -> Connection
         requires { now < 2 ^ 62 }
         ensures { result ≡ opened address now }
@@ -107,7 +107,8 @@ pub struct LogonStep {
     pub notice: Option<Notice>,
 }
 
-/// Returns what comes of a line of somebody who is about to log on.
+/// Returns the stage to which a line moves somebody who is about to log on, and the text that he is
+/// shown, if there is one.
 pub fn after_line(stage: Stage, said: Said) -> LogonStep
     ensures { result ≡ after_line stage said }
 {
@@ -140,7 +141,8 @@ pub fn after_line(stage: Stage, said: Said) -> LogonStep
 }
 
 impl Patience {
-    /// Notes that a guess begins to wait for so long.
+    /// Returns these times with a guess that begins to wait for so long: how much time is left to
+    /// log on, and when the guess is due.
     pub fn begun(self, now: u64, wait: u64) -> Patience
         requires now { now < 2 ^ 62 }
         requires wait { wait ≤ 4000 }
@@ -153,7 +155,7 @@ impl Patience {
         }
     }
 
-    /// Notes that a guess was wrong.
+    /// Returns these times with one more wrong guess, and with the time when its answer is due.
     pub fn refused(self, now: u64) -> Patience
         requires { now < 2 ^ 62 }
         ensures { result ≡ refused self now }
@@ -165,7 +167,8 @@ impl Patience {
         }
     }
 
-    /// Lets the guesser try again, in the time that he had left.
+    /// Returns these times with a new deadline, so that the guesser has the time that he had left,
+    /// at most a minute.
     pub fn again(self, now: u64) -> Patience
         requires { now < 2 ^ 62 }
         ensures { result ≡ again self now }
@@ -177,7 +180,7 @@ impl Patience {
     }
 }
 
-/// Returns how long one waits for the answer to a wrong guess, after so many others.
+/// Returns how many milliseconds the answer to a wrong guess waits, after so many other wrong ones.
 fn pause(tries: u8) -> u64
     ensures value { result ≡ pause_of tries }
     ensures bounded { result ≤ 2000 }

@@ -63,8 +63,8 @@ impl Model for LogonDesk {
 }
 
 impl LogonDesk {
-    /// Returns a desk for the users of these names, with so many places for connections, to which
-    /// nobody has come.
+    /// Returns a desk for the users of these names, with so many places for connections, none of
+    /// which has one.
     ///
     /// # Errors
     ///
@@ -95,15 +95,15 @@ impl LogonDesk {
         self.accounts.len()
     }
 
-    /// Returns how many are about to log on.
+    /// Returns how many connections there are at which nobody has logged on yet.
     pub fn strangers(&self) -> usize
         ensures { result ≡ count_by is_stranger self.now.connections }
     {
         strangers(&self.connections)
     }
 
-    /// Returns one of those who are about to log on, from the address from which most of them have
-    /// come.
+    /// Returns a connection at which nobody has logged on yet, from the address from which most of
+    /// them are, if there is one.
     pub fn busiest(&self) -> Option<usize>
         ensures within { IfSome result (λ c. c < length self.now.connections) }
         ensures busiest { IfSome result (λ c. IsBusiest self.now.connections c) }
@@ -113,7 +113,7 @@ impl LogonDesk {
         busiest(&self.connections)
     }
 
-    /// Returns whether a connection is there.
+    /// Returns whether there is a connection at a place.
     pub fn is_open(&self, connection: usize) -> bool
         requires { connection < length self.now.connections }
         ensures { result ≡ not (is_gone (connection_at self.now connection).stage) }
@@ -121,7 +121,7 @@ impl LogonDesk {
         !matches!(self.connections[connection].stage, Stage::Gone)
     }
 
-    /// Opens a connection that has come from an address.
+    /// Puts a new connection from an address at a place, and shows its first text there.
     ///
     /// # Errors
     ///
@@ -143,7 +143,7 @@ impl LogonDesk {
         say(connection, Notice::Online, out)
     }
 
-    /// Receives bytes that have come at a connection.
+    /// Appends bytes to those that wait at a connection, or ends it if more than 4096 would wait.
     ///
     /// # Errors
     ///
@@ -166,7 +166,8 @@ impl LogonDesk {
         place.waiting.add(bytes)
     }
 
-    /// Takes the first byte that waits at a connection, if one is taken there now.
+    /// Takes the first byte that waits at a connection, if there is one and bytes are taken there
+    /// now, and does what it completes.
     ///
     /// # Errors
     ///
@@ -189,7 +190,8 @@ impl LogonDesk {
         }
     }
 
-    /// Takes the first byte that waits at a connection.
+    /// Takes the first byte that waits at a connection, if there is one, and does what it
+    /// completes.
     fn take_first(
         &mut self,
         alloc: Global,
@@ -212,7 +214,8 @@ impl LogonDesk {
         self.after_decoded(alloc, connection, decoded, now, out)
     }
 
-    /// Returns whether bytes of a connection are taken now.
+    /// Returns whether bytes of a connection are taken now: if a name or a password is asked for,
+    /// or its user is on there and no line of his is being done.
     pub fn is_taking(&self, connection: usize) -> bool
         requires { connection < length self.now.connections }
         ensures { result ≡ is_taking self.now connection (connection_at self.now connection).stage }
@@ -242,7 +245,8 @@ impl LogonDesk {
         self.connections[connection].waiting.len()
     }
 
-    /// Does what a byte has completed at a connection.
+    /// Does what a byte has completed at a connection: a line, the refusal of a telnet option, or
+    /// an answer that somebody is there.
     fn after_decoded(
         &mut self,
         alloc: Global,
@@ -268,7 +272,8 @@ impl LogonDesk {
         }
     }
 
-    /// Does what a line asks for that was typed at a connection.
+    /// Types a line from a connection for the user who is on there, or takes it as one of somebody
+    /// who is about to log on.
     fn after_line(
         &mut self,
         alloc: Global,
@@ -291,7 +296,7 @@ impl LogonDesk {
         }
     }
 
-    /// Types a line of a user who is on.
+    /// Adds the action that a line of a user is typed in the script, and marks him as busy.
     fn type_line(
         &mut self,
         alloc: Global,
@@ -308,7 +313,7 @@ impl LogonDesk {
         out.push(DeskAction::Types { user, line })
     }
 
-    /// Returns whether the machine of a user runs.
+    /// Returns whether the machine of a user runs; false if there is no such user.
     fn is_running(&self, user: UserNo) -> bool
         ensures { result ≡ (account_of self.now user).is_running }
     {
@@ -318,7 +323,8 @@ impl LogonDesk {
         }
     }
 
-    /// Takes a line of somebody who is about to log on.
+    /// Takes a line of somebody who is about to log on: moves his connection to its next stage, and
+    /// shows him a text, if there is one.
     fn logon_line(
         &mut self,
         alloc: Global,
@@ -340,7 +346,7 @@ impl LogonDesk {
         self.answered(connection, answer, now, out)
     }
 
-    /// Moves a connection to the stage that comes of a line, and shows the notice.
+    /// Moves a connection to the stage of this step, and shows its text, if there is one.
     fn answered(
         &mut self,
         connection: usize,
@@ -362,7 +368,8 @@ impl LogonDesk {
         }
     }
 
-    /// Moves a connection to a stage; a guess waits in its queue.
+    /// Moves a connection to a stage; a guess is first counted in its queue, and waits as long as
+    /// that says.
     fn come_to(&mut self, connection: usize, stage: Stage, now: u64)
         requires within { connection < length self.old.connections }
         requires now { now < 2 ^ 62 }
@@ -375,7 +382,8 @@ impl LogonDesk {
         }
     }
 
-    /// Lets a guess wait in its queue.
+    /// Counts a guess in the queue of its name and address, and lets it wait at its connection as
+    /// long as that says.
     fn guess_waits(&mut self, connection: usize, guess: Guess, now: u64)
         requires within { connection < length self.old.connections }
         requires now { now < 2 ^ 62 }
@@ -389,7 +397,8 @@ impl LogonDesk {
         place.stage = Stage::Waiting(guess);
     }
 
-    /// Does what is due for a connection at this time.
+    /// Does what is due for a connection at this time: ends it if it is too late or its user is on
+    /// elsewhere, asks the host about a guess, or answers a wrong one.
     ///
     /// # Errors
     ///
@@ -431,8 +440,8 @@ impl LogonDesk {
         }
     }
 
-    /// Tells a guesser that he was refused, and lets him try again, or ends the connection after
-    /// the last try.
+    /// Shows a guesser that he was refused, and lets him try again, or ends his connection after
+    /// the third wrong guess.
     fn after_pause(
         &mut self,
         alloc: Global,
@@ -456,7 +465,8 @@ impl LogonDesk {
         Ok(())
     }
 
-    /// Ends the connection of a user who is on elsewhere by now.
+    /// Ends the connection of a user who is on at another one or has logged off; if it is still his
+    /// terminal, does nothing.
     fn leave_behind(
         &mut self,
         alloc: Global,
@@ -490,7 +500,8 @@ impl LogonDesk {
         }
     }
 
-    /// Takes the host's answer whether a name and a password are right.
+    /// Logs a user on at a connection, or refuses its guess, as the host answers; does nothing if
+    /// no answer to this guess is awaited there.
     ///
     /// # Errors
     ///
@@ -522,7 +533,8 @@ impl LogonDesk {
         }
     }
 
-    /// Logs a user on at a connection, which is then his terminal.
+    /// Logs a user on at a connection, which is then his terminal, takes his right guess out of its
+    /// queue, and marks him as busy if his machine is off.
     fn log_on(
         &mut self,
         alloc: Global,
@@ -549,7 +561,8 @@ impl LogonDesk {
         Ok(())
     }
 
-    /// Makes a connection wait after a wrong guess, and notes it for the journal.
+    /// Refuses a wrong guess: its connection waits for the answer, one more wrong guess is counted,
+    /// and the journal gets an entry.
     fn wrong_guess(
         &mut self,
         connection: usize,
@@ -568,7 +581,7 @@ impl LogonDesk {
         out.push(DeskAction::Notes(JournalEntry::WrongPassword { user, connection }))
     }
 
-    /// Closes a connection that has ended, or is to end.
+    /// Ends a connection, and adds an entry to the journal if it was the terminal of a user.
     ///
     /// # Errors
     ///
@@ -591,7 +604,7 @@ impl LogonDesk {
         self.end(alloc, connection, out)
     }
 
-    /// Ends a connection.
+    /// Makes a place empty, and adds the action that its connection ends.
     fn end(&mut self, alloc: Global, connection: usize, out: &mut Outputs) -> Result<(), AllocError>
         requires within { connection < length self.old.connections }
         ensures { OnOk result (Does (ended self.old connection []) out.old self.new out.new) }
@@ -600,7 +613,7 @@ impl LogonDesk {
         out.push(DeskAction::Ends { connection })
     }
 
-    /// Shows a user a line of the transcript, which is on the disk.
+    /// Shows a user a line of the transcript at his terminal, if he is on at one.
     ///
     /// # Errors
     ///
@@ -624,7 +637,7 @@ impl LogonDesk {
         }
     }
 
-    /// Returns the connection at which a user is on.
+    /// Returns the connection at which a user is on, if he is on at one.
     pub fn terminal_of(&self, user: UserNo) -> Option<usize>
         ensures { result ≡ terminal_of self.now user }
     {
@@ -635,7 +648,8 @@ impl LogonDesk {
         }
     }
 
-    /// Keeps a line of a user for when he comes back.
+    /// Keeps a copy of a line of a user, for when he is back; of more than 24 the oldest is
+    /// dropped.
     ///
     /// # Errors
     ///
@@ -651,7 +665,8 @@ impl LogonDesk {
         self.accounts[user.index()].kept.keep(line)
     }
 
-    /// Notes whether the machine of a user is on or off, and runs or is stopped.
+    /// Sets whether a user's machine is on and whether it runs; if it is off, he has no terminal
+    /// any more, and his kept lines are dropped.
     pub fn turn(&mut self, user: UserNo, is_on: bool, is_running: bool)
         requires { user < length self.old.accounts }
         ensures { IsStep self.old (Turns user is_on is_running) [] self.new [] }
@@ -665,7 +680,8 @@ impl LogonDesk {
         }
     }
 
-    /// Notes that the line that was typed for a user is done.
+    /// Marks that the line which was typed for a user is done; if his machine is off, he has no
+    /// terminal any more.
     pub fn finish(&mut self, user: UserNo)
         requires { user < length self.old.accounts }
         ensures { IsStep self.old (Finishes user) [] self.new [] }
@@ -678,7 +694,7 @@ impl LogonDesk {
     }
 }
 
-/// Places at which there is no connection.
+/// Returns a new list of so many places without connections.
 fn places_of(alloc: Global, connections: usize) -> Result<Vec<Connection>, AllocError>
     ensures { IfOk result (λ places. places.items ≡ replicate connections gone) }
 {
@@ -689,7 +705,7 @@ fn places_of(alloc: Global, connections: usize) -> Result<Vec<Connection>, Alloc
     Ok(places)
 }
 
-/// Creates the accounts of users whose machines are off.
+/// Returns a new list of the accounts of users of these names, whose machines are off.
 fn accounts_of(alloc: Global, names: &[Bytes]) -> Result<Vec<Account>, AllocError>
     ensures { IfOk result (λ accounts. accounts.items ≡ map new_account names.now) }
 {
@@ -700,14 +716,15 @@ fn accounts_of(alloc: Global, names: &[Bytes]) -> Result<Vec<Account>, AllocErro
     Ok(accounts)
 }
 
-/// Gives a connection a text of the desk's own.
+/// Adds the action that a connection is shown a text of the desk's own.
 fn say(connection: usize, notice: Notice, out: &mut Outputs) -> Result<(), AllocError>
     ensures { OnOk result (out.new ≡ out.old ++ DeskAction.Says connection notice ∷ []) }
 {
     out.push(DeskAction::Says { connection, notice })
 }
 
-/// Logs the machine of a user on, or shows him what he has missed if it is on.
+/// Logs a user's machine on, or shows his last lines again if it is on or a line of his is under
+/// way.
 fn greet(
     alloc: Global,
     connection: usize,
@@ -729,7 +746,7 @@ fn greet(
     show_again(alloc, connection, user, account.kept.as_slice(), out)
 }
 
-/// Shows a connection the lines that were kept of its user.
+/// Adds the actions that a connection is shown these lines of its user once more.
 fn show_again(
     alloc: Global,
     connection: usize,
@@ -750,7 +767,7 @@ fn show_again(
     Ok(())
 }
 
-/// Returns whether a user's terminal is this connection.
+/// Returns whether this connection is a user's terminal, if he has one.
 fn is_terminal(terminal: Option<usize>, connection: usize) -> bool
     ensures { result ≡ Rattle.logon_desk.specs.Desk.is_terminal terminal connection }
 {
@@ -778,8 +795,8 @@ fn is_same(one: &Guess, other: &Guess) -> bool
         && one.password.as_slice() == other.password.as_slice()
 }
 
-/// Returns a line as it is shown: its first characters, without what a terminal takes for something
-/// else.
+/// Returns a copy of a line as it is shown: its first 1024 characters, with blanks for those that a
+/// terminal could take for anything else.
 fn shown(alloc: Global, line: &[u8]) -> Result<Bytes, AllocError>
     ensures { IfOk result (λ copy. copy ≡ shown line.now) }
 {
@@ -787,7 +804,7 @@ fn shown(alloc: Global, line: &[u8]) -> Result<Bytes, AllocError>
     Ok(Bytes::owning(line.iter().map(|c| printable(*c)).collect(alloc)?))
 }
 
-/// Returns the first characters of a line.
+/// Returns the first 1024 characters of a line, or all if it has fewer.
 fn first_characters(line: &[u8]) -> &[u8]
     ensures { result.now ≡ take 1024 line.now }
 {

@@ -36,7 +36,7 @@ impl Model for Guesses {
 }
 
 impl Guesses {
-    /// Creates queues without guesses.
+    /// Returns queues that remember no guess.
     ///
     /// # Errors
     ///
@@ -50,7 +50,8 @@ impl Guesses {
         })
     }
 
-    /// Notes a guess in a queue, be it right or wrong, and returns how many milliseconds it waits.
+    /// Adds a guess, be it right or wrong, to what a queue remembers, and returns how many
+    /// milliseconds it waits for those before it.
     pub fn begin(&mut self, queue: usize, now: u64) -> u64
         requires queue { queue < QUEUES }
         requires now { now < 2 ^ 62 }
@@ -64,7 +65,7 @@ impl Guesses {
         wait(owed)
     }
 
-    /// Forgets a guess of a queue, which was right.
+    /// Removes a guess, which was right, from what a queue remembers.
     pub fn was_right(&mut self, queue: usize, now: u64)
         requires queue { queue < QUEUES }
         requires now { now < 2 ^ 62 }
@@ -80,7 +81,8 @@ impl Guesses {
     }
 }
 
-/// Returns how long a guess waits in a queue that remembers others for so long.
+/// Returns how many milliseconds a guess waits in a queue that remembers others for `owed`
+/// milliseconds.
 fn wait(owed: u64) -> u64
     ensures value { result ≡ wait_of owed }
     ensures bounded { result ≤ LONGEST_WAIT }
@@ -95,7 +97,7 @@ fn wait(owed: u64) -> u64
     }
 }
 
-/// Returns the queue of the guesses of a name from an address.
+/// Returns the number of the queue of the guesses of a name from an address.
 pub fn queue_of(name: &[u8], address: u64) -> usize
     ensures value { result ≡ queue_of name.now address }
     ensures within { result < QUEUES }
@@ -104,7 +106,7 @@ pub fn queue_of(name: &[u8], address: u64) -> usize
     (number >> 54) as usize
 }
 
-/// Returns a number that one more character is mixed into.
+/// Returns a number with one more character mixed in, for a hash.
 fn mixed(number: u64, c: u8) -> u64
     ensures value { result ≡ mixed number c }
     ensures fits { result < 2 ^ 64 }

@@ -142,7 +142,7 @@ impl Model for Outputs {
 }
 
 impl Outputs {
-    /// Creates an empty list of actions.
+    /// Returns an empty list of actions.
     pub fn new(alloc: Global) -> Outputs
         ensures { result ≡ [] }
     {
@@ -151,7 +151,7 @@ impl Outputs {
         }
     }
 
-    /// Adds one thing at the end.
+    /// Appends an action.
     ///
     /// # Errors
     ///
@@ -163,14 +163,14 @@ impl Outputs {
         Ok(())
     }
 
-    /// Returns all that is to be done.
+    /// Returns the actions that are to be done, in order.
     pub fn as_slice(&self) -> &[DeskAction]
         ensures { result.now ≡ self.now }
     {
         &self.outputs
     }
 
-    /// Empties the list after its actions were done.
+    /// Removes all actions, after they were done.
     pub fn clear(&mut self)
         ensures { self.new ≡ [] }
     {

@@ -6,21 +6,21 @@ ghost use Rattle.logon_desk.specs.Strangers.{IsBusiest, comes_from, is_stranger,
 
 use crate::connection::{Connection, Stage};
 
-/// Returns whether somebody there is about to log on.
+/// Returns whether there is a connection at a place, and nobody has logged on at it yet.
 pub fn is_stranger(connection: &Connection) -> bool
     ensures { result ≡ is_stranger connection.now }
 {
     !matches!(connection.stage, Stage::Gone | Stage::On(_))
 }
 
-/// Returns whether a stranger's connection comes from this address.
+/// Returns whether there is a connection from this address at which nobody has logged on yet.
 fn comes_from(connection: &Connection, address: u64) -> bool
     ensures { result ≡ comes_from address connection.now }
 {
     is_stranger(connection) && connection.address == address
 }
 
-/// Returns how many are about to log on.
+/// Returns how many connections there are at which nobody has logged on yet.
 pub fn strangers(connections: &[Connection]) -> usize
     ensures { result ≡ count_by is_stranger connections.now }
 {
@@ -30,7 +30,7 @@ pub fn strangers(connections: &[Connection]) -> usize
         .count()
 }
 
-/// Returns how many strangers' connections come from an address.
+/// Returns how many connections there are from an address at which nobody has logged on yet.
 fn strangers_from(connections: &[Connection], address: u64) -> usize
     ensures { result ≡ strangers_from connections.now address }
 {
@@ -40,8 +40,8 @@ fn strangers_from(connections: &[Connection], address: u64) -> usize
         .count()
 }
 
-/// Returns whether a stranger goes before the one who was found: from a busier address, or later
-/// from one as busy.
+/// Returns whether one who is about to log on is to be ended before the one who was found: from a
+/// busier address, or with as late a deadline or a later one from one as busy.
 fn goes_first(count: usize, most: usize, deadline: u64, latest: u64) -> bool
     ensures above { result ≡ true → most ≤ count }
     ensures below { result ≡ false → count ≤ most }
@@ -50,8 +50,8 @@ fn goes_first(count: usize, most: usize, deadline: u64, latest: u64) -> bool
     count > most || (count == most && deadline >= latest)
 }
 
-/// Returns one of those who are about to log on, from the address from which most of them have
-/// come; of these the one who may log on for the longest, who is mostly the last who came.
+/// Returns a connection at which nobody has logged on yet, from the address from which most of them
+/// are, if there is one; of these the one with the latest deadline.
 pub fn busiest(connections: &[Connection]) -> Option<usize>
     ensures within { IfSome result (λ c. c < length connections.now) }
     ensures busiest { IfSome result (λ c. IsBusiest connections.now c) }

@@ -21,7 +21,7 @@ impl Model for WaitingBytes {
 }
 
 impl WaitingBytes {
-    /// Creates a buffer in which no byte waits.
+    /// Returns a buffer in which no byte waits.
     pub fn new(alloc: Global) -> WaitingBytes
         ensures { result ≡ [] }
     {
@@ -30,14 +30,14 @@ impl WaitingBytes {
         }
     }
 
-    /// Returns how many wait.
+    /// Returns how many bytes wait.
     pub fn len(&self) -> usize
         ensures { result ≡ length self.now }
     {
         self.bytes.len()
     }
 
-    /// Appends bytes that have come.
+    /// Appends these bytes to those that wait.
     ///
     /// # Errors
     ///
@@ -51,7 +51,7 @@ impl WaitingBytes {
         Ok(())
     }
 
-    /// Takes the first byte that waits.
+    /// Removes and returns the first byte that waits, if there is one.
     pub fn take(&mut self) -> Option<u8>
         ensures none { IfNone result ((self.old ≡ []) × (self.new ≡ [])) }
         ensures some { IfSome result (λ byte. self.old ≡ byte ∷ self.new) }

@@ -89,6 +89,7 @@ impl From<AllocError> for FrameError {
 
     ghost from_gives = { λ _ e. e ≡ Memory };
 
+    /// Returns the error that memory was refused.
     fn from(_: AllocError) -> FrameError {
         FrameError::Memory
     }
@@ -135,7 +136,7 @@ impl<'a> Model for Words<'a> {
 }
 
 impl<'a> Words<'a> {
-    /// Takes the next word of a frame.
+    /// Removes and returns the next word of a line, if there is one.
     fn next(&mut self) -> Option<&'a [u8]>
         ensures { MatchOption result (self.old ≡ []) (λ word. self.old ≡ word.now ∷ self.new) }
     {
@@ -144,7 +145,8 @@ impl<'a> Words<'a> {
         Some(word)
     }
 
-    /// Takes a hexadecimal number.
+    /// Removes the next word of a line, and returns the hexadecimal number that it spells; a fault
+    /// if it spells none.
     fn number(&mut self) -> Result<u64, FrameError>
         ensures value { IsRead result (number_at self.old) }
         ensures rest { OnOk result (self.new ≡ after_first self.old) }
@@ -155,7 +157,8 @@ impl<'a> Words<'a> {
         }
     }
 
-    /// Takes the number of a place.
+    /// Removes the next word of a line, and returns the number of a place or a user that it spells;
+    /// a fault if it spells none.
     fn place(&mut self) -> Result<usize, FrameError>
         ensures value { IsRead result (number_at self.old) }
         ensures rest { OnOk result (self.new ≡ after_first self.old) }
@@ -163,7 +166,8 @@ impl<'a> Words<'a> {
         Ok(self.number()? as usize)
     }
 
-    /// Takes bytes in hexadecimal; `-` stands for none.
+    /// Removes the next word of a line, and returns the bytes that it spells in hexadecimal, `-`
+    /// being none; a fault if it spells none.
     fn bytes(&mut self, alloc: Global) -> Result<Bytes, FrameError>
         ensures value { IsRead result (bytes_at self.old) }
         ensures rest { OnOk result (self.new ≡ after_first self.old) }
@@ -175,7 +179,8 @@ impl<'a> Words<'a> {
     }
 }
 
-/// Returns the number that hexadecimal digits spell, if it has 64 bits.
+/// Returns the number that hexadecimal digits spell; None if one of them is no digit or it has more
+/// than 64 bits.
 fn number_of(digits: &[u8]) -> Option<u64>
     ensures { result ≡ number_from 0 digits.now }
 {
@@ -186,14 +191,14 @@ fn number_of(digits: &[u8]) -> Option<u64>
     Some(number)
 }
 
-/// Returns a number with one more hexadecimal digit, if it fits.
+/// Returns a number with one more hexadecimal digit; None if it has more than 64 bits.
 fn more_digit(number: u64, digit: u8) -> Option<u64>
     ensures { result ≡ more_digit number digit }
 {
     number.checked_mul(16)?.checked_add(u64::from(digit))
 }
 
-/// Returns the bytes that hexadecimal digits spell; `-` for none.
+/// Returns the bytes that hexadecimal digits spell, `-` being none; a fault if they spell none.
 fn bytes_of(alloc: Global, digits: &[u8]) -> Result<Bytes, FrameError>
     ensures { IsRead result (bytes_of digits.now) }
 {
@@ -203,7 +208,8 @@ fn bytes_of(alloc: Global, digits: &[u8]) -> Result<Bytes, FrameError>
     pairs_of(alloc, digits)
 }
 
-/// Returns the bytes of pairs of digits.
+/// Returns the bytes that pairs of hexadecimal digits spell; a fault if they spell none or one is
+/// left over.
 fn pairs_of(alloc: Global, digits: &[u8]) -> Result<Bytes, FrameError>
     ensures { IsRead result (pairs_of digits.now) }
 {
@@ -220,7 +226,7 @@ fn pairs_of(alloc: Global, digits: &[u8]) -> Result<Bytes, FrameError>
     }
 }
 
-/// Returns the byte of two digits.
+/// Returns the byte that two hexadecimal digits spell; a fault if one of them is no digit.
 fn byte_of(high: u8, low: u8) -> Result<u8, FrameError>
     ensures { IsRead result (byte_of high low) }
 {
@@ -229,7 +235,7 @@ fn byte_of(high: u8, low: u8) -> Result<u8, FrameError>
     Ok(high * 16 + low)
 }
 
-/// Returns what a line says, and its time.
+/// Returns the frame that a line is, and its time; a fault if it is none.
 ///
 /// # Errors
 ///
@@ -248,7 +254,7 @@ pub fn frame_of(alloc: Global, line: &[u8]) -> Result<TimedFrame, FrameError>
     Ok(TimedFrame { time, frame })
 }
 
-/// Returns the verb that the first word of a line names.
+/// Returns the verb that the first word of a line names; None if it names none.
 fn verb_of(word: &[u8]) -> Option<Verb>
     ensures { result ≡ verb_of word.now }
 {
@@ -268,7 +274,8 @@ fn verb_of(word: &[u8]) -> Option<Verb>
     }
 }
 
-/// Reads the frame of a verb from the words of a line.
+/// Returns the frame of a verb with the next words of a line, which it removes; a fault if they are
+/// malformed.
 fn read(alloc: Global, verb: Verb, words: &mut Words) -> Result<Frame, FrameError>
     ensures { IsRead result (frame_with verb words.old) }
 {
@@ -299,7 +306,8 @@ fn read(alloc: Global, verb: Verb, words: &mut Words) -> Result<Frame, FrameErro
     }
 }
 
-/// Reads the frame of a line that is kept of a user.
+/// Returns the frame that a line of a user is kept, with the next words of a line, which it
+/// removes; a fault if they are malformed.
 fn keep_of(alloc: Global, words: &mut Words) -> Result<Frame, FrameError>
     ensures { IsRead result (keep_of words.old) }
 {
@@ -312,7 +320,8 @@ fn keep_of(alloc: Global, words: &mut Words) -> Result<Frame, FrameError>
     })
 }
 
-/// Reads the frame of the host's answer to a guess.
+/// Returns the frame of the host's answer to a guess, with the next words of a line, which it
+/// removes; a fault if they are malformed.
 fn says_of(alloc: Global, words: &mut Words) -> Result<Frame, FrameError>
     ensures { IsRead result (says_of words.old) }
 {

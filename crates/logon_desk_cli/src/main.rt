@@ -12,6 +12,8 @@ use crate::program::Session;
 use std::io::{self, BufRead, BufReader};
 use std::{env, fs};
 
+/// Serves the lines of the file that the first argument names, or of standard input if there is
+/// none.
 fn main(rt: HostRuntime) -> io::Result<()> {
     let alloc = rt.alloc();
     match env::args(&rt)?.nth(1) {
@@ -20,7 +22,7 @@ fn main(rt: HostRuntime) -> io::Result<()> {
     }
 }
 
-/// Takes lines until they end, or one says nothing.
+/// Takes lines and writes what the desk does for each, until they end or one is malformed.
 fn serve<R: BufRead + Drop>(rt: &HostRuntime, reader: R) -> io::Result<()> {
     let alloc = rt.alloc();
     let mut session = Session::new(alloc);

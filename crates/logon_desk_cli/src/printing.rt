@@ -10,7 +10,7 @@ use std::alloc::AllocError;
 use terminal_lines::Bytes;
 use user_names::UserNo;
 
-/// Returns the desk's own texts.
+/// Returns the bytes of one of the desk's own texts.
 fn text_of(notice: Notice) -> &'static [u8]
     ensures { result.now ≡ notice_text notice }
 {
@@ -28,7 +28,7 @@ fn text_of(notice: Notice) -> &'static [u8]
     }
 }
 
-/// Appends the line for one action of the desk.
+/// Appends the line for an action of the desk to `text`.
 ///
 /// # Errors
 ///
@@ -77,7 +77,7 @@ pub fn print(output: &DeskAction, text: &mut Bytes) -> Result<(), AllocError>
     }
 }
 
-/// Appends a line that only has a number.
+/// Appends a line of a verb and a number to `text`.
 ///
 /// # Errors
 ///
@@ -89,7 +89,7 @@ pub fn print_number(name: &[u8], number: usize, text: &mut Bytes) -> Result<(), 
     text.push(b'\n')
 }
 
-/// Appends the line for an entry of the journal.
+/// Appends the line for an entry of the journal to `text`.
 fn note(entry: JournalEntry, text: &mut Bytes) -> Result<(), AllocError>
     ensures { OnOk result (text.new ≡ text.old ++ noted entry) }
 {
@@ -103,7 +103,8 @@ fn note(entry: JournalEntry, text: &mut Bytes) -> Result<(), AllocError>
     }
 }
 
-/// Appends the line for an entry of the journal with this name.
+/// Appends the line for an entry of the journal with this name, this user, if there is one, and
+/// this connection to `text`.
 fn note_of(
     name: &[u8],
     user: Option<UserNo>,
@@ -123,7 +124,7 @@ fn note_of(
     text.push(b'\n')
 }
 
-/// Appends the line that gives a connection a text.
+/// Appends the line by which a connection is given these bytes and then `end` to `text`.
 fn give(connection: usize, bytes: &[u8], end: &[u8], text: &mut Bytes) -> Result<(), AllocError>
     ensures { OnOk result
         (text.new ≡ text.old ++ line (codes "GIVE") connection (field (bytes.now ++ end.now))) }
@@ -133,7 +134,7 @@ fn give(connection: usize, bytes: &[u8], end: &[u8], text: &mut Bytes) -> Result
     text.push(b'\n')
 }
 
-/// Appends a verb, a blank and a number.
+/// Appends a verb, a blank and a number to `text`.
 fn word(name: &[u8], number: usize, text: &mut Bytes) -> Result<(), AllocError>
     ensures { OnOk result (text.new ≡ text.old ++ begun name.now number) }
 {
@@ -142,7 +143,7 @@ fn word(name: &[u8], number: usize, text: &mut Bytes) -> Result<(), AllocError>
     push_number(number, text)
 }
 
-/// Appends a number of at most four hexadecimal digits.
+/// Appends the last 16 bits of a number, as four hexadecimal digits, to `text`.
 fn push_number(number: usize, text: &mut Bytes) -> Result<(), AllocError>
     ensures { OnOk result (text.new ≡ text.old ++ hex_number number) }
 {
@@ -150,7 +151,8 @@ fn push_number(number: usize, text: &mut Bytes) -> Result<(), AllocError>
     push_byte((number % 256) as u8, text)
 }
 
-/// Appends bytes in hexadecimal, and a hyphen for none.
+/// Appends a blank, and then `bytes` and `end` in hexadecimal, or a hyphen if both are empty, to
+/// `text`.
 fn push_bytes(bytes: &[u8], end: &[u8], text: &mut Bytes) -> Result<(), AllocError>
     ensures { OnOk result (text.new ≡ text.old ++ field (bytes.now ++ end.now)) }
 {
@@ -162,7 +164,7 @@ fn push_bytes(bytes: &[u8], end: &[u8], text: &mut Bytes) -> Result<(), AllocErr
     push_all(end, text)
 }
 
-/// Appends each byte in hexadecimal.
+/// Appends each of these bytes in hexadecimal to `text`.
 fn push_all(bytes: &[u8], text: &mut Bytes) -> Result<(), AllocError>
     ensures { OnOk result (text.new ≡ text.old ++ hex bytes.now) }
 {
@@ -172,7 +174,7 @@ fn push_all(bytes: &[u8], text: &mut Bytes) -> Result<(), AllocError>
     Ok(())
 }
 
-/// Appends a byte in hexadecimal.
+/// Appends a byte in two hexadecimal digits to `text`.
 fn push_byte(byte: u8, text: &mut Bytes) -> Result<(), AllocError>
     ensures { OnOk result
         (text.new ≡ text.old ++ hex_digit (byte / 16) ∷ hex_digit (byte % 16) ∷ []) }

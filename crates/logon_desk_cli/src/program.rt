@@ -49,7 +49,7 @@ impl Model for Session {
 }
 
 impl Session {
-    /// Creates the session before its first line.
+    /// Returns a session before its first line, without users and without a desk.
     pub fn new(alloc: Global) -> Session
         ensures { result ≡ Rattle.logon_desk_cli.specs.Answered.nothing_read }
     {
@@ -61,21 +61,22 @@ impl Session {
         }
     }
 
-    /// Returns what is to be written.
+    /// Returns the text that is to be written.
     pub fn printed(&self) -> &[u8]
         ensures { result.now ≡ self.now.text }
     {
         self.text.as_slice()
     }
 
-    /// Forgets the text that was written.
+    /// Removes the text, after it was written.
     pub fn forget(&mut self)
         ensures { self.new ≡ record self.old { text = [] } }
     {
         self.text.clear();
     }
 
-    /// Takes a line; false for one that says nothing here.
+    /// Does what a line says, and appends the lines for what the desk does to the text; false, and
+    /// nothing is done, if the line is malformed or does not fit here.
     ///
     /// # Errors
     ///
@@ -90,7 +91,8 @@ impl Session {
         }
     }
 
-    /// Takes a frame, and appends what the desk does.
+    /// Does what a frame says, and appends the lines for what the desk does to the text; false if
+    /// it does not fit here.
     fn take_frame(&mut self, alloc: Global, now: u64, frame: Frame) -> Result<bool, AllocError>
         requires { now < 2 ^ 62 }
         ensures { IfOk result (λ taken. TakesFrame self.old now frame taken self.new) }
@@ -107,7 +109,8 @@ impl Session {
         }
     }
 
-    /// Takes the lines before a desk is there.
+    /// Takes a frame before there is a desk: adds a user, or makes the desk with so many places;
+    /// false if it is another frame or there are too many.
     fn begin(&mut self, alloc: Global, frame: Frame) -> Result<bool, AllocError>
         ensures { IfOk result (λ taken. Begins self.old frame taken self.new) }
     {
@@ -126,7 +129,8 @@ impl Session {
     }
 }
 
-/// Returns whether the desk has the place or the user of a frame.
+/// Returns whether a frame fits a desk: whether that has its place or user, and it is none from
+/// before the desk.
 fn is_for(desk: &LogonDesk, frame: &Frame) -> bool
     ensures { result ≡ is_for desk.now frame.now }
 {
@@ -144,7 +148,8 @@ fn is_for(desk: &LogonDesk, frame: &Frame) -> bool
     }
 }
 
-/// Does what a frame says and what is due then, and adds the lines for it to the text.
+/// Does what a frame says and what is due then at a desk, and appends the lines for that to the
+/// text.
 fn answer(
     alloc: Global,
     desk: &mut LogonDesk,
@@ -168,7 +173,8 @@ fn answer(
     print_number(b"THAT", desk.strangers(), text)
 }
 
-/// Gives the desk the events of a frame, and those that are due then.
+/// Makes room for a connection that a frame opens, applies the frame to the desk, and takes the
+/// bytes and does what is due at each place.
 fn apply_event(
     alloc: Global,
     desk: &mut LogonDesk,
@@ -188,7 +194,7 @@ fn apply_event(
     Ok(())
 }
 
-/// Notes the place to which bytes have come.
+/// Appends the place to which a frame's bytes have come to `reading`, if it has a connection.
 fn note_reading(desk: &LogonDesk, frame: &Frame, reading: &mut Vec<usize>) -> Result<(), AllocError>
     ensures { OnOk result (reading.new.items ≡ reading.old.items ++ came_at desk.now frame.now) }
 {
@@ -201,14 +207,15 @@ fn note_reading(desk: &LogonDesk, frame: &Frame, reading: &mut Vec<usize>) -> Re
     }
 }
 
-/// Returns whether a place has a connection.
+/// Returns whether there is such a place, and it has a connection.
 fn is_open(desk: &LogonDesk, place: usize) -> bool
     ensures { result ≡ is_open desk.now place }
 {
     place < desk.connections() && desk.is_open(place)
 }
 
-/// Makes room for a connection that opens.
+/// Makes room for a connection if this frame opens one: if too many are about to log on, one is
+/// ended.
 fn make_room_for(
     alloc: Global,
     desk: &mut LogonDesk,
@@ -226,7 +233,7 @@ fn make_room_for(
     }
 }
 
-/// Ends one of the connections from the busiest address if too many are about to log on.
+/// Ends a connection of those about to log on, from the busiest address, if there are 80 or more.
 fn make_room(alloc: Global, desk: &mut LogonDesk, out: &mut Outputs) -> Result<(), AllocError>
     ensures places { OnOk result (length desk.new.connections ≡ length desk.old.connections) }
     ensures room { OnOk result
@@ -245,7 +252,8 @@ fn make_room(alloc: Global, desk: &mut LogonDesk, out: &mut Outputs) -> Result<(
     }
 }
 
-/// Gives the desk the event that a frame is.
+/// Applies a frame to the desk: opens, closes, bytes, answers, lines, states and what is done; the
+/// bytes of a place without a connection are dropped.
 fn give(
     alloc: Global,
     desk: &mut LogonDesk,
@@ -286,7 +294,7 @@ fn give(
     }
 }
 
-/// Returns the user of a number.
+/// Returns the user of this number, who has to be one of the desk's.
 fn user_no(desk: &LogonDesk, user: usize) -> UserNo
     requires { user < length desk.now.accounts }
     ensures { result ≡ user }
@@ -296,7 +304,7 @@ fn user_no(desk: &LogonDesk, user: usize) -> UserNo
     UserNo::new(user as u8)
 }
 
-/// Takes at each place all bytes that can be taken, and does what is due there.
+/// Takes at each place all bytes that can be taken, and then does what is due there.
 fn serve(alloc: Global, desk: &mut LogonDesk, now: u64, out: &mut Outputs) -> Result<(), AllocError>
     requires { now < 2 ^ 62 }
     ensures { OnOk result (Does (run desk.old (all_served desk.old now)) out.old desk.new out.new) }
@@ -307,7 +315,7 @@ fn serve(alloc: Global, desk: &mut LogonDesk, now: u64, out: &mut Outputs) -> Re
     Ok(())
 }
 
-/// Serves the bytes that wait at a place.
+/// Takes all bytes that can be taken at a place, and then does what is due there.
 fn serve_place(
     alloc: Global,
     desk: &mut LogonDesk,
@@ -326,7 +334,7 @@ fn serve_place(
     Ok(())
 }
 
-/// Takes the bytes that wait at a place, as long as one is taken.
+/// Takes the bytes that wait at a place, as long as the next one can be taken now.
 fn take_all(
     alloc: Global,
     desk: &mut LogonDesk,
@@ -347,7 +355,7 @@ fn take_all(
     Ok(())
 }
 
-/// Returns whether a byte waits at a place, and is taken there now.
+/// Returns whether there is such a place, a byte waits there, and it is taken there now.
 fn takes_next(desk: &LogonDesk, place: usize) -> bool
     ensures value { result ≡ takes_next desk.now place }
     ensures within { result ≡ true → place < length desk.now.connections }
@@ -355,7 +363,7 @@ fn takes_next(desk: &LogonDesk, place: usize) -> bool
     place < desk.connections() && desk.waiting(place) > 0 && desk.is_taking(place)
 }
 
-/// Adds the lines for what is to be done.
+/// Appends the lines for these actions of the desk to `text`.
 fn print_all(outputs: &[DeskAction], text: &mut Bytes) -> Result<(), AllocError>
     ensures { OnOk result (text.new ≡ text.old ++ printed outputs.now) }
 {
@@ -365,7 +373,7 @@ fn print_all(outputs: &[DeskAction], text: &mut Bytes) -> Result<(), AllocError>
     Ok(())
 }
 
-/// Returns the places of which bytes still wait.
+/// Returns a new list of those of these places at which bytes still wait.
 fn still_reading(
     alloc: Global,
     desk: &LogonDesk,
@@ -380,7 +388,7 @@ fn still_reading(
         .collect(alloc)
 }
 
-/// Adds a line for each place of which all bytes were taken.
+/// Appends a line to `text` for each of these places that has a connection at which no byte waits.
 fn print_read(desk: &LogonDesk, reading: &[usize], text: &mut Bytes) -> Result<(), AllocError>
     ensures { OnOk result (text.new ≡ text.old ++ read_lines desk.now reading.now) }
 {
@@ -392,14 +400,14 @@ fn print_read(desk: &LogonDesk, reading: &[usize], text: &mut Bytes) -> Result<(
     Ok(())
 }
 
-/// Returns whether bytes may be read from a connection.
+/// Returns whether there is such a place, and it has a connection at which no byte waits.
 fn is_read(desk: &LogonDesk, place: usize) -> bool
     ensures { result ≡ is_read desk.now place }
 {
     is_open(desk, place) && desk.waiting(place) == 0
 }
 
-/// Returns whether a byte still waits at a connection.
+/// Returns whether there is such a place, and it has a connection at which a byte waits.
 fn still_waits(desk: &LogonDesk, place: usize) -> bool
     ensures { result ≡ still_waits desk.now place }
 {

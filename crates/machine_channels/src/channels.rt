@@ -44,7 +44,8 @@ pub trait Disks {
         ensures others { KeepsOthers self.old self.new }
         ensures dropped { Forgets self.old self.new };
 
-    /// Clears the disks, as for a LOGON: the arms are over cylinder 0, with head 0 chosen.
+    /// Clears the disks, as for a LOGON: they are reset, and the arms are over cylinder 0, with
+    /// head 0 chosen.
     fn clear_disks(&mut self)
         ensures cleared { disks self.new ≡ map cleared_disk (disks self.old) }
         ensures others { KeepsOthers self.old self.new }

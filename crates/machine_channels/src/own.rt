@@ -40,7 +40,8 @@ impl DedicatedChannels {
         reset_each(&mut self.disks);
     }
 
-    /// Clears the disks, as for a LOGON: the arms are over cylinder 0, with head 0 chosen.
+    /// Clears the disks, as for a LOGON: they are reset, and the arms are over cylinder 0, with
+    /// head 0 chosen.
     pub fn clear(&mut self)
         ensures { disks_of self.new ≡ map cleared_disk (disks_of self.old) }
     {

@@ -47,8 +47,8 @@ impl ClosedFiles {
     };
 }
 
-/// Returns the line that reports a deck of the reader, where these are all users: its number, from
-/// whom it comes, and how many cards it has. Only lack of memory is an error.
+/// Returns the line that reports a deck of the reader: its number, the name of its sender among
+/// these users, and how many cards it has. Only lack of memory is an error.
 ///
 /// ```text
 /// let line = deck_line(alloc, &users, deck)?; // b"FILE 0001 FROM A CARDS 3"
@@ -72,7 +72,8 @@ pub fn deck_line<N: Named>(
     )
 }
 
-/// Returns the name of the sender of a deck: the operator is `SYSTEM`.
+/// Returns the name of the sender of a deck: `SYSTEM` for the operator, empty for a user who is not
+/// there.
 fn sender_name<N: Named>(users: &[N], sender: Sender) -> &[u8]
     ensures { result.now ≡ sender_name (map N.name users.now) sender }
 {

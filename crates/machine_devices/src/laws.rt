@@ -6,9 +6,10 @@ ghost use Rattle.machine_devices.specs.Working.{NoneWorksAtFirst, WorksWithProgr
 ghost use Rattle.machine_devices.specs.Written.{ClosedFilesStay, WrittenFilesDoNotMatter};
 ghost use Rattle.machine_devices.specs.Attention.{AttentionAgreesAtFirst, AttentionGoesOnAgreeing};
 
-/// States that attention agrees with the lines that wait: whatever happened to a machine with
-/// devices, the console's subchannel has its mark of attention exactly if a line waits, no other
-/// subchannel has one, and a status of the console that is pending says attention if a line waits.
+/// States that the console's subchannel has its mark of attention exactly if a line waits at the
+/// console, and no other subchannel has one, whatever happened to the machine.
+///
+/// A status of the console that is pending says attention if a line waits.
 pub fn attention_agrees()
     ensures first { AttentionAgreesAtFirst }
     ensures later { AttentionGoesOnAgreeing }

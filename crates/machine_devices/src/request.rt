@@ -54,7 +54,7 @@ fn on_request(mode: Mode, has_console: bool, text: &[u8]) -> Request<'_>
 }
 
 /// Returns the request of a line that is not addressed to the control program: to a machine that
-/// runs, a line for its console; to one that is stopped, a command.
+/// runs, a line for its console, if it has one; to one that is stopped, a command.
 fn plain_request(mode: Mode, has_console: bool, text: &[u8]) -> Request<'_>
     ensures { result ≡ plain_request mode has_console text.now }
 {

@@ -129,8 +129,8 @@ impl Devices {
         self.put_owner(out)
     }
 
-    /// Restores from the input devices that have done nothing; returns None if the input has no
-    /// such devices, or devices at other addresses or of another user.
+    /// Reads the state of these devices, which have done nothing, from the input; returns None if
+    /// it is malformed, or one of devices at other addresses or of another user.
     ///
     /// What is left after None is lawful, and nothing else is said of it.
     pub fn restore(&mut self, alloc: Global, input: &mut Input<'_>) -> Option<()>

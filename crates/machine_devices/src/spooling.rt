@@ -81,7 +81,8 @@ impl Devices {
         Ok(())
     }
 
-    /// Closes the punch's open file, if it has an entry, in memory that was reserved.
+    /// Closes the punch's open file, if it has an entry, for the punch's target, in memory that was
+    /// reserved.
     fn close_punch_reserved(&mut self, alloc: Global, queues: &mut Queues)
         requires user { self.old.user < length queues.old.users }
         requires files { 0 < length self.old.punch.entries → 1 ≤ queues.old.room.files }
@@ -99,7 +100,8 @@ impl Devices {
         }
     }
 
-    /// Closes the printer's open file, if it has an entry, in memory that was reserved.
+    /// Closes the printer's open file, if it has an entry, for the operator, in memory that was
+    /// reserved.
     fn close_printer_reserved(&mut self, alloc: Global, queues: &mut Queues)
         requires user { self.old.user < length queues.old.users }
         requires files { 0 < length self.old.printer.entries → 1 ≤ queues.old.room.files }

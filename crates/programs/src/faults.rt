@@ -148,8 +148,8 @@ fn directory_line(alloc: Global, error: DirError) -> Result<String, AllocError>
     }
 }
 
-/// Returns the exit status of a failure: 1 where input was refused, 2 for a wrong use, 3 where a
-/// file of the host failed, 4 where memory did.
+/// Returns the exit status of a failure: 1 if input was refused, 2 for wrong arguments, 3 if a file
+/// of the host failed, 4 if memory was refused.
 pub fn status(failure: &Failure) -> u8
     ensures { result ≡ status_of failure.now }
 {

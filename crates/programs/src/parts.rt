@@ -45,8 +45,10 @@ pub enum Left<I> {
     Cut(I),
 }
 
-/// Answers the requests of an input until it asks for the end, or has no more, and returns the
-/// installation then. Each answer is written, and not held back, before the next request is read.
+/// Answers the requests of an input until it asks for the end or has no more, closes the session,
+/// and returns the installation and which of both it was.
+///
+/// Each answer is written, and not held back, before the next request is read.
 ///
 /// # Errors
 ///

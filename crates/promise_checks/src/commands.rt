@@ -46,7 +46,8 @@ const READY: [&str; 6] = [
     "BEGIN 200",
 ];
 
-/// Returns a volume whose first cylinder can be loaded from.
+/// Returns a volume of two cylinders, each of which has a record on its first track to be loaded
+/// from.
 fn volume(alloc: Global) -> Result<Volume> {
     let mut volume = Volume::blank(alloc, *b"SHARED", 2)?;
     for cylinder in 0..2usize {
@@ -58,7 +59,7 @@ fn volume(alloc: Global) -> Result<Volume> {
     Ok(volume)
 }
 
-/// Returns the users, who are off.
+/// Returns the users of the directory, who are off, on 16 frames and 3 slots.
 fn booted(alloc: Global) -> Result<SideBySide> {
     let Some(sizes) = Sizes::new(16, 3) else {
         bail!("too many frames");
@@ -67,7 +68,7 @@ fn booted(alloc: Global) -> Result<SideBySide> {
     Ok(SideBySide::boot_on(alloc, DIRECTORY.as_bytes(), volumes, sizes)?)
 }
 
-/// Most users log on, and have something in their storage.
+/// Types for each user the first lines of those that make a machine ready, from none to all.
 fn make_ready(
     alloc: Global,
     sequence: &mut Sequence,
@@ -82,7 +83,8 @@ fn make_ready(
     Ok(())
 }
 
-/// The next cards: the first is one for a loading.
+/// Returns the next cards by a sequence, from none to two, each of which begins as one for a
+/// loading.
 fn next_cards(alloc: Global, sequence: &mut Sequence) -> Result<Vec<Card>, AllocError> {
     let mut cards = Vec::new(alloc);
     for _card in 0..sequence.below(3) {
@@ -96,7 +98,7 @@ fn next_cards(alloc: Global, sequence: &mut Sequence) -> Result<Vec<Card>, Alloc
     Ok(cards)
 }
 
-/// The next event of a user.
+/// Lets the next event of a sequence happen to a user: a tick, a deck, a run, a serve or a line.
 fn next_event(
     alloc: Global,
     sequence: &mut Sequence,
@@ -112,13 +114,13 @@ fn next_event(
     }
 }
 
-/// A user's machine runs.
+/// Lets a user's machine run for so many units.
 fn run(machines: &mut SideBySide, user: UserNo, units: u32) -> Result<(), SideError> {
     let _ran = machines.run(user, units)?;
     Ok(())
 }
 
-/// A device is served, where the user has it.
+/// Serves the device of this address of a user, if he has it.
 fn serve(machines: &mut SideBySide, user: UserNo, device: u32) -> Result<(), SideError> {
     let device = DevAddr::new((device % 0x600) as u16);
     let subchannels = machines.bare(user)?.subchannels();
@@ -129,7 +131,7 @@ fn serve(machines: &mut SideBySide, user: UserNo, device: u32) -> Result<(), Sid
     Ok(())
 }
 
-/// A user types a line.
+/// Types a line for a user.
 fn type_line(
     alloc: Global,
     machines: &mut SideBySide,
@@ -140,8 +142,8 @@ fn type_line(
     Ok(())
 }
 
-/// Compares all views of a user but those of disks; of the lines that his console has printed,
-/// these and all later.
+/// Compares all views of a user but those of disks; of the lines that his console has printed, only
+/// those from `printed` on.
 fn look(machines: &mut SideBySide, user: UserNo, printed: usize) -> Result<(), SideError> {
     machines.compare_registers(user)?;
     machines.compare_console(user, printed)?;
@@ -149,7 +151,7 @@ fn look(machines: &mut SideBySide, user: UserNo, printed: usize) -> Result<(), S
     machines.compare_pages(user)
 }
 
-/// Compares all views of all users; of the lines that a console has printed, the last.
+/// Compares all views of all users; of the lines that a console has printed, only the last.
 fn look_at_all(machines: &mut SideBySide) -> Result<(), SideError> {
     for number in 0..4u8 {
         let user = UserNo::new(number);
@@ -160,8 +162,8 @@ fn look_at_all(machines: &mut SideBySide) -> Result<(), SideError> {
     Ok(())
 }
 
-/// Lets something happen to a user, and compares his views, and those of him to whom it delivers
-/// something.
+/// Lets the next event of a sequence happen to a user, and compares his views, and those of the
+/// user to whom it delivered something.
 fn apply_event(
     alloc: Global,
     sequence: &mut Sequence,
@@ -180,8 +182,8 @@ fn apply_event(
     }
 }
 
-/// Plays a script: after each event the views of whom it concerns are compared, and after each
-/// eighth those of all.
+/// Plays a script: after each event it compares the views of the users whom it concerns, and after
+/// each eighth those of all.
 fn play(
     alloc: Global,
     sequence: &mut Sequence,
@@ -198,7 +200,7 @@ fn play(
     Ok(())
 }
 
-/// Plays the script of this number, and reports what differs first.
+/// Plays the script of this number, and returns the first view that differs, if one does.
 fn difference(alloc: Global, script: u32) -> Result<Option<View>> {
     let mut machines = booted(alloc)?;
     match play(alloc, &mut Sequence::new(u64::from(script)), &mut machines) {

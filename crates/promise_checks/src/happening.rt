@@ -32,7 +32,7 @@ pub fn channel_of(user: UserNo) -> u16 {
     u16::from(user.number() % 2) * 2
 }
 
-/// Returns a text for a user, in which `@` stands for his channel, and `_` for his number in
+/// Returns a text for a user, made of one in which `@` is his channel, and `_` his number in
 /// EBCDIC.
 pub fn text_for(alloc: Global, user: UserNo, text: &str) -> Result<String, AllocError> {
     let channel = channel_of(user);
@@ -49,13 +49,13 @@ pub fn text_for(alloc: Global, user: UserNo, text: &str) -> Result<String, Alloc
     Ok(made)
 }
 
-/// Returns the line of this place that makes a user's machine ready.
+/// Returns the event that a user types the line of this index of those that make a machine ready.
 pub fn ready_line(alloc: Global, user: UserNo, place: usize) -> Result<CheckEvent, AllocError> {
     let text = READY.get(place).copied().unwrap_or("");
     Ok(CheckEvent::Line(text_for(alloc, user, text)?))
 }
 
-/// What happens next to a user, while there are so many files.
+/// Returns the next event of a user by a sequence, while there are so many files.
 pub fn next_happening(
     alloc: Global,
     sequence: &mut Sequence,
@@ -73,14 +73,14 @@ pub fn next_happening(
     })
 }
 
-/// One of a user's devices.
+/// Returns the address of one of a user's devices, by a sequence.
 fn next_device(sequence: &mut Sequence, user: UserNo) -> DevAddr {
     let place = sequence.next_number() as usize % 4;
     let first = channel_of(user).wrapping_mul(0x100);
     DevAddr::new(first.wrapping_add(DEVICES[place]))
 }
 
-/// One to three cards.
+/// Returns one to three cards by a sequence.
 fn next_cards(alloc: Global, sequence: &mut Sequence) -> Result<Vec<Card>, AllocError> {
     let mut cards = Vec::new(alloc);
     for _card in 0..sequence.next_number() % 3 + 1 {
@@ -89,7 +89,7 @@ fn next_cards(alloc: Global, sequence: &mut Sequence) -> Result<Vec<Card>, Alloc
     Ok(cards)
 }
 
-/// A card.
+/// Returns a card by a sequence: twenty columns of any bytes, and blanks.
 fn next_card(sequence: &mut Sequence) -> Card {
     let mut card = [0x40; 80];
     for column in 0..20 {
@@ -98,7 +98,7 @@ fn next_card(sequence: &mut Sequence) -> Card {
     card
 }
 
-/// A line by which a user talks to others, or works with his files.
+/// Returns a line by a sequence by which a user sends a message or works with his files.
 fn next_talk(
     alloc: Global,
     sequence: &mut Sequence,

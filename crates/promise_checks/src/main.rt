@@ -19,6 +19,7 @@ mod talking;
 use anyhow::{Result, bail};
 use std::env;
 
+/// Runs the parts that the words of the program name, one after another; an error for another word.
 fn main(rt: HostRuntime) -> Result<()> {
     for part in env::args(&rt)?.skip(1) {
         match part.as_str() {

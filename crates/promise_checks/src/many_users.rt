@@ -39,7 +39,7 @@ enum CheckEvent {
     Tick,
 }
 
-/// What happens next. Of eight events one is a line, and one a tick.
+/// Returns the next event by a sequence: of eight events one is a line, and one a tick.
 fn next_happening(sequence: &mut Sequence) -> CheckEvent {
     match sequence.next_number() % 8 {
         0 => CheckEvent::Line(sequence.pick(&TYPED)),
@@ -48,7 +48,7 @@ fn next_happening(sequence: &mut Sequence) -> CheckEvent {
     }
 }
 
-/// The user who comes next.
+/// Returns the user to whom the next event happens, by a sequence.
 fn next_user(sequence: &mut Sequence) -> UserNo {
     UserNo::new((sequence.next_number() % 64) as u8)
 }
@@ -63,7 +63,8 @@ fn directory(alloc: Global) -> Result<String, AllocError> {
     Ok(text)
 }
 
-/// Types a user's program, which begins at 400 and ends with a branch to its beginning.
+/// Types lines that store a user's program, of pieces by a sequence, from 400 on, and at its end a
+/// branch to 400.
 fn type_program(
     alloc: Global,
     machines: &mut SideBySide,
@@ -82,7 +83,7 @@ fn type_program(
     Ok(())
 }
 
-/// Switches a user's machine on, with its registers, its data and its program, and begins.
+/// Logs a user on, stores his data, registers and program, and starts his machine at 400.
 fn begin(
     alloc: Global,
     machines: &mut SideBySide,
@@ -112,8 +113,8 @@ fn all_users(alloc: Global) -> Result<SideBySide> {
     Ok(SideBySide::boot(alloc, directory.as_bytes(), sizes)?)
 }
 
-/// Compares all views of all users but for the lines that their consoles have printed, of which it
-/// looks at the number.
+/// Compares registers, PSW, mode, storage and keys of all users, and how many lines their consoles
+/// have printed.
 fn compare_all(machines: &SideBySide) -> Result<(), SideError> {
     for number in 0..64u8 {
         let user = UserNo::new(number);
@@ -123,7 +124,7 @@ fn compare_all(machines: &SideBySide) -> Result<(), SideError> {
     Ok(())
 }
 
-/// Lets something happen to a user, and compares the views of all.
+/// Lets an event happen to a user, and compares his new lines and the views of all users.
 fn apply_event(
     alloc: Global,
     machines: &mut SideBySide,
@@ -144,7 +145,8 @@ fn apply_event(
     compare_all(machines)
 }
 
-/// All users begin, all events come, and all views are compared.
+/// Starts all users' machines, lets all events happen with all views compared after each, and at
+/// the end compares all lines.
 fn play_on(alloc: Global, machines: &mut SideBySide) -> Result<()> {
     let mut sequence = Sequence::new(370);
     for number in 0..64u8 {
@@ -161,14 +163,14 @@ fn play_on(alloc: Global, machines: &mut SideBySide) -> Result<()> {
     Ok(())
 }
 
-/// Plays it on new machines.
+/// Plays all events on new machines, and compares all views after each.
 fn play_all(alloc: Global) -> Result<()> {
     let mut machines = all_users(alloc)?;
     play_on(alloc, &mut machines)
 }
 
-/// Plays it, and prints how many events there were, or fails at the first after which a view
-/// differs.
+/// Plays all events on new machines and prints how many there were, or fails at the first after
+/// which a view differs.
 pub fn play<R: AllocGlobal + Print>(rt: &R) -> Result<()> {
     play_all(rt.alloc())?;
     println!(rt; "{EVENTS} events: all views of {USERS} users agree after each")?;

@@ -62,7 +62,7 @@ fn directory(alloc: Global) -> Result<String, AllocError> {
 }
 
 impl Talkers {
-    /// Returns all users, off, on so many frames and slots.
+    /// Returns all users, who are off, on so many frames and slots.
     fn boot(alloc: Global, frames: u32, slots: u32) -> Result<Talkers> {
         let Some(sizes) = Sizes::new(frames, slots) else {
             bail!("{frames} frames or {slots} slots are too many");
@@ -79,8 +79,8 @@ impl Talkers {
         })
     }
 
-    /// The next event happens to some user, and his views are compared, and those of him to whom it
-    /// delivers something.
+    /// Lets the next event happen to some user, and compares his views, and those of the user to
+    /// whom it delivered something.
     fn next_event(&mut self, alloc: Global) -> Result<()> {
         let user = UserNo::new((self.sequence.next_number() % u32::from(USERS)) as u8);
         let printed = self.machines.bare(user)?.printed();
@@ -98,8 +98,8 @@ impl Talkers {
         Ok(())
     }
 
-    /// Compares the views of a user; of the lines that his console has printed, these and all
-    /// later.
+    /// Compares a user's views but those of disks; of the lines that his console has printed, only
+    /// those from `printed` on.
     fn compare_after(&self, user: UserNo, printed: usize) -> Result<(), SideError> {
         self.machines.compare_registers(user)?;
         self.machines.compare_console(user, printed)?;
@@ -107,7 +107,8 @@ impl Talkers {
         self.machines.compare_devices(user)
     }
 
-    /// Whether a user goes on with making his machine ready: he begins anew where he is off.
+    /// Returns whether a user's next event is a line that makes his machine ready: mostly, if not
+    /// all of them were typed. If he is off, they begin anew.
     fn is_getting_ready(&mut self, user: UserNo) -> Result<bool> {
         if !is_logged_on(self.machines.bare(user)?.mode()) {
             self.ready[user.index() % 16] = 0;
@@ -116,7 +117,8 @@ impl Talkers {
         Ok(!is_ready && self.sequence.next_number() % 4 != 0)
     }
 
-    /// The next line that makes a user's machine ready. It comes again if it was out of frames.
+    /// Types the next line that makes a user's machine ready, and counts it, unless it was out of
+    /// frames.
     fn get_ready(&mut self, alloc: Global, user: UserNo) -> Result<()> {
         let place = self.ready[user.index() % 16];
         let before = self.machines.out_of_frames();
@@ -128,7 +130,7 @@ impl Talkers {
         Ok(())
     }
 
-    /// Lets something happen to a user.
+    /// Lets an event happen to a user, and counts what it delivered or served.
     fn apply_event(
         &mut self,
         alloc: Global,
@@ -150,7 +152,7 @@ impl Talkers {
         Ok(())
     }
 
-    /// Serves a device of a user.
+    /// Serves a device of a user, and counts it if there was a program.
     fn serve(&mut self, user: UserNo, device: DevAddr) -> Result<(), SideError> {
         if self.machines.serve(user, device)? {
             self.counts.served = self.counts.served.saturating_add(1);
@@ -158,7 +160,7 @@ impl Talkers {
         Ok(())
     }
 
-    /// Counts what a line delivered.
+    /// Counts the message or the deck that the last line delivered, if it delivered one.
     fn count_delivered(&mut self) {
         match self.machines.delivered() {
             Some(delivered) => match delivered.what {
@@ -180,7 +182,8 @@ impl Talkers {
         Ok(())
     }
 
-    /// All events, one after another.
+    /// Lets all events happen one after another, compares views after each, and those of all users
+    /// after each hundred and at the end.
     fn play(&mut self, alloc: Global) -> Result<()> {
         for event in 0..EVENTS {
             self.next_event(alloc)
@@ -194,14 +197,16 @@ impl Talkers {
     }
 }
 
-/// Plays it on so many frames and slots: what came about, and how many events were out of frames.
+/// Plays all events on so many frames and slots, and returns what was counted, and how many events
+/// were out of frames.
 fn played(alloc: Global, frames: u32, slots: u32) -> Result<(Counts, u64)> {
     let mut talkers = Talkers::boot(alloc, frames, slots)?;
     talkers.play(alloc)?;
     Ok((talkers.counts, talkers.machines.out_of_frames()))
 }
 
-/// Plays it, and prints how much there was, or fails at the first event after which a view differs.
+/// Plays all events twice, with many and with few frames, and prints what was counted, or fails at
+/// the first event after which a view differs.
 pub fn play<R: AllocGlobal + Print>(rt: &R) -> Result<()> {
     for (frames, slots) in [(64, 256), (16, 24)] {
         let (counts, out) = played(rt.alloc(), frames, slots).context(format_args!(

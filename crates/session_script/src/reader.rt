@@ -186,8 +186,8 @@ fn read_event<'a>(
     }
 }
 
-/// Returns the event of `RUN u n`, given what follows its first word; None if there is no such user, or n is
-/// not 1 to 1000000.
+/// Returns the event of `RUN u n`, given what follows its first word; None if there is no such
+/// user, or n is not 1 to 1000000.
 fn read_run<'a>(users: &[ScriptUser<'_>], operands: &'a [u8]) -> Option<ScriptEvent<'a>>
     requires { length users.now ≤ MOST_USERS }
     ensures users { IfSome result (IsOfUser users.now) }
@@ -204,8 +204,8 @@ fn read_run<'a>(users: &[ScriptUser<'_>], operands: &'a [u8]) -> Option<ScriptEv
     }
 }
 
-/// Returns the event of `LINE u text`, given what follows its first word; None if there is no such user. An
-/// empty text may have no blank before it.
+/// Returns the event of `LINE u text`, given what follows its first word; None if there is no such
+/// user. An empty text may have no blank before it.
 fn read_typed<'a>(users: &[ScriptUser<'_>], operands: &'a [u8]) -> Option<ScriptEvent<'a>>
     requires { length users.now ≤ MOST_USERS }
     ensures users { IfSome result (IsOfUser users.now) }
@@ -220,8 +220,8 @@ fn read_typed<'a>(users: &[ScriptUser<'_>], operands: &'a [u8]) -> Option<Script
     }
 }
 
-/// Returns the event of `TICK u`, given what follows its first word; None if there is no such user or more
-/// follows.
+/// Returns the event of `TICK u`, given what follows its first word; None if there is no such user
+/// or more follows.
 fn read_tick<'a>(users: &[ScriptUser<'_>], operands: &'a [u8]) -> Option<ScriptEvent<'a>>
     requires { length users.now ≤ MOST_USERS }
     ensures users { IfSome result (IsOfUser users.now) }
@@ -236,8 +236,8 @@ fn read_tick<'a>(users: &[ScriptUser<'_>], operands: &'a [u8]) -> Option<ScriptE
     Some(ScriptEvent::Tick(user))
 }
 
-/// Returns the event of `SERVE u addr`, given what follows its first word; None if there is no such user, or
-/// he has no such device.
+/// Returns the event of `SERVE u addr`, given what follows its first word; None if there is no such
+/// user, or he has no such device.
 fn read_serve<'a>(users: &[ScriptUser<'_>], operands: &'a [u8]) -> Option<ScriptEvent<'a>>
     requires { length users.now ≤ MOST_USERS }
     ensures users { IfSome result (IsOfUser users.now) }
@@ -254,7 +254,8 @@ fn read_serve<'a>(users: &[ScriptUser<'_>], operands: &'a [u8]) -> Option<Script
     }
 }
 
-/// Returns how many turns `AUTO k` names, given what follows its first word; None if k is not 1 to 100000.
+/// Returns how many turns `AUTO k` names, given what follows its first word; None if k is not 1 to
+/// 100000.
 fn turns_of(operands: &[u8]) -> Option<u32>
     ensures { option_map Auto result ≡ auto_of operands.now }
 {
@@ -266,8 +267,8 @@ fn turns_of(operands: &[u8]) -> Option<u32>
     }
 }
 
-/// Returns the event of `DECK u k`, given what follows its first word, with the first k lines of `after` as
-/// cards; None if there is no such user, k is not 1 to 1000, or there are fewer lines.
+/// Returns the event of `DECK u k`, given what follows its first word, with the first k lines of
+/// `after` as cards; None if there is no such user, k is not 1 to 1000, or there are fewer lines.
 fn read_deck<'a>(
     users: &[ScriptUser<'_>],
     operands: &'a [u8],

@@ -41,7 +41,8 @@ impl<'a> ScriptUser<'a> {
     }
 }
 
-/// Returns whether the user of this number has a device of this address.
+/// Returns whether the user of this number, who has to be one of these, has a device of this
+/// address.
 pub(crate) fn has_device(users: &[ScriptUser<'_>], user: UserNo, address: u16) -> bool
     requires { user < length users.now }
     ensures { result ≡ has_device users.now user address }

@@ -6,9 +6,10 @@ use crate::installation::Installation;
 use cp_dispatch::is_fair;
 use session_script::reads_grammar;
 
-/// States that nobody in a session waits for ever: a user with j others before him in the queue who
-/// stays on and ready has one of the next j + 1 slices, and a program with j others before it that
-/// stays waiting one of the next j + 1 serves.
+/// States that a user with j others before him in the queue who stays on and ready has one of the
+/// next j + 1 slices, and a program that stays in the serve queue likewise a serve.
+///
+/// So nobody in a session waits for ever.
 pub fn sessions_are_fair<I: Installation>()
     ensures slices { SlicesAreFair I.goes }
     ensures serves { ServesAreFair I.goes }
@@ -16,9 +17,10 @@ pub fn sessions_are_fair<I: Installation>()
     is_fair();
 }
 
-/// States that a session goes on from a saved state: however often the program is started anew,
-/// each time with a state that the run before saved, the scripts of its runs are one script that
-/// was followed, and what they wrote is its transcript.
+/// States that runs that each go on from the state which the run before saved do one script, and
+/// write its transcript.
+///
+/// It holds however often the program is started anew.
 pub fn restored_sessions_go_on<I: Installation>()
     ensures restored { RestoredContinue I.goes }
     ensures join { GoesOn I.goes }

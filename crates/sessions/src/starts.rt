@@ -1,4 +1,5 @@
-//! The serve queue of the programs that were started: which join it by an event, and which leave it.
+//! The serve queue of the programs that were started: which join it by an event, and which leave
+//! it.
 ghost use Rattle.std.specs.Prelude.{◌≡◌, ◌<◌, IfOk, OnOk, if◌then◌else◌, length, slice_get};
 ghost use Rattle.std.specs.List.{position};
 ghost use Rattle.s370_subchannels.specs.Starts.{works};

@@ -20,9 +20,10 @@ use session_script::ScriptEvent;
 use std::alloc::{AllocError, Global};
 use user_names::UserNo;
 
-/// Returns the transcript's lines for the reply to an event of this user, each ended by LF: what
-/// was said to the user, what has been written at his console, what is at another's terminal, and
-/// then how the event ended.
+/// Returns the transcript's lines for the reply to an event of this user: what he was shown, what
+/// his console printed, a message at another terminal, and how the event ended.
+///
+/// Each is ended by LF.
 #[tactic(auto, using(crate::proofs::Endings::four_ended))]
 pub(crate) fn print_reply<I: Installation>(
     alloc: Global,

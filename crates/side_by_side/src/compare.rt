@@ -7,7 +7,8 @@ use s370_store::BLOCK_SIZE;
 use user_names::UserNo;
 
 impl SideBySide {
-    /// Compares all views of a user, the bytes of storage and the whole console among them.
+    /// Compares all views of a user, with all bytes of storage and the whole console, with those of
+    /// his bare machine; the error is the first view that differs.
     pub fn compare(&self, user: UserNo) -> Result<(), SideError> {
         self.compare_registers(user)?;
         self.compare_console(user, 0)?;
@@ -16,7 +17,8 @@ impl SideBySide {
         self.compare_disks(user)
     }
 
-    /// Compares the registers, the PSW, the mode, what is pending, and how many lines were printed.
+    /// Compares a user's registers, PSW, mode, what is pending and how many lines were printed with
+    /// those of his bare machine; the error is the first view that differs.
     pub fn compare_registers(&self, user: UserNo) -> Result<(), SideError> {
         let bare = self.bare(user)?;
         let system = &self.system;
@@ -32,7 +34,8 @@ impl SideBySide {
         same(printed, View::Console)
     }
 
-    /// Compares the lines that the console has printed, from one on.
+    /// Compares the lines that a user's console has printed, from `first` on, with those of his
+    /// bare machine; the error is that they differ.
     pub fn compare_console(&self, user: UserNo, first: usize) -> Result<(), SideError> {
         let bare = self.bare(user)?;
         for line in first..bare.printed() {
@@ -42,7 +45,8 @@ impl SideBySide {
         Ok(())
     }
 
-    /// Compares the bytes of storage and the keys.
+    /// Compares the bytes of a user's storage and its keys with those of his bare machine; the
+    /// error is the first view that differs.
     pub fn compare_storage(&self, user: UserNo) -> Result<(), SideError> {
         let bare = self.bare(user)?;
         let mut address = 0u32;
@@ -57,7 +61,8 @@ impl SideBySide {
         self.compare_keys(user, address / BLOCK_SIZE)
     }
 
-    /// Compares the subchannels, the devices with their lines, decks and files.
+    /// Compares a user's subchannels and devices, with their lines, decks and files, with those of
+    /// his bare machine; the error is the first view that differs.
     pub fn compare_devices(&self, user: UserNo) -> Result<(), SideError> {
         let bare = self.bare(user)?;
         let Some(subchannels) = self.system.subchannels(user) else {
@@ -75,7 +80,8 @@ impl SideBySide {
         same(target, View::Punch)
     }
 
-    /// Compares the disks: their arms with the sense, and all their tracks.
+    /// Compares a user's minidisks, their arms, sense and tracks, with the disks of his bare
+    /// machine; the error is the first view that differs.
     pub fn compare_disks(&self, user: UserNo) -> Result<(), SideError> {
         for disk in self.bare(user)?.disks() {
             match self.system.minidisk(user, disk.address()) {

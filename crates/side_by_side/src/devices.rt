@@ -5,7 +5,7 @@ use cp_spool::{SeenDeck, SpoolFile};
 use machine_devices::SeenDevices;
 use unit_record::{Console, Entry, RecordBytes};
 
-/// Returns whether two records have the same bytes.
+/// Returns whether two records have the same bytes, or there is neither.
 fn is_same_record(one: Option<&RecordBytes>, other: Option<&RecordBytes>) -> bool {
     match (one, other) {
         (Some(one), Some(other)) => one.as_slice() == other.as_slice(),
@@ -14,8 +14,8 @@ fn is_same_record(one: Option<&RecordBytes>, other: Option<&RecordBytes>) -> boo
     }
 }
 
-/// Compares two consoles: lines that were written, the one that is not finished, and those that
-/// wait.
+/// Compares two consoles: the lines that were written, the one that is not finished, those that
+/// wait, and the sense; the error is the first view that differs.
 pub(crate) fn compare_console_device(one: &Console, other: &Console) -> Result<(), SideError> {
     same(one.lines().len() == other.lines().len(), View::Console)?;
     for line in 0..other.lines().len() {
@@ -31,7 +31,7 @@ pub(crate) fn compare_console_device(one: &Console, other: &Console) -> Result<(
     same(one.sense() == other.sense(), View::Sense)
 }
 
-/// Returns whether two decks are the same, their numbers and senders too.
+/// Returns whether two decks have the same label, sender and cards, or there is neither.
 fn is_same_deck(one: Option<SeenDeck<'_>>, other: Option<SeenDeck<'_>>) -> bool {
     match (one, other) {
         (Some(one), Some(other)) => {
@@ -45,7 +45,7 @@ fn is_same_deck(one: Option<SeenDeck<'_>>, other: Option<SeenDeck<'_>>) -> bool 
     }
 }
 
-/// Returns whether each card of the one is that of the other.
+/// Returns whether each card of `other` is the same in `one`.
 fn are_same_cards(one: &SeenDeck<'_>, other: &SeenDeck<'_>) -> bool {
     for index in 0..other.count() {
         if one.card(index) != other.card(index) {
@@ -55,7 +55,8 @@ fn are_same_cards(one: &SeenDeck<'_>, other: &SeenDeck<'_>) -> bool {
     true
 }
 
-/// Compares two readers: their decks, and the place in the first.
+/// Compares two readers: their decks, how many cards of the first were read, and the sense; the
+/// error is the first view that differs.
 pub(crate) fn compare_reader(
     one: &SeenDevices<'_>,
     other: &SeenDevices<'_>,
@@ -68,14 +69,14 @@ pub(crate) fn compare_reader(
     same(one.reader_sense() == other.reader_sense(), View::Sense)
 }
 
-/// Returns whether two lists of entries are the same.
+/// Returns whether two lists have the same entries, with the same codes and bytes.
 fn are_same_entries(one: &[Entry], other: &[Entry]) -> bool {
     let are_same = one.iter().zip(other.iter()).all(|(one, other)| one.code() == other.code()
         && one.bytes() == other.bytes());
     one.len() == other.len() && are_same
 }
 
-/// Returns whether two closed files are the same, and for the same.
+/// Returns whether two closed files have the same target and the same entries, or there is neither.
 fn is_same_file(one: Option<&SpoolFile>, other: Option<&SpoolFile>) -> bool {
     match (one, other) {
         (Some(one), Some(other)) => {
@@ -86,7 +87,8 @@ fn is_same_file(one: Option<&SpoolFile>, other: Option<&SpoolFile>) -> bool {
     }
 }
 
-/// Compares two punches: the open file, and the closed ones.
+/// Compares two punches: their open files, their closed ones, and the sense; the error is the first
+/// view that differs.
 pub(crate) fn compare_punch(
     one: &SeenDevices<'_>,
     other: &SeenDevices<'_>,
@@ -105,7 +107,8 @@ pub(crate) fn compare_punch(
     same(one.punch().sense() == other.punch().sense(), View::Sense)
 }
 
-/// Compares two printers: the open file, and the closed ones.
+/// Compares two printers: their open files, their closed ones, and the sense; the error is the
+/// first view that differs.
 pub(crate) fn compare_printer(
     one: &SeenDevices<'_>,
     other: &SeenDevices<'_>,

@@ -11,7 +11,8 @@ use cp_directory::{DiskExtent, User};
 use machine_channels::AttachedDisk;
 use std::alloc::Global;
 
-/// Returns the arm of a disk as a machine finds it.
+/// Returns the arm of a disk that no program has used: it is over cylinder 0, and may write if the
+/// extent may be written.
 fn first_track(extent: &DiskExtent) -> Arm
     ensures cylinder { result.cylinder ≡ 0 }
     ensures home { result.home ≡ 0 }
@@ -29,7 +30,8 @@ fn first_track(extent: &DiskExtent) -> Arm
     }
 }
 
-/// Returns a volume of its own with the cylinders of an extent.
+/// Returns a new volume with the cylinders of an extent; an error if none of these volumes has
+/// them.
 fn part_of(alloc: Global, extent: &DiskExtent, volumes: &[Volume]) -> Result<Volume, SideError> {
     let serial = extent.volser().padded();
     let Some(volume) = volumes.iter().find(|volume| volume.volser() == serial) else {
@@ -42,7 +44,8 @@ fn part_of(alloc: Global, extent: &DiskExtent, volumes: &[Volume]) -> Result<Vol
     Ok(volume.slice(alloc, start, count)?)
 }
 
-/// Returns the disks of a user's bare machine: each has the cylinders of one of his minidisks.
+/// Returns the disks of a user's bare machine: for each of his minidisks one with a copy of its
+/// cylinders.
 pub(crate) fn disks_of(
     alloc: Global,
     user: &User,
@@ -84,7 +87,7 @@ fn is_same_cylinder(one: &Cylinder, other: &Cylinder) -> bool {
     true
 }
 
-/// Returns whether a volume has from a cylinder on those of another volume.
+/// Returns whether the cylinders of a volume from `start` on are the same as all those of `part`.
 fn has_part(volume: &Volume, start: usize, part: &Volume) -> bool {
     for number in 0..part.count() {
         let place = start.saturating_add(number);
@@ -98,7 +101,7 @@ fn has_part(volume: &Volume, start: usize, part: &Volume) -> bool {
     true
 }
 
-/// Returns whether a minidisk has the tracks of the disk of a bare machine.
+/// Returns whether a minidisk has the same cylinders as the disk of a bare machine.
 fn has_tracks(seen: &SeenDisk<'_>, part: &Volume) -> bool {
     let extent = seen.extent();
     match seen.volume() {
@@ -110,7 +113,8 @@ fn has_tracks(seen: &SeenDisk<'_>, part: &Volume) -> bool {
     }
 }
 
-/// Compares a minidisk with the disk of a bare machine: arm and sense, and each track.
+/// Compares a minidisk with the disk of a bare machine, arm and sense first, then each track; the
+/// error is the view that differs.
 pub(crate) fn compare_disk(seen: &SeenDisk<'_>, unit: &Unit) -> Result<(), SideError> {
     let is_same_arm = seen.arm() == unit.arm();
     let is_same_content = has_tracks(seen, unit.volume());

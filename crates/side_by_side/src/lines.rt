@@ -24,6 +24,7 @@ struct Before {
 }
 
 impl Before {
+    /// Returns how many lines, punch files and printer files a bare machine has so far.
     fn of(bare: &Bare) -> Before {
         Before {
             lines: bare.printed(),
@@ -33,7 +34,7 @@ impl Before {
     }
 }
 
-/// Returns the response that was said, if there was one.
+/// Returns the response that a user is shown, if it is one.
 fn response_of(said: &UserResponse) -> Option<Response> {
     match said {
         UserResponse::Said(response) => Some(*response),
@@ -41,8 +42,8 @@ fn response_of(said: &UserResponse) -> Option<Response> {
     }
 }
 
-/// Returns the response that a user gets if his bare machine says this and the next file has this
-/// number.
+/// Returns what a user is shown if his bare machine reports this outcome of a line and the next
+/// file has this number.
 fn said(reported: LineOutcome, number: u64) -> UserResponse {
     match reported {
         LineOutcome::Silent => UserResponse::Nothing,
@@ -54,7 +55,7 @@ fn said(reported: LineOutcome, number: u64) -> UserResponse {
     }
 }
 
-/// Of each user, whether his bare machine is on.
+/// Returns a new list of whether each user's bare machine is on.
 fn on_of(alloc: Global, machines: &[Beside]) -> Result<Vec<bool>, AllocError> {
     let mut on = Vec::new(alloc);
     for other_users in machines {
@@ -63,7 +64,8 @@ fn on_of(alloc: Global, machines: &[Beside]) -> Result<Vec<bool>, AllocError> {
     Ok(on)
 }
 
-/// How a reply says what came to the user of this number.
+/// Returns what a reply reports of a delivery to the user of this number; None if no user can have
+/// it.
 fn told_of(to: u8, what: Delivery) -> Option<Delivered> {
     if usize::from(to) >= MOST_USERS {
         return None;
@@ -72,7 +74,7 @@ fn told_of(to: u8, what: Delivery) -> Option<Delivered> {
     Some(Delivered { to, what })
 }
 
-/// Returns the cards of a closed file.
+/// Returns a new list of the cards of a closed file.
 fn cards_of(alloc: Global, file: &SpoolFile) -> Result<Vec<Card>, AllocError> {
     let mut cards = Vec::new(alloc);
     for index in 0..file.count() {
@@ -84,7 +86,8 @@ fn cards_of(alloc: Global, file: &SpoolFile) -> Result<Vec<Card>, AllocError> {
 }
 
 impl SideBySide {
-    /// Types a line at both, and reports the response of both.
+    /// Types a line of a user at the system and at his bare machine, compares the replies, and
+    /// returns the response; None if there is none or it was out of frames.
     pub fn line(
         &mut self,
         alloc: Global,
@@ -107,7 +110,8 @@ impl SideBySide {
         Ok(response_of(&said))
     }
 
-    /// Types a line at the bare machine of a user, in the world of all.
+    /// Types a line at the bare machine of a user, in the world of all users, and returns its
+    /// outcome.
     fn type_line(
         &mut self,
         alloc: Global,
@@ -126,8 +130,8 @@ impl SideBySide {
         }
     }
 
-    /// Does what follows from a line for other users: numbers each closed file, the punched one
-    /// first, and delivers the message or the punched file to its user.
+    /// Does what follows from a line at the bare machines: numbers the closed files, delivers the
+    /// message or the punch's file to its user's machine, and returns what was delivered.
     fn follow(
         &mut self,
         alloc: Global,
@@ -152,7 +156,8 @@ impl SideBySide {
         }
     }
 
-    /// A message comes to the console of the user of this number.
+    /// Prints a message on the console of the bare machine of the user of this number, if there is
+    /// one, and returns what was delivered.
     fn hear(&mut self, to: u8, line: ConsoleLine) -> Result<Option<Delivered>, SideError> {
         match self.machines.get_mut(usize::from(to)) {
             Some(other_users) => other_users.bare.hear(line)?,
@@ -161,8 +166,8 @@ impl SideBySide {
         Ok(told_of(to, Delivery::Message(line)))
     }
 
-    /// Delivers the file of this index, which a user's punch has closed, to the reader of the user
-    /// for whom it is.
+    /// Delivers the file of this index that a user's punch has closed to the bare machine of the
+    /// user for whom it is, if it is for one, and returns what was delivered.
     fn send_cards(
         &mut self,
         alloc: Global,
@@ -181,7 +186,8 @@ impl SideBySide {
         self.take_deck(to, number, Sender::User(user.number()), cards)
     }
 
-    /// A deck comes to the reader of the user of this number.
+    /// Appends a deck to the reader's queue of the bare machine of the user of this number, if
+    /// there is one, and returns what was delivered.
     fn take_deck(
         &mut self,
         to: u8,
@@ -196,7 +202,8 @@ impl SideBySide {
         Ok(told_of(to, Delivery::Deck(number)))
     }
 
-    /// Gives both machines a deck of these cards from the operator; no cards are no deck.
+    /// Gives a user's machine in the system and his bare one a deck of these cards of the operator,
+    /// and compares the replies; without cards no deck is given.
     pub fn deck(&mut self, alloc: Global, user: UserNo, cards: &[Card]) -> Result<(), SideError> {
         // The prover finds what a reply may hold only where a function names it.
         let _device: Option<DevAddr> = None;

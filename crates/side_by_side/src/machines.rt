@@ -31,7 +31,7 @@ pub struct SideBySide {
     pub(crate) delivered: Option<Delivered>,
 }
 
-/// Where the devices of a user are.
+/// Returns a user's addresses of console, reader, punch and printer, as a machine has them.
 fn places_in(devices: UserDevices) -> Places {
     Places {
         console: devices.console,
@@ -41,15 +41,15 @@ fn places_in(devices: UserDevices) -> Places {
     }
 }
 
-/// Returns the bare machine of a user, with disks that have the cylinders of his minidisks on these
-/// volumes.
+/// Returns the bare machine of a user, with disks that have copies of the cylinders of his
+/// minidisks.
 fn machine_of(alloc: Global, user: &User, volumes: &[Volume]) -> Result<Bare, SideError> {
     let storage = PlainStorage::new(alloc, user.storage().blocks())?;
     let disks = disks_of(alloc, user, volumes)?;
     Ok(Bare::new(alloc, storage, places_in(user.devices()), disks)?)
 }
 
-/// Returns a bare machine for each user.
+/// Returns a new bare machine for each user.
 fn machines_of(
     alloc: Global,
     users: &[User],
@@ -64,8 +64,8 @@ fn machines_of(
     Ok(machines)
 }
 
-/// Returns the reply to an event that ended so, where this was reported and so many lines joined
-/// the console.
+/// Returns the reply to an event that ended so, shows this, adds so many lines to the console and
+/// delivers nothing.
 pub(crate) fn reply(ended: Ended, said: UserResponse, lines: usize) -> Reply {
     Reply {
         ended,
@@ -75,7 +75,7 @@ pub(crate) fn reply(ended: Ended, said: UserResponse, lines: usize) -> Reply {
     }
 }
 
-/// An error where two views differ.
+/// Returns an error that names this view, unless `is_same` is true.
 pub(crate) fn same(is_same: bool, view: View) -> Result<(), SideError> {
     if is_same {
         Ok(())
@@ -84,7 +84,7 @@ pub(crate) fn same(is_same: bool, view: View) -> Result<(), SideError> {
     }
 }
 
-/// Returns how many of the units that were asked for were done, if frames ran out.
+/// Returns how many units were done if frames ran out, else how many were asked for.
 fn units_of(asked: u32, ended: Ended) -> u32 {
     match ended {
         Ended::Ran(ran) if ran.reason == Reason::FramesOut => ran.units,
@@ -93,12 +93,14 @@ fn units_of(asked: u32, ended: Ended) -> u32 {
 }
 
 impl SideBySide {
-    /// Boots both sides of a directory without minidisks, with all machines off.
+    /// Returns the system of a directory without minidisks and a bare machine for each user, all
+    /// off.
     pub fn boot(alloc: Global, directory: &[u8], sizes: Sizes) -> Result<SideBySide, SideError> {
         SideBySide::boot_on(alloc, directory, Vec::new(alloc), sizes)
     }
 
-    /// Boots both sides of a directory whose minidisks are on these volumes, with all machines off.
+    /// Returns the system of a directory with minidisks on these volumes and a bare machine for
+    /// each user, all off.
     pub fn boot_on(
         alloc: Global,
         directory: &[u8],
@@ -119,7 +121,7 @@ impl SideBySide {
         })
     }
 
-    /// Returns the bare machine next to a user.
+    /// Returns the bare machine of a user; an error if there is no such user.
     pub fn bare(&self, user: UserNo) -> Result<&Bare, SideError> {
         match self.machines.get(user.index()) {
             Some(other_users) => Ok(&other_users.bare),
@@ -127,6 +129,7 @@ impl SideBySide {
         }
     }
 
+    /// Borrows the bare machine of a user for changes; an error if there is no such user.
     pub(crate) fn bare_mut(&mut self, user: UserNo) -> Result<&mut Bare, SideError> {
         match self.machines.get_mut(user.index()) {
             Some(other_users) => Ok(&mut other_users.bare),
@@ -134,12 +137,12 @@ impl SideBySide {
         }
     }
 
-    /// Returns how many files there were so far.
+    /// Returns how many files have got a number so far.
     pub fn files(&self) -> u64 {
         self.files
     }
 
-    /// Returns what the last event delivered, and to whom.
+    /// Returns what the last event delivered, and to whom, if it delivered anything.
     pub fn delivered(&self) -> Option<Delivered> {
         self.delivered
     }
@@ -149,13 +152,13 @@ impl SideBySide {
         self.out_of_frames
     }
 
-    /// Returns how many pages have come into frames.
+    /// Returns how many pages have been paged in so far.
     pub fn page_ins(&self) -> u64 {
         self.system.page_ins()
     }
 
-    /// Whether an event was out of frames, and so did nothing. Nothing may be reported of it but
-    /// that.
+    /// Returns whether an event was out of frames, and counts it then; drops what the last event
+    /// delivered. An error if the reply of such an event has anything else.
     pub(crate) fn lacks_frames(&mut self, answered: Reply) -> Result<bool, SideError> {
         self.delivered = None;
         // The prover finds what a reply may hold only where a function names it.
@@ -169,7 +172,8 @@ impl SideBySide {
         Ok(true)
     }
 
-    /// Lets both run for at most so many units, and says how many both did and why no more.
+    /// Lets a user's machine in the system and his bare one run for so many units, compares the
+    /// replies, and returns how many were done and why it ended.
     pub fn run(&mut self, user: UserNo, units: u32) -> Result<Ran, SideError> {
         let answered = self.system.apply(Event::Run(user, units))?;
         let _is_out = self.lacks_frames(answered)?;
@@ -197,7 +201,8 @@ impl SideBySide {
         Ok(ran)
     }
 
-    /// Lets the timers of both tick.
+    /// Steps the timers of a user's machine in the system and of his bare one, and compares the
+    /// replies.
     pub fn tick(&mut self, user: UserNo) -> Result<(), SideError> {
         let answered = self.system.apply(Event::Tick(user))?;
         if self.lacks_frames(answered)? {
@@ -210,7 +215,8 @@ impl SideBySide {
         same(answered == wanted, View::Answer)
     }
 
-    /// Serves the device of this address of both, and says whether it had a program.
+    /// Serves the device of this address of a user's machine in the system and of his bare one,
+    /// compares the replies, and returns whether it had a program.
     pub fn serve(&mut self, user: UserNo, device: DevAddr) -> Result<bool, SideError> {
         let answered = self.system.apply(Event::Serve(user, device))?;
         if self.lacks_frames(answered)? {

@@ -8,8 +8,10 @@ use user_names::UserNo;
 /// A page of zeros.
 const ZEROS: [u8; FRAME_SIZE] = [0; FRAME_SIZE];
 
-/// Returns whether two lists of bytes are the same; eight are compared at a time, and all of them,
-/// which takes less time than to look for the first that differs.
+/// Returns whether two lists of bytes are the same.
+///
+/// Eight are compared at a time, and all of them, which takes less time than to look for the first
+/// that differs.
 fn are_same_bytes(one: &[u8], other: &[u8]) -> bool {
     let (words, rest) = one.as_chunks::<8>();
     let (other_words, other_rest) = other.as_chunks::<8>();
@@ -20,7 +22,8 @@ fn are_same_bytes(one: &[u8], other: &[u8]) -> bool {
     differing == 0 && one.len() == other.len() && rest == other_rest
 }
 
-/// Returns whether each byte of a page is that of these, as the views of storage show it.
+/// Returns whether each byte of a user's page, as the system shows it one by one, is that of
+/// `wanted`.
 fn shows_page(system: &System, user: UserNo, page: u32, wanted: &[u8]) -> bool {
     let mut address = page.wrapping_mul(FRAME_SIZE as u32);
     for byte in wanted {
@@ -32,7 +35,8 @@ fn shows_page(system: &System, user: UserNo, page: u32, wanted: &[u8]) -> bool {
     true
 }
 
-/// Returns whether a page has these bytes: in its frame, in its slot, or zeros if it is nowhere.
+/// Returns whether a user's page has these bytes: in its frame, in its slot, or zeros if it is in
+/// neither.
 fn has_page(system: &mut System, user: UserNo, page: u32, wanted: &[u8]) -> bool {
     if let Some(frame) = system.frame_of(user, Page(page)) {
         return match system.frame_mut(frame) {
@@ -47,8 +51,11 @@ fn has_page(system: &mut System, user: UserNo, page: u32, wanted: &[u8]) -> bool
 }
 
 impl SideBySide {
-    /// Compares the bytes of storage and the keys, as [`SideBySide::compare_storage`] does, but
-    /// those of a page that is in a frame at once.
+    /// Compares the bytes of a user's storage and its keys with those of his bare machine; the
+    /// error is the first view that differs.
+    ///
+    /// It does the same as [`SideBySide::compare_storage`], but compares a page that is in a frame
+    /// at once.
     pub fn compare_pages(&mut self, user: UserNo) -> Result<(), SideError> {
         let Some(other_users) = self.machines.get(user.index()) else {
             return Err(SideError::NoSuchUser);
@@ -66,7 +73,8 @@ impl SideBySide {
         self.compare_keys(user, page.wrapping_mul(2))
     }
 
-    /// Compares the keys of so many blocks, and that there are no more.
+    /// Compares the keys of so many blocks of a user with those of his bare machine, and that there
+    /// are no more; the error is that they differ.
     pub(crate) fn compare_keys(&self, user: UserNo, blocks: u32) -> Result<(), SideError> {
         let bare = self.bare(user)?;
         for block in 0..=blocks {

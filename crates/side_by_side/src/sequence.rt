@@ -13,7 +13,7 @@ impl Sequence {
         Sequence { state: seed }
     }
 
-    /// The next number, of 31 bits.
+    /// Moves the sequence on, and returns its next number, of 31 bits.
     pub fn next_number(&mut self) -> u32 {
         self.state = self
             .state
@@ -22,7 +22,7 @@ impl Sequence {
         (self.state >> 33) as u32
     }
 
-    /// The next number below this one.
+    /// Moves the sequence on, and returns its next number modulo `limit`.
     pub fn below(&mut self, limit: u32) -> u32
         requires { 0 < limit }
         ensures { result < limit }
@@ -30,13 +30,13 @@ impl Sequence {
         self.next_number() % limit
     }
 
-    /// The next of these numbers, of which there is at least one.
+    /// Moves the sequence on, and returns one of these numbers by it; 0 if there are none.
     pub fn one_of(&mut self, numbers: &[u32]) -> u32 {
         let place = self.next_number() as usize % numbers.len().max(1);
         numbers.get(place).copied().unwrap_or(0)
     }
 
-    /// The next of these texts, of which there is at least one.
+    /// Moves the sequence on, and returns one of these texts by it; an empty one if there are none.
     pub fn pick(&mut self, texts: &[&'static str]) -> &'static str {
         let place = self.next_number() as usize % texts.len().max(1);
         texts.get(place).copied().unwrap_or("")

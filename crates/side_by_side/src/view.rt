@@ -46,6 +46,7 @@ pub enum View {
 }
 
 impl fmt::Display for View {
+    /// Writes the name of the view.
     fn fmt<W: fmt::Write>(&self, f: &mut fmt::Formatter<W>) -> fmt::Result {
         let name = match self {
             View::Answer => "the answer",

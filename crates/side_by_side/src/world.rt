@@ -22,6 +22,7 @@ impl<'a> UserDirectory for Others<'a> {
 
     ghost known = { λ o. world_among o.users.now o.own o.on.now };
 
+    /// Returns the number of the user of this name, if there is one.
     fn user_of(&self, name: &[u8]) -> Option<u8> {
         match user_of(self.users, name) {
             Some(user) => Some(user.number()),
@@ -29,10 +30,13 @@ impl<'a> UserDirectory for Others<'a> {
         }
     }
 
+    /// Returns the name of the user whose machine it is.
     fn own_name(&self) -> &[u8] {
         name_of(self.users, self.own)
     }
 
+    /// Returns whether the bare machine of the user of this number is on; false if there is no such
+    /// user.
     fn is_on(&self, user: u8) -> bool {
         match self.on.get(usize::from(user)) {
             Some(on) => *on,
@@ -40,6 +44,7 @@ impl<'a> UserDirectory for Others<'a> {
         }
     }
 
+    /// Returns how many bare machines are on.
     fn users_on(&self) -> u64 {
         self.on.iter().filter(|on| **on).count() as u64
     }

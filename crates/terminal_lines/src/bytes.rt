@@ -20,7 +20,7 @@ impl Model for Bytes {
 }
 
 impl Bytes {
-    /// Creates a text of no bytes.
+    /// Returns an empty list of bytes.
     pub fn new(alloc: Global) -> Bytes
         ensures { result ≡ [] }
     {
@@ -29,14 +29,14 @@ impl Bytes {
         }
     }
 
-    /// Creates the text of these bytes.
+    /// Returns these bytes as owned ones, without a copy.
     pub fn owning(bytes: Vec<u8>) -> Bytes
         ensures { result ≡ bytes.items }
     {
         Bytes { bytes }
     }
 
-    /// Returns a copy of these bytes.
+    /// Returns a new copy of these bytes.
     ///
     /// # Errors
     ///
@@ -56,7 +56,7 @@ impl Bytes {
         &self.bytes
     }
 
-    /// Adds a byte at the end.
+    /// Appends a byte.
     ///
     /// # Errors
     ///
@@ -68,7 +68,7 @@ impl Bytes {
         Ok(())
     }
 
-    /// Adds bytes at the end.
+    /// Appends these bytes.
     ///
     /// # Errors
     ///
@@ -79,14 +79,14 @@ impl Bytes {
         self.bytes.extend_from_slice(bytes)
     }
 
-    /// Takes the last byte away, if there is one.
+    /// Removes the last byte, if there is one.
     pub fn pop(&mut self)
         ensures { self.new ≡ take (length self.old - 1) self.old }
     {
         self.bytes.pop();
     }
 
-    /// Takes all bytes away.
+    /// Removes all bytes.
     pub fn clear(&mut self)
         ensures { self.new ≡ [] }
     {

@@ -100,7 +100,7 @@ impl Model for LineDecoder {
 }
 
 impl LineDecoder {
-    /// Returns a terminal at which nothing was typed.
+    /// Returns the decoder of a terminal at which nothing was typed.
     pub fn new(alloc: Global) -> LineDecoder
         ensures { result ≡ nothing_typed }
     {
@@ -111,7 +111,8 @@ impl LineDecoder {
         }
     }
 
-    /// Takes the next byte that has come, and returns what it completes.
+    /// Takes the next byte of a terminal, and returns what it completes: a line, an option to
+    /// decline, the question whether somebody is there, or nothing.
     ///
     /// # Errors
     ///
@@ -141,7 +142,8 @@ impl LineDecoder {
         }
     }
 
-    /// Takes a byte of text.
+    /// Takes a byte of text: it is added to the line, removes a character, ends the line, or begins
+    /// a telnet command; returns the line if it ends one.
     fn take_text(&mut self, alloc: Global, byte: u8) -> Result<Decoded, AllocError>
         ensures { IfOk result (λ decoded. after_text self.old byte
             ≡ record { typed = self.new; decoded = decoded }) }
@@ -167,7 +169,8 @@ impl LineDecoder {
         }
     }
 
-    /// Takes the byte after IAC.
+    /// Takes the byte after IAC: it erases a character or the line, begins an option or parameters,
+    /// or asks for somebody; a break drops the line and returns `#CP`.
     fn take_command(&mut self, alloc: Global, byte: u8) -> Result<Decoded, AllocError>
         ensures { IfOk result (λ decoded. after_command self.old byte
             ≡ record { typed = self.new; decoded = decoded }) }
@@ -200,7 +203,8 @@ impl LineDecoder {
         }
     }
 
-    /// Takes the option of a command.
+    /// Takes the option of a telnet command, and returns that it is declined, if the command is
+    /// WILL, or DO for another option than ECHO.
     fn take_option(&mut self, command: u8, option: u8) -> Decoded
         ensures { after_option self.old command option
             ≡ record { typed = self.new; decoded = result } }
@@ -220,7 +224,7 @@ impl LineDecoder {
     }
 }
 
-/// Adds a character to a line that has room for one.
+/// Appends a character to a line, if it has fewer than 130.
 fn add(line: &mut Bytes, character: u8) -> Result<(), AllocError>
     ensures { OnOk result (line.new ≡ with_character line.old character) }
 {
@@ -230,7 +234,8 @@ fn add(line: &mut Bytes, character: u8) -> Result<(), AllocError>
     Ok(())
 }
 
-/// Returns the character as it is in a line: a blank for what is no printable ASCII character.
+/// Returns the character that a byte is in a line: a blank for what is no printable ASCII
+/// character.
 pub fn printable(byte: u8) -> u8
     ensures { result ≡ printable byte }
 {

@@ -9,8 +9,8 @@ use crate::words::in_capitals;
 use std::alloc::{AllocError, Global};
 use text_words::words::{cut_word, unindented};
 
-/// Returns the line with its command in capitals, if it goes to the control program; the text of a
-/// message stays as it is.
+/// Returns a copy of a line with its command in capitals, if it is for the control program; the
+/// text of a message stays as it is.
 ///
 /// # Errors
 ///
@@ -27,7 +27,7 @@ pub fn script_line(alloc: Global, is_running: bool, line: &[u8]) -> Result<Bytes
     Ok(script)
 }
 
-/// Returns whether the first word of a line is this one, in small letters or capitals.
+/// Returns whether the first word of a line, in small letters or capitals, is this one of capitals.
 fn begins_with(alloc: Global, line: &[u8], word: &[u8]) -> Result<bool, AllocError>
     ensures { IfOk result (λ begins. begins ≡ begins_with word.now line.now) }
 {
@@ -36,7 +36,7 @@ fn begins_with(alloc: Global, line: &[u8], word: &[u8]) -> Result<bool, AllocErr
     Ok(first.as_slice() == word)
 }
 
-/// Returns the command of a line, without `#CP` before it.
+/// Returns the line without a first word `#CP`, if it has that.
 fn command_of(alloc: Global, line: &[u8]) -> Result<&[u8], AllocError>
     ensures { IfOk result (λ command. command.now ≡ command_of line.now) }
 {
@@ -47,7 +47,7 @@ fn command_of(alloc: Global, line: &[u8]) -> Result<&[u8], AllocError>
     }
 }
 
-/// Returns the text of a message, or nothing if the line is none.
+/// Returns the text of a message that a line is to send; nothing if it is no MSG command.
 fn message_of(alloc: Global, line: &[u8]) -> Result<&[u8], AllocError>
     ensures { IfOk result (λ message. message.now ≡ message_of line.now) }
 {
@@ -59,7 +59,7 @@ fn message_of(alloc: Global, line: &[u8]) -> Result<&[u8], AllocError>
     }
 }
 
-/// Returns what follows the first word of a line.
+/// Returns what follows the first word of a line, or nothing.
 fn after_first_word(line: &[u8]) -> &[u8]
     ensures { result.now ≡ after_first_word line.now }
 {

@@ -17,7 +17,7 @@ pub struct Guess {
 }
 
 impl Guess {
-    /// Returns a copy of the name and the password.
+    /// Returns a new copy of the name and the password.
     ///
     /// # Errors
     ///
@@ -45,7 +45,8 @@ pub enum Said {
     Other,
 }
 
-/// Returns what a line in capitals says.
+/// Returns what a line in capitals says: LOGON with a name, or with a name and a password, one
+/// word, or anything else.
 ///
 /// # Errors
 ///
@@ -69,7 +70,8 @@ pub fn said_of(alloc: Global, line: &[u8]) -> Result<Said, AllocError>
     }
 }
 
-/// Returns what a word and a name say: a name to log on with after LOGON, else another line.
+/// Returns what a line of two words says: a name to log on with if the first was LOGON, else
+/// anything else.
 fn named(alloc: Global, is_logon: bool, name: &[u8]) -> Result<Said, AllocError>
     ensures { IfOk result (λ said. said ≡ (if is_logon then Said.Name name.now else Said.Other)) }
 {
@@ -79,7 +81,8 @@ fn named(alloc: Global, is_logon: bool, name: &[u8]) -> Result<Said, AllocError>
     Ok(Said::Name(Bytes::of(alloc, name)?))
 }
 
-/// Returns what a word, a name and a password say: a guess after LOGON, else another line.
+/// Returns what a line of three words says: a name and a password if the first was LOGON, else
+/// anything else.
 fn both(alloc: Global, is_logon: bool, name: &[u8], password: &[u8]) -> Result<Said, AllocError>
     ensures { IfOk result (λ said. said
         ≡ (if is_logon then Said.Both (record { name = name.now; password = password.now })
@@ -94,7 +97,7 @@ fn both(alloc: Global, is_logon: bool, name: &[u8], password: &[u8]) -> Result<S
     }))
 }
 
-/// Returns the line in capitals.
+/// Returns a new copy of the line in capitals.
 ///
 /// # Errors
 ///

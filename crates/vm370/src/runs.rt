@@ -56,9 +56,10 @@ pub fn run_files<F: FileStore, W: HostWriter>(
     run_script(alloc, files, &mut machines, options.script, saved, writer)
 }
 
-/// Boots the system of the directory and the volumes that these options name, follows the parts of
-/// a script that an input has and writes what comes of each, and saves the images of the volumes if
-/// the options ask for that and the input asked for its end.
+/// Boots the system that these options name, follows the parts of a script that an input has and
+/// writes the answer to each, and saves the images of the volumes if asked to.
+///
+/// They are saved if the options ask for that and the input asked for its end.
 ///
 /// # Errors
 ///
