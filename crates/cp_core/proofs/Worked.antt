@@ -107,7 +107,8 @@ each_for P Q more (pages ∷ units) all = (such_for P Q more pages all.0, each_f
 
 one_brings : (b : Bool) (needs : ℕ → Type 0) (pages : List ℕ) → b ≡ false → AllNeeded needs pages
     → LineBrings b needs (pages ∷ [])
-one_brings b needs pages plain all = subst (λ (c : Bool). LineBrings c needs (pages ∷ [])) (sym plain) (pages, refl, all)
+one_brings b needs pages plain all = subst (λ (c : Bool). LineBrings c needs (pages ∷ [])) (sym plain)
+    (pages, refl, all)
 
 -- where no frame is pinned, nothing is taken away with the pins
 still : (supply : FrameSupply) → IsBetweenUnits supply → unpinned supply ≡ supply

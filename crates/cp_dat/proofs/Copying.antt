@@ -1,5 +1,6 @@
 -- Bytes that are copied out and put back, and pages that come for that.
-use Rattle.std.proofs.Common.{ℕ, ◌+◌, ◌-◌, ◌*◌, ◌/◌, ◌%◌, ◌<◌, ◌≤◌, ◌≡◌, ◌≢◌, ◌==◌, ◌⊎◌, ◌++◌, List, [], ◌∷◌, Bool, true, false, Result, Ok}
+use Rattle.std.proofs.Common.{ℕ, ◌+◌, ◌-◌, ◌*◌, ◌/◌, ◌%◌, ◌<◌, ◌≤◌, ◌≡◌, ◌≢◌, ◌==◌, ◌⊎◌, ◌++◌, List}
+use Rattle.std.proofs.Common.{[], ◌∷◌, Bool, true, false, Result, Ok}
 use Rattle.std.proofs.Common.{Err, OnOk, OnErr, length, get_or, take, drop, replicate, refl, sym, ap, subst, ◌∙◌, inl}
 use Rattle.std.proofs.Common.{inr, arith}
 use Rattle.std.specs.Prelude.{slice_range, slice_index_or}

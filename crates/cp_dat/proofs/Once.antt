@@ -1,5 +1,6 @@
 -- A page that has come for a unit is held until the unit ends, and so doesn't come again.
-use Rattle.std.proofs.Common.{◌≡◌, ◌≤◌, ◌==◌, ◌+◌, inl, inr, Bool, ℕ, zero, suc, ◌∙◌, List, [], ◌∷◌, Option, true, refl, sym, ap, subst, arith}
+use Rattle.std.proofs.Common.{◌≡◌, ◌≤◌, ◌==◌, ◌+◌, inl, inr, Bool, ℕ, zero, suc, ◌∙◌, List, [], ◌∷◌}
+use Rattle.std.proofs.Common.{Option, true, refl, sym, ap, subst, arith}
 use Rattle.std.proofs.lemmas.Bool.{cases_eq}
 use Rattle.std.specs.Prelude.{Contains, is_some}
 use Rattle.cp_frames.specs.Layout.{FrameSupply, is_there}

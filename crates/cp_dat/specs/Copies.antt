@@ -1,5 +1,6 @@
 -- A user's storage as bytes, of which pages are put back.
-use Rattle.std.specs.Prelude.{◌≡◌, ℕ, ◌+◌, ◌/◌, ◌≤◌, ◌==◌, Bool, true, false, List, [], ◌∷◌, slice_index}
+use Rattle.std.specs.Prelude.{◌≡◌, ℕ, ◌+◌, ◌/◌, ◌≤◌, ◌==◌, Bool, true}
+use Rattle.std.specs.Prelude.{false, List, [], ◌∷◌, slice_index}
 use Rattle.std.specs.Prelude.{slice_index_or}
 use Rattle.cp_dat.specs.declared.dat.Dat.{Dat}
 use Rattle.cp_dat.specs.Lent.{lent_keys, lent_pool, user_of}

@@ -1,5 +1,6 @@
 -- What programs of a user's devices leave: those whose pages are held, and those that were tried.
-use Rattle.std.proofs.Common.{◌≡◌, ◌∙◌, ap, sym, subst, ℕ, ◌*◌, ◌<◌, ◌≤◌, List, [], ◌∷◌, ◌++◌, length, refl, Option, None}
+use Rattle.std.proofs.Common.{◌≡◌, ◌∙◌, ap, sym, subst, ℕ, ◌*◌, ◌<◌, ◌≤◌, List, []}
+use Rattle.std.proofs.Common.{◌∷◌, ◌++◌, length, refl, Option, None}
 use Rattle.std.proofs.Common.{Some, Result, Ok, Err, arith, inl, inr}
 use Rattle.std.specs.Prelude.{IfErr, IfOk, OnOk, slice_get}
 use Rattle.std.proofs.lemmas.Option.{slice_get_cases}

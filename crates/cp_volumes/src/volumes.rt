@@ -219,7 +219,8 @@ impl Volumes {
         ensures confined { IsConfined (placement_of disk.old ∷ []) self.old self.new }
         ensures paged_in { CameOnly storage.old
             (IsTouched guest_written (limited disk_machine start)
-            (begun start (lent_memory storage.old) (disk_on self.old disk.old).unit)) 2 storage.new }
+            (begun start (lent_memory storage.old) (disk_on self.old disk.old).unit))
+            2 storage.new }
         ensures between { IsBetweenUnits (lent_pool storage.new).supply }
     {
         let again = Caw {

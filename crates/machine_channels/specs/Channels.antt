@@ -130,10 +130,11 @@ abbrev pub DiskHadRoomToLoad : {S : Type 0} → ((D : Type 0) → Machine D → 
 DiskHadRoomToLoad HadRoom old (Some disk) new = HadRoom Disk disk_machine old disk.unit new
 DiskHadRoomToLoad HadRoom old None new = ⊥
 
--- how often a page may come for the program of a device that is served, and for a loading
+-- how often a page may be paged in for a device that is served
 abbrev pub serve_times : ℕ
 serve_times = 2
 
+-- how often a page may be paged in for an IPL
 abbrev pub load_times : ℕ
 load_times = 4
 

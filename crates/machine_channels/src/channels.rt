@@ -12,7 +12,8 @@ ghost use Rattle.s370_walk.specs.Hardware.{Machine};
 ghost use Rattle.machine_channels.specs.Channels.{Brings, DiskHadRoom, DiskHadRoomToLoad};
 ghost use Rattle.machine_channels.specs.Channels.{DiskLoads, DiskNeeds, LacksPage, LoadNeeds};
 ghost use Rattle.machine_channels.specs.Channels.{LoadsDisk, NoRoom, ProgramNeeds, StopsDisk};
-ghost use Rattle.machine_channels.specs.Channels.{WalksDisk, WalksLoading, WhereOut, load_times, serve_times};
+ghost use Rattle.machine_channels.specs.Channels.{WalksDisk, WalksLoading, WhereOut};
+ghost use Rattle.machine_channels.specs.Channels.{load_times, serve_times};
 ghost use Rattle.machine_channels.specs.Disks.{DiskAt, cleared_disk, is_disk_at, reset_disk};
 ghost use Rattle.machine_channels.specs.declared.channels.UnitRecord.{UnitRecord};
 ghost use Rattle.s370_channel.specs.declared.words.Caw.{Caw};
@@ -140,7 +141,8 @@ pub trait Channels<S: Storage>: Disks {
             ((S.memory storage.new ≡ S.memory storage.old) × (device.new ≡ device.old))) }
         ensures roomy { is_whole ≡ true → result ≡ Err errors.Memory
             → HadRoom _ D.Device.machine storage.old start device.old storage.new }
-        ensures paged_in { Brings (Came serve_times) storage.old (ProgramNeeds holds D.Device.machine start
+        ensures paged_in { Brings (Came serve_times) storage.old
+            (ProgramNeeds holds D.Device.machine start
             (S.memory storage.old) device.old) storage.new }
         ensures ready { IsReady storage.new }
         ensures others { Self.KeepsOthers self.old self.new }
@@ -176,7 +178,8 @@ pub trait Channels<S: Storage>: Disks {
         ensures roomy { is_whole ≡ true → result ≡ Err errors.Memory
             → DiskHadRoom HadRoom storage.old start (slice_get (Self.disks self.old) index)
             storage.new }
-        ensures paged_in { Brings (Came serve_times) storage.old (DiskNeeds holds start (S.memory storage.old)
+        ensures paged_in { Brings (Came serve_times) storage.old
+            (DiskNeeds holds start (S.memory storage.old)
             (slice_get (Self.disks self.old) index)) storage.new }
         ensures ready { IsReady storage.new }
         ensures others { Self.KeepsOthers self.old self.new }

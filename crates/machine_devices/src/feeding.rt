@@ -57,7 +57,8 @@ pub(crate) fn feed<S: Storage, C: Channels<S>>(
     ensures roomy { C.is_whole ≡ true → result ≡ Err errors.Memory
         → ((feed : FeedState) × C.HadRoom FeedState feed_machine storage.old start feed
         storage.new) }
-    ensures paged_in { Brings (C.Came serve_times) storage.old (ProgramNeeds C.holds reader_machine start
+    ensures paged_in { Brings (C.Came serve_times) storage.old
+        (ProgramNeeds C.holds reader_machine start
         (S.memory storage.old) (reader_of (files_of queues.old.users user) reader.old))
         storage.new }
     ensures ready { C.IsReady storage.new }

@@ -154,7 +154,8 @@ impl Devices {
         ensures paged_in { let before = equipped machine.old (devices_on self.old queues.old)
             (C.disks channels.old)
             (S.memory storage.old) in
-            Brings (C.Came load_times) storage.old (KindLoads (Some kinds.Reader) before) storage.new }
+            Brings (C.Came load_times) storage.old (KindLoads (Some kinds.Reader) before)
+            storage.new }
         ensures ready { C.IsReady storage.new }
         ensures others { C.KeepsOthers channels.old channels.new }
         ensures other_users { KeepsOtherUsers self.old queues.old self.new queues.new }
@@ -229,7 +230,8 @@ impl Devices {
         ensures paged_in { let before = equipped machine.old (devices_on self.old queues.now)
             (C.disks channels.old)
             (S.memory storage.old) in
-            Brings (C.Came load_times) storage.old (KindLoads (Some (kinds.Disk index)) before) storage.new }
+            Brings (C.Came load_times) storage.old (KindLoads (Some (kinds.Disk index)) before)
+            storage.new }
         ensures ready { C.IsReady storage.new }
         ensures others { C.KeepsOthers channels.old channels.new }
         ensures user { self.new.user ≡ self.old.user }

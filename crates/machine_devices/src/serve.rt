@@ -154,7 +154,8 @@ impl Devices {
         ensures paged_in { let before = equipped machine.old (devices_on self.old queues.old)
             (C.disks channels.old)
             (S.memory storage.old) in
-            Brings (C.Came serve_times) storage.old (KindNeeds C.holds kind start before) storage.new }
+            Brings (C.Came serve_times) storage.old (KindNeeds C.holds kind start before)
+            storage.new }
         ensures ready { C.IsReady storage.new }
         ensures kept { OnOk result
             (KindReuses C.Reuses C.ReusesDisk channels.old storage.old channels.new kind start
@@ -241,7 +242,8 @@ impl Devices {
         ensures paged_in { let before = equipped machine.old (devices_on self.old queues.old)
             (C.disks channels.old)
             (S.memory storage.old) in
-            Brings (C.Came serve_times) storage.old (KindNeeds C.holds kinds.Reader start before) storage.new }
+            Brings (C.Came serve_times) storage.old (KindNeeds C.holds kinds.Reader start before)
+            storage.new }
         ensures ready { C.IsReady storage.new }
         ensures kept { C.Reuses channels.old storage.old start units.Reader (is_ok result)
             channels.new }
@@ -305,7 +307,8 @@ impl Devices {
         ensures paged_in { let before = equipped machine.old (devices_on self.old queues.now)
             (C.disks channels.old)
             (S.memory storage.old) in
-            Brings (C.Came serve_times) storage.old (KindNeeds C.holds kinds.Console start before) storage.new }
+            Brings (C.Came serve_times) storage.old (KindNeeds C.holds kinds.Console start before)
+            storage.new }
         ensures ready { C.IsReady storage.new }
         ensures kept { OnOk result
             (C.Reuses channels.old storage.old start units.Console true channels.new) }

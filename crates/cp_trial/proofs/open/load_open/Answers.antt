@@ -51,7 +51,8 @@ returns-clause-paged_in g c =
     (is_wanted (trial_flags c.in-Ok.tried)) Needs 1 2
     (loads_flagged g.D.Device.machine old c.fetch_first.new.storage c.args.device.now c.in-Ok.tried
     c.fetch_first.ensures.memory c.in-Ok.ensures) first c.load_tried.ensures.paged_in in
-    came_more old c.load_tried.new.storage c.fetch_again.new.storage (λ page. page ≡ 0) Needs 3 1 (λ page it. inl it) second
+    came_more old c.load_tried.new.storage c.fetch_again.new.storage (λ page. page ≡ 0) Needs 3 1 (λ page it. inl it)
+    second
     c.fetch_again.ensures.paged_in
 
 pub returns-in-Err-clause-roomy : goal.returns-in-Err-clause-roomy

@@ -44,7 +44,8 @@ loop-start-preserved c =
     elim c.if-wanted-start.branch [
       | then-wanted-start w ↦ rw w.self-is
           (back_on c.args.self.now c.args.from.now c.args.wanted.now c.loop-start.start c.loop-start.self whole low
-          c.requires.long before w.fetch_at.new.self w.store.new.self w.if-wanted-start.true w.fetch_at.ensures.paged_in w.fetch_at.ensures.there
+          c.requires.long before w.fetch_at.new.self w.store.new.self w.if-wanted-start.true w.fetch_at.ensures.paged_in
+          w.fetch_at.ensures.there
           w.fetch_at.ensures.between w.fetch_at.ensures.memory w.store.ensures.rest w.store.ensures.stored)
       | else-wanted-start w ↦ rw w.self-is
           (back_by c.args.self.now c.args.from.now c.args.wanted.now c.loop-start.start c.loop-start.self whole low

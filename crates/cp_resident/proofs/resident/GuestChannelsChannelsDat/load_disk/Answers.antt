@@ -81,7 +81,8 @@ returns-in-Ok-load_disk-clause-paged_in c =
     c.fetch_first.ensures.paged_in in
     let second = came_more old fetched loaded Touched Needs 1 2 touches first c.load_disk.ensures.paged_in in
     let again = c.fetch_again.new.storage in
-    let third = came_more old loaded again (λ page. page ≡ 0) Needs 3 1 at_first second c.fetch_again.ensures.paged_in in
+    let third = came_more old loaded again (λ page. page ≡ 0) Needs 3 1 at_first second c.fetch_again.ensures.paged_in
+    in
     Ran.tried_came 4 4 old again Needs Needs (λ page it. it) (omega arith) third
 
 pub returns-in-Err-load_disk-clause-whole : goal.returns-in-Err-load_disk-clause-whole

@@ -169,7 +169,8 @@ returns-in-Loads-clause-paged_in g c = λ ipl. (
     requested_is (Loads c.in-Loads.device) before c.args.typed.now c.as_slice.result.now c.mode.result
     c.is_some-has_console.result c.in-Loads.ensures c.mode.ensures has
     (c.as_slice.ensures.value ∙ c.new-text.ensures) in (
-      subst (λ (q : Request). Brings (g.C.Channels.Came load_times) c.args.storage.now (LoadWants q before) c.ipl.new.storage)
+      subst (λ (q : Request). Brings (g.C.Channels.Came load_times) c.args.storage.now (LoadWants q before)
+          c.ipl.new.storage)
           (sym judged) c.ipl.ensures.paged_in,
       c.ipl.ensures.ready,
     ))

@@ -18,7 +18,8 @@ returns-in-Err-Memory-clause-paged_in g c =
     λ d. equipped c.args.machine.now (devices_on d c.args.queues.now) (g.C.Disks.disks c.args.channels.now)
     (g.S.Storage.memory c.args.storage.now) in
     subst (λ (d : DevicesParts).
-    Brings (g.C.Channels.Came load_times) c.args.storage.now (KindLoads (Some kinds.Reader) (from d)) c.load_fed.new.storage)
+    Brings (g.C.Channels.Came load_times) c.args.storage.now (KindLoads (Some kinds.Reader) (from d))
+    c.load_fed.new.storage)
     c.self.view_is c.load_fed.ensures.paged_in
 
 pub returns-in-Ok-start_loaded-clause-ok : goal.returns-in-Ok-start_loaded-clause-ok
@@ -53,7 +54,8 @@ returns-in-Ok-start_loaded-clause-paged_in g c =
     (g.S.Storage.memory c.args.storage.now) in
     let b = c.load_fed.ensures.paged_in in
     subst (λ (d : DevicesParts).
-    Brings (g.C.Channels.Came load_times) c.args.storage.now (KindLoads (Some kinds.Reader) (from d)) c.start_loaded.new.storage)
+    Brings (g.C.Channels.Came load_times) c.args.storage.now (KindLoads (Some kinds.Reader) (from d))
+    c.start_loaded.new.storage)
     c.self.view_is
     (b.0, g.met.C.Channels.came_kept _ _ _ _ b.0 b.1 c.start_loaded.ensures.rest, b.2)
 
@@ -64,6 +66,7 @@ returns-in-Err-start_loaded-clause-paged_in g c =
     (g.S.Storage.memory c.args.storage.now) in
     let b = c.load_fed.ensures.paged_in in
     subst (λ (d : DevicesParts).
-    Brings (g.C.Channels.Came load_times) c.args.storage.now (KindLoads (Some kinds.Reader) (from d)) c.start_loaded.new.storage)
+    Brings (g.C.Channels.Came load_times) c.args.storage.now (KindLoads (Some kinds.Reader) (from d))
+    c.start_loaded.new.storage)
     c.self.view_is
     (b.0, g.met.C.Channels.came_kept _ _ _ _ b.0 b.1 c.start_loaded.ensures.rest, b.2)

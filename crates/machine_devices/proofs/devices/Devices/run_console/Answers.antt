@@ -96,7 +96,8 @@ returns-in-Err-clause-paged_in g c =
     λ d. equipped c.args.machine.now (devices_on d c.args.queues.now) (g.C.Disks.disks c.args.channels.now)
     (g.S.Storage.memory c.args.storage.now) in
     subst (λ (d : DevicesParts).
-    Brings (g.C.Channels.Came serve_times) c.args.storage.now (KindNeeds g.C.Channels.holds kinds.Console c.args.start (from d))
+    Brings (g.C.Channels.Came serve_times) c.args.storage.now
+    (KindNeeds g.C.Channels.holds kinds.Console c.args.start (from d))
     c.run.new.storage) c.self.view_is c.run.ensures.paged_in
 
 pub returns-in-Err-clause-roomy : goal.returns-in-Err-clause-roomy

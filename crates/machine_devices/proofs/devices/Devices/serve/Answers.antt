@@ -26,7 +26,8 @@ returns-in-Ok-clause-paged_in g c =
     Brings (g.C.Channels.Came serve_times) c.args.storage.now (StartNeeds g.C.Channels.holds k program before)
     c.run_kind.new.storage) found
     (subst (λ (p : Option Caw).
-    Brings (g.C.Channels.Came serve_times) c.args.storage.now (StartNeeds g.C.Channels.holds (Some c.in-Some.kind) p before)
+    Brings (g.C.Channels.Came serve_times) c.args.storage.now
+    (StartNeeds g.C.Channels.holds (Some c.in-Some.kind) p before)
     c.run_kind.new.storage) begun c.run_kind.ensures.paged_in)
 
 pub returns-in-Err-clause-paged_in : goal.returns-in-Err-clause-paged_in
@@ -43,7 +44,8 @@ returns-in-Err-clause-paged_in g c =
     Brings (g.C.Channels.Came serve_times) c.args.storage.now (StartNeeds g.C.Channels.holds k program before)
     c.run_kind.new.storage) found
     (subst (λ (p : Option Caw).
-    Brings (g.C.Channels.Came serve_times) c.args.storage.now (StartNeeds g.C.Channels.holds (Some c.in-Some.kind) p before)
+    Brings (g.C.Channels.Came serve_times) c.args.storage.now
+    (StartNeeds g.C.Channels.holds (Some c.in-Some.kind) p before)
     c.run_kind.new.storage) begun c.run_kind.ensures.paged_in)
 
 pub returns-in-Err-clause-whole : goal.returns-in-Err-clause-whole
