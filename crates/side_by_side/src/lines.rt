@@ -161,8 +161,8 @@ impl SideBySide {
         Ok(told_of(to, Delivery::Message(line)))
     }
 
-    /// Delivers the file of this index, which a user's punch has closed, to the reader of the user
-    /// for whom it is.
+    /// Delivers a user's closed punch file of this index to its receiver's bare machine, or returns
+    /// `None` if there is no such file or it is for no user.
     fn send_cards(
         &mut self,
         alloc: Global,

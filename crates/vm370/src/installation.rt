@@ -121,7 +121,7 @@ impl Installation for SharedMachines {
         }
     }
 
-    /// Returns how many lines a user's console has printed.
+    /// Returns how many lines a user's console has printed since printed lines were last forgotten.
     fn printed(&self, user: UserNo) -> usize {
         match self.system.printed(self.place(user)) {
             Some(lines) => lines,
