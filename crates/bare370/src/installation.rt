@@ -135,7 +135,7 @@ impl Installation for OneMachine {
         self.machine.devices()
     }
 
-    /// Returns how many lines the console has printed.
+    /// Returns how many lines the console has printed since they were last dropped.
     fn printed(&self, _user: UserNo) -> usize {
         self.machine.printed()
     }

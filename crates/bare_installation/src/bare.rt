@@ -414,7 +414,7 @@ impl Bare {
         self.machine.is_ready()
     }
 
-    /// Returns how many lines the console has printed.
+    /// Returns how many lines the console has printed since they were last dropped.
     pub fn printed(&self) -> usize
         ensures { result ≡ length self.now.equipped.machine.output }
     {

@@ -217,7 +217,8 @@ impl System {
         SeenDevices::new(&self.users[user].devices, &self.queues)
     }
 
-    /// Returns how many lines the console of the user of this index has printed.
+    /// Returns how many lines the console of the user of this index has printed since they were
+    /// last dropped.
     pub(crate) fn printed_by(&self, user: usize) -> usize
         requires { user < length self.now.users }
         ensures { result ≡ length (machine_at self.now user).output }

@@ -135,7 +135,8 @@ impl System {
         self.frames.byte(user, address)
     }
 
-    /// Returns how many lines a user's console has printed; None if there is no such user.
+    /// Returns how many lines a user's console has printed since they were last dropped; None if
+    /// there is no such user.
     pub fn printed(&self, user: UserNo) -> Option<usize>
         ensures some { IsSome result ↔ (user < length self.now.users) }
         ensures value { IfSome result (λ lines. lines ≡ length (machine_at self.now user).output) }

@@ -245,8 +245,8 @@ impl LogonDesk {
         self.connections[connection].waiting.len()
     }
 
-    /// Does what a byte has completed at a connection: a line, the refusal of a telnet option, or
-    /// an answer that somebody is there.
+    /// Handles what a byte has completed at a connection: a line, an option to decline, or the
+    /// question whether the desk is there; does nothing if it has completed nothing.
     fn after_decoded(
         &mut self,
         alloc: Global,

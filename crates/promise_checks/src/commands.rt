@@ -142,8 +142,7 @@ fn type_line(
     Ok(())
 }
 
-/// Compares all views of a user but those of disks; of the lines that his console has printed, only
-/// those from `printed` on.
+/// Compares all views of a user except his disks, and printed lines only from index `printed` on.
 fn look(machines: &mut SideBySide, user: UserNo, printed: usize) -> Result<(), SideError> {
     machines.compare_registers(user)?;
     machines.compare_console(user, printed)?;

@@ -39,7 +39,8 @@ enum CheckEvent {
     Tick,
 }
 
-/// Returns the next event by a sequence: of eight events one is a line, and one a tick.
+/// Draws the next event: one in eight is a typed line, one in eight a tick, and the others are runs
+/// of 1 to 7 units.
 fn next_happening(sequence: &mut Sequence) -> CheckEvent {
     match sequence.next_number() % 8 {
         0 => CheckEvent::Line(sequence.pick(&TYPED)),

@@ -191,7 +191,8 @@ fn serve<I: Installation, W: HostWriter>(
     }
 }
 
-/// Writes the line of an idle turn, if nobody had its slice.
+/// Writes the line of an idle turn, if nobody had its slice and the detail does not leave that line
+/// out.
 fn pass<W: HostWriter>(detail: Detail, had_slice: bool, writer: &mut W) -> Result<(), PlayError>
     ensures ok { OnOk result
         (Appends (W.contents writer.old) (W.contents writer.new)

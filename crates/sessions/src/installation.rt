@@ -81,7 +81,7 @@ pub trait Installation {
         requires { user < length ((goes).seen self.now).users }
         ensures { result ≡ (user_at ((goes).seen self.now) user).devices };
 
-    /// Returns how many lines a user's console has printed.
+    /// Returns how many lines a user's console has printed since they were last dropped.
     fn printed(&self, user: UserNo) -> usize
         requires { user < length ((goes).seen self.now).users }
         ensures { result ≡ length (machine_at ((goes).seen self.now) user).output };

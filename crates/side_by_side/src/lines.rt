@@ -166,8 +166,8 @@ impl SideBySide {
         Ok(told_of(to, Delivery::Message(line)))
     }
 
-    /// Delivers the file of this index that a user's punch has closed to the bare machine of the
-    /// user for whom it is, if it is for one, and returns what was delivered.
+    /// Delivers a user's closed punch file of this index to its receiver's bare machine, or returns
+    /// `None` if there is no such file or it is for no user.
     fn send_cards(
         &mut self,
         alloc: Global,

@@ -35,8 +35,7 @@ impl<'a> UserDirectory for Others<'a> {
         name_of(self.users, self.own)
     }
 
-    /// Returns whether the bare machine of the user of this number is on; false if there is no such
-    /// user.
+    /// Returns whether the bare machine of the user of this number is on; false if there is none.
     fn is_on(&self, user: u8) -> bool {
         match self.on.get(usize::from(user)) {
             Some(on) => *on,

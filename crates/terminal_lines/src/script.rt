@@ -47,7 +47,7 @@ fn command_of(alloc: Global, line: &[u8]) -> Result<&[u8], AllocError>
     }
 }
 
-/// Returns the text of a message that a line is to send; nothing if it is no MSG command.
+/// Returns the text of a MSG command, which may follow `#CP`, or an empty slice for any other line.
 fn message_of(alloc: Global, line: &[u8]) -> Result<&[u8], AllocError>
     ensures { IfOk result (λ message. message.now ≡ message_of line.now) }
 {

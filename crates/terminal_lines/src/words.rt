@@ -45,8 +45,8 @@ pub enum Said {
     Other,
 }
 
-/// Returns what a line in capitals says: LOGON with a name, or with a name and a password, one
-/// word, or anything else.
+/// Returns what a line in capitals says: LOGON with a name and perhaps a password, one word, or
+/// anything else.
 ///
 /// # Errors
 ///

@@ -121,7 +121,7 @@ impl Installation for SharedMachines {
         }
     }
 
-    /// Returns how many lines a user's console has printed.
+    /// Returns how many lines a user's console has printed since they were last dropped.
     fn printed(&self, user: UserNo) -> usize {
         match self.system.printed(self.place(user)) {
             Some(lines) => lines,
