@@ -129,7 +129,8 @@ none_below : (d s p : ℕ) → p + 8 ≤ s → byte_from (d / 2 ^ s * 2 ^ s) p �
 none_below d s p le =
     let e : 2 ^ s ≡ 2 ^ (s - p - 8) * 2 ^ 8 * 2 ^ p = ap (λ n. 2 ^ n) (omega arith) ∙ pow-add 2 (s - p - 8 + 8) p
     ∙ ap (λ n. n * 2 ^ p) (pow-add 2 (s - p - 8) 8) in
-    let f : d / 2 ^ s * 2 ^ s ≡ d / 2 ^ s * 2 ^ (s - p - 8) * 2 ^ 8 * 2 ^ p = omega (arith, ap (λ n. d / 2 ^ s * n) e) in
+    let f : d / 2 ^ s * 2 ^ s ≡ d / 2 ^ s * 2 ^ (s - p - 8) * 2 ^ 8 * 2 ^ p =
+    omega (arith, ap (λ n. d / 2 ^ s * n) e) in
     ap (λ n. byte_from n p) f ∙ ap (λ n. n % 2 ^ 8) (shl-shr (d / 2 ^ s * 2 ^ (s - p - 8) * 2 ^ 8) p) ∙ omega arith
 
 -- what is changed back is as it was

@@ -55,7 +55,8 @@ impl Combine {
     fn eight(self, x: u64, y: u64) -> u64
         ensures { (k : ℕ) → k < 8
             → slice_index (to_be_bytes w64 result) k
-            ≡ combined self (slice_index (to_be_bytes w64 x) k) (slice_index (to_be_bytes w64 y) k) }
+            ≡ combined self (slice_index (to_be_bytes w64 x) k)
+            (slice_index (to_be_bytes w64 y) k) }
     {
         match self {
             Combine::Move => y,
