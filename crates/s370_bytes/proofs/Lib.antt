@@ -1,6 +1,7 @@
 pub mod Bases
 pub mod Changes
 pub mod FromRight
+pub mod Eight
 pub mod Fronts
 pub mod Padding
 pub mod Parts

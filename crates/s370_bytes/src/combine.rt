@@ -1,6 +1,7 @@
 //! Strings that are changed from left to right.
 ghost use Rattle.std.specs.Prelude.{◌≡◌, ℕ, ◌+◌, ◌==◌, ◌<◌, ◌≤◌, length, slice_index, slice_range};
 ghost use Rattle.std.specs.Prelude.{take};
+ghost use Rattle.std.specs.Int.{to_be_bytes, w64};
 ghost use Rattle.s370_store.specs.Access.{IsGranted};
 ghost use Rattle.s370_store.specs.Memory.{with_stored};
 ghost use Rattle.s370_rows.specs.Arithmetic.{zero_code};
@@ -15,6 +16,12 @@ use crate::compare::{front_number, holds_eight};
 use s370_num::ConditionCode;
 use s370_rows::{Completion, Cpu, Instruction, Refusal, grant_two};
 use s370_store::{Access, Block, Range, Storage};
+
+/// The left halves of eight bytes.
+const ZONES: u64 = 0xF0F0_F0F0_F0F0_F0F0;
+
+/// The right halves of eight bytes.
+const NUMERICS: u64 = 0x0F0F_0F0F_0F0F_0F0F;
 
 /// What is made of a byte of each operand.
 #[derive(Clone, Copy, PartialEq, Eq)]
@@ -37,6 +44,24 @@ impl Combine {
             Combine::Move => y,
             Combine::MoveNumerics => x / 16 * 16 + y % 16,
             Combine::MoveZones => y / 16 * 16 + x % 16,
+            Combine::And => x & y,
+            Combine::Or => x | y,
+            Combine::ExclusiveOr => x ^ y,
+        }
+    }
+
+    /// Combines each of the eight bytes of two numbers as the operation says.
+    #[inline(always)]
+    fn eight(self, x: u64, y: u64) -> u64
+        ensures { (k : ℕ) → k < 8
+            → slice_index (to_be_bytes w64 result) k
+            ≡ combined self (slice_index (to_be_bytes w64 x) k)
+            (slice_index (to_be_bytes w64 y) k) }
+    {
+        match self {
+            Combine::Move => y,
+            Combine::MoveNumerics => x & ZONES | y & NUMERICS,
+            Combine::MoveZones => y & ZONES | x & NUMERICS,
             Combine::And => x & y,
             Combine::Or => x | y,
             Combine::ExclusiveOr => x ^ y,
@@ -269,18 +294,34 @@ fn combine_long<S: Storage>(
     }
 }
 
-/// Combines the first `count` bytes of `target` in place with those of `source`; the others stay.
+/// Returns a number whose first `count` bytes are those of `front`, the others those of `bytes`.
+#[inline(always)]
+fn with_front(bytes: u64, front: u64, count: usize) -> u64
+    requires some { 0 < count }
+    requires few { count ≤ 8 }
+    ensures front { (k : ℕ) → k < count
+        → slice_index (to_be_bytes w64 result) k ≡ slice_index (to_be_bytes w64 front) k }
+    ensures rest { (k : ℕ) → count ≤ k
+        → slice_index (to_be_bytes w64 result) k ≡ slice_index (to_be_bytes w64 bytes) k }
+{
+    let others = 64 - 8 * count;
+    bytes ^ ((bytes ^ front) >> others << others)
+}
+
+/// Combines the first `count` bytes of `target` in place with those of `source`, all at once as
+/// numbers; the others stay.
 #[inline(always)]
 fn combine_front(operation: Combine, target: &mut [u8; 8], source: &[u8; 8], count: usize)
-    requires { count ≤ 8 }
+    requires some { 0 < count }
+    requires few { count ≤ 8 }
     ensures each { (k : ℕ) → k < count
         → slice_index target.new k
         ≡ combined operation (slice_index target.old k) (slice_index source.now k) }
     ensures rest { (k : ℕ) → count ≤ k → slice_index target.new k ≡ slice_index target.old k }
 {
-    for k in 0..count {
-        target[k] = operation.byte(target[k], source[k]);
-    }
+    let bytes = u64::from_be_bytes(*target);
+    let made = operation.eight(bytes, u64::from_be_bytes(*source));
+    *target = with_front(bytes, made, count).to_be_bytes();
 }
 
 /// Sets the condition code for the first `count` bytes of a result, unless the operation is a move.
