@@ -53,7 +53,11 @@ def check_words(crate: str, functions: object, kit: object) -> list:
     known = dependencies()
     of_kit = ["std", *[item for item in known[crate] if item not in known]]
     rlibs = {item: f"{TOP}/crates/{item}/out/rlib" for item in below(crate, known)}
-    words = [f"{kit}/bin/rattle", "check", "--crate-name", crate, "src/lib.rt"]
+    # a program has no library
+    root = next(
+        name for name in ("lib", "main") if os.path.isfile(f"{TOP}/crates/{crate}/src/{name}.rt")
+    )
+    words = [f"{kit}/bin/rattle", "check", "--crate-name", crate, f"src/{root}.rt"]
     for name in of_kit:
         words += ["--extern", f"{name}={kit}/rlibs/{name}.rlib"]
     words += ["-L", f"dependency={kit}/rlibs"]
@@ -126,10 +130,16 @@ def tried(kit: object, crate: str, bodies: object) -> object:
     """Tries wrong bodies of a crate, by their functions, in one check: of each its name, and why its contract does not refuse it,
     or None."""
     folder, texts, ends = f"{TOP}/crates/{crate}", {}, []
-    for name in bodies.values():
+    for function, name in list(bodies.items()):
         with open(f"{folder}/planted/{name}.edit", encoding="utf-8") as file:
-            if why := edit(file.read(), folder, texts):
-                return [(name, why)]
+            changed = dict(texts)
+            if why := edit(file.read(), folder, changed):
+                ends.append((name, why))
+                bodies = {other: body for other, body in bodies.items() if other != function}
+            else:
+                texts = changed
+    if not bodies:
+        return ends
     with tempfile.TemporaryDirectory() as room:
         for part in (part for part in PARTS if os.path.isdir(f"{folder}/{part}")):
             shutil.copytree(f"{folder}/{part}", f"{room}/{part}")
