@@ -90,8 +90,9 @@ LineBrings false needs units = OneBrings needs units
 
 -- what the units of an event may bring: each unit of a run, and the one that lacked a page, nine
 -- pages that it needs; a line those of the bytes that it shows or changes, and of a loading page 0
--- and those that its program touches; a tick the page of the timer, of a machine that runs; a deck
--- none; a serve those that the program of the device needs, each at most twice
+-- and those that its program touches, each at most four times; a tick the page of the timer, of a
+-- machine that runs; a deck none; a serve those that the program of the device needs, each at most
+-- twice
 abbrev pub MayBring : SystemView → Event → Ended → List (List ℕ) → Type 0
 MayBring old (Run user asked) ended units = RunBrings (machine_at old user) ended units
 MayBring old (Line user typed) ended units =

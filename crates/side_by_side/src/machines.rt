@@ -217,6 +217,8 @@ impl SideBySide {
 
     /// Serves the device of this address of a user's machine in the system and of his bare one,
     /// compares the replies, and returns whether it had a program.
+    ///
+    /// If the system is out of frames, only the system is asked, and false is returned.
     pub fn serve(&mut self, user: UserNo, device: DevAddr) -> Result<bool, SideError> {
         let answered = self.system.apply(Event::Serve(user, device))?;
         if self.lacks_frames(answered)? {
