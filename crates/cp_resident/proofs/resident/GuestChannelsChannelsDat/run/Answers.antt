@@ -133,7 +133,7 @@ returns-in-Ok-SelfModifying-clause-whole g c = λ is.
     c.run_open.ensures.paged_in.paged_in.kept.same_size in
     let lacking = subst (λ (d : Dat). c.run_open.result ≡ Err tries.FramesOut
     → LacksSuch (IsTouched guest_written (limited g.D.Device.machine start)
-    (begun start (lent_memory d) c.args.device.now)) 2 new) same c.run_open.ensures.lacking in
+    (begun start (lent_memory d) c.args.device.now)) new) same c.run_open.ensures.lacking in
     let kept = subst (λ (d : Dat). c.run_open.result ≡ Err tries.FramesOut
     → (lent_memory new ≡ lent_memory d) × (c.run_open.new.device ≡ c.args.device.now)) same
     c.run_open.ensures.unchanged_without_frames
