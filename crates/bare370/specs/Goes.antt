@@ -10,7 +10,7 @@ use Rattle.machine_devices.specs.declared.reply.Reply.{Reply}
 use Rattle.session_script.specs.Script.{EventValue, Run, Line, Tick, Serve, Auto, Deck}
 use Rattle.session_script.specs.declared.event.ScriptEvent.{ScriptEvent}
 use Rattle.session_script.specs.declared.event.ScriptEvent.TheVariants as scripts
-use Rattle.bare_installation.specs.Bare.{Bare, bare}
+use Rattle.bare_installation.specs.Bare.{Bare, bare, world_of}
 use Rattle.bare_installation.specs.Forgotten.{bare_having_printed}
 use Rattle.bare_installation.specs.Life.{IsApplied, LacksMemory, MayLackMemory}
 use Rattle.bare_installation.specs.declared.happening.MachineEvent.{MachineEvent}

@@ -1,6 +1,7 @@
 use Rattle.std.proofs.Common.{◌≡◌, ◌∙◌, ◌++◌, ℕ, Err, List, Ok, OnErr, Result, ap, subst}
 use Rattle.s370_channel.specs.Reading.{as_reached}
 use Rattle.machine_devices.specs.declared.files.FileNote.{FileNote}
+use Rattle.machine_devices.specs.Comes.{LineMay}
 use Rattle.machine_devices.specs.Coming.{comes_by_line, coming_of}
 use Rattle.machine_devices.specs.Life.{Lives}
 use Rattle.machine_devices.specs.Lines.{IsLine, files_closed}
@@ -17,8 +18,9 @@ on_err X (Err error) x = x
 pub returns-in_err-delivered-clause-memory : goal.returns-in_err-delivered-clause-memory
 returns-in_err-delivered-clause-memory c =
     on_err _ c.from_residual-in_err-delivered.result
+    (subst (λ (w : UserDirectory). LineMay w c.args.typed.now c.args.self.now.equipped) c.world-world.ensures
     (follow_may _ c.args.typed.now c.args.self.now.equipped c.in_ok-reported.reported c.answer.new.self.equipped
-    c.in_ok-reported.ensures.line c.in_err-delivered.ensures.memory)
+    c.in_ok-reported.ensures.line c.in_err-delivered.ensures.memory))
 
 pub returns-clause-typed : goal.returns-clause-typed
 returns-clause-typed c =
