@@ -552,7 +552,9 @@ def try_recordings(check: Callable, folder: str) -> None:
     ]
     names = ["version of the program", "directory", "numbers of --frames and --slots", "volume 1"]
     check(
-        "what differs is reported", all(name in item for name, item in zip(names, findings)), *findings
+        "what differs is reported",
+        all(name in item for name, item in zip(names, findings)),
+        *findings,
     )
     hidden = without_passwords(b"* A\nUSER A SECRET 64K\n CONSOLE 009  3215\n")
     check("passwords are no part of it", hidden == b"USER A X 64K\nCONSOLE 009 3215\n", hidden)
@@ -875,7 +877,9 @@ def refuse_other(check: Callable, site: object) -> None:
             file.write(directory)
         words = [site.command, *site.words, *site.paths, *more]
         done = subprocess.run(words, capture_output=True, text=True, stdin=subprocess.DEVNULL)
-        check(f"{findings} is reported", done.returncode == 1 and findings in done.stderr, done.stderr)
+        check(
+            f"{findings} is reported", done.returncode == 1 and findings in done.stderr, done.stderr
+        )
     with open(site.paths[0], "w") as file:
         file.write(before.replace("WONDER", "LOOKING"))
     site.online()

@@ -105,7 +105,9 @@ def try_operators(check: Callable, site: object) -> None:
         )
     gone = operator(site, "status")
     check(
-        "who comes later hears why", gone.returncode == 3 and "operator:" in gone.stderr, gone.stderr
+        "who comes later hears why",
+        gone.returncode == 3 and "operator:" in gone.stderr,
+        gone.stderr,
     )
     journal = read(f"{site.folder}/journal").decode()
     dated = re.findall(r"^\d{4}-\d\d-\d\d \d\d:\d\d:\d\d (.*)$", journal, re.M)

@@ -75,7 +75,11 @@ def taken() -> set[tuple[str, str, str]]:
     for path in glob.glob(f"{TOP}/crates/*/[sp]*/**/*.*t", recursive=True):
         crate, text = os.path.relpath(path, TOP).split("/")[1], "\n".join(lines_of(path))
         for user, file, names in TAKEN.findall(text):
-            found |= {(user, file.replace(".", "/"), name.split()[0]) for name in names.split(",") if name.strip()}
+            found |= {
+                (user, file.replace(".", "/"), name.split()[0])
+                for name in names.split(",")
+                if name.strip()
+            }
         for user, file, name in APPLIED.findall(text):
             found.add((crate if user == "crate" else user, file.replace("::", "/"), name))
     return found

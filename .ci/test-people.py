@@ -479,7 +479,9 @@ def test_trace(repository: str, work: str) -> None:
     write(f"{work}/bad", "LINE BARE LOGON\nBAD\n")
     done = Done(repository, "trace370", "--bare", "64K", f"{work}/bad")
     findings = "fault: script Line 2\ntrace370: line 2 is: 'BAD'\ntrace370: a line begins with RUN, LINE, TICK, SERVE, AUTO or DECK, and not with BAD\n"
-    check("a refused script is reported", done.status == 1 and done.err == findings, *done.findings())
+    check(
+        "a refused script is reported", done.status == 1 and done.err == findings, *done.findings()
+    )
 
 
 NAMED = """ ORG X'100'

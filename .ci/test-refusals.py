@@ -453,7 +453,9 @@ def test_desk(host: Host, pool: ThreadPoolExecutor) -> None:
     refuse_each(host, pool, case, "memory", once(allocations), cut)
     refuse_each(host, pool, case, "memory", onwards(allocations), cut)
     refuse_each(host, pool, case, "file", once(len(letters)), cut)
-    short = lambda at, ended: None if (ended.status, ended.out) == (0, written) else "another answer"
+    short = (
+        lambda at, ended: None if (ended.status, ended.out) == (0, written) else "another answer"
+    )
     refuse_each(
         host,
         pool,

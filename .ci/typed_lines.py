@@ -39,7 +39,9 @@ def measured(program: str, parts: int, folder: str) -> list[tuple[int, int, int]
             running.part(PART)
             if done in (FIRST, parts) or (done > FIRST and done % max(1, parts // 20) == 0):
                 found.append((done, memory_of(running), len(running.save())))
-                notify(f"({done} thousand lines: {found[-1][1]} kB, a state of {found[-1][2]} bytes)")
+                notify(
+                    f"({done} thousand lines: {found[-1][1]} kB, a state of {found[-1][2]} bytes)"
+                )
         return found
     finally:
         running.close()

@@ -168,7 +168,11 @@ class Operator:
         """The words of bin/framemap, with the state with which the session began, if it began with one."""
         beginning, place = self.engine.recording.beginning, self.framemap.index("--")
         path = beginning and self.engine.states.path(beginning.name)
-        return [*self.framemap[:place], *(["--state", path] if path else []), *self.framemap[place:]]
+        return [
+            *self.framemap[:place],
+            *(["--state", path] if path else []),
+            *self.framemap[place:],
+        ]
 
     def message(self, text: str, reply: Any) -> None:
         """A line for the user whose name is the first word, else for each terminal."""

@@ -193,9 +193,7 @@ def read_emulated(data: Any, serial: Any) -> Any:
     faults.end()
     serial = serial or labelled(found)
     if serial is None:
-        raise Failure(
-            REFUSED, "the volume has no label that has its serial number: give --serial"
-        )
+        raise Failure(REFUSED, "the volume has no label that has its serial number: give --serial")
     return Volume(serial, found)
 
 
