@@ -34,10 +34,10 @@ suspend            ends this command; the next start goes on from here
 end                if all printouts are written, ends the session: volumes are saved, the
                    recording is set aside, and the next session goes on with all machines
 end now            ends it even if printouts are not written
-end at HH:MM       ends it then; users are warned. A suspend in between changes nothing of
-                   that; end cancel takes it back
-end logoff         ends it without its machines if nobody is on; end logoff now and
-                   end logoff at HH:MM do so whoever is on"""
+end at HH:MM       ends it then, also after a suspend that ends before; users are warned;
+                   end cancel takes it back
+end logoff         if nobody is on and all printouts are written, ends it without its
+                   machines; end logoff now and end logoff at HH:MM do so whoever is on"""
 ENDS_AT = re.compile(r"(logoff )?at ([01]?\d|2[0-3]):([0-5]\d)")
 
 
