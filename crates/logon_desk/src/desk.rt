@@ -63,8 +63,7 @@ impl Model for LogonDesk {
 }
 
 impl LogonDesk {
-    /// Returns a desk for the users of these names, with so many places for connections, none of
-    /// which has one.
+    /// Returns a desk for users of these names, with so many empty places for connections.
     ///
     /// # Errors
     ///
@@ -102,8 +101,7 @@ impl LogonDesk {
         strangers(&self.connections)
     }
 
-    /// Returns a connection at which nobody has logged on yet, from the address from which most of
-    /// them are, if there is one.
+    /// Returns a connection without a user, from the address that has most of these, if any.
     pub fn busiest(&self) -> Option<usize>
         ensures within { IfSome result (λ c. c < length self.now.connections) }
         ensures busiest { IfSome result (λ c. IsBusiest self.now.connections c) }
@@ -166,8 +164,7 @@ impl LogonDesk {
         place.waiting.add(bytes)
     }
 
-    /// Takes the first byte that waits at a connection, if there is one and bytes are taken there
-    /// now, and does what it completes.
+    /// Takes a connection's first waiting byte, if one is taken now, and does what it completes.
     ///
     /// # Errors
     ///
@@ -190,8 +187,7 @@ impl LogonDesk {
         }
     }
 
-    /// Takes the first byte that waits at a connection, if there is one, and does what it
-    /// completes.
+    /// Takes the first byte that waits at a connection, if any, and does what it completes.
     fn take_first(
         &mut self,
         alloc: Global,
@@ -245,8 +241,7 @@ impl LogonDesk {
         self.connections[connection].waiting.len()
     }
 
-    /// Handles what a byte has completed at a connection: a line, an option to decline, or the
-    /// question whether the desk is there; does nothing if it has completed nothing.
+    /// Handles what a byte has completed: a line, a refused option, "are you there", or nothing.
     fn after_decoded(
         &mut self,
         alloc: Global,
@@ -272,8 +267,7 @@ impl LogonDesk {
         }
     }
 
-    /// Types a line from a connection for the user who is on there, or takes it as one of somebody
-    /// who is about to log on.
+    /// Types a line for the user who is on at a connection, or takes it as part of a logon.
     fn after_line(
         &mut self,
         alloc: Global,
@@ -323,8 +317,7 @@ impl LogonDesk {
         }
     }
 
-    /// Takes a line of somebody who is about to log on: moves his connection to its next stage, and
-    /// shows him a text, if there is one.
+    /// Takes a line of a logon: moves its connection to the next stage, and shows a text, if any.
     fn logon_line(
         &mut self,
         alloc: Global,
@@ -368,8 +361,7 @@ impl LogonDesk {
         }
     }
 
-    /// Moves a connection to a stage; a guess is first counted in its queue, and waits as long as
-    /// that says.
+    /// Moves a connection to a stage; a guess is counted, and waits as its queue says.
     fn come_to(&mut self, connection: usize, stage: Stage, now: u64)
         requires within { connection < length self.old.connections }
         requires now { now < 2 ^ 62 }
@@ -382,8 +374,7 @@ impl LogonDesk {
         }
     }
 
-    /// Counts a guess in the queue of its name and address, and lets it wait at its connection as
-    /// long as that says.
+    /// Counts a guess in the queue of its name and address, and makes it wait as that says.
     fn guess_waits(&mut self, connection: usize, guess: Guess, now: u64)
         requires within { connection < length self.old.connections }
         requires now { now < 2 ^ 62 }
@@ -440,8 +431,7 @@ impl LogonDesk {
         }
     }
 
-    /// Shows a guesser that he was refused, and lets him try again, or ends his connection after
-    /// the third wrong guess.
+    /// Shows a refusal, and lets a guesser try again, or ends his connection at the third one.
     fn after_pause(
         &mut self,
         alloc: Global,
@@ -465,8 +455,7 @@ impl LogonDesk {
         Ok(())
     }
 
-    /// Ends the connection of a user who is on at another one or has logged off; if it is still his
-    /// terminal, does nothing.
+    /// Ends a connection whose user is on elsewhere or has logged off, and else does nothing.
     fn leave_behind(
         &mut self,
         alloc: Global,
@@ -489,8 +478,7 @@ impl LogonDesk {
         self.end(alloc, connection, out)
     }
 
-    /// Returns the connection that was the last at which a user logged on, if he has not logged
-    /// off.
+    /// Returns the last connection at which a user logged on, if he has not logged off.
     fn terminal(&self, user: UserNo) -> Option<usize>
         ensures { result ≡ (account_of self.now user).terminal }
     {
@@ -500,8 +488,7 @@ impl LogonDesk {
         }
     }
 
-    /// Logs a user on at a connection, or refuses its guess, as the host answers; does nothing if
-    /// no answer to this guess is awaited there.
+    /// Logs a user on or refuses his guess, as the host answers, if that answer is awaited there.
     ///
     /// # Errors
     ///
@@ -561,8 +548,7 @@ impl LogonDesk {
         Ok(())
     }
 
-    /// Refuses a wrong guess: its connection waits for the answer, one more wrong guess is counted,
-    /// and the journal gets an entry.
+    /// Refuses a wrong guess: counts it, adds a journal entry, and makes its connection wait.
     fn wrong_guess(
         &mut self,
         connection: usize,
@@ -648,8 +634,7 @@ impl LogonDesk {
         }
     }
 
-    /// Keeps a copy of a line of a user, for when he is back; of more than 24 the oldest is
-    /// dropped.
+    /// Keeps a copy of a line for when its user is back; of more than 24 the oldest goes.
     ///
     /// # Errors
     ///
@@ -665,8 +650,7 @@ impl LogonDesk {
         self.accounts[user.index()].kept.keep(line)
     }
 
-    /// Sets whether a user's machine is on and whether it runs; if it is off, he has no terminal
-    /// any more, and his kept lines are dropped.
+    /// Sets whether a user's machine is on and runs; if off, his terminal and kept lines go.
     pub fn turn(&mut self, user: UserNo, is_on: bool, is_running: bool)
         requires { user < length self.old.accounts }
         ensures { IsStep self.old (Turns user is_on is_running) [] self.new [] }
@@ -680,8 +664,7 @@ impl LogonDesk {
         }
     }
 
-    /// Marks that the line which was typed for a user is done; if his machine is off, he has no
-    /// terminal any more.
+    /// Marks a user's typed line as done; if his machine is off, he has no terminal any more.
     pub fn finish(&mut self, user: UserNo)
         requires { user < length self.old.accounts }
         ensures { IsStep self.old (Finishes user) [] self.new [] }
