@@ -73,8 +73,8 @@ impl ControlUnit {
         self.end(UnitStatus::NONE)
     }
 
-    /// Returns the track that the six bytes of a seek name, or `None` if a disk of so many
-    /// cylinders does not have it.
+    /// Returns the track that the six bytes of a seek name; `None` if there are fewer, the first two
+    /// are not zero, or a disk of so many cylinders has no such track.
     pub(crate) fn sought(&self, cylinders: usize) -> Option<Seek>
         ensures { result ≡ table.sought cylinders self.now.bytes }
     {

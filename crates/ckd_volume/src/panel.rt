@@ -156,8 +156,8 @@ impl ControlUnit {
         self.refuse(0x80, 0)
     }
 
-    /// Selects this head, sets the second sense byte and returns that the command is refused with
-    /// unit check.
+    /// Selects this head, sets the sense to zeros but this second byte, and returns that the command
+    /// is refused with unit check.
     pub(crate) fn lose(&mut self, head: usize, second: u8) -> Answer
         requires { head < 19 }
         ensures answer { result ≡ (table.lost self.old head second).answer }

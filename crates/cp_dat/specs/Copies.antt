@@ -20,7 +20,7 @@ abbrev pub EachAre : (ℕ → Type 0) → List (List ℕ) → Type 0
 EachAre is_such [] = Unit {0}
 EachAre is_such (pages ∷ units) = AllAre is_such pages × EachAre is_such units
 
--- one for what is so
+-- one if the test holds, else zero
 abbrev pub counted : Bool → ℕ
 counted true = 1
 counted false = 0

@@ -166,8 +166,8 @@ impl<'a> Dat<'a> {
         }
     }
 
-    /// Pages in each wanted page, and copies its bytes from `from`; the other pages have these
-    /// bytes.
+    /// Copies the bytes of each wanted page from `from`, after paging it in if it is in no frame;
+    /// the other pages have these bytes already.
     ///
     /// Each wanted page is in a frame or in a slot, so none is refused.
     pub fn put_back(&mut self, from: &[u8], wanted: &[bool])

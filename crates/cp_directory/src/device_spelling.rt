@@ -87,7 +87,7 @@ pub fn read_minidisk<'a>(operands: &[&'a [u8]]) -> Option<Statement<'a>>
 }
 
 /// Returns the statement of a minidisk at this address with this extent; None if there is no
-/// extent, or the address or the model is malformed.
+/// extent, the address is malformed or above 5FF, or the model is not 3330.
 fn disk_of<'a>(
     address: &'a [u8],
     model: &[u8],

@@ -388,8 +388,8 @@ impl Frames {
         Some(())
     }
 
-    /// Reads the storages of all users from the input, and writes their pages; returns None if
-    /// there are more or fewer, or the input is malformed.
+    /// Reads all users' storages from the input into pages that are mapped as zeros; None if their
+    /// number or a size differs, a page with content is unmapped, or the input is malformed.
     fn restore_storages(&mut self, input: &mut Input<'_>) -> Option<()>
         ensures sizes { map length self.new.storages ≡ map length self.old.storages }
         ensures supply { self.new.supply ≡ self.old.supply }

@@ -50,7 +50,8 @@ impl SpoolReader {
     }
 }
 
-/// Appends the cards of a deck, in order.
+/// Appends a deck's cards in the format of states: before each card a one and its length, after
+/// the last a zero.
 fn put_cards(out: &mut Vec<u8>, deck: &SeenDeck<'_>) -> Result<(), AllocError>
     ensures { OnOk result (out.new.items ≡ out.old.items ++ each bytes deck.now.cards) }
 {

@@ -590,7 +590,7 @@ impl LogonDesk {
         self.end(alloc, connection, out)
     }
 
-    /// Makes a place empty, and adds the action that its connection ends.
+    /// Makes a place empty, and adds that its connection ends; an error if memory is refused.
     fn end(&mut self, alloc: Global, connection: usize, out: &mut Outputs) -> Result<(), AllocError>
         requires within { connection < length self.old.connections }
         ensures { OnOk result (Does (ended self.old connection []) out.old self.new out.new) }

@@ -230,7 +230,7 @@ fn combine_in<S: Storage>(
 /// Combines two strings in blocks that `find_block` returned, through buffers, and sets the
 /// condition code unless it is a move.
 ///
-/// A short string goes through short buffers, which take no time to make.
+/// A short string goes through short buffers, which take less time to make.
 #[inline(never)]
 fn combine_long<S: Storage>(
     operation: Combine,

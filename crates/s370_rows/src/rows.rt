@@ -8,8 +8,8 @@ use crate::ending::Completion;
 use s370_num::Register;
 use s370_psw::ProgramCode;
 
-/// Does an operation on a register and an operand: sets the register and the condition code, and
-/// returns an overflow exception if one is enabled.
+/// Does an operation on a register and an operand: sets the register, the condition code, or both
+/// as the operation says, and returns an overflow exception if one is enabled.
 ///
 /// It serves LPR 10, LNR 11, LTR 12, LCR 13, LR 18, L 58 and LH 48, of which the first four set the
 /// condition code; CR 19, C 59, CH 49, CLR 15 and CL 55; AR 1A, A 5A, AH 4A, SR 1B, S 5B and SH 4B;

@@ -131,8 +131,8 @@ pub trait Installation {
     fn save(&self, out: &mut Vec<u8>) -> Result<bool, AllocError>
         ensures { IfOk result (λ is. AppendsState (goes) self.now is out.old.items out.new.items) };
 
-    /// Reads a state from the input, and returns this installation, which was only booted, with
-    /// that state; None if it has none.
+    /// Restores a state into this installation, which was only booted, without checking that `save`
+    /// would write these bytes; None if they are malformed, memory is refused, or it has no states.
     ///
     /// What is restored is lawful whatever the bytes are; whoever saves it again sees whether it
     /// was saved so.
