@@ -1,8 +1,7 @@
 -- What the words of the program name, as those of a simple command of `clap`.
-use Rattle.std.specs.Prelude.{◌≡◌, ℕ, Bool, true, List, [], map, codes, Option, Some, is_some}
+use Rattle.std.specs.Prelude.{◌≡◌, ℕ, Bool, true, List, map, codes, Option, Some, is_some}
 use Rattle.std.specs.Option.{option_and_then}
-use Rattle.clap.specs.Words.{App, Row, Rule, all_of, fault_of, first_of, matches_of, new_app}
-use Rattle.clap.specs.Words.{new_rule, one_of, takes, with_rule}
+use Rattle.clap.specs.Words.{App, Row, Rule, all_of, first_of, new_app, new_rule, one_of, with_rule}
 use Rattle.cp_directory.specs.Sizes.{storage_of}
 use Rattle.programs.specs.Arguments.{IsFlag, save_rule, script_rule, texts_of, volume_rule}
 use Rattle.bare370.specs.declared.arguments.BareOptions.{BareOptions}
@@ -17,21 +16,9 @@ command_of program = with_rule
     (with_rule (with_rule (with_rule (new_app program) save_rule) storage_rule) script_rule)
     volume_rule
 
--- what the words give for the arguments of this program, in their order
-unfoldable pub rows_named : List ℕ → List (List ℕ) → List Row
-rows_named program words = matches_of (command_of program) words
-
--- the words are those of the command
-unfoldable pub is_taken : List ℕ → List (List ℕ) → Bool
-is_taken program words = takes (command_of program) words
-
 -- the script is given
 abbrev pub gives_script : List Row → Bool
 gives_script rows = is_some (first_of (codes "SCRIPT") rows)
-
--- nothing is wrong with the words: none is unknown or missing, and none asks for help
-unfoldable pub HasNoFault : List ℕ → List (List ℕ) → Type 0
-HasNoFault program words = fault_of (command_of program) words ≡ []
 
 -- the pages of the storage that the words name, where there may be one
 abbrev pub storage_named : List Row → Option ℕ

@@ -2,13 +2,14 @@
 ghost use Rattle.std.specs.Prelude.{◌≡◌, ◌≤◌, ℕ, IfErr, IfOk, OnOk, Some, codes, false, length};
 ghost use Rattle.std.specs.Prelude.{map, true};
 ghost use Rattle.clap.specs.Words.{all_of, app_of, found_of, rows_of, rule_of};
-ghost use Rattle.programs.specs.Arguments.{script_rule, texts_of, volume_rule};
-ghost use Rattle.bare370.specs.Options.{HasNoFault, IsNamed, command_of, gives_script, is_taken};
-ghost use Rattle.bare370.specs.Options.{rows_named, storage_named, storage_rule};
+ghost use Rattle.programs.specs.Arguments.{HasNoFault, is_taken, rows_named, script_rule};
+ghost use Rattle.programs.specs.Arguments.{texts_of, volume_rule};
+ghost use Rattle.bare370.specs.Options.{IsNamed, command_of, gives_script};
+ghost use Rattle.bare370.specs.Options.{storage_named, storage_rule};
 
 use clap::{Arg, ArgAction, ArgMatches, Command};
 use cp_directory::{StorageSize, storage_of};
-use programs::words::{UsageError, is_given, paths_of, refusal, save, text_of, usage};
+use programs::words::{UsageError, is_given, matched, paths_of, save, text_of, usage};
 use std::alloc::{AllocError, Global};
 use std::convert::AsStr;
 
@@ -42,17 +43,21 @@ pub fn bare_arguments<'a, S: AsStr>(
     program: &'a str,
     words: &'a [S],
 ) -> Result<BareOptions<'a>, UsageError>
-    ensures ok { IfOk result (IsNamed (rows_named program.entry.now (map S.text words.entry.now))) }
+    ensures ok { IfOk result (IsNamed (rows_named (command_of program.entry.now)
+        (map S.text words.entry.now))) }
     ensures few { IfOk result (λ options. length options.volumes.items ≤ MOST_VOLUMES) }
-    ensures taken { OnOk result (HasNoFault program.entry.now (map S.text words.entry.now)) }
-    ensures err { (pages : ℕ) → is_taken program.entry.now (map S.text words.entry.now) ≡ true →
-        gives_script (rows_named program.entry.now (map S.text words.entry.now)) ≡ true →
-        storage_named (rows_named program.entry.now (map S.text words.entry.now)) ≡ Some pages →
-        length (texts_of (all_of (codes "VOLUME")
-        (rows_named program.entry.now (map S.text words.entry.now)))) ≤ MOST_VOLUMES →
+    ensures taken { OnOk result (HasNoFault (command_of program.entry.now)
+        (map S.text words.entry.now)) }
+    ensures err { (pages : ℕ) →
+        let rows = rows_named (command_of program.entry.now) (map S.text words.entry.now) in
+        is_taken (command_of program.entry.now) (map S.text words.entry.now) ≡ true →
+        gives_script rows ≡ true →
+        storage_named rows ≡ Some pages →
+        length (texts_of (all_of (codes "VOLUME") rows)) ≤ MOST_VOLUMES →
         IfErr result (λ error. error ≡ UsageError.Memory) }
 {
-    let matches = matched(alloc, program, words)?;
+    let command = command(alloc, program)?;
+    let matches = matched(alloc, command, words)?;
     options_in(alloc, &matches)
 }
 
@@ -94,25 +99,6 @@ pub(crate) fn storage_in(matches: &ArgMatches<'_>) -> Option<StorageSize>
     ensures { result ≡ storage_named (rows_of (found_of matches.now)) }
 {
     storage_of(text_of(matches, "STORAGE")?.as_bytes())
-}
-
-/// Returns what `clap` finds in the words of a command line, or the usage error.
-fn matched<'a, S: AsStr>(
-    alloc: Global,
-    program: &'a str,
-    words: &'a [S],
-) -> Result<ArgMatches<'a>, UsageError>
-    ensures ok { IfOk result
-        (λ m. rows_of (found_of m) ≡ rows_named program.entry.now (map S.text words.entry.now)) }
-    ensures taken { OnOk result (HasNoFault program.entry.now (map S.text words.entry.now)) }
-    ensures err { is_taken program.entry.now (map S.text words.entry.now) ≡ true
-        → IfErr result (λ error. error ≡ UsageError.Memory) }
-{
-    let command = command(alloc, program)?;
-    match command.try_get_matches_from(words) {
-        Ok(matches) => Ok(matches),
-        Err(error) => Err(refusal(&error, error.to_string(alloc).ok())),
-    }
 }
 
 /// Returns the description of the program's command line for `clap`.

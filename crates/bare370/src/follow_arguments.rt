@@ -1,15 +1,14 @@
 //! The words of the program where it follows a script that it is given part by part.
 ghost use Rattle.std.specs.Prelude.{◌≡◌, ◌≤◌, ℕ, IfErr, IfOk, OnOk, Some, codes, length, map, true};
 ghost use Rattle.clap.specs.Words.{all_of, app_of, found_of, rows_of};
-ghost use Rattle.programs.specs.Arguments.{texts_of};
-ghost use Rattle.bare370.specs.FollowOptions.{HasNoFault, IsNamed, command_of, is_taken};
-ghost use Rattle.bare370.specs.FollowOptions.{rows_named};
+ghost use Rattle.programs.specs.Arguments.{HasNoFault, is_taken, rows_named, texts_of};
+ghost use Rattle.bare370.specs.FollowOptions.{IsNamed, command_of};
 ghost use Rattle.bare370.specs.Options.{storage_named};
 
 use crate::arguments::{MOST_VOLUMES, storage, storage_in, volumes};
 use clap::{ArgMatches, Command};
 use cp_directory::StorageSize;
-use programs::words::{UsageError, follow, is_given, paths_of, refusal, save, terminals, usage};
+use programs::words::{UsageError, follow, is_given, matched, paths_of, save, terminals, usage};
 use std::alloc::{AllocError, Global};
 use std::convert::AsStr;
 
@@ -38,16 +37,20 @@ pub fn follow_arguments<'a, S: AsStr>(
     program: &'a str,
     words: &'a [S],
 ) -> Result<MachineFollowOptions<'a>, UsageError>
-    ensures ok { IfOk result (IsNamed (rows_named program.entry.now (map S.text words.entry.now))) }
+    ensures ok { IfOk result (IsNamed (rows_named (command_of program.entry.now)
+        (map S.text words.entry.now))) }
     ensures few { IfOk result (λ options. length options.volumes.items ≤ MOST_VOLUMES) }
-    ensures taken { OnOk result (HasNoFault program.entry.now (map S.text words.entry.now)) }
-    ensures err { (pages : ℕ) → is_taken program.entry.now (map S.text words.entry.now) ≡ true →
-        storage_named (rows_named program.entry.now (map S.text words.entry.now)) ≡ Some pages →
-        length (texts_of (all_of (codes "VOLUME")
-        (rows_named program.entry.now (map S.text words.entry.now)))) ≤ MOST_VOLUMES →
+    ensures taken { OnOk result (HasNoFault (command_of program.entry.now)
+        (map S.text words.entry.now)) }
+    ensures err { (pages : ℕ) →
+        let rows = rows_named (command_of program.entry.now) (map S.text words.entry.now) in
+        is_taken (command_of program.entry.now) (map S.text words.entry.now) ≡ true →
+        storage_named rows ≡ Some pages →
+        length (texts_of (all_of (codes "VOLUME") rows)) ≤ MOST_VOLUMES →
         IfErr result (λ error. error ≡ UsageError.Memory) }
 {
-    let matches = matched(alloc, program, words)?;
+    let command = command(alloc, program)?;
+    let matches = matched(alloc, command, words)?;
     options_in(alloc, &matches)
 }
 
@@ -80,25 +83,6 @@ fn options_in<'a>(
         storage,
         volumes,
     })
-}
-
-/// Returns what `clap` finds in the words of a command line, or the usage error.
-fn matched<'a, S: AsStr>(
-    alloc: Global,
-    program: &'a str,
-    words: &'a [S],
-) -> Result<ArgMatches<'a>, UsageError>
-    ensures ok { IfOk result
-        (λ m. rows_of (found_of m) ≡ rows_named program.entry.now (map S.text words.entry.now)) }
-    ensures taken { OnOk result (HasNoFault program.entry.now (map S.text words.entry.now)) }
-    ensures err { is_taken program.entry.now (map S.text words.entry.now) ≡ true
-        → IfErr result (λ error. error ≡ UsageError.Memory) }
-{
-    let command = command(alloc, program)?;
-    match command.try_get_matches_from(words) {
-        Ok(matches) => Ok(matches),
-        Err(error) => Err(refusal(&error, error.to_string(alloc).ok())),
-    }
 }
 
 /// Returns the description of the program's command line with `--follow` for `clap`.
