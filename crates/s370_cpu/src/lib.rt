@@ -41,7 +41,7 @@ mod store_rows;
 mod unit;
 
 pub use conclude::Stop;
-pub use control::supervise;
+pub use control::{named_block, supervise};
 pub use execute::{EXECUTE, target_of};
 pub use fetch::length_of;
 pub use fetch_rows::fetch_row;
@@ -50,7 +50,7 @@ pub use laws::{
     changed_bytes_were_tested, few_pages_are_asked_for, few_ranges_are_tested, problem_state_holds,
     protection_holds,
 };
-pub use opcodes::{FetchRow, Opcode, StoreRow, opcode_of};
+pub use opcodes::{Control, FetchRow, Opcode, StoreRow, opcode_of};
 pub use register_rows::register_row;
 pub use store_rows::store_row;
 pub use unit::{is_steady, may_overflow, step, step_in};

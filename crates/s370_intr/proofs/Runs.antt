@@ -279,6 +279,13 @@ is_so false e = cc
 pub one_instruction : (c c' : Core) → look c ≡ Instructs → c' ≡ unit_at Instructs c → run 1 c ≡ all_done 1 c'
 one_instruction c c' e u = does_more 0 c c c' refl (subst Goes (sym e) tt) (rw e u)
 
+-- A unit that ends with the instruction is a run of one instruction.
+pub one_unit : (m m' : State) (pending : Pending) (list : List Subchannel) → look (core_of m pending list) ≡ Instructs
+    → (unit m).ran ≡ record { stop = Done; state = m' }
+    → run 1 (core_of m pending list) ≡ all_done 1 (core_of m' pending list)
+one_unit m m' pending list e done = one_instruction (core_of m pending list) (core_of m' pending list) e
+    (done_unit m m' pending list done)
+
 -- The core after an instruction is that of its configuration.
 pub instructed_core : (m m' : State) (pending : Pending) (list list' : List Subchannel)
     → configuration_of m' list' ≡ instructed (configuration_of m list)

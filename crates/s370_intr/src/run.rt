@@ -4,7 +4,7 @@ ghost use Rattle.std.specs.Prelude.{IsSome, length, Result, true};
 ghost use Rattle.s370_store.specs.Blocks.{MayFetch};
 ghost use Rattle.s370_store.specs.Memory.{Memory};
 ghost use Rattle.s370_rows.specs.State.{state_of};
-ghost use Rattle.s370_quick.specs.Quick.{IsLongMoveAt};
+ghost use Rattle.s370_quick.specs.Quick.{AreHeld, IsLongMoveAt};
 ghost use Rattle.s370_intr.specs.Laws.{begun};
 ghost use Rattle.s370_intr.specs.Units.{MeetsUnitAt, NeedsAt, core_of, look};
 ghost use Rattle.s370_intr.specs.declared.next.Next.TheVariants as next;
@@ -18,7 +18,7 @@ use crate::pending::Pending;
 use crate::unit::{Processor, accept, accept_status, instruct_saving};
 use s370_num::{AccessKey, Addr24};
 use s370_psw::Psw;
-use s370_quick::{HeldBlock, move_parts_quickly, step_quickly};
+use s370_quick::{HeldBlock, move_parts_quickly, step_quickly, supervise_quickly};
 use s370_rows::Cpu;
 use s370_store::{Access, Block, FramesOut, Keyed, Page, Storage, UnitSupply, load_byte_in};
 use s370_subchannels::Subchannels;
@@ -314,18 +314,41 @@ struct UnitsDone {
     is_plain: bool,
 }
 
+/// What an instruction did that the quick loop left out.
+#[derive(Clone, Copy)]
+struct Apart {
+    units: u32,
+    /// An instruction is surely next.
+    is_plain: bool,
+    /// The block of the instruction and those of operands may be accessed as before.
+    keeps_blocks: bool,
+}
+
 /// Does instructions, at most `limit`, until one cannot be done quickly, and returns how many it
 /// did and the block of that one, if it was found.
 ///
 /// After each of them a look would say what it said before: so the block from which they are
-/// fetched is looked up once, as long as they stay in it.
+/// fetched, at first `block`, is looked up once, as long as they stay in it.
 #[inline(always)]
-fn instruct_steadily<S: Storage>(cpu: &mut Cpu, storage: &mut S, limit: u32) -> Steady
+fn instruct_steadily<S: Storage>(
+    cpu: &mut Cpu,
+    storage: &mut S,
+    block: Block,
+    held: &mut HeldBlock,
+    limit: u32,
+) -> Steady
+    requires low { block.first < 16777216 }
+    requires may_fetch { MayFetch (length (S.memory storage.old).bytes) (S.memory storage.old).keys
+        (S.present storage.old) cpu.old.psw.key block.first }
+    requires placed { S.IsPlaced storage.old block }
+    requires operands { AreHeld (S.IsPlaced storage.old) (S.memory storage.old)
+        (S.present storage.old) cpu.old.psw.key held.old }
     ensures done { let before = state_of cpu.old (S.memory storage.old) in
         let after = state_of cpu.new (S.memory storage.new) in
         DoesInstructions result.units before after }
     ensures within { result.units ≤ limit }
     ensures left { IfSome result.block (λ block. result.units < limit) }
+    ensures low { IfSome result.block (λ block. block.first < 16777216) }
     ensures may_fetch { IfSome result.block
         (λ block. MayFetch (length (S.memory storage.new).bytes) (S.memory storage.new).keys
         (S.present storage.new) cpu.new.psw.key block.first) }
@@ -333,29 +356,20 @@ fn instruct_steadily<S: Storage>(cpu: &mut Cpu, storage: &mut S, limit: u32) -> 
     ensures begins { IfSome result.block (λ block. block.first ≤ cpu.new.psw.address) }
     ensures ends { IfSome result.block (λ block. cpu.new.psw.address ≤ block.first + 2042) }
     ensures even { IfSome result.block (λ _. cpu.new.psw.address % 2 ≡ 0) }
+    ensures operands { IfSome result.block
+        (λ _. AreHeld (S.IsPlaced storage.new) (S.memory storage.new)
+        (S.present storage.new) cpu.new.psw.key held.new) }
     ensures rest { S.Keeps storage.old storage.new }
 {
     let mut next = cpu.psw.address();
     let key = cpu.psw.key();
-    let mut block = match storage.find_block(next.get(), Access::Fetch, key) {
-        Some(found) => found,
-        None => return Steady {
-            units: 0,
-            block: None,
-        },
-    };
-    // The blocks of operands: at first they are fetched from that of the instructions, and there is
-    // none for stores.
-    let mut held = HeldBlock {
-        fetched: block,
-        stored: Block::NOWHERE,
-    };
+    let mut block = block;
     for units in 0..limit {
         block = match block_of(storage, block, next, key) {
             Some(found) => found,
             None => return Steady { units, block: None },
         };
-        match step_quickly(cpu, storage, next, block, &mut held) {
+        match step_quickly(cpu, storage, next, block, held) {
             Some(address) => next = address,
             None => {
                 return Steady {
@@ -372,7 +386,8 @@ fn instruct_steadily<S: Storage>(cpu: &mut Cpu, storage: &mut S, limit: u32) -> 
 }
 
 /// Does the instruction that the quick loop left out, or for MVCL whole parts of it, at most
-/// `limit`, and returns how many units it did and whether an instruction is surely next.
+/// `limit`, and returns how many units it did, whether an instruction is surely next, and whether
+/// the blocks are still what they were.
 ///
 /// None is done if a page is absent.
 #[inline(never)]
@@ -382,8 +397,9 @@ fn instruct_apart<P: Processor, S: Keyed>(
     subchannels: &mut Subchannels,
     storage: &mut S,
     block: Block,
+    held: &mut HeldBlock,
     limit: u32,
-) -> UnitsDone
+) -> Apart
     requires size { 8192 ≤ length (S.Storage.memory storage.old).bytes }
     requires plain { (m : Memory)
         → look (core_of (state_of cpu.old m) pending subchannels.old) ≡ next.Instructs }
@@ -395,6 +411,8 @@ fn instruct_apart<P: Processor, S: Keyed>(
     requires begins { block.first ≤ cpu.old.psw.address }
     requires ends { cpu.old.psw.address ≤ block.first + 2042 }
     requires even { cpu.old.psw.address % 2 ≡ 0 }
+    requires operands { AreHeld (S.Storage.IsPlaced storage.old) (S.Storage.memory storage.old)
+        (S.Storage.present storage.old) cpu.old.psw.key held.old }
     ensures done { let before = core_of
         (state_of cpu.old (S.Storage.memory storage.old)) pending subchannels.old in
         let after = core_of (state_of cpu.new (S.Storage.memory storage.new)) pending
@@ -404,26 +422,93 @@ fn instruct_apart<P: Processor, S: Keyed>(
     ensures plain { (m : Memory) → result.is_plain ≡ true
         → look (core_of (state_of cpu.new m) pending subchannels.new) ≡ next.Instructs }
     ensures within { result.units ≤ limit }
+    ensures may_fetch { result.keeps_blocks ≡ true
+        → MayFetch (length (S.Storage.memory storage.new).bytes)
+        (S.Storage.memory storage.new).keys
+        (S.Storage.present storage.new) cpu.new.psw.key block.first }
+    ensures placed { result.keeps_blocks ≡ true → S.Storage.IsPlaced storage.new block }
+    ensures operands { result.keeps_blocks ≡ true
+        → AreHeld (S.Storage.IsPlaced storage.new) (S.Storage.memory storage.new)
+        (S.Storage.present storage.new) cpu.new.psw.key held.new }
     ensures rest { S.KeepsRest storage.old storage.new }
 {
     let start = cpu.psw.address();
     if load_byte_in(storage, block, start.get()) == LONG_MOVE {
         let second_byte = load_byte_in(storage, block, start.get() + 1);
         let units = move_parts(cpu, storage, start, second_byte, limit);
-        return UnitsDone {
+        return Apart {
             units,
             is_plain: true,
+            keeps_blocks: false,
         };
+    }
+    // Most instructions for the supervisor state leave all keys, and the blocks with them.
+    match supervise_quickly(cpu, storage, start, block, held) {
+        Some(_) => {
+            let plain = is_plain(cpu, pending, subchannels);
+            return Apart {
+                units: 1,
+                is_plain: plain,
+                keeps_blocks: true,
+            };
+        }
+        None => {}
     }
     if !instruct_in::<P, S>(cpu, subchannels, storage, start, block) {
-        return UnitsDone {
+        return Apart {
             units: 0,
             is_plain: true,
+            keeps_blocks: false,
         };
     }
-    UnitsDone {
+    Apart {
         units: 1,
         is_plain: is_plain(cpu, pending, subchannels),
+        keeps_blocks: false,
+    }
+}
+
+/// Returns the block of the next instruction, which is `block` if `keeps_blocks` is true, else the
+/// one that is found; or `None` if there is none.
+///
+/// With a block that is found operands are fetched from it at first, and none is held for stores.
+#[inline(always)]
+fn block_at<S: Storage>(
+    keeps_blocks: bool,
+    cpu: &Cpu,
+    storage: &S,
+    block: Block,
+    held: &mut HeldBlock,
+) -> Option<Block>
+    requires low { keeps_blocks ≡ true → block.first < 16777216 }
+    requires may_fetch { keeps_blocks ≡ true
+        → MayFetch (length (S.memory storage.now).bytes) (S.memory storage.now).keys
+        (S.present storage.now) cpu.now.psw.key block.first }
+    requires placed { keeps_blocks ≡ true → S.IsPlaced storage.now block }
+    requires operands { keeps_blocks ≡ true
+        → AreHeld (S.IsPlaced storage.now) (S.memory storage.now)
+        (S.present storage.now) cpu.now.psw.key held.old }
+    ensures low { IfSome result (λ found. found.first < 16777216) }
+    ensures may_fetch { IfSome result
+        (λ found. MayFetch (length (S.memory storage.now).bytes) (S.memory storage.now).keys
+        (S.present storage.now) cpu.now.psw.key found.first) }
+    ensures placed { IfSome result (λ found. S.IsPlaced storage.now found) }
+    ensures operands { IfSome result
+        (λ _. AreHeld (S.IsPlaced storage.now) (S.memory storage.now)
+        (S.present storage.now) cpu.now.psw.key held.new) }
+{
+    if keeps_blocks {
+        return Some(block);
+    }
+    match storage.find_block(cpu.psw.address().get(), Access::Fetch, cpu.psw.key()) {
+        Some(found) => {
+            *held = HeldBlock {
+                fetched: found,
+                stored: Block::NOWHERE,
+            };
+            Some(found)
+        }
+        None => None,
     }
 }
 
@@ -454,11 +539,15 @@ fn instruct_quickly<P: Processor, S: Keyed>(
     ensures rest { S.KeepsRest storage.old storage.new }
 {
     let mut units = 0;
+    let mut keeps_blocks = false;
+    let mut block = Block::NOWHERE;
+    let mut held = HeldBlock {
+        fetched: block,
+        stored: block,
+    };
     while units < limit {
-        let steady = instruct_steadily(cpu, storage, limit - units);
-        units += steady.units;
-        let block = match steady.block {
-            Some(block) => block,
+        let first = match block_at(keeps_blocks, cpu, storage, block, &mut held) {
+            Some(found) => found,
             None => {
                 return UnitsDone {
                     units,
@@ -466,8 +555,28 @@ fn instruct_quickly<P: Processor, S: Keyed>(
                 };
             }
         };
-        let went = instruct_apart::<P, S>(cpu, pending, subchannels, storage, block, limit - units);
+        let steady = instruct_steadily(cpu, storage, first, &mut held, limit - units);
+        units += steady.units;
+        block = match steady.block {
+            Some(last) => last,
+            None => {
+                return UnitsDone {
+                    units,
+                    is_plain: true,
+                };
+            }
+        };
+        let went = instruct_apart::<P, S>(
+            cpu,
+            pending,
+            subchannels,
+            storage,
+            block,
+            &mut held,
+            limit - units,
+        );
         units += went.units;
+        keeps_blocks = went.keeps_blocks;
         if went.units == 0 || !went.is_plain {
             return UnitsDone {
                 units,

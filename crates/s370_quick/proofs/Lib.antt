@@ -3,3 +3,4 @@ pub mod LongMoves
 pub mod Overflow
 pub mod Quiet
 mod Holds
+pub mod Keyless

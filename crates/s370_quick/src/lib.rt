@@ -6,9 +6,12 @@
 //! `s370_cpu` do the unit. The second is always allowed: carrying out an instruction here makes it
 //! faster, and changes nothing else.
 //!
-//! Left to the unit are instructions that may change rights or interrupt: privileged ones, SVC,
-//! CVB, those whose overflow would interrupt, and whatever ends in an exception or needs a page
-//! that is absent.
+//! [`supervise_quickly`] does the same for privileged instructions that leave all keys as they are.
+//! They may change masks, so the caller looks at what is pending before it goes on.
+//!
+//! Left to the unit are SSK, what asks a device, SVC, CVB, an LPSW that changes the key, those
+//! whose overflow would interrupt, and whatever ends in an exception or needs a page that is
+//! absent.
 //!
 //! ```
 //! use s370_num::{AccessKey, Addr24};
@@ -33,6 +36,8 @@ mod held;
 mod operands;
 mod quick;
 mod strings;
+mod supervised;
 
 pub use held::HeldBlock;
 pub use quick::{move_parts_quickly, step_quickly};
+pub use supervised::supervise_quickly;

@@ -151,7 +151,12 @@ fn held_halfword<S: Storage>(
 /// Returns the byte at an address and holds its block for later fetches, or returns `None` if it
 /// may not be fetched.
 #[inline(always)]
-fn held_byte<S: Storage>(cpu: &Cpu, storage: &S, start: Addr24, held: &mut HeldBlock) -> Option<u8>
+pub fn held_byte<S: Storage>(
+    cpu: &Cpu,
+    storage: &S,
+    start: Addr24,
+    held: &mut HeldBlock,
+) -> Option<u8>
     requires operands { AreHeld (S.IsPlaced storage.now) (S.memory storage.now)
         (S.present storage.now) cpu.now.psw.key held.old }
     ensures operand { let m = state_of cpu.now (S.memory storage.now) in

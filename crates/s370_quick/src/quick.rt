@@ -474,7 +474,7 @@ fn finish_quickly<S: Storage, const CODE: u8, const WAY: u8>(
 /// Sets the instruction address by how an instruction ended, unless that is to be done again, and
 /// returns it.
 #[inline(always)]
-fn go_on(cpu: &mut Cpu, place: Place, ending: Completion) -> Addr24
+pub(crate) fn go_on(cpu: &mut Cpu, place: Place, ending: Completion) -> Addr24
     requires { GoesOn ending }
     ensures stop { stopped (Ok ending) place cpu.old ≡ record { stop = stops.Done; cpu = cpu.new } }
     ensures next { result ≡ cpu.new.psw.address }

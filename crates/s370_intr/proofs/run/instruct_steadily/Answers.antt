@@ -13,13 +13,13 @@ loop-units-preserved g c =
     record {
       here = c.in-Some-step_quickly.ensures.step.next;
       key = c.loop-units.invariant.key ∙ sym (ap (λ (r : Rights). r.key) c.step_quickly.ensures.step.rights);
-      low = c.in-Some-block_of.ensures.low;
-      may_fetch = still_accesses c.key-key.result c.in-Some-block_of.found.first
+      low = c.in-Some.ensures.low;
+      may_fetch = still_accesses c.key-key.result c.in-Some.found.first
           (g.met.S.Storage.keeps_size _ _ c.step_quickly.ensures.rest)
           (ap (λ (r : Rights). r.keys) c.step_quickly.ensures.step.rights)
-          (g.met.S.Storage.keeps_present _ _ c.step_quickly.ensures.rest) c.in-Some-block_of.ensures.may_fetch;
-      placed = g.met.S.Storage.placed_kept _ _ c.in-Some-block_of.found c.step_quickly.ensures.rest
-          c.in-Some-block_of.ensures.placed;
+          (g.met.S.Storage.keeps_present _ _ c.step_quickly.ensures.rest) c.in-Some.ensures.may_fetch;
+      placed = g.met.S.Storage.placed_kept _ _ c.in-Some.found c.step_quickly.ensures.rest
+          c.in-Some.ensures.placed;
       operands = still_held c.key-key.result c.step_quickly.new.held
           (λ block kept. g.met.S.Storage.placed_kept _ _ block c.step_quickly.ensures.rest kept)
           (g.met.S.Storage.keeps_size _ _ c.step_quickly.ensures.rest)
@@ -52,15 +52,26 @@ returns-in-None-step_quickly-clause-may_fetch g c =
     let rights = c.step_quickly.ensures.step.rights in
     let key : c.key-key.result ≡ c.step_quickly.new.cpu.psw.key = c.loop-units.invariant.key
     ∙ sym (ap (λ (r : Rights). r.key) rights) in
-    rw (sym key) (still_accesses c.key-key.result c.in-Some-block_of.found.first
+    rw (sym key) (still_accesses c.key-key.result c.in-Some.found.first
     (g.met.S.Storage.keeps_size _ _ c.step_quickly.ensures.rest) (ap (λ (r : Rights). r.keys) rights)
-    (g.met.S.Storage.keeps_present _ _ c.step_quickly.ensures.rest) c.in-Some-block_of.ensures.may_fetch)
+    (g.met.S.Storage.keeps_present _ _ c.step_quickly.ensures.rest) c.in-Some.ensures.may_fetch)
 
 pub returns-in-None-step_quickly-clause-placed : goal.returns-in-None-step_quickly-clause-placed
 returns-in-None-step_quickly-clause-placed g c =
-    g.met.S.Storage.placed_kept _ _ c.in-Some-block_of.found c.step_quickly.ensures.rest
-    c.in-Some-block_of.ensures.placed
+    g.met.S.Storage.placed_kept _ _ c.in-Some.found c.step_quickly.ensures.rest
+    c.in-Some.ensures.placed
 
 pub returns-in-None-step_quickly-clause-rest : goal.returns-in-None-step_quickly-clause-rest
 returns-in-None-step_quickly-clause-rest g c =
     g.met.S.Storage.keeps_on _ _ _ c.loop-units.invariant.rest c.step_quickly.ensures.rest
+
+pub returns-in-None-step_quickly-clause-operands : goal.returns-in-None-step_quickly-clause-operands
+returns-in-None-step_quickly-clause-operands g c =
+    let rights = c.step_quickly.ensures.step.rights in
+    let key : c.key-key.result ≡ c.step_quickly.new.cpu.psw.key = c.loop-units.invariant.key
+    ∙ sym (ap (λ (r : Rights). r.key) rights) in
+    rw (sym key) (still_held c.key-key.result c.step_quickly.new.held
+    (λ block kept. g.met.S.Storage.placed_kept _ _ block c.step_quickly.ensures.rest kept)
+    (g.met.S.Storage.keeps_size _ _ c.step_quickly.ensures.rest) (ap (λ (r : Rights). r.keys) rights)
+    (g.met.S.Storage.keeps_present _ _ c.step_quickly.ensures.rest)
+    (rw (sym c.loop-units.invariant.key) at c.step_quickly.ensures.operands))
