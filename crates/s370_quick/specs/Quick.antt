@@ -53,14 +53,13 @@ pub record StepsQuickly (present : ℕ → Bool) (old : State) (result : Option 
   pub rights : rights_of new ≡ rights_of old
 
 -- a privileged instruction that was done is the unit, and answers where the next one begins; else
--- nothing is changed; and all keys stay
+-- nothing is changed; and the keys in storage stay
 pub record SupervisesQuickly (present : ℕ → Bool) (old : State) (result : Option ℕ)
     (new : State) : Type 0 where
   pub done : IfSome result (λ _. MeetsUnit (unit old) present old DoneStop new)
   pub next : IfSome result (λ next. next ≡ new.cpu.psw.address)
   pub still : IfNone result (new ≡ old)
   pub keys : new.keys ≡ old.keys
-  pub key : new.cpu.psw.key ≡ old.cpu.psw.key
 
 -- an MVCL with this second byte is at an address, and the key of the PSW lets it be fetched there
 pub record IsLongMoveAt (m : State) (present : ℕ → Bool) (start second_byte : ℕ) : Type 0 where

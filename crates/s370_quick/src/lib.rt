@@ -6,12 +6,11 @@
 //! `s370_cpu` do the unit. The second is always allowed: carrying out an instruction here makes it
 //! faster, and changes nothing else.
 //!
-//! [`supervise_quickly`] does the same for privileged instructions that leave all keys as they are.
-//! They may change masks, so the caller looks at what is pending before it goes on.
+//! [`supervise_quickly`] does the same for privileged instructions that set no storage key and ask
+//! no device. They may change masks, so the caller looks at what is pending before it goes on.
 //!
-//! Left to the unit are SSK, what asks a device, SVC, CVB, an LPSW that changes the key, those
-//! whose overflow would interrupt, and whatever ends in an exception or needs a page that is
-//! absent.
+//! Left to the unit are SSK, SIO, TIO, HIO, TCH, SVC, CVB, those whose overflow would interrupt,
+//! and whatever ends in an exception or needs a page that is absent.
 //!
 //! ```
 //! use s370_num::{AccessKey, Addr24};

@@ -1,5 +1,5 @@
-//! Privileged instructions that leave all keys as they are, each done in one go if nothing keeps it
-//! from being done.
+//! Privileged instructions that set no storage key and ask no device, each done in one go if nothing
+//! keeps it from being done.
 ghost use Rattle.std.specs.Prelude.{◌≡◌, ◌+◌, ◌%◌, ◌≤◌, IfSome, Ok, length, slice_index};
 ghost use Rattle.s370_store.specs.Blocks.{MayFetch};
 ghost use Rattle.s370_rows.specs.State.{state_of};
@@ -22,12 +22,14 @@ use s370_rows::{Completion, Cpu, Instruction, Place};
 use s370_store::{Block, Keyed, Storage, load_byte_in};
 
 /// Does one privileged instruction and returns the next instruction's address, if it is one that
-/// leaves all keys as they are, the processor is in the supervisor state, and nothing interrupts;
-/// else returns `None` and changes only `held`.
+/// sets no storage key and asks no device, the processor is in the supervisor state, and nothing
+/// interrupts; else returns `None` and changes only `held`.
 ///
-/// It is where [`step_quickly`](crate::step_quickly) takes instructions from. It may change the
-/// masks and the rest of the PSW except for the key, so the caller has to look before the next one.
-#[inline(always)]
+/// It is where [`step_quickly`](crate::step_quickly) takes instructions from. It may change all of
+/// the PSW and control registers, so the caller has to look before the next one. Blocks may be
+/// accessed as before, unless the PSW has another key. It is not inlined, so that the loop keeps its
+/// registers for more frequent instructions.
+#[inline(never)]
 pub fn supervise_quickly<S: Keyed>(
     cpu: &mut Cpu,
     storage: &mut S,
@@ -155,8 +157,9 @@ fn finish_control<S: Keyed, const CODE: u8>(
     }
 }
 
-/// Does a fetched instruction over the held blocks if it is privileged, leaves all keys and is not
-/// refused, or returns `None` and changes only `held`; the caller sets the next address.
+/// Does a fetched instruction over the held blocks if it is privileged, sets no storage key, asks no
+/// device and is not refused, or returns `None` and changes only `held`; the caller sets the next
+/// address.
 #[inline(always)]
 fn perform_supervised<S: Keyed, const CODE: u8>(
     cpu: &mut Cpu,
@@ -172,7 +175,6 @@ fn perform_supervised<S: Keyed, const CODE: u8>(
         let after = state_of cpu.new (S.Storage.memory storage.new) in
         MeetsAtOnce (row_of before place i) (S.Storage.present storage.old) before result after }
     ensures goes_on { IfSome result GoesOn }
-    ensures key { cpu.new.psw.key ≡ cpu.old.psw.key }
     ensures rest { S.Storage.Keeps storage.old storage.new }
     ensures operands { AreHeld (S.Storage.IsPlaced storage.old) (S.Storage.memory storage.old)
         (S.Storage.present storage.old) cpu.old.psw.key held.new }
@@ -183,8 +185,8 @@ fn perform_supervised<S: Keyed, const CODE: u8>(
     }
 }
 
-/// Does a privileged instruction over the held blocks if it leaves all keys and is not refused, or
-/// returns `None` and changes only `held`; the caller sets the next address.
+/// Does a privileged instruction over the held blocks if it sets no storage key, asks no device and
+/// is not refused, or returns `None` and changes only `held`; the caller sets the next address.
 #[inline(always)]
 fn control_quickly<S: Keyed>(
     control: Control,
@@ -200,7 +202,6 @@ fn control_quickly<S: Keyed>(
         MeetsAtOnce (control_row control before i) (S.Storage.present storage.old) before result
         after }
     ensures goes_on { IfSome result GoesOn }
-    ensures key { cpu.new.psw.key ≡ cpu.old.psw.key }
     ensures rest { S.Storage.Keeps storage.old storage.new }
     ensures operands { AreHeld (S.Storage.IsPlaced storage.old) (S.Storage.memory storage.old)
         (S.Storage.present storage.old) cpu.old.psw.key held.new }
@@ -232,7 +233,6 @@ fn insert_key_quickly<S: Keyed>(cpu: &mut Cpu, storage: &S, i: Instruction) -> O
         MeetsAtOnce (storage_key_inserted before i (named_block before i))
         (S.Storage.present storage.now) before result after }
     ensures goes_on { IfSome result GoesOn }
-    ensures key { cpu.new.psw.key ≡ cpu.old.psw.key }
 {
     match named_block(cpu, storage, i) {
         Ok(block) => {
@@ -259,7 +259,6 @@ fn set_mask_quickly<S: Storage>(
         let after = state_of cpu.new (S.memory storage.now) in
         MeetsAtOnce (system_mask_set before i) (S.present storage.now) before result after }
     ensures goes_on { IfSome result GoesOn }
-    ensures key { cpu.new.psw.key ≡ cpu.old.psw.key }
     ensures operands { AreHeld (S.IsPlaced storage.now) (S.memory storage.now)
         (S.present storage.now) cpu.old.psw.key held.new }
 {
@@ -272,8 +271,8 @@ fn set_mask_quickly<S: Storage>(
     }
 }
 
-/// Does LPSW (82) if the doubleword is where it has to be, lies in one block, which is then held,
-/// and has the key that the PSW has; else returns `None`.
+/// Does LPSW (82) if the doubleword is where it has to be and may be fetched, and holds its block;
+/// else returns `None`.
 #[inline(always)]
 fn load_psw_quickly<S: Storage>(
     cpu: &mut Cpu,
@@ -287,7 +286,6 @@ fn load_psw_quickly<S: Storage>(
         let after = state_of cpu.new (S.memory storage.now) in
         MeetsAtOnce (psw_loaded before i) (S.present storage.now) before result after }
     ensures goes_on { IfSome result GoesOn }
-    ensures key { cpu.new.psw.key ≡ cpu.old.psw.key }
     ensures operands { AreHeld (S.IsPlaced storage.now) (S.memory storage.now)
         (S.present storage.now) cpu.old.psw.key held.new }
 {
@@ -299,12 +297,8 @@ fn load_psw_quickly<S: Storage>(
         Some(found) => {
             let mut into = [0u8; 8];
             storage.load_in(found, start.get(), &mut into);
-            let psw = Psw::from_word(u64::from_be_bytes(into));
-            if psw.key().get() != cpu.psw.key().get() {
-                return None;
-            }
-            cpu.psw = psw;
-            Some(Completion::Branch(psw.address().get()))
+            cpu.psw = Psw::from_word(u64::from_be_bytes(into));
+            Some(Completion::Branch(cpu.psw.address().get()))
         }
         None => None,
     }
@@ -327,7 +321,6 @@ fn store_mask_quickly<S: Storage>(
         MeetsAtOnce (system_mask_stored mask before i) (S.present storage.old) before result
         after }
     ensures goes_on { IfSome result GoesOn }
-    ensures key { cpu.new.psw.key ≡ cpu.old.psw.key }
     ensures rest { S.Keeps storage.old storage.new }
     ensures operands { AreHeld (S.IsPlaced storage.old) (S.memory storage.old)
         (S.present storage.old) cpu.old.psw.key held.new }
@@ -390,7 +383,6 @@ fn load_control_quickly<S: Storage>(
         let after = state_of cpu.new (S.memory storage.now) in
         MeetsAtOnce (control_loaded before i) (S.present storage.now) before result after }
     ensures goes_on { IfSome result GoesOn }
-    ensures key { cpu.new.psw.key ≡ cpu.old.psw.key }
     ensures operands { AreHeld (S.IsPlaced storage.now) (S.memory storage.now)
         (S.present storage.now) cpu.old.psw.key held.new }
 {

@@ -7,6 +7,5 @@ returns-in-Some-clause-step g c =
     let m = state_of c.args.cpu.now (g.S.Storage.memory c.args.storage.now) in
     let m' = state_of c.perform_supervised.new.cpu (g.S.Storage.memory c.perform_supervised.new.storage) in
     supervised_unit m c.args.place c.args.i c.in-Some.ending c.go_on.new.cpu (g.S.Storage.present c.args.storage.now)
-    m' c.go_on.result c.requires.carried c.requires.next c.in-Some.ensures.row c.in-Some.ensures.goes_on
-    (g.met.S.Storage.keeps_keys _ _ c.perform_supervised.ensures.rest) c.perform_supervised.ensures.key
-    c.go_on.ensures.stop c.go_on.ensures.next
+    m' c.go_on.result c.requires.carried c.requires.next c.in-Some.ensures.row
+    (g.met.S.Storage.keeps_keys _ _ c.perform_supervised.ensures.rest) c.go_on.ensures.stop c.go_on.ensures.next
