@@ -316,7 +316,7 @@ struct UnitsDone {
 
 /// What an instruction did that the quick loop left out.
 #[derive(Clone, Copy)]
-struct Apart {
+struct LeftOut {
     units: u32,
     /// An instruction is surely next.
     is_plain: bool,
@@ -386,8 +386,7 @@ fn instruct_steadily<S: Storage>(
 }
 
 /// Does the instruction that the quick loop left out, or for MVCL whole parts of it, at most
-/// `limit`, and returns how many units it did, whether an instruction is surely next, and whether
-/// the blocks are still what they were.
+/// `limit`, and returns how many units it did and whether an instruction is surely next.
 ///
 /// None is done if a page is absent.
 #[inline(never)]
@@ -397,9 +396,66 @@ fn instruct_apart<P: Processor, S: Keyed>(
     subchannels: &mut Subchannels,
     storage: &mut S,
     block: Block,
+    limit: u32,
+) -> UnitsDone
+    requires size { 8192 ≤ length (S.Storage.memory storage.old).bytes }
+    requires plain { (m : Memory)
+        → look (core_of (state_of cpu.old m) pending subchannels.old) ≡ next.Instructs }
+    requires some { 0 < limit }
+    requires may_fetch { MayFetch (length (S.Storage.memory storage.old).bytes)
+        (S.Storage.memory storage.old).keys
+        (S.Storage.present storage.old) cpu.old.psw.key block.first }
+    requires placed { S.Storage.IsPlaced storage.old block }
+    requires begins { block.first ≤ cpu.old.psw.address }
+    requires ends { cpu.old.psw.address ≤ block.first + 2042 }
+    requires even { cpu.old.psw.address % 2 ≡ 0 }
+    ensures done { let before = core_of
+        (state_of cpu.old (S.Storage.memory storage.old)) pending subchannels.old in
+        let after = core_of (state_of cpu.new (S.Storage.memory storage.new)) pending
+        subchannels.new in
+        run result.units before ≡
+        record { core = after; units = result.units; reason = reasons.Count } }
+    ensures plain { (m : Memory) → result.is_plain ≡ true
+        → look (core_of (state_of cpu.new m) pending subchannels.new) ≡ next.Instructs }
+    ensures within { result.units ≤ limit }
+    ensures rest { S.KeepsRest storage.old storage.new }
+{
+    let start = cpu.psw.address();
+    if load_byte_in(storage, block, start.get()) == LONG_MOVE {
+        let second_byte = load_byte_in(storage, block, start.get() + 1);
+        let units = move_parts(cpu, storage, start, second_byte, limit);
+        return UnitsDone {
+            units,
+            is_plain: true,
+        };
+    }
+    if !instruct_in::<P, S>(cpu, subchannels, storage, start, block) {
+        return UnitsDone {
+            units: 0,
+            is_plain: true,
+        };
+    }
+    UnitsDone {
+        units: 1,
+        is_plain: is_plain(cpu, pending, subchannels),
+    }
+}
+
+/// Does the instruction that the quick loop left out, or for MVCL whole parts of it, at most
+/// `limit`, and returns what it did and whether the blocks are still what they were.
+///
+/// A privileged instruction that sets no storage key and asks no device leaves them, unless the PSW
+/// has another key after it. None is done if a page is absent.
+#[inline(always)]
+fn instruct_left_out<P: Processor, S: Keyed>(
+    cpu: &mut Cpu,
+    pending: Pending,
+    subchannels: &mut Subchannels,
+    storage: &mut S,
+    block: Block,
     held: &mut HeldBlock,
     limit: u32,
-) -> Apart
+) -> LeftOut
     requires size { 8192 ≤ length (S.Storage.memory storage.old).bytes }
     requires plain { (m : Memory)
         → look (core_of (state_of cpu.old m) pending subchannels.old) ≡ next.Instructs }
@@ -433,39 +489,44 @@ fn instruct_apart<P: Processor, S: Keyed>(
     ensures rest { S.KeepsRest storage.old storage.new }
 {
     let start = cpu.psw.address();
-    if load_byte_in(storage, block, start.get()) == LONG_MOVE {
-        let second_byte = load_byte_in(storage, block, start.get() + 1);
-        let units = move_parts(cpu, storage, start, second_byte, limit);
-        return Apart {
-            units,
-            is_plain: true,
-            keeps_blocks: false,
-        };
+    let key = cpu.psw.key();
+    match load_byte_in(storage, block, start.get()) {
+        // ISK, SSM, LPSW, STNSM, STOSM, STCTL and LCTL
+        0x09 | 0x80 | 0x82 | 0xAC | 0xAD | 0xB6 | 0xB7 => {}
+        _ => {
+            let went = instruct_apart::<P, S>(cpu, pending, subchannels, storage, block, limit);
+            return LeftOut {
+                units: went.units,
+                is_plain: went.is_plain,
+                keeps_blocks: false,
+            };
+        }
     }
-    // Most instructions for the supervisor state leave all keys, and the blocks with them.
     match supervise_quickly(cpu, storage, start, block, held) {
         Some(_) => {
             let plain = is_plain(cpu, pending, subchannels);
-            return Apart {
+            return LeftOut {
                 units: 1,
                 is_plain: plain,
-                keeps_blocks: true,
+                keeps_blocks: has_key(cpu, key),
             };
         }
         None => {}
     }
-    if !instruct_in::<P, S>(cpu, subchannels, storage, start, block) {
-        return Apart {
-            units: 0,
-            is_plain: true,
-            keeps_blocks: false,
-        };
-    }
-    Apart {
-        units: 1,
-        is_plain: is_plain(cpu, pending, subchannels),
+    let went = instruct_apart::<P, S>(cpu, pending, subchannels, storage, block, limit);
+    LeftOut {
+        units: went.units,
+        is_plain: went.is_plain,
         keeps_blocks: false,
     }
+}
+
+/// Returns whether the PSW has this key.
+#[inline(always)]
+fn has_key(cpu: &Cpu, key: AccessKey) -> bool
+    ensures { result ≡ true → cpu.now.psw.key ≡ key }
+{
+    cpu.psw.key().get() == key.get()
 }
 
 /// Returns the block of the next instruction, which is `block` if `keeps_blocks` is true, else the
@@ -566,7 +627,7 @@ fn instruct_quickly<P: Processor, S: Keyed>(
                 };
             }
         };
-        let went = instruct_apart::<P, S>(
+        let went = instruct_left_out::<P, S>(
             cpu,
             pending,
             subchannels,

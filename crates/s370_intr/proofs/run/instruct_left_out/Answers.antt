@@ -1,0 +1,40 @@
+use Rattle.std.proofs.Common.{◌≡◌, ap, subst, ◌∙◌}
+use Rattle.s370_rows.specs.State.{State, state_of}
+use Rattle.s370_intr.specs.Units.{core_of, look}
+use Rattle.s370_intr.specs.Run.{run}
+use Rattle.s370_intr.proofs.Runs.{all_done, one_unit, still_held}
+use Rattle.s370_intr.proofs.run.instruct_left_out.Goals as goal
+
+pub returns-in-Some-clause-done : goal.returns-in-Some-clause-done
+returns-in-Some-clause-done g c =
+    let before = state_of c.args.cpu.now (g.S.Storage.memory c.args.storage.now) in
+    let after = state_of c.supervise_quickly.new.cpu (g.S.Storage.memory c.supervise_quickly.new.storage) in
+    one_unit before after c.args.pending c.args.subchannels.now
+    (c.requires.plain (g.S.Storage.memory c.args.storage.now)) c.in-Some.ensures.step.done
+
+pub returns-in-Some-clause-operands : goal.returns-in-Some-clause-operands
+returns-in-Some-clause-operands g c is_it =
+    let kept = c.supervise_quickly.ensures.rest in
+    let step = c.supervise_quickly.ensures.step in
+    rw (c.has_key.ensures is_it ∙ c.key-key.ensures) (still_held c.args.cpu.now.psw.key c.supervise_quickly.new.held
+    (λ block placed. g.met.S.Storage.placed_kept _ _ block kept placed) (g.met.S.Storage.keeps_size _ _ kept) step.keys
+    (g.met.S.Storage.keeps_present _ _ kept) c.supervise_quickly.ensures.operands)
+
+pub instruct_apart-went-requires-2-clause-plain : goal.instruct_apart-went-requires-2-clause-plain
+instruct_apart-went-requires-2-clause-plain g c m =
+    ap (λ (x : State). look (core_of x c.args.pending c.args.subchannels.now)) c.in-None.ensures.step.still
+    ∙ c.requires.plain (g.S.Storage.memory c.args.storage.now)
+
+pub returns-clause-done : goal.returns-clause-done
+returns-clause-done g c =
+    let pending = c.args.pending in
+    let n = c.instruct_apart-went-2.result.units in
+    let after = state_of c.instruct_apart-went-2.new.cpu (g.S.Storage.memory c.instruct_apart-went-2.new.storage) in
+    subst (λ (x : State). run n (core_of x pending c.args.subchannels.now) ≡ all_done n
+    (core_of after pending c.instruct_apart-went-2.new.subchannels)) c.in-None.ensures.step.still
+    c.instruct_apart-went-2.ensures.done
+
+pub returns-clause-rest : goal.returns-clause-rest
+returns-clause-rest g c =
+    g.met.S.Keyed.rest_on _ _ _ (g.met.S.Keyed.rest_kept _ _ c.supervise_quickly.ensures.rest)
+    c.instruct_apart-went-2.ensures.rest
