@@ -20,9 +20,10 @@
 //! > ON A
 //! > DONE
 //! ```
-ghost use Rattle.std.specs.Prelude.{◌≡◌, ◌++◌, ◌∷◌, ℕ, List, [], IfOk, OnErr, OnOk, length};
+ghost use Rattle.std.specs.Prelude.{◌≡◌, ◌⊎◌, ◌++◌, ◌∷◌, ℕ, List, [], IfOk, OnErr, OnOk, length};
 ghost use Rattle.std.specs.Io.KnownBytes.{Appends};
 ghost use Rattle.s370_num.specs.Host.{AppendsFront, Counts};
+ghost use Rattle.sessions.specs.Continuing.{ContinuesAs};
 ghost use Rattle.sessions.specs.Runs.{IsRestored};
 ghost use Rattle.sessions.specs.Transcript.{ended};
 ghost use Rattle.programs.specs.Parts.{Answers, AnswersPart, InputAccounts, IsAnsweredPartly};
@@ -79,8 +80,8 @@ pub fn follow_parts<R: HostReader, W: HostWriter, I: Installation + Drop>(
             NextRequest::Asked(request) => follower = answer(
                 alloc, follower, detail, request, writer,
             )?,
-            NextRequest::End => return Ok(Left::ProgramEnd(follower.close(alloc, writer)?)),
-            NextRequest::Nothing => return Ok(Left::Cut(follower.close(alloc, writer)?)),
+            NextRequest::End => return Ok(Left::ProgramEnd(follower.close(writer)?)),
+            NextRequest::Nothing => return Ok(Left::Cut(follower.close(writer)?)),
         }
     }
     // No input has so many parts.
@@ -109,17 +110,36 @@ fn answer<W: HostWriter, I: Installation + Drop>(
 {
     match request {
         FollowRequest::Part(part) => follow_part(alloc, follower, detail, &part, writer),
-        FollowRequest::Save => {
-            save(alloc, &follower, writer)?;
-            Ok(follower)
-        }
+        FollowRequest::Save => save(alloc, follower, writer),
         FollowRequest::State(state) => go_on(alloc, follower, &state, writer),
     }
 }
 
+/// Drops the entries of closed files, which were all written, and writes the state between a line
+/// with its size and the line `> DONE`; or the line `> REFUSED 0` if there are no states.
+fn save<W: HostWriter, I: Installation + Drop>(
+    alloc: Global,
+    mut follower: Follower<I>,
+    writer: &mut W,
+) -> Result<Follower<I>, Failure>
+    ensures ok { IfOk result
+        (λ left. ContinuesAs I.goes follower left
+        × ((answer : List ℕ) × IsSavedAs I.goes left answer
+        × Appends (W.contents writer.old) (W.contents writer.new) answer)) }
+    ensures flushed { OnOk result (W.held writer.new ≡ []) }
+    ensures err { OnErr result
+        (IsSavedPartly I.goes follower (W.contents writer.old) (W.contents writer.new)) }
+    ensures why { PartAccounts result (W.HostFile.failures writer.old)
+        (W.HostFile.failures writer.new) }
+{
+    follower.forget_files(0);
+    write_state(alloc, &follower, writer)?;
+    Ok(follower)
+}
+
 /// Writes the state between a line with its size and the line `> DONE`; or the line `> REFUSED 0`
 /// if there are no states.
-fn save<W: HostWriter, I: Installation + Drop>(
+fn write_state<W: HostWriter, I: Installation + Drop>(
     alloc: Global,
     follower: &Follower<I>,
     writer: &mut W,
@@ -128,7 +148,9 @@ fn save<W: HostWriter, I: Installation + Drop>(
         × Appends (W.contents writer.old) (W.contents writer.new) answer) }
     ensures flushed { OnOk result (W.held writer.new ≡ []) }
     ensures err { OnErr result
-        (IsSavedPartly I.goes follower.now (W.contents writer.old) (W.contents writer.new)) }
+        ((W.contents writer.new ≡ W.contents writer.old)
+        ⊎ ((answer : List ℕ) × IsSavedAs I.goes follower.now answer
+        × AppendsFront (W.contents writer.old) (W.contents writer.new) answer)) }
     ensures why { PartAccounts result (W.HostFile.failures writer.old)
         (W.HostFile.failures writer.new) }
 {
@@ -193,9 +215,10 @@ fn follow_part<W: HostWriter, I: Installation + Drop>(
     let closed = follower.installation().files();
     let modes = follower.modes(alloc)?;
     match follower.part(alloc, part, writer)? {
-        Part::Done(follower) => {
+        Part::Done(mut follower) => {
             let reported = news(alloc, &follower, detail, closed, &modes)?;
             tell(writer, &reported)?;
+            follower.forget_files(closed);
             Ok(follower)
         }
         Part::Refused(follower, line) => {
