@@ -1,4 +1,4 @@
-use Rattle.std.proofs.Common.{◌≡◌, ◌∙◌, ap, rules, sym, subst, Err, true, length}
+use Rattle.std.proofs.Common.{◌≡◌, ◌∙◌, [], ap, rules, sym, subst, Err, true, length}
 use Rattle.std.specs.Prelude.{IfOk, OnErr, is_some}
 use Rattle.machine_devices.specs.Devices.{DevicesValue}
 use Rattle.machine_devices.proofs.Beside.{devices_are}
@@ -146,5 +146,31 @@ returns-in-Loads-clause-brings g c =
             c.ipl.new.storage) (sym judged) c.ipl.ensures.paged_in,
         c.ipl.ensures.ready,
       );
-      size = search rules;
+      size = g.met.C.Channels.came_size _ _ _ _ c.ipl.ensures.paged_in.1;
     }
+
+pub returns-in-Resets-clause-brings : goal.returns-in-Resets-clause-brings
+returns-in-Resets-clause-brings g c = record {
+  frames = search rules;
+  lacks = search rules;
+  out = search rules;
+  roomy = search rules;
+  cleared = search rules;
+  not_cleared = search rules;
+  supply = λ _ _. ([], g.met.S.Supply.brought_none _ _ (g.met.S.Keyed.rest_kept _ _ (g.met.S.Storage.keeps_same _)), tt);
+  paged_in = search rules;
+  size = search rules;
+}
+
+pub returns-in-Asks-clause-brings : goal.returns-in-Asks-clause-brings
+returns-in-Asks-clause-brings g c = record {
+  frames = search rules;
+  lacks = search rules;
+  out = search rules;
+  roomy = search rules;
+  cleared = search rules;
+  not_cleared = search rules;
+  supply = λ _ _. ([], g.met.S.Supply.brought_none _ _ (g.met.S.Keyed.rest_kept _ _ (g.met.S.Storage.keeps_same _)), tt);
+  paged_in = search rules;
+  size = search rules;
+}
