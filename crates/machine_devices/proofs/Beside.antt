@@ -9,6 +9,10 @@ use Rattle.machine_devices.specs.Lent.{DevicesParts, KeepsOtherUsers, devices_on
 pub beside_same : (d : DevicesParts) (q q' : QueuesValue) → q'.users ≡ q.users → KeepsOtherUsers d q d q'
 beside_same d q q' is = record { user = refl; others = keeps_same q.users q'.users d.user is }
 
+-- Queues keep the files of other users than the one whose devices change.
+pub beside_kept : (d d' : DevicesParts) (q : QueuesValue) → d'.user ≡ d.user → KeepsOtherUsers d q d' q
+beside_kept d d' q is = record { user = is; others = keeps_same q.users q.users d.user refl }
+
 -- Keeping other users' files twice keeps them.
 pub beside_on : (d d' d'' : DevicesParts) (q q' q'' : QueuesValue) → KeepsOtherUsers d q d' q'
     → KeepsOtherUsers d' q' d'' q'' → KeepsOtherUsers d q d'' q''
