@@ -23,3 +23,5 @@ pub mod Keeps
 pub mod Room
 pub mod Saved
 pub mod Forgotten
+pub mod Serving
+pub mod Applied

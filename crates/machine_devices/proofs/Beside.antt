@@ -2,7 +2,6 @@
 use Rattle.std.proofs.Common.{◌≡◌, ◌∙◌, ap, refl, sym, subst, ℕ}
 use Rattle.cp_spool.specs.Queues.{KeepsOthers, QueuesValue, files_of}
 use Rattle.cp_spool.proofs.Others.{keeps_on, keeps_same}
-use Rattle.machine_devices.specs.Devices.{DevicesValue}
 use Rattle.machine_devices.specs.Lent.{DevicesParts, KeepsOtherUsers, devices_on, devices_with}
 
 -- Queues with equal files keep those of other users.

@@ -1,6 +1,6 @@
 -- What a line, an IPL and a serve leave of what they borrow, in the words of the traits of its
 -- storage and of its channels.
-use Rattle.std.specs.Prelude.{◌≡◌, ◌*◌, ◌<◌, ℕ, Bool, true, false, List, [], length, Option}
+use Rattle.std.specs.Prelude.{◌≡◌, ◌<◌, ℕ, Bool, true, false, List, [], length, Option}
 use Rattle.std.specs.Prelude.{IfErr, IfOk, OnErr, OnOk, Result, Err}
 use Rattle.s370_store.specs.declared.Storage.{Ghosts as Storage}
 use Rattle.s370_store.specs.declared.supply.Supply.{Ghosts as Supply}

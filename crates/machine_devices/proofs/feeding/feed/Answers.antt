@@ -1,6 +1,6 @@
-use Rattle.std.proofs.Common.{◌≡◌, ◌∙◌, ap, subst, sym}
+use Rattle.std.proofs.Common.{◌≡◌, ◌∙◌, ap}
 use Rattle.cp_spool.specs.Queues.{files_of, read_on}
-use Rattle.cp_spool.specs.Reader.{FeedState, ReaderPart, fed_by}
+use Rattle.cp_spool.specs.Reader.{ReaderPart, fed_by}
 use Rattle.cp_spool.proofs.Others.{files_now}
 use Rattle.machine_devices.proofs.Fed.{came_fed, out_fed, read_is, same_fed, stops_fed, walks_fed}
 use Rattle.machine_channels.specs.Channels.{serve_times}

@@ -1,7 +1,7 @@
 use Rattle.std.proofs.Common.{◌≡◌, ◌∙◌, ap, rules}
 use Rattle.machine_channels.proofs.Staying.{none_lacks}
 use Rattle.cp_spool.specs.Queues.{files_of, read_on}
-use Rattle.cp_spool.specs.Reader.{FeedState, ReaderPart, fed_by, feed_machine, part_new}
+use Rattle.cp_spool.specs.Reader.{ReaderPart, fed_by, feed_machine, part_new}
 use Rattle.cp_spool.proofs.Others.{files_now}
 use Rattle.machine_devices.proofs.Fed.{came_loaded, loaded_fed, out_loaded, read_is}
 use Rattle.machine_channels.specs.Channels.{load_times}

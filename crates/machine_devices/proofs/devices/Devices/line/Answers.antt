@@ -38,7 +38,8 @@ returns-in-Resets-clause-ends g c =
           (subst (λ (q : Request).
           IfOk c.reset_machine.result
           (λ reported. IsAnswered q (g.W.UserDirectory.known c.args.world.now) c.args.typed.now before reported
-          (after (devices_with c.reset_machine.new.self files)))) (sym judged) (c.reset_machine.ensures.ok files memory));
+          (after (devices_with c.reset_machine.new.self files)))) (sym judged)
+          (c.reset_machine.ensures.ok files memory));
       err = λ other. subst (λ (d : DevicesValue). OnErr c.reset_machine.result (after d ≡ before)) are
           (c.reset_machine.ensures.err files memory);
       unchanged_without_frames = search rules;
@@ -157,7 +158,8 @@ returns-in-Resets-clause-brings g c = record {
   roomy = search rules;
   cleared = search rules;
   not_cleared = search rules;
-  supply = λ _ _. ([], g.met.S.Supply.brought_none _ _ (g.met.S.Keyed.rest_kept _ _ (g.met.S.Storage.keeps_same _)), tt);
+  supply = λ _ _.
+      ([], g.met.S.Supply.brought_none _ _ (g.met.S.Keyed.rest_kept _ _ (g.met.S.Storage.keeps_same _)), tt);
   paged_in = search rules;
   size = search rules;
 }
@@ -170,7 +172,8 @@ returns-in-Asks-clause-brings g c = record {
   roomy = search rules;
   cleared = search rules;
   not_cleared = search rules;
-  supply = λ _ _. ([], g.met.S.Supply.brought_none _ _ (g.met.S.Keyed.rest_kept _ _ (g.met.S.Storage.keeps_same _)), tt);
+  supply = λ _ _.
+      ([], g.met.S.Supply.brought_none _ _ (g.met.S.Keyed.rest_kept _ _ (g.met.S.Storage.keeps_same _)), tt);
   paged_in = search rules;
   size = search rules;
 }
