@@ -23,3 +23,4 @@ pub mod Keeps
 pub mod Room
 pub mod Saved
 pub mod Forgotten
+pub mod Serving

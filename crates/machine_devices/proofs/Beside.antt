@@ -2,12 +2,15 @@
 use Rattle.std.proofs.Common.{◌≡◌, ◌∙◌, ap, refl, sym, subst, ℕ}
 use Rattle.cp_spool.specs.Queues.{KeepsOthers, QueuesValue, files_of}
 use Rattle.cp_spool.proofs.Others.{keeps_on, keeps_same}
-use Rattle.machine_devices.specs.Devices.{DevicesValue}
 use Rattle.machine_devices.specs.Lent.{DevicesParts, KeepsOtherUsers, devices_on, devices_with}
 
 -- Queues with equal files keep those of other users.
 pub beside_same : (d : DevicesParts) (q q' : QueuesValue) → q'.users ≡ q.users → KeepsOtherUsers d q d q'
 beside_same d q q' is = record { user = refl; others = keeps_same q.users q'.users d.user is }
+
+-- Queues keep the files of other users than the one whose devices change.
+pub beside_kept : (d d' : DevicesParts) (q : QueuesValue) → d'.user ≡ d.user → KeepsOtherUsers d q d' q
+beside_kept d d' q is = record { user = is; others = keeps_same q.users q.users d.user refl }
 
 -- Keeping other users' files twice keeps them.
 pub beside_on : (d d' d'' : DevicesParts) (q q' q'' : QueuesValue) → KeepsOtherUsers d q d' q'

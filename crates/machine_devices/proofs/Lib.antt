@@ -14,3 +14,4 @@ mod Working
 pub mod DeviceCodes
 pub mod Forgotten
 pub mod Written
+mod Served

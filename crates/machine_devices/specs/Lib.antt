@@ -22,3 +22,4 @@ pub mod Working
 pub mod Saved
 pub mod Forgotten
 pub mod Written
+pub mod Borrowed

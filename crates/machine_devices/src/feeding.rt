@@ -1,16 +1,12 @@
 //! The card reader of a machine feeds from the queue of its user.
-ghost use Rattle.std.specs.Prelude.{◌≡◌, ◌*◌, ◌<◌, false, true, Err, IfErr, IfOk, OnErr, OnOk};
+ghost use Rattle.std.specs.Prelude.{◌≡◌, ◌<◌, true, OnErr};
 ghost use Rattle.std.specs.Prelude.{is_ok, length};
-ghost use Rattle.s370_channel.specs.Runs.{Walks};
 ghost use Rattle.unit_record.specs.Reader.{reader_machine};
-ghost use Rattle.machine_channels.specs.Channels.{Brings, LacksPage, LoadNeeds, NoRoom};
-ghost use Rattle.machine_channels.specs.Channels.{ProgramNeeds, StopsForPage, WalksLoading};
-ghost use Rattle.machine_channels.specs.Channels.{WhereOut, load_times, serve_times};
+ghost use Rattle.machine_channels.specs.Channels.{ProgramNeeds};
 ghost use Rattle.machine_channels.specs.declared.channels.UnitRecord.TheVariants as units;
-ghost use Rattle.cp_spool.specs.Alike.{reader_of};
 ghost use Rattle.cp_spool.specs.Queues.{KeepsOthers, files_of};
-ghost use Rattle.cp_spool.specs.Reader.{FeedState, feed_machine, part_new};
-ghost use Rattle.s370_channel.specs.declared.running.ChannelError.TheVariants as errors;
+ghost use Rattle.cp_spool.specs.Reader.{part_new};
+ghost use Rattle.machine_devices.specs.Borrowed.{LoadsFed, ReportsOut, RunsFed, reader_on};
 
 use cp_spool::{FedReader, Queues, SpoolReader};
 use machine_channels::{Channels, UnitRecord};
@@ -35,33 +31,18 @@ pub(crate) fn feed<S: Storage, C: Channels<S>>(
 ) -> Result<Ending, ChannelError>
     requires user { user < length queues.old.users }
     requires ready { C.IsReady storage.old }
-    ensures walk { IfOk result
-        (λ ending. Walks C.reads reader_machine start (S.memory storage.old)
-        (reader_of (files_of queues.old.users user) reader.old) ending
-        (S.memory storage.new) (reader_of (files_of queues.new.users user) reader.new)) }
+    ensures runs { RunsFed C.Channels.own S.Storage start storage.old storage.new
+        (reader_on queues.old user reader.old) (reader_on queues.new user reader.new) result }
+    ensures whole { let Needs = ProgramNeeds C.holds reader_machine start (S.memory storage.old)
+        (reader_on queues.old user reader.old) in
+        C.is_whole ≡ true → ReportsOut C.Channels.own S.Storage Needs storage.old storage.new
+        ((S.memory storage.new ≡ S.memory storage.old) × (reader.new ≡ reader.old)
+        × (files_of queues.new.users user ≡ files_of queues.old.users user)) result }
     ensures punched { (files_of queues.new.users user).punched
         ≡ (files_of queues.old.users user).punched }
     ensures printed { (files_of queues.new.users user).printed
         ≡ (files_of queues.old.users user).printed }
     ensures disks { C.disks channels.new ≡ C.disks channels.old }
-    ensures stopped { C.is_whole ≡ false
-        → IfErr result (StopsForPage reader_machine (S.present storage.old) start
-        (S.memory storage.old) (reader_of (files_of queues.old.users user) reader.old)) }
-    ensures whole { let needs = ProgramNeeds C.holds reader_machine start
-        (S.memory storage.old) (reader_of (files_of queues.old.users user) reader.old) in
-        C.is_whole ≡ true
-        → IfErr result (WhereOut (length (S.memory storage.old).bytes) needs
-        (NoRoom C.IsOut C.IsFilled S.present storage.new needs)
-        ((S.memory storage.new ≡ S.memory storage.old) × (reader.new ≡ reader.old)
-        × (files_of queues.new.users user ≡ files_of queues.old.users user))) }
-    ensures roomy { C.is_whole ≡ true → result ≡ Err errors.Memory
-        → ((feed : FeedState) × C.HadRoom FeedState feed_machine storage.old start feed
-        storage.new) }
-    ensures paged_in { Brings (C.Came serve_times) storage.old
-        (ProgramNeeds C.holds reader_machine start
-        (S.memory storage.old) (reader_of (files_of queues.old.users user) reader.old))
-        storage.new }
-    ensures ready { C.IsReady storage.new }
     ensures other_users { KeepsOthers user queues.old.users queues.new.users }
     ensures others { C.KeepsOthers channels.old channels.new }
     ensures kept { C.Reuses channels.old storage.old start units.Reader (is_ok result)
@@ -88,32 +69,14 @@ pub(crate) fn load_fed<S: Storage, C: Channels<S>>(
 ) -> Result<Ending, ChannelError>
     requires user { user < length queues.old.users }
     requires ready { C.IsReady storage.old }
-    ensures walk { IfOk result
-        (λ ending. WalksLoading reader_machine (S.memory storage.old)
-        (reader_of (files_of queues.old.users user) part_new) ending
-        (S.memory storage.new) (reader_of (files_of queues.new.users user) reader.new)) }
+    ensures loads { LoadsFed C.Channels.own S.Storage storage.old storage.new
+        (reader_on queues.old user part_new) (reader_on queues.new user reader.new) result }
     ensures punched { (files_of queues.new.users user).punched
         ≡ (files_of queues.old.users user).punched }
     ensures printed { (files_of queues.new.users user).printed
         ≡ (files_of queues.old.users user).printed }
     ensures disks { C.disks channels.new ≡ C.disks channels.old }
-    ensures lacks { C.is_whole ≡ false
-        → IfErr result (LacksPage (length (S.memory storage.old).bytes) (S.present storage.old)) }
-    ensures whole { let needs = LoadNeeds reader_machine (S.memory storage.old)
-        (reader_of (files_of queues.old.users user) part_new) in
-        C.is_whole ≡ true
-        → IfErr result (WhereOut (length (S.memory storage.old).bytes) needs
-        (NoRoom C.IsOut C.IsFilled S.present storage.new needs)
-        (S.memory storage.new ≡ S.memory storage.old)) }
-    ensures roomy { C.is_whole ≡ true → result ≡ Err errors.Memory
-        → ((feed : FeedState) × C.HadRoomToLoad FeedState feed_machine storage.old feed
-        storage.new) }
     ensures stays { OnErr result ((reader.new ≡ reader.old) × (queues.new ≡ queues.old)) }
-    ensures there { C.is_whole ≡ true → OnOk result (S.present storage.new 0 ≡ true) }
-    ensures pages_unchanged { C.is_whole ≡ false → S.present storage.new ≡ S.present storage.old }
-    ensures paged_in { Brings (C.Came load_times) storage.old (LoadNeeds reader_machine
-        (S.memory storage.old) (reader_of (files_of queues.old.users user) part_new)) storage.new }
-    ensures ready { C.IsReady storage.new }
     ensures other_users { KeepsOthers user queues.old.users queues.new.users }
     ensures others { C.KeepsOthers channels.old channels.new }
     ensures kept { channels.new ≡ channels.old }

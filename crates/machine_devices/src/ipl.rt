@@ -1,16 +1,9 @@
 //! IPL, which the owner of a machine does for it.
-ghost use Rattle.std.specs.Prelude.{◌≡◌, ◌<◌, ◌≤◌, ℕ, false, true, Err, IfOk, OnOk, Some, length};
-ghost use Rattle.std.specs.Prelude.{map, slice_get};
-ghost use Rattle.s370_store.specs.Access.{IsAbsent};
-ghost use Rattle.machine_channels.specs.Channels.{Brings, IsOutOfFrames, NoRoom, load_times};
-ghost use Rattle.machine_channels.specs.Disks.{reset_disk};
-ghost use Rattle.machine_devices.specs.Devices.{kind_at, kind_in};
-ghost use Rattle.machine_devices.specs.Equipped.{equipped};
-ghost use Rattle.machine_devices.specs.Lent.{KeepsOtherUsers, devices_on};
-ghost use Rattle.machine_devices.specs.Lines.{IplNeeds, IsIpl, KindLoads, LoadHadRoom, LoadsDisk};
-ghost use Rattle.machine_devices.specs.Lines.{LoadsReader, can_load, ipl_told};
-ghost use Rattle.machine_devices.specs.Reuses.{LoadForgets};
+ghost use Rattle.std.specs.Prelude.{◌≡◌, ◌<◌, ◌≤◌, Some, length};
+ghost use Rattle.machine_devices.specs.Devices.{kind_in};
+ghost use Rattle.machine_devices.specs.Lines.{ipl_told};
 ghost use Rattle.machine_devices.specs.declared.places.AttachedDevice.TheVariants as kinds;
+ghost use Rattle.machine_devices.specs.Borrowed.{LoadEnds, borrowed};
 
 use crate::devices::Devices;
 use crate::feeding::load_fed;
@@ -55,49 +48,10 @@ impl Devices {
         requires size { 8192 ≤ length (S.memory storage.old).bytes }
         requires user { self.old.user < length queues.old.users }
         requires ready { C.IsReady storage.old }
-        ensures ok { let before = equipped machine.old (devices_on self.old queues.old)
-            (C.disks channels.old)
-            (S.memory storage.old) in
-            let after = equipped machine.new (devices_on self.new queues.new) (C.disks channels.new)
-            (S.memory storage.new) in
-            IfOk result (λ reported. IsIpl device before reported after) }
-        ensures lacks { C.is_whole ≡ false → result ≡ Err LineError.FramesOut
-            → ((page : ℕ) × IsAbsent (length (S.memory storage.old).bytes) (S.present storage.old)
-            page) }
-        ensures unchanged_without_frames { let before = equipped machine.old
-            (devices_on self.old queues.old)
-            (C.disks channels.old)
-            (S.memory storage.old) in
-            let after = equipped machine.new (devices_on self.new queues.new) (C.disks channels.new)
-            (S.memory storage.new) in
-            C.is_whole ≡ true → result ≡ Err LineError.FramesOut → after ≡ before }
-        ensures out { let before = equipped machine.old (devices_on self.old queues.old)
-            (C.disks channels.old)
-            (S.memory storage.old) in
-            let needs = IplNeeds device before in
-            C.is_whole ≡ true → result ≡ Err LineError.FramesOut
-            → IsOutOfFrames (length (S.memory storage.old).bytes) needs
-            (NoRoom C.IsOut C.IsFilled S.present storage.new needs) }
-        ensures roomy { let before = equipped machine.old (devices_on self.old queues.old)
-            (C.disks channels.old)
-            (S.memory storage.old) in
-            C.is_whole ≡ true → result ≡ Err LineError.Memory
-            → LoadHadRoom C.HadRoomToLoad storage.old storage.new
-            (kind_at before.devices before.disks device) before }
-        ensures paged_in { let before = equipped machine.old (devices_on self.old queues.old)
-            (C.disks channels.old)
-            (S.memory storage.old) in
-            Brings (C.Came load_times) storage.old (IplNeeds device before) storage.new }
-        ensures ready { C.IsReady storage.new }
-        ensures others { C.KeepsOthers channels.old channels.new }
-        ensures other_users { KeepsOtherUsers self.old queues.old self.new queues.new }
-        ensures dropped { OnOk result (LoadForgets C.Forgets channels.old channels.new
-            (can_load (kind_in self.old.places (C.disks channels.old) device))) }
-        ensures kept { C.is_whole ≡ true → result ≡ Err LineError.FramesOut
-            → channels.new ≡ channels.old }
-        ensures takes { result ≡ Err LineError.Memory
-            → can_load (kind_in self.old.places (C.disks channels.old) device) ≡ true }
-        ensures memory { C.is_whole ≡ false → result ≡ Err LineError.Memory → machine.old.room < 2 }
+        ensures { let kind = kind_in self.old.places (C.disks channels.old) device in
+            LoadEnds C.Channels.own C.Disks S.Storage kind device
+            (borrowed self.old queues.old machine.old storage.old channels.old)
+            (borrowed self.new queues.new machine.new storage.new channels.new) result }
     {
         match self.kind_at(channels, device.get()) {
             Some(AttachedDevice::Reader) => self.load_reader(
@@ -123,46 +77,9 @@ impl Devices {
         requires size { 8192 ≤ length (S.memory storage.old).bytes }
         requires user { self.old.user < length queues.old.users }
         requires ready { C.IsReady storage.old }
-        ensures ok { let before = equipped machine.old (devices_on self.old queues.old)
-            (C.disks channels.old)
-            (S.memory storage.old) in
-            let after = equipped machine.new (devices_on self.new queues.new) (C.disks channels.new)
-            (S.memory storage.new) in
-            IfOk result (λ reported. LoadsReader device before reported after) }
-        ensures lacks { C.is_whole ≡ false → result ≡ Err LineError.FramesOut
-            → ((page : ℕ) × IsAbsent (length (S.memory storage.old).bytes) (S.present storage.old)
-            page) }
-        ensures unchanged_without_frames { let before = equipped machine.old
-            (devices_on self.old queues.old)
-            (C.disks channels.old)
-            (S.memory storage.old) in
-            let after = equipped machine.new (devices_on self.new queues.new) (C.disks channels.new)
-            (S.memory storage.new) in
-            C.is_whole ≡ true → result ≡ Err LineError.FramesOut → after ≡ before }
-        ensures out { let before = equipped machine.old (devices_on self.old queues.old)
-            (C.disks channels.old)
-            (S.memory storage.old) in
-            let needs = KindLoads (Some kinds.Reader) before in
-            C.is_whole ≡ true → result ≡ Err LineError.FramesOut
-            → IsOutOfFrames (length (S.memory storage.old).bytes) needs
-            (NoRoom C.IsOut C.IsFilled S.present storage.new needs) }
-        ensures roomy { let before = equipped machine.old (devices_on self.old queues.old)
-            (C.disks channels.old)
-            (S.memory storage.old) in
-            C.is_whole ≡ true → result ≡ Err LineError.Memory
-            → LoadHadRoom C.HadRoomToLoad storage.old storage.new (Some kinds.Reader) before }
-        ensures paged_in { let before = equipped machine.old (devices_on self.old queues.old)
-            (C.disks channels.old)
-            (S.memory storage.old) in
-            Brings (C.Came load_times) storage.old (KindLoads (Some kinds.Reader) before)
-            storage.new }
-        ensures ready { C.IsReady storage.new }
-        ensures others { C.KeepsOthers channels.old channels.new }
-        ensures other_users { KeepsOtherUsers self.old queues.old self.new queues.new }
-        ensures dropped { OnOk result (C.Forgets channels.old channels.new) }
-        ensures kept { C.is_whole ≡ true → result ≡ Err LineError.FramesOut
-            → channels.new ≡ channels.old }
-        ensures memory { C.is_whole ≡ false → result ≡ Err LineError.Memory → machine.old.room < 2 }
+        ensures { LoadEnds C.Channels.own C.Disks S.Storage (Some kinds.Reader) device
+            (borrowed self.old queues.old machine.old storage.old channels.old)
+            (borrowed self.new queues.new machine.new storage.new channels.new) result }
     {
         match machine.make_room(1) {
             Ok(()) => {}
@@ -197,48 +114,9 @@ impl Devices {
         requires size { 8192 ≤ length (S.memory storage.old).bytes }
         requires ready { C.IsReady storage.old }
         requires inside { index < length (C.disks channels.old) }
-        ensures ok { let before = equipped machine.old (devices_on self.old queues.now)
-            (C.disks channels.old)
-            (S.memory storage.old) in
-            let after = equipped machine.new (devices_on self.new queues.now) (C.disks channels.new)
-            (S.memory storage.new) in
-            IfOk result (λ reported.
-            LoadsDisk index (slice_get (map reset_disk (C.disks channels.old)) index) device
-            before reported after) }
-        ensures lacks { C.is_whole ≡ false → result ≡ Err LineError.FramesOut
-            → ((page : ℕ) × IsAbsent (length (S.memory storage.old).bytes) (S.present storage.old)
-            page) }
-        ensures unchanged_without_frames { let before = equipped machine.old
-            (devices_on self.old queues.now)
-            (C.disks channels.old)
-            (S.memory storage.old) in
-            let after = equipped machine.new (devices_on self.new queues.now) (C.disks channels.new)
-            (S.memory storage.new) in
-            C.is_whole ≡ true → result ≡ Err LineError.FramesOut → after ≡ before }
-        ensures out { let before = equipped machine.old (devices_on self.old queues.now)
-            (C.disks channels.old)
-            (S.memory storage.old) in
-            let needs = KindLoads (Some (kinds.Disk index)) before in
-            C.is_whole ≡ true → result ≡ Err LineError.FramesOut
-            → IsOutOfFrames (length (S.memory storage.old).bytes) needs
-            (NoRoom C.IsOut C.IsFilled S.present storage.new needs) }
-        ensures roomy { let before = equipped machine.old (devices_on self.old queues.now)
-            (C.disks channels.old)
-            (S.memory storage.old) in
-            C.is_whole ≡ true → result ≡ Err LineError.Memory
-            → LoadHadRoom C.HadRoomToLoad storage.old storage.new (Some (kinds.Disk index)) before }
-        ensures paged_in { let before = equipped machine.old (devices_on self.old queues.now)
-            (C.disks channels.old)
-            (S.memory storage.old) in
-            Brings (C.Came load_times) storage.old (KindLoads (Some (kinds.Disk index)) before)
-            storage.new }
-        ensures ready { C.IsReady storage.new }
-        ensures others { C.KeepsOthers channels.old channels.new }
-        ensures user { self.new.user ≡ self.old.user }
-        ensures dropped { OnOk result (C.Forgets channels.old channels.new) }
-        ensures kept { C.is_whole ≡ true → result ≡ Err LineError.FramesOut
-            → channels.new ≡ channels.old }
-        ensures memory { C.is_whole ≡ false → result ≡ Err LineError.Memory → machine.old.room < 2 }
+        ensures { LoadEnds C.Channels.own C.Disks S.Storage (Some (kinds.Disk index)) device
+            (borrowed self.old queues.now machine.old storage.old channels.old)
+            (borrowed self.new queues.now machine.new storage.new channels.new) result }
     {
         match machine.make_room(1) {
             Ok(()) => {}

@@ -1,20 +1,17 @@
 //! Lines that are typed to a machine with devices.
-ghost use Rattle.std.specs.Prelude.{◌≡◌, ◌<◌, ◌≤◌, ℕ, List, [], IfOk, OnErr, OnOk, Err, false};
-ghost use Rattle.std.specs.Prelude.{true, length};
+ghost use Rattle.std.specs.Prelude.{◌≡◌, ◌<◌, ◌≤◌, List, [], IfOk, OnErr, OnOk, Err};
+ghost use Rattle.std.specs.Prelude.{length};
 ghost use Rattle.s370_store.specs.Memory.{Memory};
-ghost use Rattle.s370_store.specs.Access.{IsAbsent, Touches};
-ghost use Rattle.machine_channels.specs.Channels.{Brings, IsOutOfFrames, NoRoom, load_times};
 ghost use Rattle.machine_channels.specs.Disks.{DiskAt};
-ghost use Rattle.s370_intr.specs.Run.{AllNeeded, IsLacking};
 ghost use Rattle.cp_spool.specs.Queues.{UserFiles};
 ghost use Rattle.machine_devices.specs.Equipped.{equipped};
 ghost use Rattle.machine_devices.specs.Lent.{KeepsOtherUsers, devices_on, devices_with};
-ghost use Rattle.machine_devices.specs.Requests.{needs_of, switches};
-ghost use Rattle.machine_devices.specs.Comes.{HasClosed, LineHadRoom, LineMay, LoadWants, is_ipl};
+ghost use Rattle.machine_devices.specs.Comes.{HasClosed};
 ghost use Rattle.machine_devices.specs.Spooling.{open_files};
-ghost use Rattle.machine_devices.specs.Reuses.{LineForgets};
-ghost use Rattle.machine_devices.specs.Lines.{IsLine, files_closed, logged_off, outcome, said};
+ghost use Rattle.machine_devices.specs.Lines.{files_closed, logged_off, outcome, said};
 ghost use Rattle.machine_devices.specs.Lines.{requested, typed_at, was_reset};
+ghost use Rattle.machine_devices.specs.Borrowed.{LinePagesIn, LineDrops, LineEnds, borrowed};
+ghost use Rattle.machine_devices.specs.Borrowed.{machine_in};
 
 use crate::devices::Devices;
 use crate::files::ClosedFiles;
@@ -97,98 +94,20 @@ impl Devices {
         requires size { 8192 ≤ length (S.Storage.memory storage.old).bytes }
         requires user { self.old.user < length queues.old.users }
         requires ready { C.IsReady storage.old }
-        ensures ok { let before = equipped machine.old (devices_on self.old queues.old)
-            (C.disks channels.old)
-            (S.Storage.memory storage.old) in
-            let after = equipped machine.new (devices_on self.new queues.new) (C.disks channels.new)
-            (S.Storage.memory storage.new) in
-            IfOk result (λ reported. IsLine (W.known world.now) typed.now before reported after) }
-        ensures err { let before = equipped machine.old (devices_on self.old queues.old)
-            (C.disks channels.old)
-            (S.Storage.memory storage.old) in
-            let after = equipped machine.new (devices_on self.new queues.new) (C.disks channels.new)
-            (S.Storage.memory storage.new) in
-            is_ipl (requested typed.now before) ≡ false → OnErr result (after ≡ before) }
-        ensures unchanged_without_frames { let before = equipped machine.old
-            (devices_on self.old queues.old)
-            (C.disks channels.old)
-            (S.Storage.memory storage.old) in
-            let after = equipped machine.new (devices_on self.new queues.new) (C.disks channels.new)
-            (S.Storage.memory storage.new) in
-            C.is_whole ≡ true → result ≡ Err LineError.FramesOut → after ≡ before }
-        ensures memory { let before = equipped machine.old (devices_on self.old queues.old)
-            (C.disks channels.old)
-            (S.Storage.memory storage.old) in
-            result ≡ Err LineError.Memory → LineMay (W.known world.now) typed.now before }
-        ensures frames { let before = equipped machine.old (devices_on self.old queues.old)
-            (C.disks channels.old)
-            (S.Storage.memory storage.old) in
-            let asked = requested typed.now before in
-            is_ipl asked ≡ false → result ≡ Err LineError.FramesOut
-            → IsLacking (Touches (needs_of asked)) (length (S.Storage.memory storage.old).bytes)
-            (S.IsShort storage.new) }
-        ensures lacks { let before = equipped machine.old (devices_on self.old queues.old)
-            (C.disks channels.old)
-            (S.Storage.memory storage.old) in
-            is_ipl (requested typed.now before) ≡ true → C.is_whole ≡ false
-            → result ≡ Err LineError.FramesOut
-            → ((page : ℕ) × IsAbsent (length (S.Storage.memory storage.old).bytes)
-            (S.Storage.present storage.old) page) }
-        ensures out { let before = equipped machine.old (devices_on self.old queues.old)
-            (C.disks channels.old)
-            (S.Storage.memory storage.old) in
-            let needs = LoadWants (requested typed.now before) before in
-            is_ipl (requested typed.now before) ≡ true → C.is_whole ≡ true
-            → result ≡ Err LineError.FramesOut
-            → IsOutOfFrames (length (S.Storage.memory storage.old).bytes) needs
-            (NoRoom C.IsOut C.IsFilled S.Storage.present storage.new needs) }
-        ensures roomy { let before = equipped machine.old (devices_on self.old queues.old)
-            (C.disks channels.old)
-            (S.Storage.memory storage.old) in
-            is_ipl (requested typed.now before) ≡ true → C.is_whole ≡ true
-            → result ≡ Err LineError.Memory
-            → LineHadRoom C.HadRoomToLoad storage.old storage.new (requested typed.now before)
-            before }
-        ensures cleared { let before = equipped machine.old (devices_on self.old queues.old)
-            (C.disks channels.old)
-            (S.Storage.memory storage.old) in
-            switches (requested typed.now before) ≡ true
-            → OnOk result (S.Cleared storage.old storage.new) }
-        ensures not_cleared { let before = equipped machine.old (devices_on self.old queues.old)
-            (C.disks channels.old)
-            (S.Storage.memory storage.old) in
-            switches (requested typed.now before) ≡ true
-            → OnErr result (S.Brought storage.old [] storage.new) }
-        ensures supply { let before = equipped machine.old (devices_on self.old queues.old)
-            (C.disks channels.old)
-            (S.Storage.memory storage.old) in
-            let asked = requested typed.now before in
-            switches asked ≡ false → is_ipl asked ≡ false
-            → ((pages : List ℕ) × S.Brought storage.old pages storage.new
-            × AllNeeded (Touches (needs_of asked)) pages) }
-        ensures paged_in { let before = equipped machine.old (devices_on self.old queues.old)
-            (C.disks channels.old)
-            (S.Storage.memory storage.old) in
-            let asked = requested typed.now before in
-            is_ipl asked ≡ true
-            → Brings (C.Came load_times) storage.old (LoadWants asked before) storage.new
-            × C.IsReady storage.new }
-        ensures others { C.KeepsOthers channels.old channels.new }
+        ensures ends { let before = machine_in C.Disks S.Storage
+            (borrowed self.old queues.old machine.old storage.old channels.old) in
+            let after = machine_in C.Disks S.Storage
+            (borrowed self.new queues.new machine.new storage.new channels.new) in
+            LineEnds C.is_whole (W.known world.now) typed.now before after result }
+        ensures drops { let before = machine_in C.Disks S.Storage
+            (borrowed self.old queues.old machine.old storage.old channels.old) in
+            LineDrops C.is_whole C.Disks (requested typed.now before) before channels.old
+            channels.new result }
+        ensures brings { let before = machine_in C.Disks S.Storage
+            (borrowed self.old queues.old machine.old storage.old channels.old) in
+            LinePagesIn C.Channels.own S.Storage S.Supply.own (requested typed.now before) before
+            storage.old storage.new result }
         ensures other_users { KeepsOtherUsers self.old queues.old self.new queues.new }
-        ensures size { length (S.Storage.memory storage.new).bytes
-            ≡ length (S.Storage.memory storage.old).bytes }
-        ensures dropped { let before = equipped machine.old (devices_on self.old queues.old)
-            (C.disks channels.old)
-            (S.Storage.memory storage.old) in
-            OnOk result (LineForgets C.Forgets channels.old channels.new
-            (requested typed.now before) before) }
-        ensures kept { let before = equipped machine.old (devices_on self.old queues.old)
-            (C.disks channels.old)
-            (S.Storage.memory storage.old) in
-            is_ipl (requested typed.now before) ≡ false
-            → OnErr result (channels.new ≡ channels.old) }
-        ensures kept_without_room { C.is_whole ≡ true → result ≡ Err LineError.FramesOut
-            → channels.new ≡ channels.old }
     {
         let text = ConsoleText::new(typed);
         let has_console = self.places().console.is_some();
@@ -222,17 +141,15 @@ impl Devices {
         disks: &mut D,
     ) -> Result<LineOutcome, LineError>
         requires { self.old.user < length queues.old.users }
-        ensures ok { let before = equipped machine.old (devices_on self.old queues.old)
-            (D.disks disks.old)
-            (S.Storage.memory storage.old) in
-            let after = equipped machine.new (devices_on self.new queues.new) (D.disks disks.new)
-            (S.Storage.memory storage.new) in
+        ensures ok { let before = machine_in D.Disks S.Storage
+            (borrowed self.old queues.old machine.old storage.old disks.old) in
+            let after = machine_in D.Disks S.Storage
+            (borrowed self.new queues.new machine.new storage.new disks.new) in
             IfOk result (λ reported. outcome after reported ≡ logged_off before) }
-        ensures err { let before = equipped machine.old (devices_on self.old queues.old)
-            (D.disks disks.old)
-            (S.Storage.memory storage.old) in
-            let after = equipped machine.new (devices_on self.new queues.new) (D.disks disks.new)
-            (S.Storage.memory storage.new) in
+        ensures err { let before = machine_in D.Disks S.Storage
+            (borrowed self.old queues.old machine.old storage.old disks.old) in
+            let after = machine_in D.Disks S.Storage
+            (borrowed self.new queues.new machine.new storage.new disks.new) in
             OnErr result (after ≡ before) }
         ensures asked { OnErr result (HasClosed (open_files (devices_on self.old queues.old))) }
         ensures memory { result ≡ Err LineError.FramesOut → ⊥ }

@@ -1,19 +1,9 @@
 //! The devices of a machine are served.
-ghost use Rattle.std.specs.Prelude.{◌≡◌, ◌<◌, ◌++◌, Bool, false, true, Err, IfErr, IfOk, OnErr};
-ghost use Rattle.std.specs.Prelude.{OnOk, is_ok, length};
-ghost use Rattle.machine_channels.specs.Channels.{Brings, NoRoom, WhereOut, serve_times};
-ghost use Rattle.machine_channels.specs.declared.channels.UnitRecord.TheVariants as units;
-ghost use Rattle.s370_channel.specs.declared.running.ChannelError.TheVariants as errors;
+ghost use Rattle.std.specs.Prelude.{◌≡◌, ◌<◌, ◌++◌, IfOk, OnErr, OnOk, Some, length};
 ghost use Rattle.s370_subchannels.specs.Programs.{program_of};
-ghost use Rattle.machine_devices.specs.Devices.{IsAttached, kind_at};
+ghost use Rattle.machine_devices.specs.Devices.{IsAttached, kind_in};
 ghost use Rattle.machine_devices.specs.declared.places.AttachedDevice.TheVariants as kinds;
-ghost use Rattle.machine_devices.specs.Equipped.{equipped};
-ghost use Rattle.machine_devices.specs.Lent.{KeepsOtherUsers, devices_on};
-ghost use Rattle.machine_devices.specs.Reuses.{KindReuses, StartReuses};
-ghost use Rattle.machine_devices.specs.Serve.{IsServedAt, KindNeeds, RunsConsole, RunsKind};
-ghost use Rattle.machine_devices.specs.Serve.{ServeNeeds};
-ghost use Rattle.machine_devices.specs.Stopped.{KindHadRoom, ServeHadRoom, StopsAt, StopsConsole};
-ghost use Rattle.machine_devices.specs.Stopped.{StopsKind};
+ghost use Rattle.machine_devices.specs.Borrowed.{IsServed, Runs, ServeEnds, borrowed};
 
 use crate::devices::Devices;
 use crate::feeding::feed;
@@ -51,51 +41,14 @@ impl Devices {
     ) -> Result<bool, ChannelError>
         requires user { self.old.user < length queues.old.users }
         requires ready { C.IsReady storage.old }
-        ensures served { let before = equipped machine.old (devices_on self.old queues.old)
-            (C.disks channels.old)
-            (S.memory storage.old) in
-            let after = equipped machine.new (devices_on self.new queues.new) (C.disks channels.new)
-            (S.memory storage.new) in
-            IfOk result (λ done. IsServedAt C.reads device before done after) }
-        ensures whole { let before = equipped machine.old (devices_on self.old queues.old)
-            (C.disks channels.old)
-            (S.memory storage.old) in
-            let after = equipped machine.new (devices_on self.new queues.new) (C.disks channels.new)
-            (S.memory storage.new) in
-            let needs = ServeNeeds C.holds device before in
-            C.is_whole ≡ true
-            → IfErr result (WhereOut (length (S.memory storage.old).bytes) needs
-            (NoRoom C.IsOut C.IsFilled S.present storage.new needs) (after ≡ before)) }
-        ensures roomy { let before = equipped machine.old (devices_on self.old queues.old)
-            (C.disks channels.old)
-            (S.memory storage.old) in
-            C.is_whole ≡ true → result ≡ Err errors.Memory
-            → ServeHadRoom C.reads C.HadRoom storage.old storage.new device before }
-        ensures stopped { let before = equipped machine.old (devices_on self.old queues.old)
-            (C.disks channels.old)
-            (S.memory storage.old) in
-            C.is_whole ≡ false → IfErr result
-            (StopsAt C.reads (S.present storage.old) device before) }
-        ensures others { C.KeepsOthers channels.old channels.new }
-        ensures other_users { KeepsOtherUsers self.old queues.old self.new queues.new }
-        ensures paged_in { let before = equipped machine.old (devices_on self.old queues.old)
-            (C.disks channels.old)
-            (S.memory storage.old) in
-            Brings (C.Came serve_times) storage.old (ServeNeeds C.holds device before) storage.new }
-        ensures ready { C.IsReady storage.new }
-        ensures kept { let before = equipped machine.old (devices_on self.old queues.old)
-            (C.disks channels.old)
-            (S.memory storage.old) in
-            OnOk result (StartReuses C.Reuses C.ReusesDisk channels.old storage.old channels.new
-            (kind_at before.devices before.disks device) (program_of device machine.old.subchannels)
-            true) }
-        ensures kept_if_refused { let before = equipped machine.old (devices_on self.old queues.old)
-            (C.disks channels.old)
-            (S.memory storage.old) in
-            OnErr result ((done : Bool)
-            × StartReuses C.Reuses C.ReusesDisk channels.old storage.old channels.new
-            (kind_at before.devices before.disks device) (program_of device machine.old.subchannels)
-            done) }
+        ensures served { IfOk result (λ done. IsServed C.Channels.own C.Disks S.Storage device
+            (borrowed self.old queues.old machine.old storage.old channels.old) done
+            (borrowed self.new queues.new machine.new storage.new channels.new)) }
+        ensures ends { let kind = kind_in self.old.places (C.disks channels.old) device in
+            let start = program_of device machine.old.subchannels in
+            ServeEnds C.Channels.own C.Disks S.Storage kind start
+            (borrowed self.old queues.old machine.old storage.old channels.old)
+            (borrowed self.new queues.new machine.new storage.new channels.new) result }
     {
         let Some(kind) = self.kind_at(channels, device.get()) else {
             return Ok(false);
@@ -124,45 +77,12 @@ impl Devices {
         requires attached { IsAttached (C.disks channels.old) kind }
         requires user { self.old.user < length queues.old.users }
         requires ready { C.IsReady storage.old }
-        ensures runs { let before = equipped machine.old (devices_on self.old queues.old)
-            (C.disks channels.old)
-            (S.memory storage.old) in
-            let after = equipped machine.new (devices_on self.new queues.new) (C.disks channels.new)
-            (S.memory storage.new) in
-            OnOk result (RunsKind C.reads kind device start before after) }
-        ensures whole { let before = equipped machine.old (devices_on self.old queues.old)
-            (C.disks channels.old)
-            (S.memory storage.old) in
-            let after = equipped machine.new (devices_on self.new queues.new) (C.disks channels.new)
-            (S.memory storage.new) in
-            let needs = KindNeeds C.holds kind start before in
-            C.is_whole ≡ true
-            → IfErr result (WhereOut (length (S.memory storage.old).bytes) needs
-            (NoRoom C.IsOut C.IsFilled S.present storage.new needs) (after ≡ before)) }
-        ensures roomy { let before = equipped machine.old (devices_on self.old queues.old)
-            (C.disks channels.old)
-            (S.memory storage.old) in
-            C.is_whole ≡ true → result ≡ Err errors.Memory
-            → KindHadRoom C.reads C.HadRoom storage.old storage.new kind start before }
-        ensures stopped { let before = equipped machine.old (devices_on self.old queues.old)
-            (C.disks channels.old)
-            (S.memory storage.old) in
-            C.is_whole ≡ false → IfErr result
-            (StopsKind C.reads (S.present storage.old) kind start before) }
-        ensures others { C.KeepsOthers channels.old channels.new }
-        ensures other_users { KeepsOtherUsers self.old queues.old self.new queues.new }
-        ensures paged_in { let before = equipped machine.old (devices_on self.old queues.old)
-            (C.disks channels.old)
-            (S.memory storage.old) in
-            Brings (C.Came serve_times) storage.old (KindNeeds C.holds kind start before)
-            storage.new }
-        ensures ready { C.IsReady storage.new }
-        ensures kept { OnOk result
-            (KindReuses C.Reuses C.ReusesDisk channels.old storage.old channels.new kind start
-            true) }
-        ensures kept_if_refused { OnErr result ((done : Bool)
-            × KindReuses C.Reuses C.ReusesDisk channels.old storage.old channels.new kind start
-            done) }
+        ensures runs { OnOk result (Runs C.Channels.own C.Disks S.Storage kind device start
+            (borrowed self.old queues.old machine.old storage.old channels.old)
+            (borrowed self.new queues.new machine.new storage.new channels.new)) }
+        ensures ends { ServeEnds C.Channels.own C.Disks S.Storage (Some kind) (Some start)
+            (borrowed self.old queues.old machine.old storage.old channels.old)
+            (borrowed self.new queues.new machine.new storage.new channels.new) result }
     {
         let key = start.key;
         let ending = match kind {
@@ -212,44 +132,15 @@ impl Devices {
     ) -> Result<(), ChannelError>
         requires user { self.old.user < length queues.old.users }
         requires ready { C.IsReady storage.old }
-        ensures runs { let before = equipped machine.old (devices_on self.old queues.old)
-            (C.disks channels.old)
-            (S.memory storage.old) in
-            let after = equipped machine.new (devices_on self.new queues.new) (C.disks channels.new)
-            (S.memory storage.new) in
-            OnOk result (RunsKind C.reads kinds.Reader device start before after) }
-        ensures whole { let before = equipped machine.old (devices_on self.old queues.old)
-            (C.disks channels.old)
-            (S.memory storage.old) in
-            let after = equipped machine.new (devices_on self.new queues.new) (C.disks channels.new)
-            (S.memory storage.new) in
-            let needs = KindNeeds C.holds kinds.Reader start before in
-            C.is_whole ≡ true
-            → IfErr result (WhereOut (length (S.memory storage.old).bytes) needs
-            (NoRoom C.IsOut C.IsFilled S.present storage.new needs) (after ≡ before)) }
-        ensures roomy { let before = equipped machine.old (devices_on self.old queues.old)
-            (C.disks channels.old)
-            (S.memory storage.old) in
-            C.is_whole ≡ true → result ≡ Err errors.Memory
-            → KindHadRoom C.reads C.HadRoom storage.old storage.new kinds.Reader start before }
-        ensures stopped { let before = equipped machine.old (devices_on self.old queues.old)
-            (C.disks channels.old)
-            (S.memory storage.old) in
-            C.is_whole ≡ false → IfErr result
-            (StopsKind C.reads (S.present storage.old) kinds.Reader start before) }
-        ensures others { C.KeepsOthers channels.old channels.new }
-        ensures other_users { KeepsOtherUsers self.old queues.old self.new queues.new }
-        ensures paged_in { let before = equipped machine.old (devices_on self.old queues.old)
-            (C.disks channels.old)
-            (S.memory storage.old) in
-            Brings (C.Came serve_times) storage.old (KindNeeds C.holds kinds.Reader start before)
-            storage.new }
-        ensures ready { C.IsReady storage.new }
-        ensures kept { C.Reuses channels.old storage.old start units.Reader (is_ok result)
-            channels.new }
+        ensures runs { OnOk result (Runs C.Channels.own C.Disks S.Storage kinds.Reader device start
+            (borrowed self.old queues.old machine.old storage.old channels.old)
+            (borrowed self.new queues.new machine.new storage.new channels.new)) }
+        ensures ends { ServeEnds C.Channels.own C.Disks S.Storage (Some kinds.Reader) (Some start)
+            (borrowed self.old queues.old machine.old storage.old channels.old)
+            (borrowed self.new queues.new machine.new storage.new channels.new) result }
     {
         let key = start.key;
-        match feed(
+        let ending = match feed(
             &mut self.reader,
             queues,
             self.user,
@@ -257,12 +148,11 @@ impl Devices {
             channels,
             start,
         ) {
-            Ok(ending) => {
-                machine.end_program(device, key, ending);
-                Ok(())
-            }
-            Err(error) => Err(error),
-        }
+            Ok(ending) => ending,
+            Err(error) => return Err(error),
+        };
+        machine.end_program(device, key, ending);
+        Ok(())
     }
 
     /// Runs the program with this start on the console, makes its status pending, and prints the
@@ -277,43 +167,13 @@ impl Devices {
         start: Caw,
     ) -> Result<(), ChannelError>
         requires { C.IsReady storage.old }
-        ensures runs { let before = equipped machine.old (devices_on self.old queues.now)
-            (C.disks channels.old)
-            (S.memory storage.old) in
-            let after = equipped machine.new (devices_on self.new queues.now) (C.disks channels.new)
-            (S.memory storage.new) in
-            OnOk result (RunsConsole C.reads device start before after) }
-        ensures whole { let before = equipped machine.old (devices_on self.old queues.now)
-            (C.disks channels.old)
-            (S.memory storage.old) in
-            let after = equipped machine.new (devices_on self.new queues.now) (C.disks channels.new)
-            (S.memory storage.new) in
-            let needs = KindNeeds C.holds kinds.Console start before in
-            C.is_whole ≡ true
-            → IfErr result (WhereOut (length (S.memory storage.old).bytes) needs
-            (NoRoom C.IsOut C.IsFilled S.present storage.new needs) (after ≡ before)) }
-        ensures roomy { let before = equipped machine.old (devices_on self.old queues.now)
-            (C.disks channels.old)
-            (S.memory storage.old) in
-            C.is_whole ≡ true → result ≡ Err errors.Memory
-            → KindHadRoom C.reads C.HadRoom storage.old storage.new kinds.Console start before }
-        ensures stopped { let before = equipped machine.old (devices_on self.old queues.now)
-            (C.disks channels.old)
-            (S.memory storage.old) in
-            C.is_whole ≡ false → IfErr result
-            (StopsConsole C.reads (S.present storage.old) start before) }
-        ensures others { C.KeepsOthers channels.old channels.new }
-        ensures user { self.new.user ≡ self.old.user }
-        ensures paged_in { let before = equipped machine.old (devices_on self.old queues.now)
-            (C.disks channels.old)
-            (S.memory storage.old) in
-            Brings (C.Came serve_times) storage.old (KindNeeds C.holds kinds.Console start before)
-            storage.new }
-        ensures ready { C.IsReady storage.new }
-        ensures kept { OnOk result
-            (C.Reuses channels.old storage.old start units.Console true channels.new) }
-        ensures kept_if_refused { OnErr result ((done : Bool)
-            × C.Reuses channels.old storage.old start units.Console done channels.new) }
+        ensures runs { OnOk result (Runs C.Channels.own C.Disks S.Storage kinds.Console device start
+            (borrowed self.old queues.now machine.old storage.old channels.old)
+            (borrowed self.new queues.now machine.new storage.new channels.new)) }
+        ensures ends { let kind = Some kinds.Console in
+            ServeEnds C.Channels.own C.Disks S.Storage kind (Some start)
+            (borrowed self.old queues.now machine.old storage.old channels.old)
+            (borrowed self.new queues.now machine.new storage.new channels.new) result }
     {
         let key = start.key;
         let ending = match channels.run(storage, start, UnitRecord::Console, &mut self.console) {

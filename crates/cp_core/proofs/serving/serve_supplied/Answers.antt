@@ -1,12 +1,18 @@
-use Rattle.std.proofs.Common.{◌≡◌, [], None, Option, subst, sym, true}
-use Rattle.s370_channel.specs.declared.words.Caw.{Caw}
-use Rattle.machine_devices.specs.Devices.{kind_at}
-use Rattle.machine_devices.specs.Equipped.{equipped}
-use Rattle.machine_devices.specs.Lent.{devices_on}
-use Rattle.machine_devices.specs.Reuses.{StartReuses}
-use Rattle.s370_subchannels.specs.Programs.{program_of}
-use Rattle.cp_core.proofs.Reused.{none_starts}
+use Rattle.std.proofs.Common.{[], refl, rules}
+use Rattle.machine_devices.proofs.Beside.{beside_same}
 use Rattle.cp_core.proofs.serving.serve_supplied.Goals as goal
 
-pub returns-then-is_none-clause-paged_in : goal.returns-then-is_none-clause-paged_in
-returns-then-is_none-clause-paged_in g c = ([], g.met.C.Channels.came_none _ c.args.storage.now c.requires.ready, tt)
+pub returns-then-is_none : goal.returns-then-is_none
+returns-then-is_none g c = record {
+  served = search rules;
+  unchanged_without_frames = search rules;
+  frames = search rules;
+  memory = search rules;
+  roomy = search rules;
+  paged_in = ([], g.met.C.Channels.came_none _ c.args.storage.now c.requires.ready, tt);
+  ready = search rules;
+  kept = search rules;
+  kept_if_refused = search rules;
+  others = search rules;
+  other_users = beside_same c.args.devices.now c.args.queues.now c.args.queues.now refl;
+}

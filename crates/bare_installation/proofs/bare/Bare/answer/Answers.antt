@@ -18,5 +18,6 @@ unreachable-requires g c =
     (disks_of c.self.inside.channels) (plain_memory c.self.inside.storage) in
     let reported : c.line-reported.result ≡ Err errors.FramesOut = search rules in
     either (is_ipl (requested c.args.typed.now before))
-    (λ ipl. (let away = c.line-reported.ensures.lacks ipl refl reported in let no : true ≡ false = away.1.away in cc))
-    (λ plain. (c.line-reported.ensures.frames plain reported).short)
+    (λ ipl. (let away = c.line-reported.ensures.brings.lacks ipl refl reported in
+    let no : true ≡ false = away.1.away in cc))
+    (λ plain. (c.line-reported.ensures.brings.frames plain reported).short)

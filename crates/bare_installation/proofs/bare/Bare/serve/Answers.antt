@@ -18,4 +18,4 @@ unreachable-requires c =
     let before = equipped c.self.inside.machine (devices_on c.self.inside.devices c.self.inside.queues)
     (disks_of c.self.inside.channels) (plain_memory c.self.inside.storage) in
     never_away as_reached c.args.device before c.in-Err-Absent.field-0 c.in-Err-Absent.field-0-0
-    c.in-Err-Absent.field-0-is (c.in-Err-Absent.ensures.stopped refl)
+    c.in-Err-Absent.field-0-is (c.in-Err-Absent.ensures.ends.stopped refl)

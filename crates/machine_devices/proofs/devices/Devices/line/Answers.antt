@@ -1,4 +1,4 @@
-use Rattle.std.proofs.Common.{◌≡◌, ◌∙◌, ap, sym, subst, Err, true, length}
+use Rattle.std.proofs.Common.{◌≡◌, ◌∙◌, [], ap, rules, sym, subst, Err, true, length}
 use Rattle.std.specs.Prelude.{IfOk, OnErr, is_some}
 use Rattle.machine_devices.specs.Devices.{DevicesValue}
 use Rattle.machine_devices.proofs.Beside.{devices_are}
@@ -17,8 +17,8 @@ use Rattle.machine_panel.specs.declared.line.LineError.TheVariants as errors
 use Rattle.machine_devices.proofs.Requested.{requested_is, typed_is}
 use Rattle.machine_devices.proofs.devices.Devices.line.Goals as goal
 
-pub returns-in-Resets-clause-ok : goal.returns-in-Resets-clause-ok
-returns-in-Resets-clause-ok g c =
+pub returns-in-Resets-clause-ends : goal.returns-in-Resets-clause-ends
+returns-in-Resets-clause-ends g c =
     let files = files_of c.args.queues.now.users c.args.self.now.user in
     let memory = g.S.Storage.memory c.args.storage.now in
     let before : Equipped = equipped c.args.machine.now (devices_on c.args.self.now c.args.queues.now)
@@ -30,29 +30,24 @@ returns-in-Resets-clause-ok g c =
     let judged : requested c.args.typed.now before ≡ Resets =
     requested_is Resets before c.args.typed.now c.as_slice.result.now c.mode.result c.is_some-has_console.result
     c.in-Resets.ensures c.mode.ensures has (c.as_slice.ensures.value ∙ c.new-text.ensures) in
-    subst (λ (d : DevicesValue).
-    IfOk c.reset_machine.result
-    (λ reported. IsAnswered (requested c.args.typed.now before) (g.W.UserDirectory.known c.args.world.now)
-    c.args.typed.now before reported (after d))) are
-    (subst (λ (q : Request).
-    IfOk c.reset_machine.result
-    (λ reported. IsAnswered q (g.W.UserDirectory.known c.args.world.now) c.args.typed.now before reported
-    (after (devices_with c.reset_machine.new.self files)))) (sym judged) (c.reset_machine.ensures.ok files memory))
+    record {
+      ok = subst (λ (d : DevicesValue).
+          IfOk c.reset_machine.result
+          (λ reported. IsAnswered (requested c.args.typed.now before) (g.W.UserDirectory.known c.args.world.now)
+          c.args.typed.now before reported (after d))) are
+          (subst (λ (q : Request).
+          IfOk c.reset_machine.result
+          (λ reported. IsAnswered q (g.W.UserDirectory.known c.args.world.now) c.args.typed.now before reported
+          (after (devices_with c.reset_machine.new.self files)))) (sym judged)
+          (c.reset_machine.ensures.ok files memory));
+      err = λ other. subst (λ (d : DevicesValue). OnErr c.reset_machine.result (after d ≡ before)) are
+          (c.reset_machine.ensures.err files memory);
+      unchanged_without_frames = search rules;
+      memory = search rules;
+    }
 
-pub returns-in-Resets-clause-err : goal.returns-in-Resets-clause-err
-returns-in-Resets-clause-err g c = λ other. (
-    let files = files_of c.args.queues.now.users c.args.self.now.user in
-    let memory = g.S.Storage.memory c.args.storage.now in
-    subst (λ (d : DevicesValue).
-    OnErr c.reset_machine.result
-    (equipped c.reset_machine.new.machine d (g.C.Disks.disks c.reset_machine.new.disks) memory
-    ≡ equipped c.args.machine.now (devices_on c.args.self.now c.args.queues.now)
-    (g.C.Disks.disks c.args.channels.now) memory))
-    (devices_are c.args.self.now c.reset_machine.new.self c.args.queues.now c.reset_machine.ensures.user)
-    (c.reset_machine.ensures.err files memory))
-
-pub returns-in-Types-clause-ok : goal.returns-in-Types-clause-ok
-returns-in-Types-clause-ok g c =
+pub returns-in-Types-clause-ends : goal.returns-in-Types-clause-ends
+returns-in-Types-clause-ends g c =
     let files = files_of c.args.queues.now.users c.args.self.now.user in
     let memory = g.S.Storage.memory c.args.storage.now in
     let before : Equipped = equipped c.args.machine.now (devices_on c.args.self.now c.args.queues.now)
@@ -68,29 +63,23 @@ returns-in-Types-clause-ok g c =
     let typed = typed_is c.type_line.result c.as_slice-in-Types.result.now c.args.typed.now before (after left)
     (c.as_slice-in-Types.ensures.value ∙ c.new-text.ensures)
     (c.type_line.ensures.ok files (g.C.Disks.disks c.args.channels.now) memory) in
-    subst (λ (d : DevicesValue).
-    IfOk c.type_line.result (λ reported.
-    IsAnswered (requested c.args.typed.now before) (g.W.UserDirectory.known c.args.world.now) c.args.typed.now
-    before reported (after d))) are
-    (subst (λ (q : Request).
-    IfOk c.type_line.result (λ reported.
-    IsAnswered q (g.W.UserDirectory.known c.args.world.now) c.args.typed.now before reported (after left)))
-    (sym judged) typed)
+    record {
+      ok = subst (λ (d : DevicesValue).
+          IfOk c.type_line.result (λ reported.
+          IsAnswered (requested c.args.typed.now before) (g.W.UserDirectory.known c.args.world.now) c.args.typed.now
+          before reported (after d))) are
+          (subst (λ (q : Request).
+          IfOk c.type_line.result (λ reported.
+          IsAnswered q (g.W.UserDirectory.known c.args.world.now) c.args.typed.now before reported (after left)))
+          (sym judged) typed);
+      err = λ other. subst (λ (d : DevicesValue). OnErr c.type_line.result (after d ≡ before)) are
+          (c.type_line.ensures.err files (g.C.Disks.disks c.args.channels.now) memory);
+      unchanged_without_frames = search rules;
+      memory = search rules;
+    }
 
-pub returns-in-Types-clause-err : goal.returns-in-Types-clause-err
-returns-in-Types-clause-err g c = λ other. (
-    let files = files_of c.args.queues.now.users c.args.self.now.user in
-    let disks = g.C.Disks.disks c.args.channels.now in
-    let memory = g.S.Storage.memory c.args.storage.now in
-    subst (λ (d : DevicesValue).
-    OnErr c.type_line.result
-    (equipped c.type_line.new.machine d disks memory
-    ≡ equipped c.args.machine.now (devices_on c.args.self.now c.args.queues.now) disks memory))
-    (devices_are c.args.self.now c.type_line.new.self c.args.queues.now c.type_line.ensures.user)
-    (c.type_line.ensures.err files disks memory))
-
-pub returns-in-Asks-clause-ok : goal.returns-in-Asks-clause-ok
-returns-in-Asks-clause-ok g c =
+pub returns-in-Asks-clause-ends : goal.returns-in-Asks-clause-ends
+returns-in-Asks-clause-ends g c =
     let memory = g.S.Storage.memory c.args.storage.now in
     let disks = g.C.Disks.disks c.args.channels.now in
     let before : Equipped = equipped c.args.machine.now (devices_on c.args.self.now c.args.queues.now) disks memory in
@@ -100,12 +89,17 @@ returns-in-Asks-clause-ok g c =
     requested_is (Asks c.in-Asks.command) before c.args.typed.now c.as_slice.result.now c.mode.result
     c.is_some-has_console.result c.in-Asks.ensures c.mode.ensures has
     (c.as_slice.ensures.value ∙ c.new-text.ensures) in
-    subst (λ (q : Request). IfOk c.obey.result
-    (λ reported. IsAnswered q (g.W.UserDirectory.known c.args.world.now) c.args.typed.now before reported after))
-    (sym judged) (c.obey.ensures.ok (machine_of c.args.machine.now memory) disks)
+    record {
+      ok = subst (λ (q : Request). IfOk c.obey.result
+          (λ reported. IsAnswered q (g.W.UserDirectory.known c.args.world.now) c.args.typed.now before reported after))
+          (sym judged) (c.obey.ensures.ok (machine_of c.args.machine.now memory) disks);
+      err = search rules;
+      unchanged_without_frames = search rules;
+      memory = search rules;
+    }
 
-pub returns-in-Loads-clause-ok : goal.returns-in-Loads-clause-ok
-returns-in-Loads-clause-ok g c =
+pub returns-in-Loads-clause-ends : goal.returns-in-Loads-clause-ends
+returns-in-Loads-clause-ends g c =
     let before : Equipped = equipped c.args.machine.now (devices_on c.args.self.now c.args.queues.now)
     (g.C.Disks.disks c.args.channels.now) (g.S.Storage.memory c.args.storage.now) in
     let has = c.is_some-has_console.ensures ∙ ap (λ (p : Places). is_some p.console) c.places.ensures in
@@ -115,25 +109,18 @@ returns-in-Loads-clause-ok g c =
     (c.as_slice.ensures.value ∙ c.new-text.ensures) in
     let after : Equipped = equipped c.ipl.new.machine (devices_on c.ipl.new.self c.ipl.new.queues)
     (g.C.Disks.disks c.ipl.new.channels) (g.S.Storage.memory c.ipl.new.storage) in
-    subst (λ (q : Request). IfOk c.ipl.result
-    (λ reported. IsAnswered q (g.W.UserDirectory.known c.args.world.now) c.args.typed.now before reported after))
-    (sym judged) c.ipl.ensures.ok
+    record {
+      ok = subst (λ (q : Request). IfOk c.ipl.result
+          (λ reported. IsAnswered q (g.W.UserDirectory.known c.args.world.now) c.args.typed.now before reported after))
+          (sym judged) c.ipl.ensures.ok;
+      err = search rules;
+      unchanged_without_frames = search rules;
+      memory = subst (λ (q : Request). c.ipl.result ≡ Err errors.Memory
+          → MayTakeMemory (g.W.UserDirectory.known c.args.world.now) q before) (sym judged) c.ipl.ensures.takes;
+    }
 
-pub returns-in-Loads-clause-memory : goal.returns-in-Loads-clause-memory
-returns-in-Loads-clause-memory g c =
-    let world = g.W.UserDirectory.known c.args.world.now in
-    let before : Equipped = equipped c.args.machine.now (devices_on c.args.self.now c.args.queues.now)
-    (g.C.Disks.disks c.args.channels.now) (g.S.Storage.memory c.args.storage.now) in
-    let has = c.is_some-has_console.ensures ∙ ap (λ (p : Places). is_some p.console) c.places.ensures in
-    let judged : requested c.args.typed.now before ≡ Loads c.in-Loads.device =
-    requested_is (Loads c.in-Loads.device) before c.args.typed.now c.as_slice.result.now c.mode.result
-    c.is_some-has_console.result c.in-Loads.ensures c.mode.ensures has
-    (c.as_slice.ensures.value ∙ c.new-text.ensures) in
-    subst (λ (q : Request). c.ipl.result ≡ Err errors.Memory → MayTakeMemory world q before)
-    (sym judged) c.ipl.ensures.takes
-
-pub returns-in-Loads-clause-out : goal.returns-in-Loads-clause-out
-returns-in-Loads-clause-out g c = λ ipl. (
+pub returns-in-Loads-clause-brings : goal.returns-in-Loads-clause-brings
+returns-in-Loads-clause-brings g c =
     let before : Equipped = equipped c.args.machine.now (devices_on c.args.self.now c.args.queues.now)
     (g.C.Disks.disks c.args.channels.now) (g.S.Storage.memory c.args.storage.now) in
     let has = c.is_some-has_console.ensures ∙ ap (λ (p : Places). is_some p.console) c.places.ensures in
@@ -142,35 +129,51 @@ returns-in-Loads-clause-out g c = λ ipl. (
     c.is_some-has_console.result c.in-Loads.ensures c.mode.ensures has
     (c.as_slice.ensures.value ∙ c.new-text.ensures) in
     let size = length (g.S.Storage.memory c.args.storage.now).bytes in
-    subst (λ (q : Request). g.C.Channels.is_whole ≡ true → c.ipl.result ≡ Err errors.FramesOut
-    → IsOutOfFrames size (LoadWants q before)
-    (NoRoom g.C.Channels.IsOut g.C.Channels.IsFilled g.S.Storage.present c.ipl.new.storage (LoadWants q before)))
-    (sym judged) c.ipl.ensures.out)
+    record {
+      frames = search rules;
+      lacks = search rules;
+      out = λ ipl. subst (λ (q : Request). g.C.Channels.is_whole ≡ true → c.ipl.result ≡ Err errors.FramesOut
+          → IsOutOfFrames size (LoadWants q before)
+          (NoRoom g.C.Channels.IsOut g.C.Channels.IsFilled g.S.Storage.present c.ipl.new.storage (LoadWants q before)))
+          (sym judged) c.ipl.ensures.out;
+      roomy = λ ipl. subst (λ (q : Request). g.C.Channels.is_whole ≡ true → c.ipl.result ≡ Err errors.Memory
+          → LineHadRoom g.C.Channels.HadRoomToLoad c.args.storage.now c.ipl.new.storage q before) (sym judged)
+          c.ipl.ensures.roomy;
+      cleared = search rules;
+      not_cleared = search rules;
+      supply = search rules;
+      paged_in = λ ipl. (
+        subst (λ (q : Request). Brings (g.C.Channels.Came load_times) c.args.storage.now (LoadWants q before)
+            c.ipl.new.storage) (sym judged) c.ipl.ensures.paged_in,
+        c.ipl.ensures.ready,
+      );
+      size = g.met.C.Channels.came_size _ _ _ _ c.ipl.ensures.paged_in.1;
+    }
 
-pub returns-in-Loads-clause-roomy : goal.returns-in-Loads-clause-roomy
-returns-in-Loads-clause-roomy g c = λ ipl. (
-    let before : Equipped = equipped c.args.machine.now (devices_on c.args.self.now c.args.queues.now)
-    (g.C.Disks.disks c.args.channels.now) (g.S.Storage.memory c.args.storage.now) in
-    let has = c.is_some-has_console.ensures ∙ ap (λ (p : Places). is_some p.console) c.places.ensures in
-    let judged : requested c.args.typed.now before ≡ Loads c.in-Loads.device =
-    requested_is (Loads c.in-Loads.device) before c.args.typed.now c.as_slice.result.now c.mode.result
-    c.is_some-has_console.result c.in-Loads.ensures c.mode.ensures has
-    (c.as_slice.ensures.value ∙ c.new-text.ensures) in
-    subst (λ (q : Request). g.C.Channels.is_whole ≡ true → c.ipl.result ≡ Err errors.Memory
-    → LineHadRoom g.C.Channels.HadRoomToLoad c.args.storage.now c.ipl.new.storage q before)
-    (sym judged) c.ipl.ensures.roomy)
+pub returns-in-Resets-clause-brings : goal.returns-in-Resets-clause-brings
+returns-in-Resets-clause-brings g c = record {
+  frames = search rules;
+  lacks = search rules;
+  out = search rules;
+  roomy = search rules;
+  cleared = search rules;
+  not_cleared = search rules;
+  supply = λ _ _.
+      ([], g.met.S.Supply.brought_none _ _ (g.met.S.Keyed.rest_kept _ _ (g.met.S.Storage.keeps_same _)), tt);
+  paged_in = search rules;
+  size = search rules;
+}
 
-pub returns-in-Loads-clause-paged_in : goal.returns-in-Loads-clause-paged_in
-returns-in-Loads-clause-paged_in g c = λ ipl. (
-    let before : Equipped = equipped c.args.machine.now (devices_on c.args.self.now c.args.queues.now)
-    (g.C.Disks.disks c.args.channels.now) (g.S.Storage.memory c.args.storage.now) in
-    let has = c.is_some-has_console.ensures ∙ ap (λ (p : Places). is_some p.console) c.places.ensures in
-    let judged : requested c.args.typed.now before ≡ Loads c.in-Loads.device =
-    requested_is (Loads c.in-Loads.device) before c.args.typed.now c.as_slice.result.now c.mode.result
-    c.is_some-has_console.result c.in-Loads.ensures c.mode.ensures has
-    (c.as_slice.ensures.value ∙ c.new-text.ensures) in (
-      subst (λ (q : Request). Brings (g.C.Channels.Came load_times) c.args.storage.now (LoadWants q before)
-          c.ipl.new.storage)
-          (sym judged) c.ipl.ensures.paged_in,
-      c.ipl.ensures.ready,
-    ))
+pub returns-in-Asks-clause-brings : goal.returns-in-Asks-clause-brings
+returns-in-Asks-clause-brings g c = record {
+  frames = search rules;
+  lacks = search rules;
+  out = search rules;
+  roomy = search rules;
+  cleared = search rules;
+  not_cleared = search rules;
+  supply = λ _ _.
+      ([], g.met.S.Supply.brought_none _ _ (g.met.S.Keyed.rest_kept _ _ (g.met.S.Storage.keeps_same _)), tt);
+  paged_in = search rules;
+  size = search rules;
+}

@@ -1,5 +1,5 @@
 use Rattle.std.specs.Prelude.{◌≡◌, length}
-use Rattle.std.proofs.Common.{ap, inl, refl, subst, ℕ, Err}
+use Rattle.std.proofs.Common.{ap, inl, refl, rules, subst, ℕ, Err}
 use Rattle.s370_channel.specs.declared.running.ChannelError.TheVariants as errors
 use Rattle.machine_devices.specs.Devices.{DevicesValue}
 use Rattle.cp_spool.specs.Queues.{files_of}
@@ -10,6 +10,7 @@ use Rattle.machine_devices.specs.Equipped.{Equipped, equipped}
 use Rattle.machine_devices.specs.Serve.{KindNeeds, RunsConsole}
 use Rattle.machine_devices.specs.Stopped.{KindHadRoom, StopsConsole}
 use Rattle.unit_record.specs.Console.{ConsoleState}
+use Rattle.machine_devices.proofs.Beside.{beside_kept}
 use Rattle.machine_devices.proofs.Fed.{out_as}
 use Rattle.machine_devices.proofs.Printed.{console_on}
 use Rattle.machine_devices.proofs.devices.Devices.run_console.Goals as goal
@@ -53,8 +54,8 @@ returns-clause-runs g c =
       disks = c.run.ensures.disks;
     })
 
-pub returns-in-Err-clause-whole : goal.returns-in-Err-clause-whole
-returns-in-Err-clause-whole g c whole =
+pub returns-in-Err-clause-ends : goal.returns-in-Err-clause-ends
+returns-in-Err-clause-ends g c =
     let old = g.S.Storage.memory c.args.storage.now in
     let parts : DevicesParts =
     record {
@@ -77,35 +78,23 @@ returns-in-Err-clause-whole g c whole =
     c.in-Err.error in
     let Same = (g.S.Storage.memory c.run.new.storage ≡ old) × (c.run.new.device ≡ c.self.inside.console) in
     let same : Same → after ≡ from parts = λ h. rw (h.0, h.1, c.run.ensures.disks) refl in
-    subst (λ (d : DevicesParts). Out d (after ≡ from d)) c.self.view_is
-    (out_as g.C.Channels.IsOut g.C.Channels.IsFilled g.S.Storage.present c.run.new.storage (Needs parts) c.in-Err.error
-    (length old.bytes) Same (after ≡ from parts) same (c.in-Err.ensures.whole whole))
-
-pub returns-in-Err-clause-stopped : goal.returns-in-Err-clause-stopped
-returns-in-Err-clause-stopped g c partly =
-    let from : DevicesParts → Equipped =
-    λ d. equipped c.args.machine.now (devices_on d c.args.queues.now) (g.C.Disks.disks c.args.channels.now)
-    (g.S.Storage.memory c.args.storage.now) in
-    subst (λ (d : DevicesParts).
-    StopsConsole g.C.Channels.reads (g.S.Storage.present c.args.storage.now) c.args.start (from d) c.in-Err.error)
-    c.self.view_is (inl (c.in-Err.ensures.stopped partly))
-
-pub returns-in-Err-clause-paged_in : goal.returns-in-Err-clause-paged_in
-returns-in-Err-clause-paged_in g c =
-    let from : DevicesParts → Equipped =
-    λ d. equipped c.args.machine.now (devices_on d c.args.queues.now) (g.C.Disks.disks c.args.channels.now)
-    (g.S.Storage.memory c.args.storage.now) in
-    subst (λ (d : DevicesParts).
-    Brings (g.C.Channels.Came serve_times) c.args.storage.now
-    (KindNeeds g.C.Channels.holds kinds.Console c.args.start (from d))
-    c.run.new.storage) c.self.view_is c.run.ensures.paged_in
-
-pub returns-in-Err-clause-roomy : goal.returns-in-Err-clause-roomy
-returns-in-Err-clause-roomy g c = λ whole refused.
-    let from : DevicesParts → Equipped =
-    λ d. equipped c.args.machine.now (devices_on d c.args.queues.now) (g.C.Disks.disks c.args.channels.now)
-    (g.S.Storage.memory c.args.storage.now) in
-    let refusal : c.in-Err.error ≡ errors.Memory = (let r = refused in cc) in
-    subst (λ (d : DevicesParts).
-    KindHadRoom g.C.Channels.reads g.C.Channels.HadRoom c.args.storage.now c.run.new.storage kinds.Console
-    c.args.start (from d)) c.self.view_is (inl (c.in-Err.ensures.roomy whole (ap Err refusal)))
+    record {
+      whole = λ whole. subst (λ (d : DevicesParts). Out d (after ≡ from d)) c.self.view_is
+          (out_as g.C.Channels.IsOut g.C.Channels.IsFilled g.S.Storage.present c.run.new.storage (Needs parts)
+          c.in-Err.error (length old.bytes) Same (after ≡ from parts) same (c.in-Err.ensures.whole whole));
+      roomy = λ whole refused. (let refusal : c.in-Err.error ≡ errors.Memory = (let r = refused in cc) in
+          subst (λ (d : DevicesParts).
+          KindHadRoom g.C.Channels.reads g.C.Channels.HadRoom c.args.storage.now c.run.new.storage kinds.Console
+          c.args.start (from d)) c.self.view_is (inl (c.in-Err.ensures.roomy whole (ap Err refusal))));
+      stopped = λ partly. subst (λ (d : DevicesParts).
+          StopsConsole g.C.Channels.reads (g.S.Storage.present c.args.storage.now) c.args.start (from d)
+          c.in-Err.error) c.self.view_is (inl (c.in-Err.ensures.stopped partly));
+      paged_in = subst (λ (d : DevicesParts).
+          Brings (g.C.Channels.Came serve_times) c.args.storage.now (Needs d) c.run.new.storage) c.self.view_is
+          c.run.ensures.paged_in;
+      ready = search rules;
+      kept = search rules;
+      kept_if_refused = search rules;
+      others = search rules;
+      other_users = beside_kept c.args.self.now _ c.args.queues.now (search rules);
+    }

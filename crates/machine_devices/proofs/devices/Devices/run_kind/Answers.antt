@@ -1,41 +1,67 @@
-use Rattle.std.proofs.Common.{ap, refl, subst, sym, List, ◌∙◌}
+use Rattle.std.proofs.Common.{ap, refl, rules, subst, sym, List, ◌∙◌}
 use Rattle.s370_walk.specs.declared.parts.Ending.{Ending}
 use Rattle.s370_store.specs.Memory.{Memory}
 use Rattle.s370_subchannels.specs.Programs.{program_ended}
 use Rattle.machine_panel.specs.Machine.{Parts}
+use Rattle.machine_channels.specs.Channels.{Brings, serve_times}
 use Rattle.machine_channels.specs.Disks.{DiskAt}
 use Rattle.machine_devices.specs.declared.places.AttachedDevice.{AttachedDevice}
 use Rattle.machine_devices.specs.declared.places.AttachedDevice.TheVariants as kinds
 use Rattle.machine_devices.specs.Equipped.{Equipped, equipped}
 use Rattle.machine_devices.specs.Lent.{DevicesParts, devices_on}
-use Rattle.machine_devices.specs.Serve.{RunsKind}
+use Rattle.machine_devices.specs.Serve.{KindNeeds, RunsKind}
 use Rattle.machine_devices.specs.Stopped.{StopsKind}
+use Rattle.machine_devices.proofs.Beside.{beside_kept}
 use Rattle.machine_devices.proofs.Printed.{program_left}
 use Rattle.machine_devices.proofs.devices.Devices.run_kind.Goals.{in-Punch+in-Ok, in-Printer+in-Ok-run}
 use Rattle.machine_devices.proofs.devices.Devices.run_kind.Goals.{in-Disk+in-Ok-run_disk}
 use Rattle.machine_devices.proofs.devices.Devices.run_kind.Goals as goal
 
-pub returns-in-Err-clause-stopped : goal.returns-in-Err-clause-stopped
-returns-in-Err-clause-stopped g c partly =
+pub returns-in-Err-clause-ends : goal.returns-in-Err-clause-ends
+returns-in-Err-clause-ends g c =
     let from : DevicesParts → Equipped =
     λ d. equipped c.args.machine.now (devices_on d c.args.queues.now) (g.C.Disks.disks c.args.channels.now)
     (g.S.Storage.memory c.args.storage.now) in
     let Stops : AttachedDevice → DevicesParts
     → Type 0 = λ kind d. StopsKind g.C.Channels.reads (g.S.Storage.present c.args.storage.now) kind c.args.start
     (from d) c.in-Err.error in
-    subst (λ (kind : AttachedDevice). Stops kind c.args.self.now) (sym c.in-Punch.is)
-    (subst (Stops kinds.Punch) c.self.view_is (c.in-Err.ensures.stopped partly))
+    record {
+      whole = search rules;
+      roomy = search rules;
+      stopped = λ partly. subst (λ (kind : AttachedDevice). Stops kind c.args.self.now) (sym c.in-Punch.is)
+          (subst (Stops kinds.Punch) c.self.view_is (c.in-Err.ensures.stopped partly));
+      paged_in = search rules;
+      ready = search rules;
+      kept = search rules;
+      kept_if_refused = search rules;
+      others = search rules;
+      other_users = beside_kept c.args.self.now _ c.args.queues.now (search rules);
+    }
 
-pub returns-in-Err-run-clause-stopped : goal.returns-in-Err-run-clause-stopped
-returns-in-Err-run-clause-stopped g c partly =
+pub returns-in-Err-run-clause-ends : goal.returns-in-Err-run-clause-ends
+returns-in-Err-run-clause-ends g c =
     let from : DevicesParts → Equipped =
     λ d. equipped c.args.machine.now (devices_on d c.args.queues.now) (g.C.Disks.disks c.args.channels.now)
     (g.S.Storage.memory c.args.storage.now) in
     let Stops : AttachedDevice → DevicesParts
     → Type 0 = λ kind d. StopsKind g.C.Channels.reads (g.S.Storage.present c.args.storage.now) kind c.args.start
     (from d) c.in-Err-run.error in
-    subst (λ (kind : AttachedDevice). Stops kind c.args.self.now) (sym c.in-Printer.is)
-    (subst (Stops kinds.Printer) c.self-in-Printer.view_is (c.in-Err-run.ensures.stopped partly))
+    let Needed : AttachedDevice → DevicesParts → Type 0 = λ kind d.
+    Brings (g.C.Channels.Came serve_times) c.args.storage.now (KindNeeds g.C.Channels.holds kind c.args.start (from d))
+    c.run-in-Printer.new.storage in
+    record {
+      whole = search rules;
+      roomy = search rules;
+      stopped = λ partly. subst (λ (kind : AttachedDevice). Stops kind c.args.self.now) (sym c.in-Printer.is)
+          (subst (Stops kinds.Printer) c.self-in-Printer.view_is (c.in-Err-run.ensures.stopped partly));
+      paged_in = subst (λ (kind : AttachedDevice). Needed kind c.args.self.now) (sym c.in-Printer.is)
+          (subst (Needed kinds.Printer) c.self-in-Printer.view_is c.run-in-Printer.ensures.paged_in);
+      ready = search rules;
+      kept = search rules;
+      kept_if_refused = search rules;
+      others = search rules;
+      other_users = beside_kept c.args.self.now _ c.args.queues.now (search rules);
+    }
 
 pub returns-clause-runs : goal.returns-clause-runs
 returns-clause-runs g c =

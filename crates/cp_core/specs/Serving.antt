@@ -1,0 +1,82 @@
+-- How a serve and a line end for which a user's storage is borrowed, with the pages that they need
+-- paged in.
+use Rattle.std.specs.Prelude.{◌≡◌, ℕ, Bool, true, false, List, IfOk, IsSome, OnErr, OnOk, Result}
+use Rattle.std.specs.Prelude.{Err}
+use Rattle.s370_store.specs.declared.Storage.{Ghosts as Storage}
+use Rattle.s370_subchannels.specs.Programs.{program_of}
+use Rattle.machine_channels.specs.declared.channels.Channels.{Ghosts as Channels}
+use Rattle.machine_channels.specs.declared.channels.Disks.{Ghosts as Disks}
+use Rattle.machine_channels.specs.Channels.{Brings, serve_times}
+use Rattle.machine_panel.specs.declared.line.LineError.{LineError}
+use Rattle.machine_panel.specs.declared.line.LineError.TheVariants as errors
+use Rattle.machine_devices.specs.declared.line.LineOutcome.{LineOutcome}
+use Rattle.machine_devices.specs.Borrowed.{Borrowed, IsOut, machine_in}
+use Rattle.machine_devices.specs.Comes.{LineMay, is_ipl}
+use Rattle.machine_devices.specs.Devices.{kind_at}
+use Rattle.machine_devices.specs.Equipped.{Equipped, equipped}
+use Rattle.machine_devices.specs.Lent.{KeepsOtherUsers, devices_on}
+use Rattle.machine_devices.specs.Lines.{IsLine, requested}
+use Rattle.machine_devices.specs.Reuses.{LineForgets, StartReuses}
+use Rattle.machine_devices.specs.Serve.{IsServedAt, ServeNeeds}
+use Rattle.machine_devices.specs.Stopped.{ServeHadRoom}
+use Rattle.machine_devices.specs.UserDirectory.{UserDirectory}
+use Rattle.cp_dat.specs.declared.dat.Dat.{Dat}
+use Rattle.cp_dat.specs.Lent.{lent_memory}
+use Rattle.cp_resident.specs.declared.resident.GuestChannels.{GuestChannels}
+use Rattle.cp_resident.specs.GuestChannels.{Forgets, KeepsHung, disks_on}
+use Rattle.cp_core.specs.Typed.{IsLineLent}
+
+module _ {C S : Type 0} (channels : Channels C S) (disks : Disks C) (storage : Storage S) where
+  -- a serve on channels that run a program as a whole, where the machine was such
+  pub record ServeSuppliedAs (device : ℕ) (before after : Equipped) (old new : Borrowed C S)
+      (r : Result Bool LineError) : Type 0 where
+    pub served : IfOk r (λ done. IsServedAt channels.reads device before done after)
+    pub unchanged_without_frames : r ≡ Err errors.FramesOut → after ≡ before
+    pub frames : r ≡ Err errors.FramesOut
+        → IsOut channels storage (ServeNeeds channels.holds device before) old.storage new.storage
+    pub memory : r ≡ Err errors.Memory → IsSome (program_of device old.machine.subchannels)
+    pub roomy : r ≡ Err errors.Memory
+        → ServeHadRoom channels.reads channels.HadRoom old.storage new.storage device before
+    pub paged_in : Brings (channels.Came serve_times) old.storage
+        (ServeNeeds channels.holds device before) new.storage
+    pub ready : channels.IsReady new.storage
+    pub kept : OnOk r (StartReuses channels.Reuses channels.ReusesDisk old.channels old.storage
+        new.channels (kind_at before.devices before.disks device)
+        (program_of device old.machine.subchannels) true)
+    pub kept_if_refused : OnErr r ((done : Bool)
+        × StartReuses channels.Reuses channels.ReusesDisk old.channels old.storage new.channels
+        (kind_at before.devices before.disks device) (program_of device old.machine.subchannels)
+        done)
+    pub others : disks.KeepsOthers old.channels new.channels
+    pub other_users : KeepsOtherUsers old.devices old.queues new.devices new.queues
+
+  -- a serve on channels that run a program as a whole
+  abbrev pub ServeSupplied : ℕ → Borrowed C S → Borrowed C S → Result Bool LineError → Type 0
+  ServeSupplied device old new r =
+      ServeSuppliedAs device (machine_in disks storage old) (machine_in disks storage new) old new r
+
+-- a user's machine with its devices and its disks
+abbrev pub machine_lent : Borrowed GuestChannels Dat → Equipped
+machine_lent b =
+    equipped b.machine (devices_on b.devices b.queues) (disks_on b.channels) (lent_memory b.storage)
+
+-- a line that a user types, where the machine was such
+pub record LineSuppliedAs (w : UserDirectory) (typed : List ℕ) (before after : Equipped)
+    (old new : Borrowed GuestChannels Dat) (r : Result LineOutcome LineError) : Type 0 where
+  pub ok : IfOk r (λ reported. IsLine w typed before reported after)
+  pub unchanged_without_frames : r ≡ Err errors.FramesOut → after ≡ before
+  pub kept : r ≡ Err errors.Memory → is_ipl (requested typed before) ≡ false → after ≡ before
+  pub memory : r ≡ Err errors.Memory → LineMay w typed before
+  pub lent : IsLineLent typed before old.storage new.storage r
+  pub others : KeepsHung old.channels new.channels
+  pub other_users : KeepsOtherUsers old.devices old.queues new.devices new.queues
+  pub forgets : OnOk r (LineForgets Forgets old.channels new.channels (requested typed before)
+      before)
+  pub stays : is_ipl (requested typed before) ≡ false → OnErr r (new.channels ≡ old.channels)
+  pub without_room : r ≡ Err errors.FramesOut → new.channels ≡ old.channels
+
+-- a line that a user types
+abbrev pub LineSupplied : UserDirectory → List ℕ → Borrowed GuestChannels Dat
+    → Borrowed GuestChannels Dat → Result LineOutcome LineError → Type 0
+LineSupplied w typed old new r =
+    LineSuppliedAs w typed (machine_lent old) (machine_lent new) old new r
