@@ -24,3 +24,4 @@ pub mod Room
 pub mod Saved
 pub mod Forgotten
 pub mod Serving
+pub mod Applied

@@ -1,6 +1,6 @@
 //! The system: its users, their machines with their devices, and the frames that they share.
-ghost use Rattle.std.specs.Prelude.{◌≡◌, ◌<◌, ◌≤◌, ◌↔◌, ℕ, [], ◌∷◌, ◌++◌, ◌^◌, Err, Some, true};
-ghost use Rattle.std.specs.Prelude.{false, IfSome, IsOk, IfOk, OnErr, OnOk, length, map};
+ghost use Rattle.std.specs.Prelude.{◌≡◌, ◌<◌, ◌≤◌, ◌↔◌, [], ◌∷◌, ◌++◌, ◌^◌, Err, Some, true};
+ghost use Rattle.std.specs.Prelude.{false, IsOk, IfOk, OnErr, OnOk, length, map};
 ghost use Rattle.std.specs.Prelude.{option_copied, slice_get, slice_set};
 ghost use Rattle.s370_channel.specs.Reading.{as_reached};
 ghost use Rattle.cp_dat.specs.Supplied.{IsBetweenUnits};
@@ -9,12 +9,13 @@ ghost use Rattle.machine_devices.specs.declared.reply.Ended.TheVariants.{Done};
 ghost use Rattle.cp_core.specs.Events.{IsNoRun, user_of};
 ghost use Rattle.machine_devices.specs.Notes.{next_file};
 ghost use Rattle.cp_core.specs.Histories.{EachIsBare, IsReplied};
+ghost use Rattle.cp_core.specs.Applied.{IsOutOfMemory, IsRefused};
 ghost use Rattle.cp_core.specs.Keeps.{EventKeeps, KeepsCutShort};
 ghost use Rattle.cp_core.specs.Local.{IsApplied};
-ghost use Rattle.cp_core.specs.Memory.{HadRoomFor, IsCutShort, MayTakeMemory, is_cut_short};
+ghost use Rattle.cp_core.specs.Memory.{IsCutShort};
 ghost use Rattle.cp_core.specs.Parcels.{IsThere, contents};
-ghost use Rattle.cp_core.specs.Stated.{LacksDevice, states_device};
-ghost use Rattle.cp_core.specs.Supply.{IsSupplied, IsSuppliedInPart};
+ghost use Rattle.cp_core.specs.Stated.{states_device};
+ghost use Rattle.cp_core.specs.Supply.{IsSupplied};
 ghost use Rattle.cp_volumes.specs.Shared.{IsConfined};
 ghost use Rattle.cp_core.specs.System.{SystemView, kept_at, machine_at, reuses_in, placements_at};
 ghost use Rattle.cp_core.specs.System.{user_at};
@@ -342,8 +343,6 @@ impl System {
             (record { event = event.entry; reply = reply; seen = self.new })) }
         ensures supplied { IfOk result
             (λ reply. IsSupplied self.old event.entry reply.ended self.new) }
-        ensures supplied_without_memory { result ≡ Err CpError.Memory
-            → IsSuppliedInPart self.old event.entry self.new }
         ensures user { IsOk result → user_of event.entry < length self.old.users }
         ensures directory { self.new.directory ≡ self.old.directory }
         ensures confined { IsConfined (placements_at self.old (user_of event.entry))
@@ -351,26 +350,9 @@ impl System {
             self.new.volumes }
         ensures placements { self.new.placements ≡ self.old.placements }
         ensures kept { IfOk result (λ reply. EventKeeps self.old event.entry reply.ended self.new) }
-        ensures kept_without_memory { result ≡ Err CpError.Memory
-            → KeepsCutShort self.old event.entry self.new }
         ensures alive { IsOk result → self.new.is_spent ≡ false }
-        ensures spent { (result ≡ Err CpError.Spent) ↔ (self.old.is_spent ≡ true) }
-        ensures unchanged_if_spent { result ≡ Err CpError.Spent → self.new ≡ self.old }
-        ensures no_such_user { (result ≡ Err CpError.NoSuchUser)
-            ↔ ((self.old.is_spent ≡ false) × (length self.old.users ≤ user_of event.entry)) }
-        ensures not_stated { result ≡ Err CpError.NoSuchUser
-            → length self.old.directory ≤ user_of event.entry }
-        ensures unchanged_for_nobody { result ≡ Err CpError.NoSuchUser → self.new ≡ self.old }
-        ensures no_such_device { (result ≡ Err CpError.NoSuchDevice)
-            ↔ ((self.old.is_spent ≡ false) × (user_of event.entry < length self.old.users)
-            × LacksDevice self.old event.entry) }
-        ensures unchanged_for_no_device { result ≡ Err CpError.NoSuchDevice → self.new ≡ self.old }
-        ensures memory { result ≡ Err CpError.Memory
-            → (self.new.is_spent ≡ true) × MayTakeMemory self.old event.entry }
-        ensures roomy { result ≡ Err CpError.Memory → HadRoomFor self.old event.entry self.new }
-        ensures unchanged_without_memory { result ≡ Err CpError.Memory → (user : ℕ)
-            → is_cut_short self.old event.entry user ≡ false
-            → user_at self.new user ≡ user_at self.old user }
+        ensures refused { IsRefused self.old event.entry self.new result }
+        ensures out_of_memory { IsOutOfMemory self.old event.entry self.new result }
     {
         match event {
             Event::Run(user, units) => {
@@ -394,8 +376,6 @@ impl System {
         ensures step { IfOk result
             (λ reply. IsReplied self.old
             (record { event = event.entry; reply = reply; seen = self.new })) }
-        ensures supplied_without_memory { result ≡ Err CpError.Memory
-            → IsSuppliedInPart self.old event.entry self.new }
         ensures user { IsOk result → user_of event.entry < length self.old.users }
         ensures directory { self.new.directory ≡ self.old.directory }
         ensures confined { IsConfined (placements_at self.old (user_of event.entry))
@@ -403,26 +383,9 @@ impl System {
             self.new.volumes }
         ensures placements { self.new.placements ≡ self.old.placements }
         ensures kept { IfOk result (λ reply. EventKeeps self.old event.entry reply.ended self.new) }
-        ensures kept_without_memory { result ≡ Err CpError.Memory
-            → KeepsCutShort self.old event.entry self.new }
         ensures alive { IsOk result → self.new.is_spent ≡ false }
-        ensures spent { (result ≡ Err CpError.Spent) ↔ (self.old.is_spent ≡ true) }
-        ensures unchanged_if_spent { result ≡ Err CpError.Spent → self.new ≡ self.old }
-        ensures no_such_user { (result ≡ Err CpError.NoSuchUser)
-            ↔ ((self.old.is_spent ≡ false) × (length self.old.users ≤ user_of event.entry)) }
-        ensures not_stated { result ≡ Err CpError.NoSuchUser
-            → length self.old.directory ≤ user_of event.entry }
-        ensures unchanged_for_nobody { result ≡ Err CpError.NoSuchUser → self.new ≡ self.old }
-        ensures no_such_device { (result ≡ Err CpError.NoSuchDevice)
-            ↔ ((self.old.is_spent ≡ false) × (user_of event.entry < length self.old.users)
-            × LacksDevice self.old event.entry) }
-        ensures unchanged_for_no_device { result ≡ Err CpError.NoSuchDevice → self.new ≡ self.old }
-        ensures memory { result ≡ Err CpError.Memory
-            → (self.new.is_spent ≡ true) × MayTakeMemory self.old event.entry }
-        ensures roomy { result ≡ Err CpError.Memory → HadRoomFor self.old event.entry self.new }
-        ensures unchanged_without_memory { result ≡ Err CpError.Memory → (user : ℕ)
-            → is_cut_short self.old event.entry user ≡ false
-            → user_at self.new user ≡ user_at self.old user }
+        ensures refused { IsRefused self.old event.entry self.new result }
+        ensures out_of_memory { IsOutOfMemory self.old event.entry self.new result }
     {
         match event {
             Event::Run(_, _) => unreachable!(),
