@@ -89,11 +89,16 @@ WORDS, CRATES, FILES = corpus()
 
 
 def contracts() -> object:
-    """Of each function and type, the words of the files that have one of this name."""
+    """Of each function and type, the words of the files that have one of this name, and the fields of the records that these
+    may cite as a clause."""
     found = {}
     for path in [*TOP.glob("crates/*/src/**/*.rt"), *TOP.glob("checks/*/src/**/*.rt-unproved")]:
         text = path.read_text()
         words = words_of(text)
+        for crate, module in re.findall(r"^ghost use Rattle\.(\w+)\.specs\.(\w+)\.\{", text, re.M):
+            specs = TOP / f"crates/{crate}/specs/{module}.antt"
+            if specs.is_file():
+                words |= set(re.findall(r"^ +pub (\w+) :", specs.read_text(), re.M))
         for name in set(re.findall(r"\b(?:fn|struct|enum|trait|type) (\w+)", text)):
             found.setdefault(name, []).append(words)
     return found
