@@ -1,4 +1,5 @@
-use Rattle.std.proofs.Common.{[], rules}
+use Rattle.std.proofs.Common.{[], refl, rules}
+use Rattle.machine_devices.proofs.Beside.{beside_same}
 use Rattle.cp_core.proofs.serving.serve_supplied.Goals as goal
 
 pub returns-then-is_none : goal.returns-then-is_none
@@ -13,5 +14,5 @@ returns-then-is_none g c = record {
   kept = search rules;
   kept_if_refused = search rules;
   others = search rules;
-  other_users = search rules;
+  other_users = beside_same c.args.devices.now c.args.queues.now c.args.queues.now refl;
 }
