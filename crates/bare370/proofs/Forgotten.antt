@@ -73,7 +73,8 @@ seen_same : (one other : Alone) → GoesOnAs one other → but_written (seen_in 
 seen_same one other g =
     let b = other.machine in
     ap (λ (x : Bare). seen_of one.addresses x.equipped x.files) g.machine.same
-    ∙ ap (λ (e : Equipped). let s : Installed = record (seen_of one.addresses b.equipped b.files) { machines = e ∷ [] } in s)
+    ∙ ap (λ (e : Equipped).
+    let s : Installed = record (seen_of one.addresses b.equipped b.files) { machines = e ∷ [] } in s)
     (unwritten_again g.machine.lines g.machine.lost b)
     ∙ ap (λ (addresses : List ℕ). seen_of addresses b.equipped b.files) g.addresses
 

@@ -1,7 +1,8 @@
 -- Lines that were printed before, and entries of closed files, do not matter to a single machine.
 use Rattle.std.specs.Prelude.{◌-◌, ◌⊎◌, slice_get}
 use Rattle.std.specs.List.{list_all}
-use Rattle.std.proofs.Common.{◌≡◌, ◌∙◌, ◌&&◌, ℕ, zero, suc, Bool, true, false, inl, inr, List, [], ◌∷◌, ◌++◌, Option, Some}
+use Rattle.std.proofs.Common.{◌≡◌, ◌∙◌, ◌&&◌, ℕ, zero, suc, Bool, true, false, inl, inr, List, [], ◌∷◌, ◌++◌}
+use Rattle.std.proofs.Common.{Option, Some}
 use Rattle.std.proofs.Common.{None, ap, append_assoc, append-nil, arith, length, length-append, map, refl, subst, sym}
 use Rattle.s370_channel.specs.Reading.{as_reached}
 use Rattle.unit_record.specs.declared.reader.Sender.TheVariants as senders
@@ -180,7 +181,8 @@ module _ (gone : List (List ℕ)) (lost : Lost) where
           reported = reported;
           answered = having answered;
           line = printed.line_so gone (world_of old) typed (equipped_having lost e) reported
-              (equipped_having lost answered) (written.line_so lost (world_of old) typed e reported answered h.tells.line);
+              (equipped_having lost answered)
+              (written.line_so lost (world_of old) typed e reported answered h.tells.line);
           said = h.tells.said;
           delivered = h.tells.delivered ∙ sym same;
         };
@@ -287,7 +289,8 @@ with_both lines more first second b =
     let output = lines ++ (more ++ b.equipped.machine.output) in
     let printed = with_entries first.printed (with_entries second.printed d.printed) in
     let both = both_of first second in
-    ap (λ (files : List FileValue). at_machine b output files printed) (with_twice d.punched first.punched second.punched)
+    ap (λ (files : List FileValue). at_machine b output files printed)
+    (with_twice d.punched first.punched second.punched)
     ∙ ap (λ (files : List FileValue). at_machine b output (with_entries both.punched d.punched) files)
     (with_twice d.printed first.printed second.printed)
     ∙ ap (λ (all : List (List ℕ)). at_machine b all (with_entries both.punched d.punched)
@@ -339,10 +342,12 @@ first_again : (old new : FileValue) (olds news : List FileValue) → ((new ≡ o
     → with_entries (lost_of olds news) news ≡ olds
     → with_entries (lost_first old.entries new.entries (lost_of olds news)) (new ∷ news) ≡ old ∷ olds
 first_again old new olds news (inl same) rest =
-    subst (λ (f : FileValue). with_entries (lost_first old.entries f.entries (lost_of olds news)) (f ∷ news) ≡ old ∷ olds)
+    subst
+    (λ (f : FileValue). with_entries (lost_first old.entries f.entries (lost_of olds news)) (f ∷ news) ≡ old ∷ olds)
     (sym same) (kept_first old old.entries (lost_of olds news) olds news rest)
 first_again old new olds news (inr lost) rest =
-    subst (λ (f : FileValue). with_entries (lost_first old.entries f.entries (lost_of olds news)) (f ∷ news) ≡ old ∷ olds)
+    subst
+    (λ (f : FileValue). with_entries (lost_first old.entries f.entries (lost_of olds news)) (f ∷ news) ≡ old ∷ olds)
     (sym lost) (ap (λ (more : List FileValue). old ∷ more) rest)
 
 lost_again : (olds news : List FileValue) → HaveLost olds news → with_entries (lost_of olds news) news ≡ olds
@@ -373,6 +378,7 @@ files_again old new h =
     let f : UserFiles = record new { punched = with_entries gone.punched new.punched; printed = files } in f)
     (sym (lost_again old.printed new.printed h.printed))
 
+-- Where each user has lost entries of his, so has this one.
 pub lost_at : (olds news : List UserFiles) → EachHasLost olds news → (user : ℕ)
     → HasLost (files_of olds user) (files_of news user)
 lost_at [] [] h user = record { decks = refl; place = refl; punched = tt; printed = tt }

@@ -3,7 +3,8 @@
 use Rattle.std.specs.Prelude.{ℕ, zero, suc, ◌≡◌, ◌++◌, ◌-◌, ◌⊎◌, ◌==◌, refl, if◌then◌else◌, Bool, true, false, List, []}
 use Rattle.std.specs.Prelude.{◌∷◌, length, map, slice_get, Option, Some, None}
 use Rattle.std.specs.List.{list_all}
-use Rattle.std.proofs.Common.{◌∙◌, ◌&&◌, inl, inr, ap, append-nil, append_assoc, arith, get_or, length-append, subst, sym}
+use Rattle.std.proofs.Common.{◌∙◌, ◌&&◌, inl, inr, ap, append-nil, append_assoc, arith, get_or, length-append}
+use Rattle.std.proofs.Common.{subst, sym}
 use Rattle.s370_store.specs.Access.{Touches}
 use Rattle.s370_channel.specs.Reading.{Reading, as_reached}
 use Rattle.s370_channel.specs.declared.words.Caw.{Caw}
@@ -401,7 +402,8 @@ module _ (gone : List Gone) (s : SystemView) (kept : List ReuseValue) (t : Syste
         notice = notice_of ran.reason;
       } in r in
       let short = HasNoRoom t.supply user in
-      let tells_of = tells_run (gone_of user).lines asked (machine_at s user) (reported (user_at t user)) short tells.0 in
+      let tells_of =
+      tells_run (gone_of user).lines asked (machine_at s user) (reported (user_at t user)) short tells.0 in
       (of_both user (λ (e f : Equipped). TellsRun asked e.machine (reported f) short) tells_of, tells.1, tells.2)
   run_tells user asked reply (Served done) tells = tells
   run_tells user asked reply Done tells = tells
@@ -707,10 +709,12 @@ first_again : (old new : FileValue) (olds news : List FileValue) → ((new ≡ o
     → with_entries (lost_of olds news) news ≡ olds
     → with_entries (lost_first old.entries new.entries (lost_of olds news)) (new ∷ news) ≡ old ∷ olds
 first_again old new olds news (inl same) rest =
-    subst (λ (f : FileValue). with_entries (lost_first old.entries f.entries (lost_of olds news)) (f ∷ news) ≡ old ∷ olds)
+    subst
+    (λ (f : FileValue). with_entries (lost_first old.entries f.entries (lost_of olds news)) (f ∷ news) ≡ old ∷ olds)
     (sym same) (kept_first old old.entries (lost_of olds news) olds news rest)
 first_again old new olds news (inr lost) rest =
-    subst (λ (f : FileValue). with_entries (lost_first old.entries f.entries (lost_of olds news)) (f ∷ news) ≡ old ∷ olds)
+    subst
+    (λ (f : FileValue). with_entries (lost_first old.entries f.entries (lost_of olds news)) (f ∷ news) ≡ old ∷ olds)
     (sym lost) (ap (λ (more : List FileValue). old ∷ more) rest)
 
 lost_again : (olds news : List FileValue) → HaveLost olds news → with_entries (lost_of olds news) news ≡ olds

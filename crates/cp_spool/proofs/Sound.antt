@@ -58,7 +58,8 @@ vacant_is_free files queues key sound vacant user = record {
 
 module _ (files files' : Slab SpoolFileValue) (key : ℕ)
     (others : (other : ℕ) → other ≢ key → get files' other ≡ get files other) where
-  pub all_apart : (P : SpoolFileValue → Type 0) (keys : List ℕ) → Lacks keys key → AllAt files P keys → AllAt files' P keys
+  pub all_apart : (P : SpoolFileValue → Type 0) (keys : List ℕ) → Lacks keys key → AllAt files P keys
+      → AllAt files' P keys
   all_apart P keys free all i l =
       subst (λ (o : Option SpoolFileValue). IsSomeAnd o P) (sym (others (get_or keys i 0) (free i l))) (all i l)
 

@@ -76,7 +76,8 @@ done i old new left part a b c whole f seen on w =
     let p = f.played in
     let text = transcript i old.detail (names_of (i.seen old.world)) p.entries in
     let news = ended (news_lines i old f.end) in
-    let told = subst (λ (lines : List (List ℕ)). Appends b c (ended lines)) (news_same i old f.end new f.on.lines seen) w
+    let told =
+    subst (λ (lines : List (List ℕ)). Appends b c (ended lines)) (news_same i old f.end new f.on.lines seen) w
     in (
       text ++ news,
       inl (record { whole = whole; text = text; followed = alone i old new left part a b f on; reported = refl }),

@@ -37,7 +37,8 @@ pub record HappensToo {W : Type 0} (i : Installation W) (one : W) (step : Step W
   pub alike : IsAlike i i (record step { left = left }) step
 
 -- What it is to go on as another. What is seen of both is the same, but for lines that were printed
--- and entries of closed files; both are of one base; and what happens to the other happens to this one too.
+-- and entries of closed files; both are of one base; and what happens to the other happens to this
+-- one too.
 pub record IsToGoOn {W : Type 0} (i : Installation W) : Type 0 where
   pub reflexive : (one : W) → i.GoesOnAs one one
   pub transitive : (one other last : W) → i.GoesOnAs one other → i.GoesOnAs other last

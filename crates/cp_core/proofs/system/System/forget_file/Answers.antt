@@ -26,7 +26,8 @@ returns-in-Punch c =
     let left = seen (seats_on queues seats) s.volumes s.frames.storages s.directory s.frames.supply s.files.items
     s.is_spent in
     subst (λ (v : SystemView). GoesOnAs v left) c.self.view_is
-    (goes_on_lost s.queues queues c.forget_punched.ensures.lost seats s.volumes s.frames.storages s.directory s.frames.supply
+    (goes_on_lost s.queues queues c.forget_punched.ensures.lost seats s.volumes s.frames.storages s.directory
+    s.frames.supply
     s.files.items s.is_spent)
 
 pub invariant_of-self-in-Printer : goal.invariant_of-self-in-Printer
@@ -48,5 +49,6 @@ returns-in-Printer c =
     let left = seen (seats_on queues seats) s.volumes s.frames.storages s.directory s.frames.supply s.files.items
     s.is_spent in
     subst (λ (v : SystemView). GoesOnAs v left) c.self.view_is
-    (goes_on_lost s.queues queues c.forget_printed.ensures.lost seats s.volumes s.frames.storages s.directory s.frames.supply
+    (goes_on_lost s.queues queues c.forget_printed.ensures.lost seats s.volumes s.frames.storages s.directory
+    s.frames.supply
     s.files.items s.is_spent)

@@ -11,7 +11,8 @@ loop-place-preserved c =
     let old = c.loop-place.self in
     elim c.match-copied.branch [
       | in-Some w ↦
-          let on = steps_go_on.transitive first old w.forget_file.new.self c.loop-place.invariant w.forget_file.ensures in
+          let on =
+          steps_go_on.transitive first old w.forget_file.new.self c.loop-place.invariant w.forget_file.ensures in
           subst (λ (s : SystemView). GoesOnAs first s) (sym w.self-is) on
       | in_default w ↦ subst (λ (s : SystemView). GoesOnAs first s) (sym w.self-is) c.loop-place.invariant
     ]

@@ -24,7 +24,8 @@ returns-in_default-clause-gone c =
     let keys = (queue_of queues c.args.user).punched in
     let none : slice_get keys c.args.index ≡ None =
     ap (λ (qs : List QueueKeys). slice_get (queue_of qs c.args.user).punched c.args.index) (sym c.deref.ensures.value)
-    ∙ ap (λ (q : QueueKeys). slice_get q.punched c.args.index) (sym c.queue_at.ensures) ∙ sym c.in_default.ensures.value in
+    ∙ ap (λ (q : QueueKeys). slice_get q.punched c.args.index) (sym c.queue_at.ensures)
+    ∙ sym c.in_default.ensures.value in
     let seen : slice_get (files_of c.args.self.now.users c.args.user).punched c.args.index ≡ None =
     ap (λ (v : QueuesValue). slice_get (files_of v.users c.args.user).punched c.args.index) (sym c.self.view_is)
     ∙ ap (λ (f : UserFiles). slice_get f.punched c.args.index) (files_there files queues c.args.user)
