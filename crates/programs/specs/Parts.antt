@@ -6,7 +6,6 @@ use Rattle.std.specs.Io.KnownBytes.{Appends, Consumes, IsAtEnd, Keeps}
 use Rattle.s370_num.specs.Host.{AppendsFront, IsCounted}
 use Rattle.s370_num.specs.declared.host.HostFault.TheVariants as hosts
 use Rattle.machine_panel.specs.declared.machine.Mode.{Mode}
-use Rattle.sessions.specs.Continuing.{ContinuesAs}
 use Rattle.sessions.specs.Files.{lines_since}
 use Rattle.sessions.specs.Follow.{HasWholeLines, IsFollowed, IsFollowedPartly, part_of}
 use Rattle.sessions.specs.Installed.{Installation, names_of}
@@ -97,12 +96,11 @@ abbrev pub IsSavedAs : {W : Type 0} → Installation W → Scene W → List ℕ 
 IsSavedAs i old answer = ((state : List ℕ) × IsSceneSaved i old state × (answer ≡ state_text state))
     ⊎ (answer ≡ no_state)
 
--- a request was answered with these bytes, and this is the scene after it; what is saved has
--- forgotten closed files
+-- a request was answered with these bytes, and this is the scene after it
 abbrev pub Answers : {W : Type 0} → Installation W → Scene W → FollowRequest → List ℕ → Scene W
     → Type 0
 Answers i old (requests.Part part) answer new = AnswersPart i old part.items answer new
-Answers i old requests.Save answer new = ContinuesAs i old new × IsSavedAs i new answer
+Answers i old requests.Save answer new = (new ≡ old) × IsSavedAs i old answer
 Answers i old (requests.State state) answer new = IsRestored i old state.items new
     × (answer ≡ ended (done_line ∷ []))
 
@@ -176,9 +174,8 @@ IsPartAnsweredPartly {W} i old part before after =
 -- nothing of a state was written, or a beginning of the answer
 abbrev pub IsSavedPartly : {W : Type 0} → Installation W → Scene W → Option (List ℕ)
     → Option (List ℕ) → Type 0
-IsSavedPartly {W} i old before after = (after ≡ before)
-    ⊎ ((answer : List ℕ) × (new : Scene W) × ContinuesAs i old new × IsSavedAs i new answer
-    × AppendsFront before after answer)
+IsSavedPartly i old before after = (after ≡ before)
+    ⊎ ((answer : List ℕ) × IsSavedAs i old answer × AppendsFront before after answer)
 
 -- nothing was written, or the session goes on from the state, and a beginning of the answer was
 -- written

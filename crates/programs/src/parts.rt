@@ -20,10 +20,9 @@
 //! > ON A
 //! > DONE
 //! ```
-ghost use Rattle.std.specs.Prelude.{◌≡◌, ◌⊎◌, ◌++◌, ◌∷◌, ℕ, List, [], IfOk, OnErr, OnOk, length};
+ghost use Rattle.std.specs.Prelude.{◌≡◌, ◌++◌, ◌∷◌, ℕ, List, [], IfOk, OnErr, OnOk, length};
 ghost use Rattle.std.specs.Io.KnownBytes.{Appends};
 ghost use Rattle.s370_num.specs.Host.{AppendsFront, Counts};
-ghost use Rattle.sessions.specs.Continuing.{ContinuesAs};
 ghost use Rattle.sessions.specs.Runs.{IsRestored};
 ghost use Rattle.sessions.specs.Transcript.{ended};
 ghost use Rattle.programs.specs.Parts.{Answers, AnswersPart, InputAccounts, IsAnsweredPartly};
@@ -110,36 +109,17 @@ fn answer<W: HostWriter, I: Installation + Drop>(
 {
     match request {
         FollowRequest::Part(part) => follow_part(alloc, follower, detail, &part, writer),
-        FollowRequest::Save => save(alloc, follower, writer),
+        FollowRequest::Save => {
+            save(alloc, &follower, writer)?;
+            Ok(follower)
+        }
         FollowRequest::State(state) => go_on(alloc, follower, &state, writer),
     }
 }
 
-/// Drops the entries of closed files, which were all written, and writes the state between a line
-/// with its size and the line `> DONE`; or the line `> REFUSED 0` if there are no states.
-fn save<W: HostWriter, I: Installation + Drop>(
-    alloc: Global,
-    mut follower: Follower<I>,
-    writer: &mut W,
-) -> Result<Follower<I>, Failure>
-    ensures ok { IfOk result
-        (λ left. ContinuesAs I.goes follower left
-        × ((answer : List ℕ) × IsSavedAs I.goes left answer
-        × Appends (W.contents writer.old) (W.contents writer.new) answer)) }
-    ensures flushed { OnOk result (W.held writer.new ≡ []) }
-    ensures err { OnErr result
-        (IsSavedPartly I.goes follower (W.contents writer.old) (W.contents writer.new)) }
-    ensures why { PartAccounts result (W.HostFile.failures writer.old)
-        (W.HostFile.failures writer.new) }
-{
-    follower.forget_files(0);
-    write_state(alloc, &follower, writer)?;
-    Ok(follower)
-}
-
 /// Writes the state between a line with its size and the line `> DONE`; or the line `> REFUSED 0`
 /// if there are no states.
-fn write_state<W: HostWriter, I: Installation + Drop>(
+fn save<W: HostWriter, I: Installation + Drop>(
     alloc: Global,
     follower: &Follower<I>,
     writer: &mut W,
@@ -148,9 +128,7 @@ fn write_state<W: HostWriter, I: Installation + Drop>(
         × Appends (W.contents writer.old) (W.contents writer.new) answer) }
     ensures flushed { OnOk result (W.held writer.new ≡ []) }
     ensures err { OnErr result
-        ((W.contents writer.new ≡ W.contents writer.old)
-        ⊎ ((answer : List ℕ) × IsSavedAs I.goes follower.now answer
-        × AppendsFront (W.contents writer.old) (W.contents writer.new) answer)) }
+        (IsSavedPartly I.goes follower.now (W.contents writer.old) (W.contents writer.new)) }
     ensures why { PartAccounts result (W.HostFile.failures writer.old)
         (W.HostFile.failures writer.new) }
 {
