@@ -241,9 +241,7 @@ def unbroken(
         running.close()
 
 
-def rest_of(
-    program: str, case: Case, before: list[Shown], state: bytes, folder: str
-) -> Outcome:
+def rest_of(program: str, case: Case, before: list[Shown], state: bytes, folder: str) -> Outcome:
     """What comes of all parts, where these came of the first and the others are given to another program, which goes on from a
     state."""
     running = Running(program, case, folder)
