@@ -350,6 +350,8 @@ def stand_in(words: list[str]) -> None:
         findings = ["> REFUSED 1"] if findings is None else [*findings, "> DONE"]
         sys.stdout.write("\n".join(findings) + "\n")
         sys.stdout.flush()
+    sys.stdout.write("".join(f"{line}\n" for line in program.last_lines()))
+    sys.stdout.flush()
     if size == b"END\n" and "--save" in words:
         for path in paths[1:]:
             with open(f"{path}.new", "x") as file:

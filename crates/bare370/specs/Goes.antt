@@ -11,7 +11,7 @@ use Rattle.session_script.specs.Script.{EventValue, Run, Line, Tick, Serve, Auto
 use Rattle.session_script.specs.declared.event.ScriptEvent.{ScriptEvent}
 use Rattle.session_script.specs.declared.event.ScriptEvent.TheVariants as scripts
 use Rattle.bare_installation.specs.Bare.{Bare, bare, world_of}
-use Rattle.bare_installation.specs.Forgotten.{GoesOnAs as BareGoesOn}
+use Rattle.bare_installation.specs.Forgotten.{bare_having_printed}
 use Rattle.bare_installation.specs.Life.{IsApplied, LacksMemory, MayLackMemory}
 use Rattle.bare_installation.specs.declared.happening.MachineEvent.{MachineEvent}
 use Rattle.bare_installation.specs.declared.happening.MachineEvent.TheVariants as happenings
@@ -66,10 +66,10 @@ MayRefuse old (Serve user device) = LacksMemory device old.machine
 MayRefuse old (Deck user cards) = Unit {0}
 MayRefuse old (Auto turns) = ⊥
 
--- one machine goes on as another, and its devices have the same addresses
+-- one machine goes on as another: all is the same, but that it has printed these lines before
 pub record GoesOnAs (one other : Alone) : Type 0 where
-  pub machine : BareGoesOn one.machine other.machine
-  pub addresses : one.addresses ≡ other.addresses
+  pub lines : List (List ℕ)
+  pub same : one ≡ record other { machine = bare_having_printed lines other.machine }
 
 -- it has no saved states
 abbrev pub machine_goes : Installation Alone

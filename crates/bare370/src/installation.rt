@@ -173,11 +173,6 @@ impl Installation for OneMachine {
         self.machine.forget_printed();
     }
 
-    /// Drops the entries of the closed files that have a number but of the first `since`.
-    fn forget_files(&mut self, since: usize) {
-        self.machine.forget_files(since);
-    }
-
     /// Returns false and appends nothing: a machine of its own has no states.
     fn save(&self, _out: &mut Vec<u8>) -> Result<bool, AllocError> {
         Ok(false)

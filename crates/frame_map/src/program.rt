@@ -117,7 +117,7 @@ fn follow<F: FileStore>(
         };
     }
     match follower.part(alloc, &text, &mut Nowhere)? {
-        Part::Done(follower) => Ok(follower.close(&mut Nowhere)?),
+        Part::Done(follower) => Ok(follower.close(alloc, &mut Nowhere)?),
         Part::Refused(_same, line) => Err(Failure::Script(line)),
     }
 }

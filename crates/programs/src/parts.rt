@@ -79,8 +79,8 @@ pub fn follow_parts<R: HostReader, W: HostWriter, I: Installation + Drop>(
             NextRequest::Asked(request) => follower = answer(
                 alloc, follower, detail, request, writer,
             )?,
-            NextRequest::End => return Ok(Left::ProgramEnd(follower.close(writer)?)),
-            NextRequest::Nothing => return Ok(Left::Cut(follower.close(writer)?)),
+            NextRequest::End => return Ok(Left::ProgramEnd(follower.close(alloc, writer)?)),
+            NextRequest::Nothing => return Ok(Left::Cut(follower.close(alloc, writer)?)),
         }
     }
     // No input has so many parts.
@@ -193,10 +193,9 @@ fn follow_part<W: HostWriter, I: Installation + Drop>(
     let closed = follower.installation().files();
     let modes = follower.modes(alloc)?;
     match follower.part(alloc, part, writer)? {
-        Part::Done(mut follower) => {
+        Part::Done(follower) => {
             let reported = news(alloc, &follower, detail, closed, &modes)?;
             tell(writer, &reported)?;
-            follower.forget_files(closed);
             Ok(follower)
         }
         Part::Refused(follower, line) => {

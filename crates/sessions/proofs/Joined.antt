@@ -9,14 +9,15 @@ use Rattle.session_script.specs.Script.{EventValue, Run, Line, Tick, Serve, Auto
 use Rattle.session_script.specs.Users.{KnownUser}
 use Rattle.sessions.specs.Files.{closing_lines}
 use Rattle.sessions.specs.Installed.{Installation, names_of}
-use Rattle.sessions.specs.Continuing.{IsToGoOn, but_printed}
+use Rattle.std.specs.Io.KnownBytes.{Appends}
+use Rattle.sessions.specs.Continuing.{IsToGoOn}
 use Rattle.sessions.specs.Follow.{BeginsWithNothing, EndsAsSession, HasWholeLines, IsFollowed, PartsJoin}
 use Rattle.sessions.specs.Schedule.{Scene, acts, scene}
 use Rattle.sessions.specs.declared.schedule.Detail.{Detail}
 use Rattle.cp_dispatch.specs.Policy.{Lines}
 use Rattle.sessions.specs.Session.{IsPlayed, IsSession, at_first}
 use Rattle.sessions.specs.Transcript.{ended, transcript}
-use Rattle.sessions.proofs.Continuing.{played_alike, same_scene, scenes_chain, seen_same, users_same}
+use Rattle.sessions.proofs.Continuing.{closing_same, played_alike, same_scene, scenes_chain, seen_same, users_same}
 use Rattle.sessions.proofs.Histories.{acts_append, history, played_more, played_none}
 
 -- ---- lines
@@ -94,24 +95,19 @@ scripts_join grammar users one other es fs whole first second =
 
 -- ---- what is followed
 
--- a script that was played, to a world that then has forgotten printed lines alone
+-- a script that was played, to a world that then has forgotten printed lines
 pub followed_on : {W : Type 0} (i : Installation W) (text : List ℕ) (script : List EventValue) (old : Scene W)
     (world next : W) (lines : Lines) (detail : Detail)
     (a b : Option (List ℕ)) → script_of (i.seen old.world).users text ≡ Ok script
     → IsPlayed i (acts script) old (scene world lines detail) a b → i.GoesOnAs world next
-    → but_printed (i.seen world) ≡ but_printed (i.seen next)
-    → (followed : IsFollowed i text old (scene next lines detail) a b)
-    × (but_printed (i.seen followed.end.world) ≡ but_printed (i.seen next))
-followed_on i text script old world next lines detail a b accepted played on seen = (
-  record {
-    script = script;
-    accepted = accepted;
-    end = scene world lines detail;
-    played = played;
-    on = record { world = on; lines = refl; detail = refl; had_slice = refl };
-  },
-  seen,
-)
+    → IsFollowed i text old (scene next lines detail) a b
+followed_on i text script old world next lines detail a b accepted played on = record {
+  script = script;
+  accepted = accepted;
+  end = scene world lines detail;
+  played = played;
+  on = record { world = on; lines = refl; detail = refl; had_slice = refl };
+}
 
 module _ {W : Type 0} (i : Installation W) (law : IsToGoOn i) where
   pub nothing : BeginsWithNothing i
@@ -127,6 +123,8 @@ module _ {W : Type 0} (i : Installation W) (law : IsToGoOn i) where
   session detail text first last r s before between after read followed closed =
       let p = followed.played in
       let end = followed.end in
+      let same = closing_same (i.seen end.world) (i.seen last.world) (seen_same i law end last followed.on) in
+      let lines = subst (λ (ls : List (List ℕ)). Appends between after (ended ls)) (sym same) closed in
       let whole : IsSession i detail first end.world r s before after = record {
         text = text;
         read = read;
@@ -138,9 +136,9 @@ module _ {W : Type 0} (i : Installation W) (law : IsToGoOn i) where
         left = refl;
         history = history i (acts followed.script) (at_first i detail first) end p.entries p.done;
         written = Appends-trans before between after (transcript i detail (names_of (i.seen first)) p.entries)
-            (ended (closing_lines (i.seen end.world))) p.written closed;
+            (ended (closing_lines (i.seen end.world))) p.written lines;
       } in
-      (whole, followed.on.world)
+      (end.world, whole, followed.on.world)
 
 -- The parts of a script are one session.
 pub join : ReadsGrammar → {W : Type 0} (i : Installation W) → IsToGoOn i → PartsJoin i

@@ -6,7 +6,7 @@ use Rattle.text_words.specs.Lines.{lines_of}
 use Rattle.session_script.specs.Script.{EventValue, script_of}
 use Rattle.session_script.specs.Users.{KnownUser}
 use Rattle.sessions.specs.Files.{closing_lines}
-use Rattle.sessions.specs.Continuing.{ContinuesAs, but_printed}
+use Rattle.sessions.specs.Continuing.{ContinuesAs}
 use Rattle.sessions.specs.Installed.{Installation}
 use Rattle.sessions.specs.Schedule.{IsOf, Scene, acts}
 use Rattle.sessions.specs.Session.{IsPartly, IsPlayed, IsRead, IsSession, at_first}
@@ -40,7 +40,7 @@ abbrev pub part_of : List KnownUser → List ℕ → Result (List EventValue) �
 part_of users text = ended_script (script_of users text) (unended_line text)
 
 -- the text is a script; it was done, and its transcript was written; the scene to which it has led
--- goes on as this one, which may have forgotten printed lines and entries of closed files
+-- goes on as this one, which may have forgotten printed lines
 pub record IsFollowed {W : Type 0} (i : Installation W) (text : List ℕ) (old new : Scene W)
     (before after : Option (List ℕ)) : Type 0 where
   pub script : List EventValue
@@ -70,25 +70,22 @@ PartsJoin {W} i = (one other : List ℕ) (first middle last : Scene W)
     IsFollowed i one first middle before between → IsFollowed i other middle last between after →
     IsFollowed i (one ++ other) first last before after
 
--- a script that was followed from the beginning on, and the files for the operator of the scene to
--- which it has led after it, are its session; and that goes on as what is left, which may have
--- forgotten these files
+-- a script that was followed from the beginning on, and the files for the operator after it, are
+-- its session; and what that leaves goes on as what the script has led to
 abbrev pub EndsAsSession : {W : Type 0} → Installation W → Type 0
 EndsAsSession {W} i = (detail : Detail) (text : List ℕ) (first : W) (last : Scene W)
     (reader_old reader_new before between after : Option (List ℕ)) →
     IsRead reader_old reader_new text
-    → (followed : IsFollowed i text (at_first i detail first) last before between) →
-    Appends between after (ended (closing_lines (i.seen followed.end.world))) →
-    IsSession i detail first followed.end.world reader_old reader_new before after
-    × i.GoesOnAs followed.end.world last.world
+    → IsFollowed i text (at_first i detail first) last before between →
+    Appends between after (ended (closing_lines (i.seen last.world))) →
+    (end : W) × IsSession i detail first end reader_old reader_new before after
+    × i.GoesOnAs end last.world
 
--- what became of a part: it was done, has whole lines, and of the scene to which it has led only
--- printed lines are forgotten; or nothing was done, since this line of it is the first that is
--- refused
+-- what became of a part: it was done, and has whole lines; or nothing was, since this line of it is
+-- the first that is refused
 abbrev pub Became : {W : Type 0} → Installation W → List ℕ → Scene W → Part W → Option (List ℕ)
     → Option (List ℕ) → Type 0
 Became i text old (parts.Done new) before after = HasWholeLines text
-    × (followed : IsFollowed i text old new before after)
-    × (but_printed (i.seen followed.end.world) ≡ but_printed (i.seen new.world))
+    × IsFollowed i text old new before after
 Became i text old (parts.Refused new line) before after =
     (part_of (i.seen old.world).users text ≡ Err line) × (new ≡ old) × (after ≡ before)

@@ -5,9 +5,9 @@
 //! session ([`parts_are_a_session`]).
 ghost use Rattle.std.specs.Prelude.{◌≡◌, ◌⊎◌, ℕ, All, Bool, [], Err, IfErr, IfOk, IfSome, Ok};
 ghost use Rattle.std.specs.Prelude.{OnErr, OnOk, length, map, true};
-ghost use Rattle.std.specs.Io.KnownBytes.{Keeps};
-ghost use Rattle.sessions.specs.Continuing.{ContinuesAs};
-ghost use Rattle.sessions.specs.Files.{lines_since};
+ghost use Rattle.std.specs.Io.KnownBytes.{Appends};
+ghost use Rattle.s370_num.specs.Host.{AppendsFront};
+ghost use Rattle.sessions.specs.Files.{closing_lines, lines_since};
 ghost use Rattle.session_script.specs.Script.{IsOfDevice, IsOfUser, IsRefusal, said, script_of};
 ghost use Rattle.sessions.specs.Follow.{Became, BeginsWithNothing, EndsAsSession, HasWholeLines};
 ghost use Rattle.sessions.specs.Follow.{IsFollowedPartly, PartsJoin, part_of, unended_line};
@@ -27,7 +27,7 @@ use crate::installation::Installation;
 use crate::known::read_events;
 use crate::news::{modes, print_changes};
 use crate::schedule::{Detail, first_policy, ready_users};
-use crate::session::play;
+use crate::session::{close, play};
 use crate::transcript::names;
 use cp_dispatch::{Policy, Program, Ready};
 use machine_panel::Mode;
@@ -169,32 +169,24 @@ impl<I: Installation + Drop> Follower<I> {
         }))
     }
 
-    /// Drops the entries of the files that were closed since there were so many, which were written
-    /// as the answer to their part; what follows goes on as with them.
-    pub fn forget_files(&mut self, files: usize)
-        ensures on { ContinuesAs I.goes self.old self.new }
-        ensures chain { (first : Scene I) → ContinuesAs I.goes first self.old
-            → ContinuesAs I.goes first self.new }
-    {
-        I::printed_lines_do_not_matter();
-        self.installation.forget_files(files);
-    }
-
-    /// Flushes the writer, and returns the installation: the session is over.
-    ///
-    /// The files for the operator were written in the answers to the parts that closed them.
+    /// Writes the files for the operator, flushes the writer, and returns the installation: the
+    /// session is over.
     ///
     /// # Errors
     ///
-    /// A `PlayError`: a failure of the writer.
-    pub fn close<W: HostWriter>(self, writer: &mut W) -> Result<I, PlayError>
+    /// A `PlayError`: refused memory, a failure of the writer, or a spent installation. A beginning
+    /// may be written.
+    pub fn close<W: HostWriter>(self, alloc: Global, writer: &mut W) -> Result<I, PlayError>
         ensures installation { IfOk result (λ installation. installation ≡ self.world) }
-        ensures unwritten { Keeps (W.contents writer.old) (W.contents writer.new) }
+        ensures ok { OnOk result (Appends (W.contents writer.old) (W.contents writer.new)
+            (ended (closing_lines (I.goes.seen self.world)))) }
+        ensures err { OnErr result (AppendsFront (W.contents writer.old) (W.contents writer.new)
+            (ended (closing_lines (I.goes.seen self.world)))) }
         ensures flushed { OnOk result (W.held writer.new ≡ []) }
         ensures why { (is : Bool) → Accounts result is is (W.HostFile.failures writer.old)
             (W.HostFile.failures writer.new) }
     {
-        writer.flush()?;
+        close(alloc, &self.installation, writer)?;
         Ok(self.installation)
     }
 

@@ -123,12 +123,6 @@ pub trait Installation {
         ensures on { (goes).GoesOnAs self.old self.new }
         ensures seen { (goes).seen self.new ≡ but_printed ((goes).seen self.old) };
 
-    /// Drops the entries of the closed files that have a number but of the first `since`; what
-    /// follows goes on as with them.
-    fn forget_files(&mut self, since: usize)
-        ensures on { (goes).GoesOnAs self.old self.new }
-        ensures users { ((goes).seen self.new).users ≡ ((goes).seen self.old).users };
-
     /// Appends the state of the installation, and returns true; returns false if it has no states.
     ///
     /// # Errors

@@ -119,7 +119,7 @@ pub(crate) fn play<I: Installation, W: HostWriter>(
 }
 
 /// Writes the lines of all files for the operator, and flushes the writer.
-fn close<I: Installation, W: HostWriter>(
+pub(crate) fn close<I: Installation, W: HostWriter>(
     alloc: Global,
     installation: &I,
     writer: &mut W,

@@ -157,11 +157,6 @@ impl Installation for SharedMachines {
         self.system.forget_printed();
     }
 
-    /// Drops the entries of the closed files that have a number but of the first `since`.
-    fn forget_files(&mut self, since: usize) {
-        self.system.forget_files(since);
-    }
-
     /// Appends the state of the system, and returns true.
     fn save(&self, out: &mut Vec<u8>) -> Result<bool, AllocError> {
         self.system.save(out)?;

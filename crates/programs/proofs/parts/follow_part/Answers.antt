@@ -15,7 +15,7 @@ returns-in_err-reported-in-Done-clause-err g c =
     let was = was_done i c.args.follower c.in-Done.follower c.args.part.now c.in_ok-follower.field-0 a b c.in-Done.is
     c.in_ok-follower.ensures.ok in
     on_err c.from_residual-in_err-reported-in-Done.result
-    (done_untold i c.args.follower c.in-Done.follower c.args.part.now a b was.0 was.1 was.2)
+    (done_untold i c.args.follower c.in-Done.follower c.args.part.now a b was.0 was.1)
 
 pub returns-in_err-tell-in-Done-clause-err : goal.returns-in_err-tell-in-Done-clause-err
 returns-in_err-tell-in-Done-clause-err g c =
@@ -33,7 +33,7 @@ returns-in_err-tell-in-Done-clause-err g c =
     (c.in_ok-reported-in-Done.ensures ∙ news_told i c.args.detail c.files-closed.result c.deref.result.now old new
     c.requires files (c.deref.ensures.value ∙ c.in_ok-modes.ensures)) in
     on_err c.from_residual-in_err-tell-in-Done.result
-    (done_front i old new c.args.part.now a b w was.0 was.1 was.2
+    (done_front i old new c.args.part.now a b w was.0 was.1
     (subst (AppendsFront b w) news c.in_err-tell-in-Done.ensures.err))
 
 pub returns-in-Done-clause-ok : goal.returns-in-Done-clause-ok
@@ -51,9 +51,7 @@ returns-in-Done-clause-ok g c =
     c.deref-in-Done.ensures.value ∙
     (c.in_ok-reported-in-Done.ensures ∙ news_told i c.args.detail c.files-closed.result c.deref.result.now old new
     c.requires files (c.deref.ensures.value ∙ c.in_ok-modes.ensures)) in
-    let on = c.forget_files.ensures.chain was.1.end was.1.on in
-    done i old new c.forget_files.new.self c.args.part.now a b w was.0 was.1 was.2 on
-    (subst (Appends b w) news c.in_ok-tell-in-Done.ensures.ok)
+    done i old new c.args.part.now a b w was.0 was.1 (subst (Appends b w) news c.in_ok-tell-in-Done.ensures.ok)
 
 pub returns-in_err-tell-in-Refused-clause-err : goal.returns-in_err-tell-in-Refused-clause-err
 returns-in_err-tell-in-Refused-clause-err g c =
