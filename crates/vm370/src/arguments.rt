@@ -2,16 +2,15 @@
 ghost use Rattle.std.specs.Prelude.{◌≡◌, IfOk, IfErr, IfSome, OnOk, IsSome, Some, codes, map};
 ghost use Rattle.std.specs.Prelude.{false, true};
 ghost use Rattle.clap.specs.Words.{app_of, first_of, found_of, rows_of, rule_of};
-ghost use Rattle.programs.specs.Arguments.{HasNoFault, is_taken, rows_named};
 ghost use Rattle.cp_core.specs.Sizes.{SystemSizes};
-ghost use Rattle.vm370.specs.Options.{IsNamed, IsSized, command_of, directory_rule};
-ghost use Rattle.vm370.specs.Options.{frames_rule, gives_paths, number_or};
+ghost use Rattle.vm370.specs.Options.{HasNoFault, IsNamed, IsSized, command_of, directory_rule};
+ghost use Rattle.vm370.specs.Options.{frames_rule, gives_paths, is_taken, number_or, rows_named};
 ghost use Rattle.vm370.specs.Options.{slots_rule};
 
 use clap::{Arg, ArgAction, ArgMatches, Command};
 use cp_core::Sizes;
 use programs::words::{
-    UsageError, is_given, matched, paths_of, save, script, text_of, usage, volumes,
+    UsageError, is_given, paths_of, refusal, save, script, text_of, usage, volumes,
 };
 use std::alloc::{AllocError, Global};
 use std::convert::AsStr;
@@ -54,19 +53,15 @@ pub fn arguments<'a, S: AsStr>(
     program: &'a str,
     words: &'a [S],
 ) -> Result<Options<'a>, UsageError>
-    ensures ok { IfOk result (IsNamed (rows_named (command_of program.entry.now)
-        (map S.text words.entry.now))) }
-    ensures taken { OnOk result (HasNoFault (command_of program.entry.now)
-        (map S.text words.entry.now)) }
-    ensures err { (sizes : SystemSizes) →
-        let rows = rows_named (command_of program.entry.now) (map S.text words.entry.now) in
-        is_taken (command_of program.entry.now) (map S.text words.entry.now) ≡ true →
-        gives_paths rows ≡ true →
-        IsSized rows sizes →
+    ensures ok { IfOk result (IsNamed (rows_named program.entry.now (map S.text words.entry.now))) }
+    ensures taken { OnOk result (HasNoFault program.entry.now (map S.text words.entry.now)) }
+    ensures err { (sizes : SystemSizes)
+        → is_taken program.entry.now (map S.text words.entry.now) ≡ true →
+        gives_paths (rows_named program.entry.now (map S.text words.entry.now)) ≡ true →
+        IsSized (rows_named program.entry.now (map S.text words.entry.now)) sizes →
         IfErr result (λ error. error ≡ UsageError.Memory) }
 {
-    let command = command(alloc, program)?;
-    let matches = matched(alloc, command, words)?;
+    let matches = matched(alloc, program, words)?;
     options_of(alloc, &matches)
 }
 
@@ -141,6 +136,25 @@ fn paths_in<'a>(matches: &ArgMatches<'a>) -> Option<(&'a str, &'a str)>
     let directory = text_of(matches, "DIRECTORY")?;
     let script = text_of(matches, "SCRIPT")?;
     Some((directory, script))
+}
+
+/// Returns what `clap` finds in the words of a command line, or the usage error.
+fn matched<'a, S: AsStr>(
+    alloc: Global,
+    program: &'a str,
+    words: &'a [S],
+) -> Result<ArgMatches<'a>, UsageError>
+    ensures ok { IfOk result
+        (λ m. rows_of (found_of m) ≡ rows_named program.entry.now (map S.text words.entry.now)) }
+    ensures taken { OnOk result (HasNoFault program.entry.now (map S.text words.entry.now)) }
+    ensures err { is_taken program.entry.now (map S.text words.entry.now) ≡ true
+        → IfErr result (λ error. error ≡ UsageError.Memory) }
+{
+    let command = command(alloc, program)?;
+    match command.try_get_matches_from(words) {
+        Ok(matches) => Ok(matches),
+        Err(error) => Err(refusal(&error, error.to_string(alloc).ok())),
+    }
 }
 
 /// Returns the description of the program's command line for `clap`.

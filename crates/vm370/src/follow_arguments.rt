@@ -1,16 +1,16 @@
 //! The words of the program where it follows a script that it is given part by part.
 ghost use Rattle.std.specs.Prelude.{◌≡◌, IfErr, IfOk, OnOk, map, true};
 ghost use Rattle.clap.specs.Words.{app_of, found_of, rows_of};
-ghost use Rattle.programs.specs.Arguments.{HasNoFault, is_taken, rows_named};
 ghost use Rattle.cp_core.specs.Sizes.{SystemSizes};
 ghost use Rattle.vm370.specs.Options.{IsSized};
-ghost use Rattle.vm370.specs.FollowOptions.{IsNamed, command_of, gives_directory};
+ghost use Rattle.vm370.specs.FollowOptions.{HasNoFault, IsNamed, command_of, gives_directory};
+ghost use Rattle.vm370.specs.FollowOptions.{is_taken, rows_named};
 
 use crate::arguments::{directory, frames, sizes_in, slots, wrong_sizes};
 use clap::{ArgMatches, Command};
 use cp_core::Sizes;
 use programs::words::{
-    UsageError, follow, is_given, matched, paths_of, save, terminals, text_of, usage, volumes,
+    UsageError, follow, is_given, paths_of, refusal, save, terminals, text_of, usage, volumes,
 };
 use std::alloc::{AllocError, Global};
 use std::convert::AsStr;
@@ -42,19 +42,15 @@ pub fn follow_arguments<'a, S: AsStr>(
     program: &'a str,
     words: &'a [S],
 ) -> Result<SystemFollowOptions<'a>, UsageError>
-    ensures ok { IfOk result (IsNamed (rows_named (command_of program.entry.now)
-        (map S.text words.entry.now))) }
-    ensures taken { OnOk result (HasNoFault (command_of program.entry.now)
-        (map S.text words.entry.now)) }
-    ensures err { (sizes : SystemSizes) →
-        let rows = rows_named (command_of program.entry.now) (map S.text words.entry.now) in
-        is_taken (command_of program.entry.now) (map S.text words.entry.now) ≡ true →
-        gives_directory rows ≡ true →
-        IsSized rows sizes →
+    ensures ok { IfOk result (IsNamed (rows_named program.entry.now (map S.text words.entry.now))) }
+    ensures taken { OnOk result (HasNoFault program.entry.now (map S.text words.entry.now)) }
+    ensures err { (sizes : SystemSizes)
+        → is_taken program.entry.now (map S.text words.entry.now) ≡ true →
+        gives_directory (rows_named program.entry.now (map S.text words.entry.now)) ≡ true →
+        IsSized (rows_named program.entry.now (map S.text words.entry.now)) sizes →
         IfErr result (λ error. error ≡ UsageError.Memory) }
 {
-    let command = command(alloc, program)?;
-    let matches = matched(alloc, command, words)?;
+    let matches = matched(alloc, program, words)?;
     let Some(sizes) = sizes_in(&matches) else {
         return Err(wrong_sizes(alloc));
     };
@@ -69,6 +65,25 @@ pub fn follow_arguments<'a, S: AsStr>(
         directory,
         volumes,
     })
+}
+
+/// Returns what `clap` finds in the words of a command line, or the usage error.
+fn matched<'a, S: AsStr>(
+    alloc: Global,
+    program: &'a str,
+    words: &'a [S],
+) -> Result<ArgMatches<'a>, UsageError>
+    ensures ok { IfOk result
+        (λ m. rows_of (found_of m) ≡ rows_named program.entry.now (map S.text words.entry.now)) }
+    ensures taken { OnOk result (HasNoFault program.entry.now (map S.text words.entry.now)) }
+    ensures err { is_taken program.entry.now (map S.text words.entry.now) ≡ true
+        → IfErr result (λ error. error ≡ UsageError.Memory) }
+{
+    let command = command(alloc, program)?;
+    match command.try_get_matches_from(words) {
+        Ok(matches) => Ok(matches),
+        Err(error) => Err(refusal(&error, error.to_string(alloc).ok())),
+    }
 }
 
 /// Returns the description of the program's command line with `--follow` for `clap`.
