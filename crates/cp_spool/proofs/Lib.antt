@@ -9,4 +9,3 @@ pub mod Search
 pub mod Sound
 pub mod Walks
 pub mod FileCodes
-pub mod Forgotten

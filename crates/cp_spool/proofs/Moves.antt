@@ -23,7 +23,6 @@ use Rattle.cp_spool.proofs.Sound.{IsFree, map-remove, sound_apart, sound_less, s
 use Rattle.cp_spool.proofs.Sound.{sound_punched, sound_roomier, sound_set, sound_waiting, taken_is_free, users_apart}
 use Rattle.cp_spool.proofs.Sound.{vacant_is_free}
 
--- The files of a user among those of all are those of his queue.
 pub files_there : (files : Slab SpoolFileValue) (queues : List QueueKeys) (user : ℕ)
     → get_or (map (user_files files) queues) user no_files ≡ user_files files (queue_of queues user)
 files_there files [] user = refl

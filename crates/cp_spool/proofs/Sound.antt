@@ -1,5 +1,5 @@
 -- Each key has its file, whatever comes and goes.
-use Rattle.std.proofs.Common.{◌≡◌, ◌≢◌, ℕ, zero, suc, ◌+◌, ◌<◌, inl, inr, true, List, [], ◌∷◌, ◌++◌, length}
+use Rattle.std.proofs.Common.{◌≡◌, ◌≢◌, ℕ, zero, suc, ◌+◌, ◌<◌, ◌≤◌, inl, inr, Bool, true, List, [], ◌∷◌, ◌++◌, length}
 use Rattle.std.proofs.Common.{get_or, map, set, Option, Some, None, refl, sym, ◌∙◌, ap, subst, arith}
 use Rattle.std.specs.Prelude.{IsSomeAnd, remove, unwrap_or}
 use Rattle.std.proofs.lemmas.Bool.{cases_eq, cases_lt}
@@ -58,12 +58,11 @@ vacant_is_free files queues key sound vacant user = record {
 
 module _ (files files' : Slab SpoolFileValue) (key : ℕ)
     (others : (other : ℕ) → other ≢ key → get files' other ≡ get files other) where
-  pub all_apart : (P : SpoolFileValue → Type 0) (keys : List ℕ) → Lacks keys key → AllAt files P keys
-      → AllAt files' P keys
+  all_apart : (P : SpoolFileValue → Type 0) (keys : List ℕ) → Lacks keys key → AllAt files P keys → AllAt files' P keys
   all_apart P keys free all i l =
       subst (λ (o : Option SpoolFileValue). IsSomeAnd o P) (sym (others (get_or keys i 0) (free i l))) (all i l)
 
-  pub once_apart : (keys : List ℕ) → Lacks keys key → Once files keys → Once files' keys
+  once_apart : (keys : List ℕ) → Lacks keys key → Once files keys → Once files' keys
   once_apart keys free once i j li lj e given =
       once i j li lj e (ap is_given (sym (others (get_or keys i 0) (free i li))) ∙ given)
 
@@ -85,7 +84,7 @@ module _ (files files' : Slab SpoolFileValue) (key : ℕ)
   closed_apart [] h = refl
   closed_apart (k ∷ ks) h = rw (same_file k (h 0 (omega arith)), closed_apart ks (λ i l. h (suc i) (omega arith))) refl
 
-  pub decks_apart : (decks : List Waiting) → Lacks (map (λ (w : Waiting). w.key) decks) key
+  decks_apart : (decks : List Waiting) → Lacks (map (λ (w : Waiting). w.key) decks) key
       → map (deck_at files') decks ≡ map (deck_at files) decks
   decks_apart [] h = refl
   decks_apart (w ∷ ws) h =

@@ -2,7 +2,6 @@
 ghost use Rattle.std.specs.Prelude.{◌≡◌, ◌<◌, ◌≤◌, [], ◌∷◌, ◌++◌, length, map, slice_get};
 ghost use Rattle.std.specs.Prelude.{slice_index_or, None, IfSome, OnOk, OnErr};
 ghost use Rattle.unit_record.specs.Reader.{currents};
-ghost use Rattle.cp_spool.specs.Forgotten.{has_key};
 ghost use Rattle.cp_spool.specs.Keys.{no_keys, with_printed_key, with_punched_key, with_waiting};
 ghost use Rattle.cp_spool.specs.Keys.{without_waiting};
 
@@ -157,21 +156,6 @@ impl UserQueue {
         } else {
             None
         }
-    }
-
-    /// Returns whether a deck in the queue of the reader has the file of this key.
-    pub(crate) fn has_key(&self, key: usize) -> bool
-        ensures { result ≡ has_key key self.now }
-    {
-        for index in 0..self.len() {
-            let Some(deck) = self.deck(index) else {
-                return false;
-            };
-            if deck.key == key {
-                return true;
-            }
-        }
-        false
     }
 
     /// Returns the key of the file of this index among those that the punch closed, if there is

@@ -29,8 +29,8 @@ use user_names::UserNo;
 /// printers closed.
 #[derive(Drop)]
 pub struct Queues {
-    pub(crate) files: Slab<SpoolFile>,
-    pub(crate) users: Vec<UserQueue>,
+    files: Slab<SpoolFile>,
+    users: Vec<UserQueue>,
 }
 
 impl Model for Queues {
