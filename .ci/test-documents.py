@@ -88,17 +88,37 @@ def corpus() -> tuple:
 WORDS, CRATES, FILES = corpus()
 
 
+def definitions(path: pathlib.Path) -> dict:
+    """The texts of the definitions of a module, by their names."""
+    found, text = {}, path.read_text()
+    heads = list(re.finditer(r"^ *(?:abbrev pub|unfoldable pub|pub record) (\w+)", text, re.M))
+    for head, end in zip(heads, [*(head.start() for head in heads[1:]), len(text)]):
+        found[head[1]] = text[head.start() : end]
+    return found
+
+
+def fields(path: pathlib.Path, names: set) -> set:
+    """The fields of the records of a module that these names are, or are defined by."""
+    known, cited, reached = definitions(path), set(names), set()
+    while new := cited & known.keys() - reached:
+        reached |= new
+        cited |= {word for name in new for word in re.findall(r"\w+", known[name])}
+    return {word for name in reached for word in re.findall(r"^ +pub (\w+) :", known[name], re.M)}
+
+
 def contracts() -> object:
     """Of each function and type, the words of the files that have one of this name, and the fields of the records that these
-    may cite as a clause."""
+    cite in a clause."""
     found = {}
     for path in [*TOP.glob("crates/*/src/**/*.rt"), *TOP.glob("checks/*/src/**/*.rt-unproved")]:
         text = path.read_text()
         words = words_of(text)
-        for crate, module in re.findall(r"^ghost use Rattle\.(\w+)\.specs\.(\w+)\.\{", text, re.M):
+        clauses = set(re.findall(r"\w+", " ".join(re.findall(r"ensures.*?\}\n", text, re.S))))
+        uses = r"^ghost use Rattle\.(\w+)\.specs\.(\w+)\.\{(.*)\};"
+        for crate, module, names in re.findall(uses, text, re.M):
             specs = TOP / f"crates/{crate}/specs/{module}.antt"
             if specs.is_file():
-                words |= set(re.findall(r"^ +pub (\w+) :", specs.read_text(), re.M))
+                words |= fields(specs, set(re.findall(r"\w+", names)) & clauses)
         for name in set(re.findall(r"\b(?:fn|struct|enum|trait|type) (\w+)", text)):
             found.setdefault(name, []).append(words)
     return found
