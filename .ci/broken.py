@@ -57,6 +57,17 @@ class Outcome(NamedTuple):
     images: list[bytes]
 
 
+class Shown(NamedTuple):
+    """What comes of a part: its lines of the transcript, and the lines of the files that it closed, which end a transcript."""
+
+    lines: bytes
+    files: bytes
+
+
+def transcript_of(shown: list[Shown]) -> bytes:
+    return b"".join(one.lines for one in shown) + b"".join(one.files for one in shown)
+
+
 class Crashed(Exception):
     """The program has ended by itself."""
 
@@ -96,14 +107,17 @@ class Running:
         self.errors.seek(0)
         return Crashed(status, self.errors.read().decode(errors="replace"))
 
-    def part(self, text: bytes) -> bytes:
-        """The lines of the transcript that come of a part."""
+    def part(self, text: bytes) -> Shown:
+        """What comes of a part."""
         self.send(b"%d\n%s" % (len(text), text))
-        lines = []
+        lines, files = [], []
         while not (line := self.line()).startswith((b"> DONE", b"> REFUSED")):
-            lines += [] if line.startswith(b"> ") else [line]
+            if line.startswith((b"> ==", b"> |")):
+                files.append(line.removeprefix(b"> ").removeprefix(b"|"))
+            elif not line.startswith(b"> "):
+                lines.append(line)
         assert line == b"> DONE\n", text
-        return b"".join(lines)
+        return Shown(b"".join(lines), b"".join(files))
 
     def save(self) -> bytes:
         self.send(b"SAVE\n")
@@ -210,7 +224,7 @@ def random_case(seed: int) -> Case:
 
 def unbroken(
     program: str, case: Case, every: int, folder: str
-) -> tuple[dict, list[bytes], Outcome]:
+) -> tuple[dict, list[Shown], Outcome]:
     """The states before every so manieth part, what appears of each part, and what has come of all."""
     states, shown = {}, []
     running = Running(program, case, folder)
@@ -222,20 +236,21 @@ def unbroken(
         state = running.save()
         states[len(case.parts)] = state
         written, images = running.end()
-        return states, shown, Outcome(b"".join(shown) + written, state, images)
+        return states, shown, Outcome(transcript_of(shown) + written, state, images)
     finally:
         running.close()
 
 
-def rest_of(program: str, case: Case, place: int, state: bytes, folder: str) -> Outcome:
-    """What comes of the parts from this place on, in another program that goes on from a state."""
+def rest_of(program: str, case: Case, before: list[Shown], state: bytes, folder: str) -> Outcome:
+    """What comes of all parts, where these came of the first and the others are given to another program, which goes on from a
+    state."""
     running = Running(program, case, folder)
     try:
         running.restore(state)
-        shown = b"".join(map(running.part, case.parts[place:]))
+        shown = before + list(map(running.part, case.parts[len(before) :]))
         state = running.save()
         written, images = running.end()
-        return Outcome(shown + written, state, images)
+        return Outcome(transcript_of(shown) + written, state, images)
     finally:
         running.close()
 
@@ -247,8 +262,7 @@ def break_case(check: Check, program: str, case: Case, every: int) -> int:
         if case.transcript is not None:
             check(f"{case.name}: saving changes nothing", whole.transcript == case.transcript)
         for place, state in states.items():
-            found = rest_of(program, case, place, state, folder)
-            found = found._replace(transcript=b"".join(shown[:place]) + found.transcript)
+            found = rest_of(program, case, shown[:place], state, folder)
             names = [
                 name for name in Outcome._fields if getattr(found, name) != getattr(whole, name)
             ]
@@ -308,20 +322,20 @@ def broken_once(program: str, session: object, share: float) -> tuple:
     with tempfile.TemporaryDirectory(prefix="tables-") as folder:
         try:
             shown, state = before_break(program, case, place, folder)
-            rest, _, images = rest_of(program, case, place, state, folder)
+            whole, _, images = rest_of(program, case, shown, state, folder)
         except Crashed as crashed:
             return False, str(crashed)
-    found = tables.lines_of_text((shown + rest).decode("latin-1"))
+    found = tables.lines_of_text(whole.decode("latin-1"))
     wanted = session.findings
     holds = len(found) == len(wanted) and all(map(tables.is_same, found, wanted))
     return holds and images == session.ended, f"at part {place} of {len(parts)}", *found[-3:]
 
 
-def before_break(program: str, case: Case, place: int, folder: str) -> tuple[bytes, bytes]:
-    """What appears of the parts before a place, and the state there."""
+def before_break(program: str, case: Case, place: int, folder: str) -> tuple[list[Shown], bytes]:
+    """What comes of the parts before a place, and the state there."""
     running = Running(program, case, folder)
     try:
-        return b"".join(map(running.part, case.parts[:place])), running.save()
+        return list(map(running.part, case.parts[:place])), running.save()
     finally:
         running.close()
 

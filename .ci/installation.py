@@ -350,8 +350,6 @@ def stand_in(words: list[str]) -> None:
         findings = ["> REFUSED 1"] if findings is None else [*findings, "> DONE"]
         sys.stdout.write("\n".join(findings) + "\n")
         sys.stdout.flush()
-    sys.stdout.write("".join(f"{line}\n" for line in program.last_lines()))
-    sys.stdout.flush()
     if size == b"END\n" and "--save" in words:
         for path in paths[1:]:
             with open(f"{path}.new", "x") as file:
@@ -771,6 +769,8 @@ def try_passwords_file(check: Callable, repository: str, site: object) -> None:
     check("those of the file are", run(answer("ALICE", "looking")) == "LOGON OK")
     set_password("BOB", given="NEW\n")
     check("also one that is set meanwhile", run(answer("BOB", "NEW")) == "LOGON OK")
+    set_password("NOBODY", given="THERE\n")
+    check("a name of the file alone is refused", run(answer("NOBODY", "THERE")) == "LOGON REFUSED")
     set_password("ALICE", "--remove")
     check("and one that is removed is none", run(answer("ALICE", "LOOKING")) == "LOGON REFUSED")
     check("it is suspended", site.stop() == 0, *site.findings)

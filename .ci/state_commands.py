@@ -57,6 +57,12 @@ def findings_of(done: subprocess.CompletedProcess) -> tuple:
     return f"status {done.returncode}", done.stdout.decode(), done.stderr.decode()
 
 
+def cut_at_files(transcript: bytes) -> tuple[bytes, bytes]:
+    """The lines of events of a transcript, and the files at its end."""
+    events, heading, files = transcript.partition(b"== ")
+    return events, heading + files
+
+
 def try_script(check: Check, command: str, folder: str, name: str, place: int) -> None:
     """A script in two runs writes what it writes in one, and the same volumes."""
     case = example(name)
@@ -78,9 +84,10 @@ def try_script(check: Check, command: str, folder: str, name: str, place: int) -
     whole, images = run("whole", "--save"), list(map(read, volumes))
     first = run("one", "--save-state", f"{folder}/state")
     second = run("two", "--save", "--state", f"{folder}/state", f"--save-state={folder}/state")
-    events = first.stdout[: first.stdout.find(b"== ")] if b"== " in first.stdout else first.stdout
+    # each run has the files that it closed at its end
+    (one, closed), (other, more) = map(cut_at_files, (first.stdout, second.stdout))
     holds = whole.returncode == first.returncode == second.returncode == 0
-    check(f"{name} in two runs", holds and events + second.stdout == whole.stdout == case.transcript,
+    check(f"{name} in two runs", holds and one + other + closed + more == whole.stdout == case.transcript,
           *findings_of(first), *findings_of(second))  # fmt: skip
     check(f"{name} in two runs: its volumes", list(map(read, volumes)) == images)
 

@@ -29,6 +29,7 @@ PEOPLE = f"{TOP}/.ci/people"
 RECORDING = f"{PEOPLE}/recording"
 sys.path[:0] = [f"{TOP}/bin/lib", f"{TOP}/.ci"]
 import broken
+import closed_files
 import desk
 import installation
 import installation_faults
@@ -1013,7 +1014,7 @@ def compare_parts(program: str, one_machine: object) -> None:
             is_reported = is_reported and (
                 len(given) == 1 or who_goes(findings) == who_is_notified(transcript)
             )
-            holds = done.returncode == 0 and written == transcript and is_reported
+            holds = done.returncode == 0 and written == without_files(transcript) and is_reported
             check(f"{name} in {len(given)} parts", holds, f"status {done.returncode}", *lines[:60])
         leave_out_turns(name, words, list(events_of(script)))
     user = re.search("USER ([A-Z0-9]+)", read(f"{examples}/two-users/directory").decode())[1]
@@ -1031,11 +1032,22 @@ def compare_parts(program: str, one_machine: object) -> None:
     follow_one_machine(one_machine)
 
 
+def first_file(lines: list) -> int:
+    """Where the files at the end of a transcript begin."""
+    return next((place for place, line in enumerate(lines) if HEADING.fullmatch(line)), len(lines))
+
+
 def closed_in(transcript: object) -> list:
     """The files at the end of a transcript, as the answers to parts have them."""
     lines = transcript.splitlines(True)
-    first = next((place for place, line in enumerate(lines) if HEADING.fullmatch(line)), len(lines))
-    return [line if HEADING.fullmatch(line) else b"|" + line for line in lines[first:]]
+    files = lines[first_file(lines) :]
+    return [line if HEADING.fullmatch(line) else b"|" + line for line in files]
+
+
+def without_files(transcript: bytes) -> bytes:
+    """A transcript without the files at its end, which the answers to parts have."""
+    lines = transcript.splitlines(True)
+    return b"".join(lines[: first_file(lines)])
 
 
 def who_goes(findings: object) -> list:
@@ -1105,7 +1117,7 @@ def follow_one_machine(program: str) -> None:
         written = b"".join(
             line for line in done.stdout.splitlines(True) if not line.startswith(b"> ")
         )
-        holds = done.returncode == 0 and written == read(f"{folder}/transcript")
+        holds = done.returncode == 0 and written == without_files(read(f"{folder}/transcript"))
         check(
             f"{name} on a machine of its own in parts",
             holds,
@@ -1134,7 +1146,8 @@ def answer_each_part(words: list[str], folder: str) -> None:
         run.stdin.close()
         answers += run.stdout.readlines()
         late.cancel()
-    holds = run.returncode == 0 and b"".join(answers) == read(f"{folder}/transcript")
+    wanted = without_files(read(f"{folder}/transcript"))
+    holds = run.returncode == 0 and b"".join(answers) == wanted
     check(
         f"{words[0]}: each part is answered before the next",
         holds,
@@ -1294,6 +1307,7 @@ def try_states(repository: str, folder: str) -> None:
     broken.try_tables(check, programs[0], broken.ONE_OF, 1)
     broken.try_spoiled(check, programs[0], broken.STATES, 1)
     typed_lines.try_typed(check, programs[0], 50)
+    closed_files.try_closed(check, programs[0], 300)
 
 
 def main() -> None:

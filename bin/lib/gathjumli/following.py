@@ -158,7 +158,6 @@ class Program:
         words = [machines.program(), *options, *machines.follow_words()]
         self.process = subprocess.Popen(words, start_new_session=True, **streams)
         self.awaited = 0
-        self.is_ending = False
         self.answers = queue.SimpleQueue()
         threading.Thread(target=self.listen, daemon=True).start()
 
@@ -167,8 +166,7 @@ class Program:
         answers = Answers()
         with self.process.stdout as output:
             while data := os.read(output.fileno(), CHUNK):
-                # after the end of the session come all its files once more
-                for answer in () if self.is_ending else answers.feed(data):
+                for answer in answers.feed(data):
                     self.answers.put(answer)
         self.answers.put(None)
 
@@ -223,7 +221,6 @@ class Program:
 
     def finish(self) -> None:
         """Ends the session, which saves volumes if the program was reported to."""
-        self.is_ending = True
         self.write(b"END\n")
         if self.process.wait():
             raise self.failed()

@@ -320,6 +320,8 @@ class LogonServer:
         )
         if connection.place is None:
             return
+        # a passwords file may name somebody whom the directory has not
+        is_right = is_right and given[0] in self.engine.users
         if is_right and self.is_closed and not self.engine.users[given[0]].is_on:
             connection.send(CLOSED)
             self.leave(connection)

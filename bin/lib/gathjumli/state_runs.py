@@ -2,6 +2,7 @@
 from __future__ import annotations
 
 import os
+import re
 import sys
 
 from gathjumli import cli
@@ -10,6 +11,8 @@ from gathjumli.following import Answers, CHUNK, PartResult, Program, SavedState
 from gathjumli.machines import Machines, SIZE_OPTIONS, ScriptRefused, of_directory
 from gathjumli.state_files import NOBODY, StateFile, after, restore, save_state, state_of
 
+# what is before an entry of a file in an answer, and not in a transcript
+ENTRY = re.compile(rb"^> \|", re.MULTILINE)
 OPTIONS = {"--save": None, "--state": str, "--save-state": str} | SIZE_OPTIONS
 
 
@@ -29,7 +32,7 @@ class Output:
 
 
 class PrintedAnswers(Answers):
-    """Answers of which the lines of the transcript are printed as they arrive, and files at the end of the session."""
+    """Answers of which the lines of the transcript are printed as they arrive."""
 
     def __init__(self, output: Output) -> None:
         super().__init__()
@@ -54,12 +57,15 @@ class Script(Program):
         answers = PrintedAnswers(self.output)
         with self.process.stdout as output:
             while data := os.read(output.fileno(), CHUNK):
-                if self.is_ending:
-                    self.output.write(data)
-                    continue
                 for answer in answers.feed(data):
                     self.answers.put(answer)
         self.answers.put(None)
+
+    def print_files(self, files: list[tuple[str, bytes]]) -> None:
+        """Prints closed files as a transcript has them."""
+        for heading, entries in files:
+            self.output.write(heading.encode(errors="surrogateescape") + b"\n")
+            self.output.write(ENTRY.sub(b"", entries))
 
     def finish(self) -> None:
         super().finish()
@@ -69,15 +75,15 @@ class Script(Program):
             raise self.output.failure
 
 
-def run(program: Program, script: bytes, state: StateFile | None) -> dict[str, list[str]]:
-    """Does a script, from a state if there is one; who is on and whose machine runs then."""
+def run(program: Program, script: bytes, state: StateFile | None) -> tuple:
+    """Does a script, from a state if there is one; who is on and whose machine runs then, and the files that it closed."""
     if state:
         restore(program, state)
     try:
         result = program.do(script)
     except ScriptRefused as refused:
         raise Failure(REFUSED, f"fault: script Line {refused.line}") from None
-    return after(state.notes if state else NOBODY, result.states)
+    return after(state.notes if state else NOBODY, result.states), result.files
 
 
 def command(words: list[str]) -> None:
@@ -94,9 +100,10 @@ def command(words: list[str]) -> None:
     lines += b"\n" * (lines[-1:] not in (b"", b"\n"))
     program = Script(machines, *(["--save"] if found["--save"] else []))
     try:
-        notes = run(program, lines, state)
+        notes, files = run(program, lines, state)
         if to:
             save_state(program, to, machines, notes)
+        program.print_files(files)
         program.finish()
     finally:
         program.close()

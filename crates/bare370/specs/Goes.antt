@@ -1,21 +1,19 @@
 -- How a machine of its own goes on, as sessions see it.
-use Rattle.std.specs.Prelude.{◌≡◌, ℕ, ◌+◌, min, false, true, List, [], ◌∷◌, map, Some}
+use Rattle.std.specs.Prelude.{◌≡◌, ℕ, ◌+◌, ◌<◌, min, false, true, List, [], ◌∷◌, length, map, Some}
 use Rattle.s370_subchannels.specs.declared.subchannel.Subchannel.{Subchannel}
 use Rattle.ckd_volume.specs.Unit.{Disk, idle}
 use Rattle.ckd_volume.specs.Volume.{VolumeFormat}
 use Rattle.machine_channels.specs.Disks.{DiskAt}
 use Rattle.machine_devices.specs.Comes.{LineMay}
+use Rattle.machine_devices.specs.Events.{user_of}
+use Rattle.machine_devices.specs.declared.event.Event.{Event}
 use Rattle.machine_devices.specs.declared.places.Places.{Places}
 use Rattle.machine_devices.specs.declared.reply.Reply.{Reply}
 use Rattle.session_script.specs.Script.{EventValue, Run, Line, Tick, Serve, Auto, Deck}
-use Rattle.session_script.specs.declared.event.ScriptEvent.{ScriptEvent}
-use Rattle.session_script.specs.declared.event.ScriptEvent.TheVariants as scripts
 use Rattle.bare_installation.specs.Bare.{Bare, bare, world_of}
-use Rattle.bare_installation.specs.Forgotten.{bare_having_printed}
+use Rattle.bare_installation.specs.Forgotten.{GoesOnAs as BareGoesOn}
 use Rattle.bare_installation.specs.Life.{IsApplied, LacksMemory, MayLackMemory}
-use Rattle.bare_installation.specs.declared.happening.MachineEvent.{MachineEvent}
-use Rattle.bare_installation.specs.declared.happening.MachineEvent.TheVariants as happenings
-use Rattle.sessions.specs.Installed.{Installation, Installed}
+use Rattle.sessions.specs.Installed.{Installation, Installed, as_said}
 
 -- the machine, and the addresses of its devices as scripts know them
 pub record Alone : Type 0 where
@@ -34,42 +32,35 @@ seen_in a = record {
   files = a.machine.files;
 }
 
--- an event as a script names it
-abbrev pub as_said : MachineEvent → EventValue
-as_said (happenings.Run units) = Run own units
-as_said (happenings.Line typed) = Line own typed.now
-as_said (happenings.Serve device) = Serve own device
-as_said happenings.Tick = Tick own
-as_said (happenings.Deck cards) = Deck own cards.now
-
--- the event that was said happened to the machine, and was answered so
+-- the event that was said is one of its user, happened to the machine, and was answered so
 pub record HasHappened (old : Alone) (said : EventValue) (reply : Reply) (new : Alone)
     : Type 0 where
-  pub event : MachineEvent
+  pub event : Event
+  pub own : user_of event ≡ own
   pub named : as_said event ≡ said
   pub applied : IsApplied old.machine event reply new.machine
   pub addresses : new.addresses ≡ old.addresses
 
 -- it may be refused memory by this machine, of which nothing is said then
 pub record MayLack (old : Alone) (said : EventValue) (new : Alone) : Type 0 where
-  pub event : MachineEvent
+  pub event : Event
   pub named : as_said event ≡ said
   pub lacks : MayLackMemory old.machine event
 
--- what was said may want memory: such lines, a program that does, and a deck, whose cards are made
+-- what was said may want memory: such lines, a program that does, and a deck that has cards
 abbrev pub MayRefuse : Alone → EventValue → Type 0
 MayRefuse old (Run user units) = ⊥
 MayRefuse old (Line user text) =
     LineMay (world_of old.machine) text old.machine.equipped
 MayRefuse old (Tick user) = ⊥
 MayRefuse old (Serve user device) = LacksMemory device old.machine
-MayRefuse old (Deck user cards) = Unit {0}
+MayRefuse old (Deck user cards) = 0 < length cards
 MayRefuse old (Auto turns) = ⊥
 
--- one machine goes on as another: all is the same, but that it has printed these lines before
+-- one machine goes on as another, and its devices have the same addresses
 pub record GoesOnAs (one other : Alone) : Type 0 where
-  pub lines : List (List ℕ)
-  pub same : one ≡ record other { machine = bare_having_printed lines other.machine }
+  pub machine : BareGoesOn one.machine other.machine
+  pub addresses : one.addresses ≡ other.addresses
 
 -- it has no saved states
 abbrev pub machine_goes : Installation Alone
@@ -110,13 +101,3 @@ disks_from address (volume ∷ volumes) =
 -- the addresses of these devices
 abbrev pub addresses_of : List Subchannel → List ℕ
 addresses_of devices = map (λ device. device.address) devices
-
--- an event that a script says with all that it has: no deck, whose cards are still to be made, and
--- no turns
-abbrev pub IsWhole : ScriptEvent → Type 0
-IsWhole (scripts.Run user units) = Unit {0}
-IsWhole (scripts.Line user text) = Unit {0}
-IsWhole (scripts.Tick user) = Unit {0}
-IsWhole (scripts.Serve user device) = Unit {0}
-IsWhole (scripts.Deck user cards) = ⊥
-IsWhole (scripts.Auto turns) = ⊥

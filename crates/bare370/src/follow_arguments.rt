@@ -26,8 +26,8 @@ pub struct MachineFollowOptions<'a> {
     pub volumes: Vec<&'a str>,
 }
 
-/// Returns the options of a run that follows parts of a script, as
-/// [`bare_arguments`](crate::arguments::bare_arguments) does those of one that plays a script.
+/// Returns the options that the words of a command line with `--follow` name, of which the first is
+/// the name that the program was started by; `program` is its name in a usage text.
 ///
 /// # Errors
 ///

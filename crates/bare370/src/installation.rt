@@ -1,5 +1,5 @@
 //! A machine of its own as sessions know it.
-ghost use Rattle.std.specs.Prelude.{◌≡◌, ◌<◌, ◌≤◌, ◌==◌, ◌*◌, ◌++◌, [], Err, IfErr, IfOk, IfSome};
+ghost use Rattle.std.specs.Prelude.{◌≡◌, ◌<◌, ◌≤◌, ◌==◌, ◌*◌, ◌++◌, [], Err, IfOk};
 ghost use Rattle.std.specs.Prelude.{List, false, length, map, replicate};
 ghost use Rattle.std.specs.List.{list_any};
 ghost use Rattle.s370_store.specs.Plain.{plain_bytes, plain_memory};
@@ -7,26 +7,21 @@ ghost use Rattle.s370_store.specs.Memory.{memory_of};
 ghost use Rattle.machine_panel.specs.Machine.{unused};
 ghost use Rattle.s370_subchannels.specs.declared.subchannel.Subchannel.{Subchannel};
 ghost use Rattle.machine_devices.specs.Devices.{AreAttached, can_attach, devices_new, places_of};
-ghost use Rattle.session_script.specs.Script.{Deck, said, user_of_event};
-ghost use Rattle.bare_installation.specs.Life.{IsApplied, MayLackMemory};
-ghost use Rattle.bare_installation.specs.declared.happening.MachineEvent.{MachineEvent};
-ghost use Rattle.bare370.specs.Goes.{IsWhole, addresses_of, as_said, disks_from, first_disk};
-ghost use Rattle.bare370.specs.Goes.{machine_goes, usual_places};
+ghost use Rattle.bare370.specs.Goes.{addresses_of, disks_from, first_disk, machine_goes};
+ghost use Rattle.bare370.specs.Goes.{usual_places};
 
-use bare_installation::{BARE, Bare, MachineEvent, printed_lines_do_not_matter};
+use bare_installation::{BARE, Bare, printed_lines_do_not_matter};
 use ckd_volume::{Arm, Sense, Unit, Volume};
 use machine_channels::AttachedDisk;
-use machine_devices::{AttachError, FileNote, Places, Reply, SeenDevices};
+use machine_devices::{AttachError, Event, FileNote, Places, Reply, SeenDevices};
 use machine_panel::Mode;
 use s370_num::DevAddr;
 use s370_store::PlainStorage;
 use s370_subchannels::Subchannel;
 use saved_bytes::Input;
-use session_script::ScriptEvent;
 use sessions::{Installation, Refused};
 use std::alloc::{AllocError, Global};
 use std::marker::Model;
-use unit_record::Card;
 use user_names::UserNo;
 
 /// The address of the console.
@@ -155,22 +150,22 @@ impl Installation for OneMachine {
         self.machine.files().get(place).copied()
     }
 
-    /// Applies an event of a script to the machine, and returns the reply.
-    fn apply_event(&mut self, alloc: Global, event: &ScriptEvent<'_>) -> Result<Reply, Refused> {
-        match event {
-            ScriptEvent::Deck(_, cards) => {
-                let Ok(cards) = cards.to_vec(alloc) else {
-                    return Err(Refused::Memory);
-                };
-                give(alloc, &mut self.machine, &cards)
-            }
-            _ => ask(alloc, &mut self.machine, event),
+    /// Applies an event to the machine, and returns the reply.
+    fn apply_event(&mut self, alloc: Global, event: &Event<'_>) -> Result<Reply, Refused> {
+        match self.machine.apply(alloc, event) {
+            Ok(reply) => Ok(reply),
+            Err(_) => Err(Refused::Memory),
         }
     }
 
     /// Drops the lines that the console has printed.
     fn forget_printed(&mut self) {
         self.machine.forget_printed();
+    }
+
+    /// Drops the entries of the closed files that have a number but of the first `since`.
+    fn forget_files(&mut self, since: usize) {
+        self.machine.forget_files(since);
     }
 
     /// Returns false and appends nothing: a machine of its own has no states.
@@ -209,68 +204,6 @@ fn has_address(addresses: &[u16], address: u16) -> bool
     ensures { result ≡ list_any (λ device. device == address) addresses.now }
 {
     addresses.iter().any(|device| *device == address)
-}
-
-/// Gives the reader a deck of these cards of the operator, and returns the reply.
-fn give(alloc: Global, machine: &mut Bare, cards: &[Card]) -> Result<Reply, Refused>
-    ensures ok { IfOk result (λ reply. (event : MachineEvent) × (as_said event ≡ Deck 0 cards.now)
-        × IsApplied machine.old event reply machine.new) }
-    ensures err { IfErr result
-        (λ error. (error ≡ Refused.Memory) × (event : MachineEvent)
-        × (as_said event ≡ Deck 0 cards.now)
-        × MayLackMemory machine.old event) }
-{
-    // The kit proves a function through which a happening goes only where it names the address of a
-    // device.
-    let _device = DevAddr::new(0);
-    match machine.apply(alloc, deck(cards)) {
-        Ok(reply) => Ok(reply),
-        Err(_) => Err(Refused::Memory),
-    }
-}
-
-/// Returns the machine's event by which the operator gives these cards.
-fn deck<'a>(cards: &'a [Card]) -> MachineEvent<'a>
-    ensures { as_said result ≡ Deck 0 cards.now }
-{
-    MachineEvent::Deck(cards)
-}
-
-/// Applies an event of a script that is no deck to the machine, and returns the reply.
-fn ask(alloc: Global, machine: &mut Bare, event: &ScriptEvent<'_>) -> Result<Reply, Refused>
-    requires user { IfSome (user_of_event event.now) (λ user. user < 1) }
-    requires event { IsWhole event.now }
-    ensures ok { IfOk result
-        (λ reply. (happening : MachineEvent) × (as_said happening ≡ said event.now)
-        × IsApplied machine.old happening reply machine.new) }
-    ensures err { IfErr result
-        (λ error. (error ≡ Refused.Memory) × (happening : MachineEvent)
-        × (as_said happening ≡ said event.now)
-        × MayLackMemory machine.old happening) }
-{
-    // The kit proves a function through which a happening goes only where it names the address of a
-    // device.
-    let _device = DevAddr::new(0);
-    match machine.apply(alloc, happening(event)) {
-        Ok(reply) => Ok(reply),
-        Err(_) => Err(Refused::Memory),
-    }
-}
-
-/// Returns the machine's event for an event of a script; it must be neither a deck nor one of
-/// turns.
-fn happening<'a>(event: &ScriptEvent<'a>) -> MachineEvent<'a>
-    requires user { IfSome (user_of_event event.now) (λ user. user < 1) }
-    requires event { IsWhole event.now }
-    ensures { as_said result ≡ said event.now }
-{
-    match *event {
-        ScriptEvent::Run(_, units) => MachineEvent::Run(units),
-        ScriptEvent::Line(_, typed) => MachineEvent::Line(typed),
-        ScriptEvent::Tick(_) => MachineEvent::Tick,
-        ScriptEvent::Serve(_, device) => MachineEvent::Serve(DevAddr::new(device)),
-        ScriptEvent::Deck(_, _) | ScriptEvent::Auto(_) => unreachable!(),
-    }
 }
 
 /// Returns a machine that is off, with this many blocks of 2048 bytes, console, reader, punch and

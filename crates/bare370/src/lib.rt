@@ -18,7 +18,7 @@
 //!     Part::Done(follower) => follower,
 //!     Part::Refused(_, line) => return Err(line)?,
 //! };
-//! let machine = follower.close(alloc, &mut transcript)?;
+//! let machine = follower.close(&mut transcript)?;
 //! assert_eq!(rt; transcript.as_slice(), b"BARE: LOGON OK\nBARE: STORED\n".as_slice());
 //! assert_eq!(rt; machine.machine().storage()[0x100], 0x0A);
 //! ```

@@ -16,8 +16,8 @@ use Rattle.machine_devices.specs.Coming.{comes_by_line, comes_from_operator, com
 use Rattle.machine_devices.specs.Equipped.{Equipped}
 use Rattle.machine_devices.specs.Life.{Event as Local, Units, Serve as Serves, Line as Types, Tick as Ticks}
 use Rattle.machine_devices.specs.Life.{Deck as Gets, Leaves, Lives}
-use Rattle.bare_installation.specs.declared.happening.MachineEvent.{MachineEvent}
-use Rattle.bare_installation.specs.declared.happening.MachineEvent.TheVariants as happenings
+use Rattle.machine_devices.specs.declared.event.Event.{Event}
+use Rattle.machine_devices.specs.declared.event.Event.TheVariants as events
 use Rattle.bare_installation.specs.Bare.{Bare, IsTyped, world_of}
 use Rattle.bare_installation.specs.Life.{AttentionAgreesThroughout, EachIsLife, IsDone, IsAnswer, IsGiven, IsRun}
 use Rattle.bare_installation.specs.Life.{IsService, IsTicked, coming, happens, own}
@@ -63,34 +63,34 @@ paged_in index (Some d) a b h =
 
 -- ---- one event
 
-abbrev Once : Bare → MachineEvent → Reply → Bare → Type 0
+abbrev Once : Bare → Event → Reply → Bare → Type 0
 Once old event reply new =
     Lives as_reached (happens old event ++ coming_of (coming old event new) reply.delivered) old.equipped new.equipped
 
-run_once : (count : ℕ) (old new : Bare) (reply : Reply) (ended : Ended) → IsRun count old reply ended new
-    → Once old (happenings.Run count) reply new
-run_once count old new reply (Ran ran) h =
+run_once : (user count : ℕ) (old new : Bare) (reply : Reply) (ended : Ended) → IsRun count old reply ended new
+    → Once old (events.Run user count) reply new
+run_once user count old new reply (Ran ran) h =
     alone (Units count) (comes_from_operator []) reply.delivered old.equipped new.equipped h.5
     (sym (ap (λ (r : MachineRun). r.machine) h.0), h.1, h.2)
-run_once count old new reply (Served done) h = absurd h
-run_once count old new reply Done h = absurd h
-run_once count old new reply FramesOut h = absurd h
+run_once user count old new reply (Served done) h = absurd h
+run_once user count old new reply Done h = absurd h
+run_once user count old new reply FramesOut h = absurd h
 
-serve_once : (device : ℕ) (old new : Bare) (reply : Reply) (ended : Ended) → IsService device old reply ended new
-    → Once old (happenings.Serve device) reply new
-serve_once device old new reply (Served done) h =
+serve_once : (user device : ℕ) (old new : Bare) (reply : Reply) (ended : Ended) → IsService device old reply ended new
+    → Once old (events.Serve user device) reply new
+serve_once user device old new reply (Served done) h =
     alone (Serves device) (comes_from_operator []) reply.delivered old.equipped new.equipped h.3 (done, h.0)
-serve_once device old new reply (Ran ran) h = absurd h
-serve_once device old new reply Done h = absurd h
-serve_once device old new reply FramesOut h = absurd h
+serve_once user device old new reply (Ran ran) h = absurd h
+serve_once user device old new reply Done h = absurd h
+serve_once user device old new reply FramesOut h = absurd h
 
-tick_once : (old new : Bare) (reply : Reply) (ended : Ended) → IsTicked old reply ended new
-    → Once old happenings.Tick reply new
-tick_once old new reply Done h =
+tick_once : (user : ℕ) (old new : Bare) (reply : Reply) (ended : Ended) → IsTicked old reply ended new
+    → Once old (events.Tick user) reply new
+tick_once user old new reply Done h =
     alone Ticks (comes_from_operator []) reply.delivered old.equipped new.equipped h.5 (h.0, h.1, h.2)
-tick_once old new reply (Ran ran) h = absurd h
-tick_once old new reply (Served done) h = absurd h
-tick_once old new reply FramesOut h = absurd h
+tick_once user old new reply (Ran ran) h = absurd h
+tick_once user old new reply (Served done) h = absurd h
+tick_once user old new reply FramesOut h = absurd h
 
 line_lives : (typed : List ℕ) (old new : Bare) (reply : Reply) → IsTyped typed old reply new
     → Lives as_reached (Types (world_of old) typed ∷ []
@@ -124,12 +124,12 @@ deck_once cards old new reply (Ran ran) h = absurd h
 deck_once cards old new reply (Served done) h = absurd h
 deck_once cards old new reply FramesOut h = absurd h
 
-once : (old new : Bare) (event : MachineEvent) (reply : Reply) → IsDone old event reply new → Once old event reply new
-once old new (happenings.Run count) reply h = run_once count old new reply reply.ended h
-once old new (happenings.Line typed) reply h = line_once typed.now old new reply reply.ended h
-once old new (happenings.Serve device) reply h = serve_once device old new reply reply.ended h
-once old new happenings.Tick reply h = tick_once old new reply reply.ended h
-once old new (happenings.Deck cards) reply h = deck_once cards.now old new reply reply.ended h
+once : (old new : Bare) (event : Event) (reply : Reply) → IsDone old event reply new → Once old event reply new
+once old new (events.Run user count) reply h = run_once user count old new reply reply.ended h
+once old new (events.Line user typed) reply h = line_once typed.now old new reply reply.ended h
+once old new (events.Serve user device) reply h = serve_once user device old new reply reply.ended h
+once old new (events.Tick user) reply h = tick_once user old new reply reply.ended h
+once old new (events.Deck user cards) reply h = deck_once cards.now old new reply reply.ended h
 
 -- Each event is a step of the machine's life.
 pub each : EachIsLife

@@ -19,8 +19,8 @@ use Rattle.machine_devices.specs.Notes.{next_file}
 use Rattle.machine_devices.specs.Replies.{given, saying}
 use Rattle.machine_devices.specs.Serve.{IsServedAt}
 use Rattle.machine_devices.specs.Stopped.{StopsAt}
-use Rattle.bare_installation.specs.declared.happening.MachineEvent.{MachineEvent}
-use Rattle.bare_installation.specs.declared.happening.MachineEvent.TheVariants as happenings
+use Rattle.machine_devices.specs.declared.event.Event.{Event}
+use Rattle.machine_devices.specs.declared.event.Event.TheVariants as events
 use Rattle.bare_installation.specs.Bare.{Bare, IsTyped, with_deck, world_of}
 
 -- ---- what an event leaves, and what is reported
@@ -73,15 +73,15 @@ IsGiven cards old reply Done new =
 IsGiven cards old reply other new = ⊥
 
 -- each event ends in its own way
-abbrev pub IsDone : Bare → MachineEvent → Reply → Bare → Type 0
-IsDone old (happenings.Run count) reply new = IsRun count old reply reply.ended new
-IsDone old (happenings.Line typed) reply new = IsAnswer typed.now old reply reply.ended new
-IsDone old (happenings.Serve device) reply new = IsService device old reply reply.ended new
-IsDone old happenings.Tick reply new = IsTicked old reply reply.ended new
-IsDone old (happenings.Deck cards) reply new = IsGiven cards.now old reply reply.ended new
+abbrev pub IsDone : Bare → Event → Reply → Bare → Type 0
+IsDone old (events.Run user count) reply new = IsRun count old reply reply.ended new
+IsDone old (events.Line user typed) reply new = IsAnswer typed.now old reply reply.ended new
+IsDone old (events.Serve user device) reply new = IsService device old reply reply.ended new
+IsDone old (events.Tick user) reply new = IsTicked old reply reply.ended new
+IsDone old (events.Deck user cards) reply new = IsGiven cards.now old reply reply.ended new
 
 -- and the reply says how many lines have joined the console
-pub record IsApplied (old : Bare) (event : MachineEvent) (reply : Reply) (new : Bare) : Type 0 where
+pub record IsApplied (old : Bare) (event : Event) (reply : Reply) (new : Bare) : Type 0 where
   pub does : IsDone old event reply new
   pub lines : reply.lines ≡ length new.equipped.machine.output - length old.equipped.machine.output
 
@@ -94,19 +94,19 @@ LacksMemory device old = StopsAt as_reached (λ page. true) device old.equipped 
 
 -- a run and a tick take no memory; a line takes some only where one to a machine with devices may,
 -- and cards where there are any
-abbrev pub MayLackMemory : Bare → MachineEvent → Type 0
-MayLackMemory old (happenings.Run count) = ⊥
-MayLackMemory old (happenings.Line typed) =
+abbrev pub MayLackMemory : Bare → Event → Type 0
+MayLackMemory old (events.Run user count) = ⊥
+MayLackMemory old (events.Line user typed) =
     LineMay (world_of old) typed.now old.equipped
-MayLackMemory old (happenings.Serve device) = LacksMemory device old
-MayLackMemory old happenings.Tick = ⊥
-MayLackMemory old (happenings.Deck cards) = 0 < length cards.now
+MayLackMemory old (events.Serve user device) = LacksMemory device old
+MayLackMemory old (events.Tick user) = ⊥
+MayLackMemory old (events.Deck user cards) = 0 < length cards.now
 
 -- ---- one event after another
 
 -- an event, its reply, and the machine that it leaves
 pub record Step : Type 0 where
-  pub event : MachineEvent
+  pub event : Event
   pub reply : Reply
   pub left : Bare
 
@@ -120,21 +120,21 @@ IsHistory first (step ∷ steps) last = IsApplied first step.event step.reply st
 -- user by it
 
 -- of a deck only that it comes
-abbrev pub happens : Bare → MachineEvent → List Local
-happens old (happenings.Run count) = Units count ∷ []
-happens old (happenings.Line typed) = Types (world_of old) typed.now ∷ []
-happens old (happenings.Serve device) = Serves device ∷ []
-happens old happenings.Tick = Ticks ∷ []
-happens old (happenings.Deck cards) = []
+abbrev pub happens : Bare → Event → List Local
+happens old (events.Run user count) = Units count ∷ []
+happens old (events.Line user typed) = Types (world_of old) typed.now ∷ []
+happens old (events.Serve user device) = Serves device ∷ []
+happens old (events.Tick user) = Ticks ∷ []
+happens old (events.Deck user cards) = []
 
 -- the file that the punch closed is the first after those of before
-abbrev pub coming : Bare → MachineEvent → Bare → Delivery → Local
-coming old (happenings.Line typed) left =
+abbrev pub coming : Bare → Event → Bare → Delivery → Local
+coming old (events.Line user typed) left =
     comes_by_line 0 (length old.equipped.devices.punched) left.equipped
-coming old (happenings.Deck cards) left = comes_from_operator cards.now
-coming old (happenings.Run count) left = comes_from_operator []
-coming old (happenings.Serve device) left = comes_from_operator []
-coming old happenings.Tick left = comes_from_operator []
+coming old (events.Deck user cards) left = comes_from_operator cards.now
+coming old (events.Run user count) left = comes_from_operator []
+coming old (events.Serve user device) left = comes_from_operator []
+coming old (events.Tick user) left = comes_from_operator []
 
 -- the events of the machine itself, in order
 abbrev pub own : Bare → List Step → List Local

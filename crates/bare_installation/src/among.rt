@@ -14,8 +14,8 @@ use std::alloc::{AllocError, Global};
 use unit_record::{Card, Sender};
 
 impl Bare {
-    /// Does what a line asks that is typed in this world of users, and returns its outcome; what it
-    /// sends is delivered to nobody, and a file that it closes gets no number.
+    /// Does what a typed line asks, with the users that `world` names, and returns its outcome;
+    /// what it sends is delivered to nobody, and a file that it closes gets no number.
     ///
     /// Both are for whoever knows the other users. If memory is refused, nothing is said of the
     /// machine.

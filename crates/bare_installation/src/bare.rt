@@ -21,12 +21,11 @@ ghost use Rattle.bare_installation.specs.Bare.{with_deck};
 ghost use Rattle.bare_installation.specs.Life.{AttentionAgreesThroughout, EachIsLife, IsApplied};
 ghost use Rattle.bare_installation.specs.Life.{LacksMemory, MayLackMemory};
 
-use crate::happening::MachineEvent;
 use cp_console::responses::Response;
 use cp_spool::Queues;
 use machine_channels::{AttachedDisk, DedicatedChannels};
 use machine_devices::{
-    AttachError, Delivered, Delivery, Devices, Ended, FileKind, FileNote, Places, Reply,
+    AttachError, Delivered, Delivery, Devices, Ended, Event, FileKind, FileNote, Places, Reply,
     SeenDevices, UserResponse, copy_of,
 };
 use machine_panel::{Machine, MachineRan, Mode};
@@ -170,19 +169,19 @@ impl Bare {
         ))
     }
 
-    /// Applies an event to the machine, and returns the reply. If memory is refused, nothing is
-    /// said of the machine.
+    /// Applies an event to the machine, whichever user it names, and returns the reply. If memory
+    /// is refused, nothing is said of the machine.
     ///
     /// # Errors
     ///
     /// `AllocError` if memory is refused; what this is then is not specified.
-    pub fn apply(&mut self, alloc: Global, event: MachineEvent<'_>) -> Result<Reply, AllocError>
-        ensures applied { IfOk result (λ reply. IsApplied self.old event.entry reply self.new) }
-        ensures memory { OnErr result (MayLackMemory self.old event.entry) }
+    pub fn apply(&mut self, alloc: Global, event: &Event<'_>) -> Result<Reply, AllocError>
+        ensures applied { IfOk result (λ reply. IsApplied self.old event.now reply self.new) }
+        ensures memory { OnErr result (MayLackMemory self.old event.now) }
     {
         let printed = self.printed();
-        match event {
-            MachineEvent::Run(count) => {
+        match *event {
+            Event::Run(_, count) => {
                 let reported = self.units(count);
                 Ok(self.reply(
                     printed,
@@ -190,16 +189,16 @@ impl Bare {
                     UserResponse::of(reported.notice),
                 ))
             }
-            MachineEvent::Line(typed) => self.line(alloc, typed),
-            MachineEvent::Serve(device) => match self.serve(device) {
+            Event::Line(_, typed) => self.line(alloc, typed),
+            Event::Serve(_, device) => match self.serve(device) {
                 Ok(done) => Ok(self.reply(printed, Ended::Served(done), UserResponse::Nothing)),
                 Err(error) => Err(error),
             },
-            MachineEvent::Tick => {
+            Event::Tick(_) => {
                 self.tick();
                 Ok(self.reply(printed, Ended::Done, UserResponse::Nothing))
             }
-            MachineEvent::Deck(cards) => self.give(alloc, cards),
+            Event::Deck(_, cards) => self.give(alloc, cards),
         }
     }
 

@@ -1,8 +1,10 @@
-//! A single machine that forgets the lines that its console has printed.
+//! A single machine that forgets the lines that its console has printed, and the entries of closed
+//! files.
 ghost use Rattle.std.specs.Prelude.{◌≡◌};
-ghost use Rattle.bare_installation.specs.Forgotten.{PrintedLinesDoNotMatter, forgotten};
+ghost use Rattle.bare_installation.specs.Forgotten.{EventsGoOn, GoesOnAs, forgotten};
 
 use crate::bare::Bare;
+use machine_devices::{FileKind, FileNote};
 
 impl Bare {
     /// Drops the lines that the console has printed, and gives back their memory.
@@ -11,10 +13,35 @@ impl Bare {
     {
         self.machine.forget_lines();
     }
+
+    /// Drops the entries of all files that have a number but of the first `since`, and gives back
+    /// their memory; what follows goes on as with them.
+    ///
+    /// A file that the reader still has as a deck keeps its entries.
+    pub fn forget_files(&mut self, since: usize)
+        ensures { GoesOnAs self.old self.new }
+    {
+        for place in since..self.files.len() {
+            if let Some(note) = self.files.get(place).copied() {
+                self.forget_file(note);
+            }
+        }
+    }
+
+    /// Drops the entries of the file of this note.
+    fn forget_file(&mut self, note: FileNote)
+        ensures { GoesOnAs self.old self.new }
+    {
+        match note.kind {
+            FileKind::Punch(place) => self.queues.forget_punched(note.user, place),
+            FileKind::Printer(place) => self.queues.forget_printed(note.user, place),
+            FileKind::Deck => {}
+        }
+    }
 }
 
-/// States that lines that were printed before do not matter: an event leaves the same of a machine
-/// without them.
+/// States that lines that were printed before, and entries of closed files, do not matter: an event
+/// leaves the same of a machine without them.
 pub fn printed_lines_do_not_matter()
-    ensures { PrintedLinesDoNotMatter }
+    ensures { EventsGoOn }
 {}

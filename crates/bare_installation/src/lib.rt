@@ -27,10 +27,8 @@ mod alone;
 mod among;
 mod bare;
 mod forgetting;
-mod happening;
 mod line;
 
 pub use alone::BARE;
 pub use bare::{Bare, attention_agrees_throughout, each_is_life};
 pub use forgetting::printed_lines_do_not_matter;
-pub use happening::MachineEvent;

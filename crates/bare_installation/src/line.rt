@@ -57,7 +57,7 @@ impl Bare {
         })
     }
 
-    /// Returns the world of the machine's only user: whether he is logged on.
+    /// Returns the list of the machine's only user, and whether he is logged on.
     fn world(&self) -> Alone
         ensures { alone result.on ≡ world_of self.now }
     {
@@ -66,8 +66,8 @@ impl Bare {
         }
     }
 
-    /// Does what a line asks that is typed in this world of users, and returns its outcome; files
-    /// are not numbered and nothing is delivered yet.
+    /// Does what a typed line asks, with the users that `world` names, and returns its outcome;
+    /// files are not numbered and nothing is delivered yet.
     ///
     /// If memory is refused, nothing is said of the machine.
     pub(crate) fn answer<W: UserDirectory>(
@@ -133,16 +133,16 @@ impl Bare {
         ensures memory { OnErr result (HasClosed closed) }
     {
         if let Some(place) = closed.punched {
-            self.note(FileKind::Punch(place))?;
+            self.number_file(FileKind::Punch(place))?;
         }
         if let Some(place) = closed.printed {
-            self.note(FileKind::Printer(place))?;
+            self.number_file(FileKind::Printer(place))?;
         }
         Ok(())
     }
 
     /// Appends a file of this kind to the list of files, by which it has the next number.
-    fn note(&mut self, kind: FileKind) -> Result<(), AllocError>
+    fn number_file(&mut self, kind: FileKind) -> Result<(), AllocError>
         ensures { OnOk result (self.new ≡ record self.old {
           files = self.old.files ++ record { user = 0; kind = kind } ∷ [];
         }) }
@@ -175,9 +175,8 @@ impl Bare {
         }))
     }
 
-    /// Appends the punch's closed file at this place to the reader's queue, as a deck with this
-    /// number, if it is for the machine's own user; returns what was delivered. The punch keeps it
-    /// too.
+    /// Appends the punch's closed file at this place, which the punch keeps, to the reader's queue,
+    /// as a deck with this number, if it is for the machine's own user; returns what was delivered.
     fn deliver_punched(
         &mut self,
         place: Option<usize>,

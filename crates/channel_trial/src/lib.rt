@@ -126,7 +126,7 @@ impl Storage for TrialStorage {
     }
 
     /// Returns a fault if size or keys forbid an access, or if the page of its first or last byte
-    /// was not touched: it counts as absent.
+    /// was not touched, and so counts as absent; an access to no byte passes.
     fn check(&self, range: Range, access: Access, key: AccessKey) -> Result<(), Fault> {
         let keys = KeySlice { keys: &self.keys };
         test_range(self.bytes.len() as u32, &keys, range, access, key)?;

@@ -16,10 +16,8 @@ use unit_record::{Console, Printer, Punch};
 
 /// A device of which a program can be tried: it stays as it is.
 pub trait DryRun: Device {
-    /// Runs the program with this start on a copy of storage, no page of which was touched, and
-    /// leaves the device as it is.
-    ///
-    /// The copy then has the bytes and the touched pages that a run leaves.
+    /// Runs the program with this start on `copy`, of which no page was touched; the device stays,
+    /// and only the bytes and touched pages of `copy` tell what a run leaves.
     ///
     /// # Errors
     ///

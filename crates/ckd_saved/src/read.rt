@@ -68,7 +68,7 @@ fn take_cylinder(volume: &mut Volume, cylinder: usize, input: &mut Input<'_>) ->
 /// Reads a volume from the input; returns None if it is malformed, or if memory is refused.
 pub fn volume_of(alloc: Global, input: &mut Input<'_>) -> Option<Volume> {
     let volser = volser_of(input)?;
-    let count = input.half()?;
+    let count = input.next_u16()?;
     let mut volume = Volume::blank(alloc, volser, count).ok()?;
     for cylinder in 0..usize::from(count) {
         if !input.flag()? {

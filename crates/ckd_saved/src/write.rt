@@ -19,7 +19,7 @@ fn put_record(out: &mut Vec<u8>, id: &[u8], key: &[u8], content: &[u8]) -> Resul
     put_bytes(out, content)
 }
 
-/// Appends the records of a track, in order.
+/// Appends the records of a track to `out`, in order, each after a byte of 1, and then a byte of 0.
 fn put_records(out: &mut Vec<u8>, track: &Track) -> Result<(), AllocError>
     ensures { OnOk result (out.new.items ≡ out.old.items ++ each record_bytes track.now.records) }
 {
@@ -39,7 +39,8 @@ fn put_track(out: &mut Vec<u8>, track: &Track) -> Result<(), AllocError>
     put_records(out, track)
 }
 
-/// Appends the tracks of a cylinder, in order.
+/// Appends the tracks of a cylinder to `out`, in order, each after a byte of 1, and then a byte of
+/// 0.
 fn put_cylinder(out: &mut Vec<u8>, cylinder: &Cylinder) -> Result<(), AllocError>
     ensures { OnOk result (out.new.items ≡ out.old.items ++ cylinder_bytes cylinder.now) }
 {
@@ -50,7 +51,8 @@ fn put_cylinder(out: &mut Vec<u8>, cylinder: &Cylinder) -> Result<(), AllocError
     put_zero(out)
 }
 
-/// Appends the cylinders of a volume, in order.
+/// Appends the cylinders of a volume to `out`, in order, each after a byte of 1, and then a byte of
+/// 0.
 fn put_cylinders(out: &mut Vec<u8>, volume: &Volume) -> Result<(), AllocError>
     ensures { OnOk result (out.new.items ≡ out.old.items
         ++ each cylinder_bytes volume.now.cylinders) }
@@ -76,7 +78,7 @@ pub fn put_volume(out: &mut Vec<u8>, volume: &Volume) -> Result<(), AllocError>
     put_cylinders(out, volume)
 }
 
-/// States that no two volumes have the same bytes.
+/// States that no two volumes are saved as the same bytes.
 pub fn one_by_saved()
     ensures { IsOneBySaved }
 {}

@@ -70,7 +70,8 @@ impl From<AllocError> for ToolFailure {
     }
 }
 
-/// Returns, in a new string without a line end, the line that a program prints for a failure.
+/// Returns, in a new string without a line end, the line of a failure, which a program prints
+/// unless it is a usage error.
 ///
 /// It is `fault:`, what failed, the name of the refusal and its numbers.
 ///

@@ -9,8 +9,8 @@ use hex::FromHexError;
 use std::alloc::{AllocError, Global};
 use text_words::numbers::{digit_value, is_digit};
 
-/// Returns the serial number that one to six letters and digits spell, with blanks at its end, or
-/// `None`.
+/// Returns the serial number that one to six upper-case letters and digits spell, with blanks at
+/// its end, or `None` if the word is anything else.
 pub fn serial_of(word: &[u8]) -> Option<[u8; 6]>
     ensures { result ≡ serial_of word.now }
 {
@@ -39,8 +39,8 @@ fn is_letter_or_digit(c: u8) -> bool
     b'A' <= c && c <= b'Z' || is_digit(c)
 }
 
-/// Returns the five bytes that ten hexadecimal digits spell, or `None` if the word is anything
-/// else.
+/// Returns the five bytes that ten hexadecimal digits, with letters in upper case, spell, or `None`
+/// if the word is anything else.
 pub fn five_of(word: &[u8]) -> Option<[u8; 5]>
     ensures { result ≡ five_of word.now }
 {
@@ -54,8 +54,8 @@ pub fn five_of(word: &[u8]) -> Option<[u8; 5]>
     }
 }
 
-/// Returns, in a new vector, the bytes that pairs of hexadecimal digits spell, or none for `-`;
-/// `None` if the word is anything else.
+/// Returns, in a new vector, the bytes that pairs of hexadecimal digits, with letters in upper
+/// case, spell, or none for `-`; `None` if the word is anything else.
 ///
 /// # Errors
 ///
@@ -72,8 +72,8 @@ pub fn bytes_of(alloc: Global, word: &[u8]) -> Result<Option<Vec<u8>>, AllocErro
     spelled_of(alloc, word)
 }
 
-/// Returns, in a new vector, the bytes that pairs of hexadecimal digits spell, or `None` if the
-/// word is anything else.
+/// Returns, in a new vector, the bytes that pairs of hexadecimal digits, with letters in upper
+/// case, spell, or `None` if the word is anything else.
 fn spelled_of(alloc: Global, word: &[u8]) -> Result<Option<Vec<u8>>, AllocError>
     ensures { IfOk result (λ found. option_map (λ bytes. bytes.items) found ≡ spelled_of word.now) }
 {

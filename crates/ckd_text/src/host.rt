@@ -30,8 +30,8 @@ impl Termination for ToolEnd {
     }
 }
 
-/// Returns the end of a program, and prints the line of its failure, if there is one, on standard
-/// error.
+/// Returns the end of a program, and prints the line of its failure on standard error, if it has
+/// one other than a usage error.
 ///
 /// If there is no memory for that line, the failure is `Memory`.
 pub(crate) fn ended_of<R: AllocGlobal + Eprint>(rt: &R, ended: Result<(), ToolFailure>) -> ToolEnd
@@ -45,8 +45,8 @@ pub(crate) fn ended_of<R: AllocGlobal + Eprint>(rt: &R, ended: Result<(), ToolFa
     }
 }
 
-/// Prints the line of a failure on standard error and returns the failure, or `Memory` if there is
-/// no memory for the line.
+/// Prints the line of a failure on standard error, but none for a usage error, and returns the
+/// failure, or `Memory` if there is no memory for the line.
 ///
 /// A usage error prints nothing here: a longer text has been printed for it.
 fn tell<R: AllocGlobal + Eprint>(rt: &R, failure: ToolFailure) -> ToolFailure

@@ -162,7 +162,7 @@ impl ControlUnit {
 
     /// Returns the index that a command goes to, of this track or for a multitrack code of the next
     /// head's, or that it is lost.
-    pub(crate) fn to_index(&self, code: u8) -> Found
+    pub(crate) fn find_index(&self, code: u8) -> Found
         ensures found { result ≡ orientation.to_index code self.now self.now.place }
         ensures head { front.head_of result < 19 }
     {

@@ -100,7 +100,8 @@ impl ControlUnit {
     }
 
     /// Begins Read Key and Data (0E): moves past the record that was found and gives both, or
-    /// refuses the command if it is lost or has neither.
+    /// refuses the command if it is lost or has neither; if only the data are empty, it ends with
+    /// unit exception.
     pub(crate) fn read_key_data(&mut self, cylinder: &Cylinder, found: Found) -> Answer
         requires empty { self.old.bytes ≡ [] }
         requires there { IsIn cylinder.now found }
@@ -120,7 +121,8 @@ impl ControlUnit {
     }
 
     /// Begins Read Count, Key and Data (1E): moves past the record that was found and gives all
-    /// three, or refuses the command if it is lost.
+    /// three, or refuses the command if it is lost; if the data are empty, it ends with unit
+    /// exception.
     #[tactic(auto, using(crate::proofs::Ends::append_all))]
     pub(crate) fn read_count_key_data(&mut self, cylinder: &Cylinder, found: Found) -> Answer
         requires empty { self.old.bytes ≡ [] }

@@ -47,7 +47,7 @@ impl ControlUnit {
 
     /// Returns how many bytes a Write Count, Key and Data still needs: of its first eight, and then
     /// of those that they announce.
-    fn lacks(&self) -> u32
+    fn bytes_needed(&self) -> u32
         ensures { result ≡ lacks self.now.bytes }
     {
         let held = self.bytes.len() as u32;
@@ -64,7 +64,7 @@ impl ControlUnit {
         ensures { result ≡ ready self.now self.now.job }
     {
         match self.job {
-            PendingCommand::WriteRecord(_) => self.lacks(),
+            PendingCommand::WriteRecord(_) => self.bytes_needed(),
             _ => u32::MAX,
         }
     }

@@ -96,11 +96,11 @@ impl ControlUnit {
             0x07 => self.begin_seek(),
             0x1F => self.take_for(1, PendingCommand::SetMask),
             0x1A => {
-                let found = self.to_index(0x1A);
+                let found = self.find_index(0x1A);
                 self.home_read(cylinder, found)
             }
             0x39 | 0xB9 => {
-                let found = self.to_index(code);
+                let found = self.find_index(code);
                 self.home_searched(found)
             }
             0x31 | 0xB1 => {
@@ -166,7 +166,7 @@ impl ControlUnit {
     }
 
     /// Ends the pending command over this cylinder, on which a write then writes its bytes, and
-    /// returns the unit status.
+    /// returns the unit status; a seek, which needs the whole volume, fails with command reject.
     ///
     /// A Seek fails here.
     pub(crate) fn finish(&mut self, cylinder: &mut Cylinder) -> UnitStatus

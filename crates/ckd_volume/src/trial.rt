@@ -247,12 +247,13 @@ impl<'a> Device for UnitTrial<'a> {
         ))
     }
 
-    /// Returns whether the command wants no more bytes, though it has fewer than it said.
+    /// Returns whether the command is a Write Count, Key and Data that has all its bytes.
     fn is_done(&self) -> bool {
         self.panel.is_done()
     }
 
-    /// Returns the next byte that the command gives, or zero if none is left.
+    /// Returns the next byte that the command gives and moves on past it, or returns zero if none
+    /// is left.
     fn give(&mut self) -> u8 {
         self.panel.give()
     }

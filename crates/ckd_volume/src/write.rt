@@ -52,7 +52,7 @@ impl ControlUnit {
     }
 
     /// Begins Write Data (05) over record `i`: moves past it and takes as many bytes as its data
-    /// have, or refuses the command.
+    /// have, with unit exception if they have none; or refuses the command.
     ///
     /// It is refused on a read-only disk, if the mask or the right to write forbids it, without
     /// such a record, and for a record without data.
@@ -87,7 +87,7 @@ impl ControlUnit {
     }
 
     /// Begins Write Key and Data (0D) over record `i`: moves past it and takes as many bytes as
-    /// both have, or refuses the command.
+    /// both have, with unit exception if they have none; or refuses the command.
     ///
     /// It is refused on a read-only disk, if the mask or the right to write forbids it, without
     /// such a record, and for a record with neither.
@@ -164,7 +164,8 @@ impl ControlUnit {
     }
 
     /// Ends Write Key and Data (0D): overwrites both of record `i` with the bytes that it took, and
-    /// with zeros for missing ones; fails without such a record.
+    /// with zeros for missing ones; returns unit exception if the data are empty, and fails without
+    /// such a record.
     pub(crate) fn end_write_both(&mut self, cylinder: &mut Cylinder, i: usize) -> UnitStatus
         ensures status { result ≡
             (table.both_ended self.old (front.track_at cylinder.old self.old.head) i

@@ -24,7 +24,8 @@ use s370_store::{Page, Storage};
 use s370_walk::{Device, Ending};
 use std::alloc::{AllocError, Global};
 
-/// Adds the page of an address and its frame to a list, if the page is in a frame.
+/// Adds the page of an address, if one is given, and its frame to a list, if the page is whole in
+/// storage and in a frame.
 fn note_entry(dat: &Dat, said: Option<u32>, held: &mut Vec<PageInFrame>) -> Result<(), AllocError>
     ensures grows { OnOk result (Grows held.old.items held.new.items) }
     ensures noted { OnOk result (IsNoted dat.now held.new.items said) }
@@ -50,7 +51,8 @@ fn note_entry(dat: &Dat, said: Option<u32>, held: &mut Vec<PageInFrame>) -> Resu
     Ok(())
 }
 
-/// Adds the pages of these addresses and their frames to a list, of those that are in frames.
+/// Adds to a list the pages of these addresses that are whole in storage and in frames, each with
+/// its frame.
 fn note_list(dat: &Dat, list: &[Option<u32>], held: &mut Vec<PageInFrame>) -> Result<(), AllocError>
     ensures grows { OnOk result (Grows held.old.items held.new.items) }
     ensures noted { OnOk result (All (IsNoted dat.now held.new.items) list.now) }

@@ -36,7 +36,8 @@ fn real_address(dat: &Dat, address: u32) -> Option<u32>
     Some(frame.0 as u32 * 4096 + address % 4096)
 }
 
-/// Returns the real address of a user's address, if there is one and its page is in a frame.
+/// Returns the real address of a user's address, if there is one and its page is whole in his
+/// storage and in a frame.
 fn real_entry(dat: &Dat, said: Option<u32>) -> Option<u32>
     ensures { result ≡ real_place (real_in dat.now) said }
 {
@@ -46,7 +47,8 @@ fn real_entry(dat: &Dat, said: Option<u32>) -> Option<u32>
     }
 }
 
-/// Replaces each address in a list by its real address, or by None if its page is in no frame.
+/// Replaces each address in a list by its real address, or by None if its page is in no frame or
+/// not whole in storage.
 fn list_to_real(dat: &Dat, list: &mut Vec<Option<u32>>)
     ensures { AreReal (real_in dat.now) (length list.old.items) list.old.items list.new.items }
 {
@@ -58,7 +60,7 @@ fn list_to_real(dat: &Dat, list: &mut Vec<Option<u32>>)
 }
 
 /// Replaces each address in the lists of these words by its real address, or by None if its page is
-/// in no frame.
+/// in no frame or not whole in storage.
 pub(crate) fn nodes_to_real(dat: &Dat, nodes: &mut Vec<Node>)
     ensures { AreRealNodes (real_in dat.now) nodes.old.items nodes.new.items }
 {

@@ -160,7 +160,8 @@ fn read_display(operands: &[u8]) -> Result<Command<'_>, CommandError>
     ended(2, Command::Display(place), rest)
 }
 
-/// Returns the command `STORE` of an item and its new contents, or its first bad operand.
+/// Returns the command `STORE` of an item and its new contents, or its first bad operand, such as a
+/// control register or a key.
 ///
 /// Control registers and keys cannot be stored.
 fn read_store(operands: &[u8]) -> Result<Command<'_>, CommandError>

@@ -66,16 +66,16 @@ impl StoredBytes {
     }
 }
 
-/// Returns the storage address that 1 to 6 hexadecimal digits spell, or `None` if the word is
-/// anything else.
+/// Returns the storage address that 1 to 6 hexadecimal digits, with letters in upper case, spell,
+/// or `None` if the word is anything else.
 pub fn address_of(word: &[u8]) -> Option<Addr24>
     ensures { result ≡ address_of word.now }
 {
     Addr24::new(hexadecimal_of(1, 6, word)?)
 }
 
-/// Returns the word of 32 bits that 8 hexadecimal digits spell, or `None` if `word` is anything
-/// else.
+/// Returns the word of 32 bits that 8 hexadecimal digits, with letters in upper case, spell, or
+/// `None` if `word` is anything else.
 pub fn contents_of(word: &[u8]) -> Option<Word>
     ensures { result ≡ contents_of word.now }
 {
@@ -94,8 +94,8 @@ pub fn register_of(word: &[u8]) -> Option<Register>
     }
 }
 
-/// Returns the device address that three hexadecimal digits spell, or `None` if the word is
-/// anything else.
+/// Returns the device address that three hexadecimal digits, with letters in upper case, spell, or
+/// `None` if the word is anything else.
 pub fn device_of(word: &[u8]) -> Option<DevAddr>
     ensures { result ≡ device_of word.now }
 {
@@ -131,8 +131,8 @@ fn with_digit(number: u64, digit: u8) -> Option<u64>
     number.checked_mul(10)?.checked_add(u64::from(digit - b'0'))
 }
 
-/// Returns the bytes that pairs of hexadecimal digits spell, at most sixteen, or `None` if a digit
-/// is bad or has no pair.
+/// Returns the bytes, at most sixteen, that pairs of hexadecimal digits, with letters in upper
+/// case, spell, or `None` if a digit is bad or has no pair.
 fn bytes_spelled(word: &[u8]) -> Option<StoredBytes>
     requires { length word.now ≤ 32 }
     ensures { result ≡ bytes_spelled word.now }
@@ -157,8 +157,8 @@ fn cut_pair(digits: &[u8]) -> Option<(u8, u8, &[u8])>
     }
 }
 
-/// Returns the 1 to 16 bytes that pairs of hexadecimal digits spell, or `None` if the word is
-/// anything else.
+/// Returns the 1 to 16 bytes that pairs of hexadecimal digits, with letters in upper case, spell,
+/// or `None` if the word is anything else.
 pub fn bytes_of(word: &[u8]) -> Option<StoredBytes>
     ensures { result ≡ bytes_of word.now }
 {
@@ -168,7 +168,8 @@ pub fn bytes_of(word: &[u8]) -> Option<StoredBytes>
     bytes_spelled(word)
 }
 
-/// Returns the byte that two hexadecimal digits spell, or `None` if one is no such digit.
+/// Returns the byte that two hexadecimal digits, with letters in upper case, spell, or `None` if
+/// one is no such digit.
 fn byte_of(left: u8, right: u8) -> Option<u8>
     ensures { result ≡ byte_of left right }
 {

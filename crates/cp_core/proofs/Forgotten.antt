@@ -1,9 +1,11 @@
--- A step of a system is one of every system that has the same, but has printed lines before and keeps other programs.
-use Rattle.std.specs.Prelude.{ℕ, zero, suc, ◌≡◌, ◌++◌, ◌-◌, ◌⊎◌, ◌==◌, refl, if◌then◌else◌, Bool, List, [], ◌∷◌}
-use Rattle.std.specs.Prelude.{length, map, Option, Some, None}
-use Rattle.std.proofs.Common.{◌∙◌, ap, append-nil, append_assoc, arith, get_or, length-append, subst, sym}
+-- A step of a system is one of every system that has the same, but has lines and entries that are gone of it, and keeps
+-- other programs.
+use Rattle.std.specs.Prelude.{ℕ, zero, suc, ◌≡◌, ◌++◌, ◌-◌, ◌⊎◌, ◌==◌, refl, if◌then◌else◌, Bool, true, false, List, []}
+use Rattle.std.specs.Prelude.{◌∷◌, length, map, Option, Some, None}
+use Rattle.std.proofs.Common.{◌∙◌, ap, append-nil, append_assoc, arith, get_or, length-append}
+use Rattle.std.proofs.Common.{subst, sym}
 use Rattle.s370_store.specs.Access.{Touches}
-use Rattle.s370_channel.specs.Reading.{as_reached}
+use Rattle.s370_channel.specs.Reading.{Reading, as_reached}
 use Rattle.s370_channel.specs.declared.words.Caw.{Caw}
 use Rattle.s370_subchannels.specs.Programs.{program_of}
 use Rattle.s370_intr.specs.Run.{IsLacking}
@@ -19,7 +21,8 @@ use Rattle.machine_panel.proofs.Forgotten.{tells_run}
 use Rattle.machine_devices.specs.Comes.{is_ipl}
 use Rattle.machine_devices.specs.Devices.{kind_at}
 use Rattle.machine_devices.specs.Equipped.{Equipped, nobody}
-use Rattle.machine_devices.specs.Forgotten.{equipped_having_printed as having, unprinted}
+use Rattle.machine_devices.specs.Forgotten.{unprinted}
+use Rattle.machine_devices.specs.Lent.{devices_with}
 use Rattle.machine_devices.specs.Life.{Event as Local, Deck as Gets, Line as Types, Lives}
 use Rattle.machine_devices.specs.Lines.{IplNeeds, KindLoads, requested}
 use Rattle.machine_devices.specs.Notes.{closed_by, next_file}
@@ -41,12 +44,19 @@ use Rattle.machine_devices.specs.declared.reply.Reply.{Reply}
 use Rattle.machine_devices.specs.declared.request.Request.{Request}
 use Rattle.machine_devices.specs.declared.request.Request.TheVariants.{LogsOn, LogsOff, Resets, Types as TypesText}
 use Rattle.machine_devices.specs.declared.request.Request.TheVariants.{Loads, Asks, Alone}
-use Rattle.machine_devices.proofs.Forgotten.{lives, served_so, told_so}
+use Rattle.machine_devices.proofs.Forgotten as printed
+use Rattle.machine_devices.proofs.Lost.{EachHasLost, files_again, found_after, lost_at, lost_files, lost_twice}
+use Rattle.machine_devices.proofs.Lost.{with_none, with_twice}
+use Rattle.machine_devices.proofs.Written as written
+use Rattle.machine_devices.proofs.Written.{closed_files_stay, length_with}
+use Rattle.machine_devices.specs.Written.{AreClosedAfter, equipped_having}
+use Rattle.machine_devices.specs.Written.{with_entries}
+use Rattle.unit_record.specs.Output.{FileValue}
 use Rattle.unit_record.specs.Reader.{DeckValue}
 use Rattle.unit_record.specs.declared.reader.Sender.TheVariants as senders
-use Rattle.cp_core.specs.Forgotten.{GoesOnAs, StepsGoOn, forgotten, seat_unprinted, step_having_printed}
-use Rattle.cp_core.specs.Forgotten.{users_having_printed}
-use Rattle.cp_core.specs.Events.{user_of}
+use Rattle.cp_core.specs.Forgotten.{GoesOnAs, Gone, StepsGoOn, equipped_with as having, forgotten, seat_unprinted}
+use Rattle.cp_core.specs.Forgotten.{step_with, users_with}
+use Rattle.machine_devices.specs.Events.{user_of}
 use Rattle.cp_core.specs.Histories.{IsStep}
 use Rattle.cp_core.specs.Local.{IsApplied, Step, comes_to, coming, deck_by, local, local_event}
 use Rattle.cp_core.specs.Saved.{AgreeButKept, SeatBase, base_of}
@@ -54,22 +64,71 @@ use Rattle.cp_core.specs.Supply.{IsBroughtBy, IsShort, IsSupplied, LineBrings, M
 use Rattle.cp_core.specs.Supply.{AreNeeded, gives_back}
 use Rattle.cp_core.specs.System.{SystemView, kept_of, logged_on_of, machine_at, placements_among, user_at, users_of}
 use Rattle.cp_core.specs.System.{world_among}
-use Rattle.cp_core.specs.UserMachines.{SeatParts, seat_on, seats_on, user_with as user_with_volumes}
+use Rattle.cp_core.specs.UserMachines.{SeatParts, seat_on, seat_with, seats_on, user_with as user_with_volumes}
 use Rattle.cp_core.proofs.Systems.{seen}
 use Rattle.cp_directory.specs.Users.{DirectoryUser}
 use Rattle.cp_frames.specs.Layout.{FrameSupply}
-use Rattle.cp_spool.specs.Queues.{QueuesValue}
+use Rattle.cp_spool.specs.Queues.{QueuesValue, UserFiles, cards_of, files_of}
 use Rattle.cp_volumes.specs.Shared.{Placement, placements_of}
 use Rattle.ckd_volume.specs.Volume.{VolumeFormat}
 use Rattle.cp_core.specs.LineOutcome.{IsOut, IsReply, TellsOf, TellsOfDeck, TellsOfLine, TellsOfRun, TellsOfServe}
 use Rattle.cp_core.specs.LineOutcome.{TellsOfTick, noted_by}
 use Rattle.cp_core.specs.Wants.{DeviceNeeds, LineWants}
-use Rattle.cp_core.specs.declared.events.Event.{Event}
-use Rattle.cp_core.specs.declared.events.Event.TheVariants.{Run, Line, Tick, Deck, Serve}
+use Rattle.machine_devices.specs.declared.event.Event.{Event}
+use Rattle.machine_devices.specs.declared.event.Event.TheVariants.{Run, Line, Tick, Deck, Serve}
+
+-- ---- what is gone of a user
+
+abbrev none_gone : Gone
+none_gone = record { lines = []; files = record { punched = []; printed = [] } }
+
+-- the machine with its devices, with these lines and closed files
+abbrev at_user : Equipped → List (List ℕ) → List FileValue → List FileValue → Equipped
+at_user e lines punched printed = record e {
+  machine = record e.machine { output = lines };
+  devices = record e.devices { punched = punched; printed = printed };
+}
+
+nothing_gone : (e : Equipped) → having none_gone e ≡ e
+nothing_gone e =
+    let d = e.devices in
+    let lines = e.machine.output in
+    ap (λ (files : List FileValue). at_user e lines files (with_entries [] d.printed)) (with_none d.punched)
+    ∙ ap (λ (files : List FileValue). at_user e lines d.punched files) (with_none d.printed)
+
+module _ (gone : Gone) (reads : Reading) where
+  lives : (events : List Local) (old new : Equipped) → Lives reads events old new
+      → Lives reads events (having gone old) (having gone new)
+  lives events old new h =
+      printed.lives gone.lines reads events (equipped_having gone.files old) (equipped_having gone.files new)
+      (written.lives gone.files reads events old new h)
+
+  served_so : (device : ℕ) (old : Equipped) (done : Bool) (new : Equipped) → IsServedAt reads device old done new
+      → IsServedAt reads device (having gone old) done (having gone new)
+  served_so device old done new h =
+      printed.served_so gone.lines reads device (equipped_having gone.files old) done (equipped_having gone.files new)
+      (written.served_so gone.files reads device old done new h)
+
+told_so : (gone : Gone) (w : UserDirectory) (users number : ℕ) (typed : List ℕ) (old : Equipped) (reply : Reply)
+    → IsLineTold w users number typed old reply → IsLineTold w users number typed (having gone old) reply
+told_so gone w users number typed old reply h =
+    printed.told_so gone.lines w users number typed (equipped_having gone.files old) reply
+    (written.told_so gone.files w users number typed old reply h)
+
+closed_same : (gone : Gone) (user : ℕ) (e f : Equipped)
+    → closed_by user e f ≡ closed_by user (having gone e) (having gone f)
+closed_same gone user e f =
+    let lost = gone.files in
+    rw (
+      length_with lost.punched e.devices.punched,
+      length_with lost.printed e.devices.printed,
+      length_with lost.punched f.devices.punched,
+      length_with lost.printed f.devices.printed,
+    ) refl
 
 -- ---- which pages a machine needs
 
-module _ (gone : List (List ℕ)) (e : Equipped) where
+module _ (gone : Gone) (e : Equipped) where
   loads_same : (kind : Option AttachedDevice) (P : (ℕ → Type 0) → Type 0) → P (KindLoads kind e)
       → P (KindLoads kind (having gone e))
   loads_same (Some kinds.Reader) P h = h
@@ -111,52 +170,50 @@ module _ (gone : List (List ℕ)) (e : Equipped) where
   device_needs_same device P h =
       starts_same (kind_at e.devices e.disks device) (program_of device e.machine.core.subchannels) P h
 
--- ---- users who have printed lines before
+-- ---- users of whom something is gone
 
--- the lines that one of these users has printed before
-abbrev gone_at : List (List (List ℕ)) → List Equipped → ℕ → List (List ℕ)
-gone_at [] users user = []
-gone_at (lines ∷ more) [] user = []
-gone_at (lines ∷ more) (e ∷ users) zero = lines
-gone_at (lines ∷ more) (e ∷ users) (suc user) = gone_at more users user
+-- what is gone of one of these users
+abbrev pub gone_at : List Gone → List Equipped → ℕ → Gone
+gone_at [] users user = none_gone
+gone_at (gone ∷ more) [] user = none_gone
+gone_at (gone ∷ more) (e ∷ users) zero = gone
+gone_at (gone ∷ more) (e ∷ users) (suc user) = gone_at more users user
 
--- A user of a system that has printed lines before is that user with his own lines before.
-pub user_with : (gone : List (List (List ℕ))) (users : List Equipped) (user : ℕ)
-    → get_or (users_having_printed gone users) user nobody ≡ having (gone_at gone users user) (get_or users user nobody)
-user_with [] users user = refl
-user_with (lines ∷ more) [] user = refl
-user_with (lines ∷ more) (e ∷ users) zero = refl
-user_with (lines ∷ more) (e ∷ users) (suc user) = user_with more users user
+-- A user of a system that has what is gone is that user with his own.
+pub user_with : (gone : List Gone) (users : List Equipped) (user : ℕ)
+    → get_or (users_with gone users) user nobody ≡ having (gone_at gone users user) (get_or users user nobody)
+user_with [] users user = sym (nothing_gone (get_or users user nobody))
+user_with (gone ∷ more) [] user = sym (nothing_gone nobody)
+user_with (gone ∷ more) (e ∷ users) zero = refl
+user_with (gone ∷ more) (e ∷ users) (suc user) = user_with more users user
 
-gone_same : (gone : List (List (List ℕ))) (users others : List Equipped) (user : ℕ) → length others ≡ length users
+gone_same : (gone : List Gone) (users others : List Equipped) (user : ℕ) → length others ≡ length users
     → gone_at gone others user ≡ gone_at gone users user
 gone_same [] users others user same = refl
-gone_same (lines ∷ more) [] [] user same = refl
-gone_same (lines ∷ more) [] (o ∷ others) user same = absurd (omega (arith, same))
-gone_same (lines ∷ more) (e ∷ users) [] user same = absurd (omega (arith, same))
-gone_same (lines ∷ more) (e ∷ users) (o ∷ others) zero same = refl
-gone_same (lines ∷ more) (e ∷ users) (o ∷ others) (suc user) same = gone_same more users others user (omega
+gone_same (gone ∷ more) [] [] user same = refl
+gone_same (gone ∷ more) [] (o ∷ others) user same = absurd (omega (arith, same))
+gone_same (gone ∷ more) (e ∷ users) [] user same = absurd (omega (arith, same))
+gone_same (gone ∷ more) (e ∷ users) (o ∷ others) zero same = refl
+gone_same (gone ∷ more) (e ∷ users) (o ∷ others) (suc user) same = gone_same more users others user (omega
     (arith, same))
 
-pub as_many : (gone : List (List (List ℕ))) (users : List Equipped)
-    → length (users_having_printed gone users) ≡ length users
+pub as_many : (gone : List Gone) (users : List Equipped) → length (users_with gone users) ≡ length users
 as_many [] users = refl
-as_many (lines ∷ more) [] = refl
-as_many (lines ∷ more) (e ∷ users) = ap suc (as_many more users)
+as_many (gone ∷ more) [] = refl
+as_many (gone ∷ more) (e ∷ users) = ap suc (as_many more users)
 
-on_same : (gone : List (List (List ℕ))) (users : List Equipped)
-    → logged_on_of (users_having_printed gone users) ≡ logged_on_of users
+on_same : (gone : List Gone) (users : List Equipped) → logged_on_of (users_with gone users) ≡ logged_on_of users
 on_same [] users = refl
-on_same (lines ∷ more) [] = refl
-on_same (lines ∷ more) (e ∷ users) = ap (λ (on : List Bool). is_logged_on e.machine.mode ∷ on) (on_same more users)
+on_same (gone ∷ more) [] = refl
+on_same (gone ∷ more) (e ∷ users) = ap (λ (on : List Bool). is_logged_on e.machine.mode ∷ on) (on_same more users)
 
 -- ---- a step
 
--- the system whose users have printed these lines before, and which keeps these programs
-abbrev wide : List (List (List ℕ)) → SystemView → List ReuseValue → SystemView
-wide gone s kept = record s { users = users_having_printed gone s.users; kept = kept }
+-- the system whose users have what is gone, and which keeps these programs
+abbrev wide : List Gone → SystemView → List ReuseValue → SystemView
+wide gone s kept = record s { users = users_with gone s.users; kept = kept }
 
-module _ (gone : List (List (List ℕ))) (s : SystemView) (kept : List ReuseValue) (t : SystemView)
+module _ (gone : List Gone) (s : SystemView) (kept : List ReuseValue) (t : SystemView)
     (many : length t.users ≡ length s.users) where
   abbrev whole : SystemView
   whole = wide gone s kept
@@ -164,7 +221,7 @@ module _ (gone : List (List (List ℕ))) (s : SystemView) (kept : List ReuseValu
   abbrev left : SystemView
   left = wide gone t t.kept
 
-  abbrev gone_of : ℕ → List (List ℕ)
+  abbrev gone_of : ℕ → Gone
   gone_of user = gone_at gone s.users user
 
   old_is : (user : ℕ) → user_at whole user ≡ having (gone_of user) (user_at s user)
@@ -172,10 +229,10 @@ module _ (gone : List (List (List ℕ))) (s : SystemView) (kept : List ReuseValu
 
   new_is : (user : ℕ) → user_at left user ≡ having (gone_of user) (user_at t user)
   new_is user =
-      user_with gone t.users user ∙ ap (λ (lines : List (List ℕ)). having lines (user_at t user))
+      user_with gone t.users user ∙ ap (λ (g : Gone). having g (user_at t user))
       (gone_same gone s.users t.users user many)
 
-  -- what is so of a user before, and after, with these lines
+  -- what is so of a user before, and after, with what is gone
   of_old : (user : ℕ) (P : Equipped → Type 0) → P (having (gone_of user) (user_at s user)) → P (user_at whole user)
   of_old user P h = subst P (sym (old_is user)) h
 
@@ -199,44 +256,56 @@ module _ (gone : List (List (List ℕ))) (s : SystemView) (kept : List ReuseValu
   event_same (Deck user cards) ended = refl
   event_same (Serve user device) ended = refl
 
-  deck_same : (event : Event) (number : ℕ) → deck_by event whole left number ≡ deck_by event s t number
-  deck_same (Run user asked) number = refl
-  deck_same (Line user typed) number =
+  -- closed files of a user have stayed
+  abbrev FilesStay : Type 0
+  FilesStay = (user : ℕ) → AreClosedAfter (user_at s user).devices.punched (user_at t user).devices.punched
+
+  deck_same : FilesStay → (event : Event) (number : ℕ) → deck_by event whole left number ≡ deck_by event s t number
+  deck_same stay (Run user asked) number = refl
+  deck_same stay (Line user typed) number =
+      let lost = (gone_of user).files.punched in
+      let old = (user_at s user).devices.punched in
       ap (λ (e : Equipped). deck_punched (user_at left user).devices (length e.devices.punched) number
       (senders.User user)) (old_is user)
-      ∙ ap (λ (e : Equipped). deck_punched e.devices (length (user_at s user).devices.punched) number
-      (senders.User user)) (new_is user)
-  deck_same (Tick user) number = refl
-  deck_same (Deck user cards) number = refl
-  deck_same (Serve user device) number = refl
+      ∙ ap (λ (index : ℕ). deck_punched (user_at left user).devices index number (senders.User user))
+      (length_with lost old)
+      ∙ ap (λ (e : Equipped). deck_punched e.devices (length old) number (senders.User user)) (new_is user)
+      ∙ ap (λ (file : Option FileValue).
+      let d : DeckValue = record { label = number; sender = senders.User user; cards = cards_of file } in d)
+      (found_after lost old (user_at t user).devices.punched (stay user))
+  deck_same stay (Tick user) number = refl
+  deck_same stay (Deck user cards) number = refl
+  deck_same stay (Serve user device) number = refl
 
-  coming_same : (event : Event) (reply : Reply) (what : Delivery)
+  coming_same : FilesStay → (event : Event) (reply : Reply) (what : Delivery)
       → (let one : Step = record { event = event; reply = reply; seen = left } in
       let other : Step = record { event = event; reply = reply; seen = t } in coming whole one what ≡ coming s other
       what)
-  coming_same event reply (deliveries.Message line) = refl
-  coming_same event reply (deliveries.Deck number) = ap (λ (d : DeckValue). Gets d) (deck_same event number)
+  coming_same stay event reply (deliveries.Message line) = refl
+  coming_same stay event reply (deliveries.Deck number) = ap (λ (d : DeckValue). Gets d) (deck_same stay event number)
 
-  comes_same : (user : ℕ) (event : Event) (reply : Reply) (delivered : Option Delivered)
+  comes_same : FilesStay → (user : ℕ) (event : Event) (reply : Reply) (delivered : Option Delivered)
       → (let one : Step = record { event = event; reply = reply; seen = left } in
       let other : Step = record { event = event; reply = reply; seen = t } in
       comes_to user whole one delivered ≡ comes_to user s other delivered)
-  comes_same user event reply None = refl
-  comes_same user event reply (Some delivered) =
-      ap (λ (e : Local). if delivered.to == user then e ∷ [] else []) (coming_same event reply delivered.what)
+  comes_same stay user event reply None = refl
+  comes_same stay user event reply (Some delivered) =
+      ap (λ (e : Local). if delivered.to == user then e ∷ [] else []) (coming_same stay event reply delivered.what)
 
-  local_same : (user : ℕ) (event : Event) (reply : Reply)
+  local_same : FilesStay → (user : ℕ) (event : Event) (reply : Reply)
       → (let one : Step = record { event = event; reply = reply; seen = left } in
       let other : Step = record { event = event; reply = reply; seen = t } in local user whole one ≡ local user s other)
-  local_same user event reply =
-      rw (event_same event reply.ended, comes_same user event reply reply.delivered) refl
+  local_same stay user event reply =
+      rw (event_same event reply.ended, comes_same stay user event reply reply.delivered) refl
 
   applied : (event : Event) (reply : Reply) → IsApplied s (record { event = event; reply = reply; seen = t })
       → IsApplied whole (record { event = event; reply = reply; seen = left })
   applied event reply h user =
       let other : Step = record { event = event; reply = reply; seen = t } in
+      let stay : FilesStay =
+      λ u. (closed_files_stay as_reached (local u s other) (user_at s u) (user_at t u) (h u)).0 in
       subst (λ (es : List Local). Lives as_reached es (user_at whole user) (user_at left user)) (sym
-      (local_same user event reply))
+      (local_same stay user event reply))
       (of_both user (Lives as_reached (local user s other))
       (lives (gone_of user) as_reached (local user s other) (user_at s user) (user_at t user) (h user)))
 
@@ -263,7 +332,8 @@ module _ (gone : List (List (List ℕ))) (s : SystemView) (kept : List ReuseValu
         notice = notice_of ran.reason;
       } in r in
       let short = HasNoRoom t.supply user in
-      let tells_of = tells_run (gone_of user) asked (machine_at s user) (reported (user_at t user)) short tells.0 in
+      let tells_of =
+      tells_run (gone_of user).lines asked (machine_at s user) (reported (user_at t user)) short tells.0 in
       (of_both user (λ (e f : Equipped). TellsRun asked e.machine (reported f) short) tells_of, tells.1, tells.2)
   run_tells user asked reply (Served done) tells = tells
   run_tells user asked reply Done tells = tells
@@ -337,7 +407,7 @@ module _ (gone : List (List (List ℕ))) (s : SystemView) (kept : List ReuseValu
   notes_same : (event : Event) → noted_by event s t ≡ noted_by event whole left
   notes_same (Run user asked) = refl
   notes_same (Line user typed) = of_both user (λ (e f : Equipped). closed_by user (user_at s user)
-      (user_at t user) ≡ closed_by user e f) refl
+      (user_at t user) ≡ closed_by user e f) (closed_same (gone_of user) user (user_at s user) (user_at t user))
   notes_same (Tick user) = refl
   notes_same (Deck user cards) = refl
   notes_same (Serve user device) = refl
@@ -345,8 +415,8 @@ module _ (gone : List (List (List ℕ))) (s : SystemView) (kept : List ReuseValu
   lines_told : (user lines : ℕ) → lines ≡ length (machine_at t user).output - length (machine_at s user).output
       → lines ≡ length (machine_at left user).output - length (machine_at whole user).output
   lines_told user lines h =
-      let before = length-append (gone_of user) (machine_at s user).output in
-      let after = length-append (gone_of user) (machine_at t user).output in
+      let before = length-append (gone_of user).lines (machine_at s user).output in
+      let after = length-append (gone_of user).lines (machine_at t user).output in
       of_both user (λ (e f : Equipped). lines ≡ length f.machine.output - length e.machine.output) (omega
       (arith, h, before, after))
 
@@ -381,7 +451,7 @@ module _ (gone : List (List (List ℕ))) (s : SystemView) (kept : List ReuseValu
   brings_too (Run user asked) ended units may =
       let m = machine_at s user in
       of_old user (λ (e : Equipped). RunBrings e.machine ended units) (run_brings
-      (gone_of user ++ m.output) m ended units may)
+      ((gone_of user).lines ++ m.output) m ended units may)
   brings_too (Line user typed) ended units may =
       let brings = λ (needs : ℕ → Type 0). LineBrings (is_ipl (requested typed.now (user_at s user))) needs units in
       let here = line_wants_same (gone_of user) (user_at s user) typed.now brings may in
@@ -405,9 +475,9 @@ module _ (gone : List (List (List ℕ))) (s : SystemView) (kept : List ReuseValu
     brought = λ gives. brought_too event ended (h.brought (gives_same event ∙ gives));
   }
 
-step_with : (gone : List (List (List ℕ))) (s : SystemView) (kept : List ReuseValue) (step : Step) → IsStep s step
-    → IsStep (wide gone s kept) (step_having_printed gone step)
-step_with gone s kept step is = record {
+step_goes_on : (gone : List Gone) (s : SystemView) (kept : List ReuseValue) (step : Step) → IsStep s step
+    → IsStep (wide gone s kept) (step_with gone step)
+step_goes_on gone s kept step is = record {
   replied = record {
     applied = applied gone s kept step.seen is.users step.event step.reply is.replied.applied;
     reported = reported gone s kept step.seen is.users step.event step.reply is.replied.reported;
@@ -421,58 +491,89 @@ step_with gone s kept step is = record {
 
 -- ---- systems that go on as others
 
--- lines that were printed before those that were printed before
-abbrev both : List (List (List ℕ)) → List (List (List ℕ)) → List (List (List ℕ))
+-- what is gone of a user, and what is gone of him after that
+abbrev both_of : Gone → Gone → Gone
+both_of first second = record {
+  lines = first.lines ++ second.lines;
+  files = record {
+    punched = lost_twice first.files.punched second.files.punched;
+    printed = lost_twice first.files.printed second.files.printed;
+  };
+}
+
+having_both : (first second : Gone) (e : Equipped) → having first (having second e) ≡ having (both_of first second) e
+having_both first second e =
+    let d = e.devices in
+    let lines = first.lines ++ (second.lines ++ e.machine.output) in
+    let printed = with_entries first.files.printed (with_entries second.files.printed d.printed) in
+    let both = both_of first second in
+    ap (λ (files : List FileValue). at_user e lines files printed)
+    (with_twice d.punched first.files.punched second.files.punched)
+    ∙ ap (λ (files : List FileValue). at_user e lines (with_entries both.files.punched d.punched) files)
+    (with_twice d.printed first.files.printed second.files.printed)
+    ∙ ap (λ (output : List (List ℕ)). at_user e output (with_entries both.files.punched d.punched)
+    (with_entries both.files.printed d.printed)) (sym (append_assoc first.lines second.lines e.machine.output))
+
+-- what is gone of users, and what is gone of them after that
+abbrev both : List Gone → List Gone → List Gone
 both [] more = more
-both (lines ∷ gone) [] = lines ∷ gone
-both (lines ∷ gone) (others ∷ more) = (lines ++ others) ∷ both gone more
+both (first ∷ gone) [] = first ∷ gone
+both (first ∷ gone) (second ∷ more) = both_of first second ∷ both gone more
 
-both_printed : (gone more : List (List (List ℕ))) (users : List Equipped)
-    → users_having_printed gone (users_having_printed more users) ≡ users_having_printed (both gone more) users
-both_printed [] more users = refl
-both_printed (lines ∷ gone) [] users = refl
-both_printed (lines ∷ gone) (others ∷ more) [] = refl
-both_printed (lines ∷ gone) (others ∷ more) (e ∷ users) =
-    let first = λ (o : List (List ℕ)). let x : Equipped = record e { machine = record e.machine { output = o } } in x in
-    ap (λ (o : List (List ℕ)). first o ∷ users_having_printed gone (users_having_printed more users)) (sym
-    (append_assoc lines others e.machine.output))
-    ∙ ap (λ (us : List Equipped). having (lines ++ others) e ∷ us) (both_printed gone more users)
+with_both : (gone more : List Gone) (users : List Equipped)
+    → users_with gone (users_with more users) ≡ users_with (both gone more) users
+with_both [] more users = refl
+with_both (first ∷ gone) [] users = refl
+with_both (first ∷ gone) (second ∷ more) [] = refl
+with_both (first ∷ gone) (second ∷ more) (e ∷ users) =
+    ap (λ (x : Equipped). x ∷ users_with gone (users_with more users)) (having_both first second e)
+    ∙ ap (λ (us : List Equipped). having (both_of first second) e ∷ us) (with_both gone more users)
 
-abbrev outputs : List Equipped → List (List (List ℕ))
-outputs users = map (λ e. e.machine.output) users
+abbrev output_of : Equipped → Gone
+output_of e = record { lines = e.machine.output; files = record { punched = []; printed = [] } }
 
-outputs_again : (users : List Equipped) → users ≡ users_having_printed (outputs users) (map unprinted users)
+abbrev outputs : List Equipped → List Gone
+outputs users = map output_of users
+
+output_again : (e : Equipped) → e ≡ having (output_of e) (unprinted e)
+output_again e =
+    let d = e.devices in
+    let lines = e.machine.output in
+    ap (λ (files : List FileValue). at_user e lines files d.printed) (sym (with_none d.punched))
+    ∙ ap (λ (files : List FileValue). at_user e lines (with_entries [] d.punched) files) (sym (with_none d.printed))
+    ∙ ap (λ (output : List (List ℕ)). at_user e output (with_entries [] d.punched) (with_entries [] d.printed))
+    (sym (append-nil lines))
+
+outputs_again : (users : List Equipped) → users ≡ users_with (outputs users) (map unprinted users)
 outputs_again [] = refl
 outputs_again (e ∷ users) =
-    let first = λ (o : List (List ℕ)). let x : Equipped = record e { machine = record e.machine { output = o } } in x in
     ap (λ (us : List Equipped). e ∷ us) (outputs_again users)
-    ∙ ap (λ (o : List (List ℕ)). first o ∷ users_having_printed (outputs users) (map unprinted users)) (sym
-    (append-nil e.machine.output))
+    ∙ ap (λ (x : Equipped). x ∷ users_with (outputs users) (map unprinted users)) (output_again e)
 
 -- Systems that agree but for cached programs go on alike.
 pub same_but_kept : (one other : SystemView) → AgreeButKept one other → GoesOnAs one other
 same_but_kept one other agree = record {
-  lines = [];
+  gone = [];
   same = ap (λ (s : SystemView). record s { kept = one.kept })
       (sym agree);
 }
 
--- Each step goes on from a system that has forgotten lines as from the one that has them.
+-- Each step goes on from a system of which something is gone as from the one that has it.
 pub steps_go_on : StepsGoOn
 steps_go_on = record {
-  reflexive = λ one. record { lines = []; same = refl };
+  reflexive = λ one. record { gone = []; same = refl };
   transitive = λ one other last h k. record {
-    lines = both h.lines k.lines;
+    gone = both h.gone k.gone;
     same = h.same
-        ∙ (ap (λ (s : SystemView). record s { users = users_having_printed h.lines s.users; kept = one.kept }) k.same
+        ∙ (ap (λ (s : SystemView). record s { users = users_with h.gone s.users; kept = one.kept }) k.same
         ∙ ap (λ (us : List Equipped). record last { users = us; kept = one.kept })
-        (both_printed h.lines k.lines last.users));
+        (with_both h.gone k.gone last.users));
   };
   steps = λ one other step same is.
-      subst (λ (s : SystemView). IsStep s (step_having_printed same.lines step)) (sym same.same)
-      (step_with same.lines other one.kept step is);
+      subst (λ (s : SystemView). IsStep s (step_with same.gone step)) (sym same.same)
+      (step_goes_on same.gone other one.kept step is);
   forgets = λ one. record {
-    lines = outputs one.users;
+    gone = outputs one.users;
     same = ap (λ (us : List Equipped). record one { users = us })
         (outputs_again one.users);
   };
@@ -513,3 +614,45 @@ module _ (q : QueuesValue) where
       ≡ forgotten (seen (seats_on q seats) volumes storages directory supply files is_spent)
   seen_forgotten seats volumes storages directory supply files is_spent =
       rw (users_unprinted seats volumes storages, stands_unprinted seats, kept_unprinted seats) refl
+
+-- ---- a system whose closed files have lost entries
+
+-- what was lost of a user's files
+abbrev gone_files : UserFiles → UserFiles → Gone
+gone_files old new = record { lines = []; files = lost_files old new }
+
+module _ (q q' : QueuesValue) (lost : EachHasLost q.users q'.users) where
+  abbrev gone_from : SeatParts → Gone
+  gone_from s = gone_files (files_of q.users s.devices.user) (files_of q'.users s.devices.user)
+
+  seat_lost : (s : SeatParts) (volumes : List VolumeFormat) (bytes : List ℕ)
+      → user_with_volumes (seat_on q s) volumes bytes
+      ≡ having (gone_from s) (user_with_volumes (seat_on q' s) volumes bytes)
+  seat_lost s volumes bytes =
+      let user = s.devices.user in
+      ap (λ (f : UserFiles). user_with_volumes (seat_with (devices_with s.devices f) s) volumes bytes)
+      (files_again (files_of q.users user) (files_of q'.users user) (lost_at q.users q'.users lost user))
+
+  users_lost : (seats : List SeatParts) (volumes : List VolumeFormat) (storages : List (List ℕ))
+      → users_of (seats_on q seats) volumes storages
+      ≡ users_with (map gone_from seats) (users_of (seats_on q' seats) volumes storages)
+  users_lost [] volumes storages = refl
+  users_lost (s ∷ seats) volumes [] = refl
+  users_lost (s ∷ seats) volumes (bytes ∷ storages) =
+      ap (λ (e : Equipped). e ∷ users_of (seats_on q seats) volumes storages) (seat_lost s volumes bytes)
+      ∙ ap (λ (us : List Equipped). having (gone_from s) (user_with_volumes (seat_on q' s) volumes bytes) ∷ us)
+      (users_lost seats volumes storages)
+
+  stands_lost : (seats : List SeatParts) → placements_among (seats_on q seats) ≡ placements_among (seats_on q' seats)
+  stands_lost [] = refl
+  stands_lost (s ∷ seats) =
+      ap (λ (ss : List (List Placement)). placements_of s.minidisks ∷ ss) (stands_lost seats)
+
+  pub goes_on_lost : (seats : List SeatParts) (volumes : List VolumeFormat) (storages : List (List ℕ))
+      (directory : List DirectoryUser) (supply : FrameSupply) (files : List FileNote) (is_spent : Bool)
+      → GoesOnAs (seen (seats_on q seats) volumes storages directory supply files is_spent)
+      (seen (seats_on q' seats) volumes storages directory supply files is_spent)
+  goes_on_lost seats volumes storages directory supply files is_spent = record {
+    gone = map gone_from seats;
+    same = rw (users_lost seats volumes storages, stands_lost seats) refl;
+  }

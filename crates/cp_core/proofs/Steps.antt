@@ -52,7 +52,7 @@ use Rattle.machine_devices.specs.declared.reply.Delivered.{Delivered}
 use Rattle.machine_devices.specs.declared.reply.Delivery.{Delivery}
 use Rattle.machine_devices.specs.declared.reply.Delivery.TheVariants as deliveries
 use Rattle.machine_devices.specs.declared.reply.Ended.TheVariants.{Ran, Served, Done, FramesOut}
-use Rattle.cp_core.specs.declared.events.Event.TheVariants.{Run, Line, Tick, Deck, Serve}
+use Rattle.machine_devices.specs.declared.event.Event.TheVariants.{Run, Line, Tick, Deck, Serve}
 use Rattle.machine_devices.specs.declared.reply.Reply.{Reply}
 use Rattle.machine_devices.specs.declared.files.FileNote.{FileNote}
 use Rattle.machine_devices.proofs.Answered.{follow_may, follow_same, line_stands, load_needs_none}

@@ -3,8 +3,8 @@ use Rattle.std.specs.Prelude.{◌≡◌, ◌<◌, ◌≤◌, ◌↔◌, ℕ, tru
 use Rattle.machine_devices.specs.declared.reply.Reply.{Reply}
 use Rattle.cp_core.specs.declared.events.CpError.{CpError}
 use Rattle.cp_core.specs.declared.events.CpError.TheVariants as errors
-use Rattle.cp_core.specs.declared.events.Event.{Event}
-use Rattle.cp_core.specs.Events.{user_of}
+use Rattle.machine_devices.specs.declared.event.Event.{Event}
+use Rattle.machine_devices.specs.Events.{user_of}
 use Rattle.cp_core.specs.Keeps.{KeepsCutShort}
 use Rattle.cp_core.specs.Memory.{HadRoomFor, MayTakeMemory, is_cut_short}
 use Rattle.cp_core.specs.Stated.{LacksDevice}

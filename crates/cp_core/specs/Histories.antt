@@ -5,7 +5,7 @@ use Rattle.machine_devices.specs.Life.{Event as Local, Lives}
 use Rattle.cp_core.specs.Local.{IsApplied, Step, local}
 use Rattle.cp_core.specs.Supply.{IsSupplied}
 use Rattle.cp_volumes.specs.Shared.{IsConfined}
-use Rattle.cp_core.specs.Events.{user_of}
+use Rattle.machine_devices.specs.Events.{user_of}
 use Rattle.cp_core.specs.System.{SystemView, placements_at, user_at}
 use Rattle.cp_core.specs.LineOutcome.{IsReply}
 

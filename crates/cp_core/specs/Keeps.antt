@@ -20,8 +20,8 @@ use Rattle.cp_dat.specs.declared.dat.Dat.{Dat}
 use Rattle.cp_dat.specs.Lent.{lent_memory, lent_pool, user_of}
 use Rattle.cp_resident.specs.Reuse.{HasReused, HasReusedDisk, ReuseValue, dropped}
 use Rattle.cp_core.specs.System.{SystemView, kept_at, user_at}
-use Rattle.cp_core.specs.declared.events.Event.{Event}
-use Rattle.cp_core.specs.declared.events.Event.TheVariants.{Run, Line, Tick, Deck, Serve}
+use Rattle.machine_devices.specs.declared.event.Event.{Event}
+use Rattle.machine_devices.specs.declared.event.Event.TheVariants.{Run, Line, Tick, Deck, Serve}
 
 -- none is kept any longer
 abbrev pub IsForgotten : ReuseValue → ReuseValue → Type 0

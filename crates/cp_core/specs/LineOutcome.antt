@@ -7,7 +7,7 @@ use Rattle.machine_panel.specs.Run.{TellsRun, notice_of}
 use Rattle.machine_panel.specs.Tick.{TickNeeds}
 use Rattle.machine_devices.specs.declared.reply.UserResponse.TheVariants.{Nothing}
 use Rattle.machine_devices.specs.Serve.{IsServedAt}
-use Rattle.cp_core.specs.Events.{user_of}
+use Rattle.machine_devices.specs.Events.{user_of}
 use Rattle.machine_devices.specs.Notes.{closed_by, deck_noted, next_file}
 use Rattle.machine_devices.specs.Replies.{IsLineTold, given, saying}
 use Rattle.cp_core.specs.Local.{Step}
@@ -16,8 +16,8 @@ use Rattle.cp_core.specs.Wants.{DeviceNeeds, LineWants}
 use Rattle.cp_core.specs.System.{SystemView, machine_at, user_at, world_of}
 use Rattle.machine_devices.specs.declared.reply.Ended.{Ended}
 use Rattle.machine_devices.specs.declared.reply.Ended.TheVariants.{Ran, Served, Done, FramesOut}
-use Rattle.cp_core.specs.declared.events.Event.{Event}
-use Rattle.cp_core.specs.declared.events.Event.TheVariants.{Run, Line, Tick, Deck, Serve}
+use Rattle.machine_devices.specs.declared.event.Event.{Event}
+use Rattle.machine_devices.specs.declared.event.Event.TheVariants.{Run, Line, Tick, Deck, Serve}
 use Rattle.machine_devices.specs.declared.reply.Reply.{Reply}
 use Rattle.machine_devices.specs.declared.files.FileNote.{FileNote}
 

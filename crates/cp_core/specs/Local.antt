@@ -10,15 +10,15 @@ use Rattle.cp_console.specs.ConsoleLine.{characters_of}
 use Rattle.machine_devices.specs.Life.{Event as Local, Units, Serve as Serves, Line as Types}
 use Rattle.machine_devices.specs.Life.{Tick as Ticks, Deck as Gets, Message as Hears, Lives}
 use Rattle.machine_devices.specs.Spooling.{deck_punched}
-use Rattle.cp_core.specs.Events.{user_of}
+use Rattle.machine_devices.specs.Events.{user_of}
 use Rattle.cp_core.specs.System.{SystemView, user_at, world_of}
 use Rattle.machine_devices.specs.declared.reply.Delivered.{Delivered}
 use Rattle.machine_devices.specs.declared.reply.Delivery.{Delivery}
 use Rattle.machine_devices.specs.declared.reply.Delivery.TheVariants as deliveries
 use Rattle.machine_devices.specs.declared.reply.Ended.{Ended}
 use Rattle.machine_devices.specs.declared.reply.Ended.TheVariants.{Ran, Done, Served, FramesOut}
-use Rattle.cp_core.specs.declared.events.Event.{Event}
-use Rattle.cp_core.specs.declared.events.Event.TheVariants.{Run, Line, Tick, Deck, Serve}
+use Rattle.machine_devices.specs.declared.event.Event.{Event}
+use Rattle.machine_devices.specs.declared.event.Event.TheVariants.{Run, Line, Tick, Deck, Serve}
 use Rattle.machine_devices.specs.declared.reply.Reply.{Reply}
 
 -- an event that was applied, its reply, and what was seen after it

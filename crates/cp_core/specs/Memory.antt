@@ -6,8 +6,8 @@ use Rattle.machine_devices.specs.Lines.{requested}
 use Rattle.cp_core.specs.Room.{LineHadFrames, ServeHadFrames}
 use Rattle.cp_core.specs.Supply.{IsSuppliedInPart}
 use Rattle.cp_core.specs.System.{SystemView, machine_at, user_at, world_of}
-use Rattle.cp_core.specs.declared.events.Event.{Event}
-use Rattle.cp_core.specs.declared.events.Event.TheVariants.{Run, Line, Tick, Deck, Serve}
+use Rattle.machine_devices.specs.declared.event.Event.{Event}
+use Rattle.machine_devices.specs.declared.event.Event.TheVariants.{Run, Line, Tick, Deck, Serve}
 
 -- the events that may take memory: such lines of a machine with devices, decks, and a device that
 -- is served and works on a program

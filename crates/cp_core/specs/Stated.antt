@@ -2,8 +2,8 @@
 use Rattle.std.specs.Prelude.{◌≡◌, ℕ, Bool, false, slice_get, Option, Some, None}
 use Rattle.cp_directory.specs.Users.{DirectoryUser, has_device}
 use Rattle.cp_core.specs.System.{SystemView}
-use Rattle.cp_core.specs.declared.events.Event.{Event}
-use Rattle.cp_core.specs.declared.events.Event.TheVariants.{Run, Line, Tick, Deck, Serve}
+use Rattle.machine_devices.specs.declared.event.Event.{Event}
+use Rattle.machine_devices.specs.declared.event.Event.TheVariants.{Run, Line, Tick, Deck, Serve}
 
 -- whether the directory gives the user a device with this address
 abbrev pub states_device : ℕ → Option DirectoryUser → Bool

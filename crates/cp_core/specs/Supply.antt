@@ -13,15 +13,15 @@ use Rattle.machine_channels.specs.Channels.{load_times, serve_times}
 use Rattle.machine_panel.specs.Machine.{Machine}
 use Rattle.machine_devices.specs.Requests.{switches}
 use Rattle.machine_panel.specs.Tick.{TickNeeds}
-use Rattle.cp_core.specs.Events.{user_of}
+use Rattle.machine_devices.specs.Events.{user_of}
 use Rattle.cp_core.specs.System.{SystemView, machine_at, user_at}
 use Rattle.machine_devices.specs.Lines.{requested}
 use Rattle.machine_devices.specs.Comes.{is_ipl}
 use Rattle.cp_core.specs.Wants.{DeviceNeeds, LineWants}
 use Rattle.machine_devices.specs.declared.reply.Ended.{Ended}
 use Rattle.machine_devices.specs.declared.reply.Ended.TheVariants.{Ran, Served, Done, FramesOut}
-use Rattle.cp_core.specs.declared.events.Event.{Event}
-use Rattle.cp_core.specs.declared.events.Event.TheVariants.{Run, Line, Tick, Deck, Serve}
+use Rattle.machine_devices.specs.declared.event.Event.{Event}
+use Rattle.machine_devices.specs.declared.event.Event.TheVariants.{Run, Line, Tick, Deck, Serve}
 
 -- ---- no room
 

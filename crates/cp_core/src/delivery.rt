@@ -21,7 +21,7 @@ impl Parcel {
     ghost use Rattle.cp_core.specs.Parcels.{note_of};
 
     /// Returns what a reply reports of the parcel: the number of its deck, or its message.
-    pub(crate) fn note(&self) -> Delivery
+    pub(crate) fn to_delivery(&self) -> Delivery
         ensures { result ≡ note_of self.now }
     {
         match self {

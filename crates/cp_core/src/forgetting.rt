@@ -1,12 +1,13 @@
-//! A system that forgets the lines that its consoles have printed.
+//! A system that forgets the lines that its consoles have printed, and the entries of closed files.
 //!
 //! They do not matter to what events leave ([`printed_lines_do_not_matter`]), so a system whose
-//! lines were written elsewhere needs no memory for them.
+//! lines and files were written elsewhere needs no memory for them.
 ghost use Rattle.std.specs.Prelude.{◌≡◌, map};
-ghost use Rattle.cp_core.specs.Forgotten.{StepsGoOn, forgotten, seat_unprinted};
+ghost use Rattle.cp_core.specs.Forgotten.{GoesOnAs, StepsGoOn, forgotten, seat_unprinted};
 
 use crate::system::System;
 use crate::user_machine::UserMachine;
+use machine_devices::{FileKind, FileNote};
 
 impl UserMachine {
     /// Drops the lines that the user's console has printed.
@@ -32,6 +33,31 @@ impl System {
         ensures { self.new ≡ forgotten self.old }
     {
         forget_each(&mut self.users);
+    }
+
+    /// Drops the entries of all files that have a number but of the first `since`, and gives back
+    /// their memory; what follows goes on as with them.
+    ///
+    /// A file that a reader still has as a deck keeps its entries.
+    pub fn forget_files(&mut self, since: usize)
+        ensures { GoesOnAs self.old self.new }
+    {
+        for place in since..self.files.len() {
+            if let Some(note) = self.files.get(place).copied() {
+                self.forget_file(note);
+            }
+        }
+    }
+
+    /// Drops the entries of the file of this note.
+    fn forget_file(&mut self, note: FileNote)
+        ensures { GoesOnAs self.old self.new }
+    {
+        match note.kind {
+            FileKind::Punch(place) => self.queues.forget_punched(note.user, place),
+            FileKind::Printer(place) => self.queues.forget_printed(note.user, place),
+            FileKind::Deck => {}
+        }
     }
 }
 

@@ -22,10 +22,10 @@
 //! let sizes = Sizes::new(16, 0).ok_or("too many frames")?;
 //! let mut system = System::boot(alloc, directory, Vec::new(alloc), sizes)?;
 //! let (a, b) = (UserNo::new(0), UserNo::new(1));
-//! let reply = system.apply(Event::Line(a, b"LOGON"))?;
+//! let reply = system.apply(&Event::Line(a, b"LOGON"))?;
 //! assert_eq!(rt; reply.said, UserResponse::Said(Response::LogonOk));
-//! system.apply(Event::Line(b, b"LOGON"))?;
-//! system.apply(Event::Line(a, b"STORE G1 0000002A"))?;
+//! system.apply(&Event::Line(b, b"LOGON"))?;
+//! system.apply(&Event::Line(a, b"STORE G1 0000002A"))?;
 //! let first = |user| system.registers(user).map(|general| general[1]);
 //! assert_eq!(rt; (first(a), first(b)), (Some(42), Some(0)));
 //! ```
@@ -49,7 +49,8 @@ mod world;
 pub use boot::Sizes;
 pub use cp_frames::{FRAME_SIZE, FrameNo};
 pub use cp_volumes::SeenDisk;
-pub use events::{BootError, CpError, Event};
+pub use events::{BootError, CpError};
 pub use forgetting::printed_lines_do_not_matter;
+pub use machine_devices::Event;
 pub use saved::one_by_saved;
 pub use system::{System, each_is_bare};

@@ -4,7 +4,7 @@ ghost use Rattle.std.specs.Prelude.{◌≡◌, ◌<◌, ◌≤◌, ◌++◌, [],
 ghost use Rattle.std.specs.Prelude.{OnOk, length, map, nat_lt, if◌then◌else◌, slice_get, slice_set};
 ghost use Rattle.cp_dat.specs.Supplied.{IsBetweenUnits};
 ghost use Rattle.machine_devices.specs.UserDirectory.{is_logged_on};
-ghost use Rattle.cp_core.specs.declared.events.Event.TheVariants as happening;
+ghost use Rattle.machine_devices.specs.declared.event.Event.TheVariants as happening;
 ghost use Rattle.machine_devices.specs.Comes.{HasClosed, NeedsMemory};
 ghost use Rattle.cp_core.specs.Come.{HasReceived};
 ghost use Rattle.machine_devices.specs.Coming.{comes_by_line, comes_from_operator};
@@ -167,16 +167,16 @@ impl System {
     {
         let number = self.number_of(user);
         if let Some(place) = closed.punched {
-            self.note(number, FileKind::Punch(place))?;
+            self.number_file(number, FileKind::Punch(place))?;
         }
         if let Some(place) = closed.printed {
-            self.note(number, FileKind::Printer(place))?;
+            self.number_file(number, FileKind::Printer(place))?;
         }
         Ok(())
     }
 
-    /// Appends the punch's closed file at this place to its receiver's queue, as a deck with this
-    /// number, if it is for a user; returns what was delivered. The punch keeps it too.
+    /// Appends the punch's closed file at this place, which the punch keeps, to its receiver's
+    /// queue, as a deck with this number, if it is for a user; returns what was delivered.
     fn deliver_punched(
         &mut self,
         user: usize,
@@ -238,7 +238,7 @@ impl System {
         if place >= self.users() {
             return Ok(None);
         }
-        let what = parcel.note();
+        let what = parcel.to_delivery();
         self.deliver(place, parcel)?;
         Ok(Some(Delivered {
             to: UserNo::new(to),
@@ -293,7 +293,7 @@ impl System {
     {
         let to = self.number_of(user);
         let copy = copy_of(self.alloc, cards)?;
-        self.note(to, FileKind::Deck)?;
+        self.number_file(to, FileKind::Deck)?;
         self.deliver(user, Parcel::Deck(number, copy))?;
         Ok(Delivered {
             to,

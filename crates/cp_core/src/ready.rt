@@ -7,9 +7,9 @@ use crate::system::System;
 use user_names::UserNo;
 
 impl System {
-    /// Returns whether a user is ready for a slice: he is, unless a run of one unit of his machine
-    /// would say that it waits for an interruption or is stopped. A user who is not logged on, or
-    /// whom the directory does not have, is not ready. This takes no memory.
+    /// Returns whether a user is ready for a slice: whether his machine runs and would do
+    /// something, be it only to stop, and not wait for an interruption; false if there is no such
+    /// user. This takes no memory.
     pub fn is_ready(&self, user: UserNo) -> bool
         ensures { result ≡ is_ready (machine_at self.now user) }
     {

@@ -26,7 +26,7 @@ use saved_bytes::{Input, put_flag, put_number, put_one, put_zero};
 use std::alloc::{AllocError, Global};
 
 /// Appends the addresses, volumes, extents, arms and senses of these minidisks, but not their
-/// cylinders.
+/// cylinders, each minidisk after a byte of 1, and then a byte of 0.
 fn put_minidisks(out: &mut Vec<u8>, minidisks: &[SharedDisk]) -> Result<(), AllocError>
     ensures { OnOk result (out.new.items ≡ out.old.items ++ each disk_bytes minidisks.now) }
 {
@@ -51,7 +51,7 @@ fn restore_minidisks(minidisks: &mut [SharedDisk], input: &mut Input<'_>) -> Opt
     if input.flag()? { None } else { Some(()) }
 }
 
-/// Appends these storage keys, in order.
+/// Appends these storage keys, in order, each after a byte of 1, and then a byte of 0.
 #[tactic(auto, using(saved_bytes::proofs::Codes::each_on))]
 fn put_keys(out: &mut Vec<u8>, keys: &[StorageKey]) -> Result<(), AllocError>
     ensures { OnOk result (out.new.items ≡ out.old.items ++ each number keys.now) }
@@ -63,9 +63,9 @@ fn put_keys(out: &mut Vec<u8>, keys: &[StorageKey]) -> Result<(), AllocError>
     put_zero(out)
 }
 
-/// Reads a storage key from the input; returns None if it is none.
+/// Reads a storage key from the input; returns None if it is not below 32 or malformed.
 fn key_of(input: &mut Input<'_>) -> Option<StorageKey> {
-    let key = input.small()?;
+    let key = input.next_u8()?;
     if key < 32 {
         Some(StorageKey::new(key))
     } else {
@@ -142,7 +142,8 @@ impl UserMachine {
     }
 }
 
-/// Appends these users' machines, devices, files, minidisks and storage keys, in order.
+/// Appends these users' machines, devices, files, minidisks and storage keys, in order, each user
+/// after a byte of 1, and then a byte of 0.
 fn put_users(out: &mut Vec<u8>, users: &[UserMachine], queues: &Queues) -> Result<(), AllocError>
     ensures { OnOk result (out.new.items ≡ out.old.items
         ++ each (seat_bytes queues.now) users.now) }
@@ -174,7 +175,8 @@ fn restore_users(
     if input.flag()? { None } else { Some(()) }
 }
 
-/// Appends the user, kind and place of each of these files, in order.
+/// Appends the user, kind and place of each of these files, in order, each file after a byte of 1,
+/// and then a byte of 0.
 fn put_notes(out: &mut Vec<u8>, notes: &[FileNote]) -> Result<(), AllocError>
     ensures { OnOk result (out.new.items ≡ out.old.items ++ each note_bytes notes.now) }
 {
@@ -198,7 +200,8 @@ fn notes_of(alloc: Global, input: &mut Input<'_>) -> Option<Vec<FileNote>> {
     Some(notes)
 }
 
-/// Appends these volumes with their cylinders, in order.
+/// Appends these volumes with their cylinders, in order, each after a byte of 1, and then a byte of
+/// 0.
 fn put_volumes(out: &mut Vec<u8>, volumes: &Volumes) -> Result<(), AllocError>
     requires { AreThere volumes.now }
     ensures { OnOk result (out.new.items ≡ out.old.items ++ each volume_bytes volumes.now) }

@@ -4,9 +4,10 @@ ghost use Rattle.std.specs.Prelude.{false, IsOk, IfOk, OnErr, OnOk, length, map}
 ghost use Rattle.std.specs.Prelude.{option_copied, slice_get, slice_set};
 ghost use Rattle.s370_channel.specs.Reading.{as_reached};
 ghost use Rattle.cp_dat.specs.Supplied.{IsBetweenUnits};
+ghost use Rattle.machine_devices.specs.Events.{user_of};
 ghost use Rattle.machine_devices.specs.Life.{Leaves};
 ghost use Rattle.machine_devices.specs.declared.reply.Ended.TheVariants.{Done};
-ghost use Rattle.cp_core.specs.Events.{IsNoRun, user_of};
+ghost use Rattle.cp_core.specs.Events.{IsNoRun};
 ghost use Rattle.machine_devices.specs.Notes.{next_file};
 ghost use Rattle.cp_core.specs.Histories.{EachIsBare, IsReplied};
 ghost use Rattle.cp_core.specs.Applied.{IsOutOfMemory, IsRefused};
@@ -22,7 +23,7 @@ ghost use Rattle.cp_core.specs.System.{user_at};
 ghost use Rattle.cp_core.specs.LineOutcome.{IsReply};
 
 use crate::delivery::Parcel;
-use crate::events::{CpError, Event};
+use crate::events::CpError;
 use crate::user_machine::UserMachine;
 use crate::work::{Service, Tick, Units, UserOp, with_user};
 use ckd_volume::Volume;
@@ -30,7 +31,7 @@ use cp_directory::Directory;
 use cp_frames::Frames;
 use cp_spool::Queues;
 use cp_volumes::Volumes;
-use machine_devices::{Ended, FileKind, FileNote, Reply, SeenDevices, UserResponse};
+use machine_devices::{Ended, Event, FileKind, FileNote, Reply, SeenDevices, UserResponse};
 use machine_panel::{LineError, notice_of};
 use s370_num::DevAddr;
 use std::alloc::{AllocError, Global};
@@ -91,7 +92,7 @@ impl System {
         &self.directory
     }
 
-    /// Returns whether lack of memory has ended the system, so that it applies no more events.
+    /// Returns whether the system has run out of memory once, and so applies no more events.
     pub fn is_spent(&self) -> bool
         ensures { result ≡ self.now.is_spent }
     {
@@ -158,7 +159,7 @@ impl System {
         self.files.len() as u64 + 1
     }
 
-    /// Marks the system as spent for lack of memory, and returns that error.
+    /// Marks the system as spent because memory was refused, and returns that error.
     fn spend(&mut self) -> CpError
         ensures error { result ≡ CpError.Memory }
         ensures spent { self.new ≡ record self.old { is_spent = true } }
@@ -275,7 +276,7 @@ impl System {
     }
 
     /// Delivers a deck to the reader's queue of a user, or a message to the lines that his console
-    /// has printed. If memory is refused, each user's machine stays.
+    /// has printed; if memory is refused, each user's machine stays.
     pub(crate) fn deliver(&mut self, to: usize, parcel: Parcel) -> Result<(), AllocError>
         requires to { to < length self.old.users }
         requires there { IsThere self.old parcel }
@@ -291,7 +292,7 @@ impl System {
 
     /// Appends a file of this user and this kind to the list of files, by which it has the next
     /// number.
-    pub(crate) fn note(&mut self, user: UserNo, kind: FileKind) -> Result<(), AllocError>
+    pub(crate) fn number_file(&mut self, user: UserNo, kind: FileKind) -> Result<(), AllocError>
         ensures ok { OnOk result (self.new
             ≡ record self.old {
               files = self.old.files
@@ -328,41 +329,40 @@ impl System {
     /// let directory = read_directory(alloc, b"USER A PW 8K\n")?;
     /// let sizes = Sizes::new(16, 0).ok_or("too many frames")?;
     /// let mut system = System::boot(alloc, directory, Vec::new(alloc), sizes)?;
-    /// let reply = system.apply(Event::Line(UserNo::new(0), b"LOGON"))?;
+    /// let reply = system.apply(&Event::Line(UserNo::new(0), b"LOGON"))?;
     /// assert_eq!(rt; reply.said, UserResponse::Said(Response::LogonOk));
-    /// let nobody = system.apply(Event::Tick(UserNo::new(7))).err();
+    /// let nobody = system.apply(&Event::Tick(UserNo::new(7))).err();
     /// assert_eq!(rt; nobody, Some(CpError::NoSuchUser));
     /// ```
     #[inline(always)]
-    pub fn apply(&mut self, event: Event<'_>) -> Result<Reply, CpError>
+    pub fn apply(&mut self, event: &Event<'_>) -> Result<Reply, CpError>
         ensures views { IfOk result
             (λ reply. IsApplied self.old
-            (record { event = event.entry; reply = reply; seen = self.new })) }
+            (record { event = event.now; reply = reply; seen = self.new })) }
         ensures reported { IfOk result
             (λ reply. IsReply self.old
-            (record { event = event.entry; reply = reply; seen = self.new })) }
+            (record { event = event.now; reply = reply; seen = self.new })) }
         ensures supplied { IfOk result
-            (λ reply. IsSupplied self.old event.entry reply.ended self.new) }
-        ensures user { IsOk result → user_of event.entry < length self.old.users }
+            (λ reply. IsSupplied self.old event.now reply.ended self.new) }
+        ensures user { IsOk result → user_of event.now < length self.old.users }
         ensures directory { self.new.directory ≡ self.old.directory }
-        ensures confined { IsConfined (placements_at self.old (user_of event.entry))
+        ensures confined { IsConfined (placements_at self.old (user_of event.now))
             self.old.volumes
             self.new.volumes }
         ensures placements { self.new.placements ≡ self.old.placements }
-        ensures kept { IfOk result (λ reply. EventKeeps self.old event.entry reply.ended self.new) }
+        ensures kept { IfOk result (λ reply. EventKeeps self.old event.now reply.ended self.new) }
         ensures alive { IsOk result → self.new.is_spent ≡ false }
-        ensures refused { IsRefused self.old event.entry self.new result }
-        ensures out_of_memory { IsOutOfMemory self.old event.entry self.new result }
+        ensures refused { IsRefused self.old event.now self.new result }
+        ensures out_of_memory { IsOutOfMemory self.old event.now self.new result }
     {
-        match event {
+        match *event {
             Event::Run(user, units) => {
                 let place = self.place_of(user)?;
                 Ok(self.run(place, units))
             }
-            Event::Line(user, typed) => self.apply_apart(Event::Line(user, typed)),
-            Event::Tick(user) => self.apply_apart(Event::Tick(user)),
-            Event::Deck(user, cards) => self.apply_apart(Event::Deck(user, cards)),
-            Event::Serve(user, device) => self.apply_apart(Event::Serve(user, device)),
+            Event::Line(_, _) | Event::Tick(_) | Event::Deck(_, _) | Event::Serve(_, _) => {
+                self.apply_apart(event)
+            }
         }
     }
 
@@ -371,23 +371,23 @@ impl System {
     ///
     /// It is out of line, so that a run need not make room for what the others say.
     #[inline(never)]
-    fn apply_apart(&mut self, event: Event<'_>) -> Result<Reply, CpError>
-        requires { IsNoRun event }
+    fn apply_apart(&mut self, event: &Event<'_>) -> Result<Reply, CpError>
+        requires { IsNoRun event.now }
         ensures step { IfOk result
             (λ reply. IsReplied self.old
-            (record { event = event.entry; reply = reply; seen = self.new })) }
-        ensures user { IsOk result → user_of event.entry < length self.old.users }
+            (record { event = event.now; reply = reply; seen = self.new })) }
+        ensures user { IsOk result → user_of event.now < length self.old.users }
         ensures directory { self.new.directory ≡ self.old.directory }
-        ensures confined { IsConfined (placements_at self.old (user_of event.entry))
+        ensures confined { IsConfined (placements_at self.old (user_of event.now))
             self.old.volumes
             self.new.volumes }
         ensures placements { self.new.placements ≡ self.old.placements }
-        ensures kept { IfOk result (λ reply. EventKeeps self.old event.entry reply.ended self.new) }
+        ensures kept { IfOk result (λ reply. EventKeeps self.old event.now reply.ended self.new) }
         ensures alive { IsOk result → self.new.is_spent ≡ false }
-        ensures refused { IsRefused self.old event.entry self.new result }
-        ensures out_of_memory { IsOutOfMemory self.old event.entry self.new result }
+        ensures refused { IsRefused self.old event.now self.new result }
+        ensures out_of_memory { IsOutOfMemory self.old event.now self.new result }
     {
-        match event {
+        match *event {
             Event::Run(_, _) => unreachable!(),
             Event::Line(user, typed) => {
                 let place = self.place_of(user)?;
@@ -444,7 +444,8 @@ impl System {
         }
     }
 
-    /// Steps the interval timer of a user's machine, and returns the reply. This takes no memory.
+    /// Steps the interval timer of a user's machine, if it runs, and returns the reply. This takes
+    /// no memory.
     fn tick(&mut self, user: usize) -> Reply
         requires { user < length self.old.users }
         ensures step { IsReplied self.old

@@ -95,7 +95,7 @@ impl UserMachine {
     }
 
     /// Appends a deck of a parcel to the user's reader's queue, or its message to the lines that
-    /// his console has printed. If memory is refused, his machine stays.
+    /// his console has printed; if memory is refused, his machine stays.
     pub(crate) fn receive(&mut self, queues: &mut Queues, parcel: Parcel) -> Result<(), AllocError>
         requires owner { self.old.devices.user < length queues.old.users }
         requires there { IsThereIn queues.old parcel }

@@ -215,7 +215,7 @@ impl<'a> UserOp for Line<'a> {
             own: self.user,
             on: self.on.as_slice(),
         };
-        let mut channels = GuestChannels::take(
+        let mut channels = GuestChannels::take_from(
             self.alloc,
             lent.volumes,
             lent.minidisks,
@@ -231,7 +231,7 @@ impl<'a> UserOp for Line<'a> {
             &world,
             self.typed,
         );
-        channels.give(lent.volumes, lent.minidisks, lent.reuse);
+        channels.return_to(lent.volumes, lent.minidisks, lent.reuse);
         reported
     }
 }
@@ -261,7 +261,7 @@ impl UserOp for Service {
         lent: &mut Lent<'_>,
         storage: &mut Dat<'_>,
     ) -> Result<bool, LineError> {
-        let mut channels = GuestChannels::take(
+        let mut channels = GuestChannels::take_from(
             self.alloc,
             lent.volumes,
             lent.minidisks,
@@ -275,7 +275,7 @@ impl UserOp for Service {
             &mut channels,
             self.device,
         );
-        channels.give(lent.volumes, lent.minidisks, lent.reuse);
+        channels.return_to(lent.volumes, lent.minidisks, lent.reuse);
         served
     }
 }

@@ -90,14 +90,15 @@ impl<'a> Dat<'a> {
         Ok(made)
     }
 
-    /// If a page is in no frame, pages it in and then unpins all frames.
+    /// Pages a page in if it is in no frame, and then unpins all frames, also if there was no room;
+    /// if it is in a frame, does nothing.
     ///
     /// A page that is in a slot is never refused.
     ///
     /// # Errors
     ///
     /// `FramesOut` if there is no room for a page that is needed; no byte has changed.
-    pub fn fetch(&mut self, page: Page) -> Result<(), FramesOut>
+    pub fn page_in_unpinned(&mut self, page: Page) -> Result<(), FramesOut>
         requires inside { page.0 * 4096 < length (lent_bytes self.old) }
         requires between { IsBetweenUnits (lent_pool self.old).supply }
         ensures there { OnOk result (is_lent_page self.new page.0 ≡ true) }
@@ -117,13 +118,13 @@ impl<'a> Dat<'a> {
         brought
     }
 
-    /// Pages in each wanted page that is in no frame, and ends with an error at the first for which
-    /// there is no room; no byte changes.
+    /// Pages in each wanted page that is in no frame, after which it may be paged out for the next;
+    /// ends with an error at the first for which there is no room. No byte changes.
     ///
     /// # Errors
     ///
     /// `FramesOut` if there is no room for a page that is needed; no byte has changed.
-    pub fn place(&mut self, wanted: &[bool]) -> Result<(), FramesOut>
+    pub fn page_in_wanted(&mut self, wanted: &[bool]) -> Result<(), FramesOut>
         requires inside { length wanted.now * 4096 ≤ length (lent_bytes self.old) }
         requires between { IsBetweenUnits (lent_pool self.old).supply }
         ensures stand { OnOk result (StandAll self.new wanted.now) }
@@ -136,14 +137,15 @@ impl<'a> Dat<'a> {
         let mut page = 0u32;
         while (page as usize) < wanted.len() {
             if wanted[page as usize] {
-                self.fetch(Page(page))?;
+                self.page_in_unpinned(Page(page))?;
             }
             page += 1;
         }
         Ok(())
     }
 
-    /// Pages in the page that begins at an address, unless it is in a frame.
+    /// Pages in the page that begins at an address and unpins all frames; does nothing if no page
+    /// begins there or it is in a frame.
     ///
     /// At any other address nothing is done: the page of that is in a frame.
     fn fetch_at(&mut self, start: u32)
@@ -159,7 +161,7 @@ impl<'a> Dat<'a> {
         if start % PAGE_SIZE != 0 {
             return;
         }
-        match self.fetch(Page(start / PAGE_SIZE)) {
+        match self.page_in_unpinned(Page(start / PAGE_SIZE)) {
             Ok(()) => {}
             // It is somewhere.
             Err(FramesOut) => unreachable!(),

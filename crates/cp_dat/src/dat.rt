@@ -108,8 +108,8 @@ impl<'a> Dat<'a> {
         }
     }
 
-    /// Returns the frame that a page is in, after paging it in if it is in none. No user's bytes
-    /// change.
+    /// Returns the frame that a page is in; if it is in none, first pages it in, which may page out
+    /// another that is not pinned. No user's bytes change.
     ///
     /// # Errors
     ///
@@ -218,7 +218,7 @@ impl<'a> Storage for Dat<'a> {
     }
 
     /// Tests that size and keys let an access of at most 256 bytes pass and that its pages are in
-    /// frames; returns the fault if not.
+    /// frames, and returns the fault if not; an access to no byte passes.
     #[inline(always)]
     fn check(&self, range: Range, access: Access, key: AccessKey) -> Result<(), Fault> {
         test_range(self.size, &KeySlice { keys: self.keys }, range, access, key)?;
@@ -298,7 +298,8 @@ impl<'a> Storage for Dat<'a> {
         self.frames.store_placed(self.user, place, start, from);
     }
 
-    /// Copies bytes from one block that was found into another or the same.
+    /// Copies bytes from one block that was found into another or the same, as if all were read
+    /// before any is written.
     #[inline(always)]
     fn copy_in(&mut self, source: Block, from: u32, target: Block, to: u32, count: u32) {
         let source_place = source.place.wrapping_add(from as usize);
@@ -319,7 +320,8 @@ impl<'a> Storage for Dat<'a> {
         self.frames.store(self.user, start, from);
     }
 
-    /// Copies bytes from one place of the storage to another; their pages have to be in frames.
+    /// Copies bytes from one place of the storage to another, as if all were read before any is
+    /// written; their pages have to be in frames.
     #[inline(always)]
     fn copy(&mut self, from: u32, to: u32, count: u32) {
         self.frames.copy(self.user, from, to, count);

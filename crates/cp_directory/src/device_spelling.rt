@@ -103,8 +103,8 @@ fn disk_of<'a>(
     Some(Statement::Minidisk(address, extent))
 }
 
-/// Returns the extent that these words spell; None if one of them is malformed. Whether a volume
-/// can have it is not checked.
+/// Returns the extent that these words spell, which a volume need not be able to have; None if one
+/// of them is malformed.
 fn extent_spelled(start: &[u8], count: &[u8], volser: &[u8], mode: &[u8]) -> Option<SpelledExtent>
     ensures { result ≡ extent_spelled start.now count.now volser.now mode.now }
 {
@@ -120,7 +120,8 @@ fn extent_spelled(start: &[u8], count: &[u8], volser: &[u8], mode: &[u8]) -> Opt
     })
 }
 
-/// Returns the address that three hexadecimal digits spell; None if malformed or above 5FF.
+/// Returns the address that three hexadecimal digits, with letters in upper case, spell; None if
+/// malformed or above 5FF.
 fn address_of(word: &[u8]) -> Option<DevAddr>
     ensures { result ≡ address_of word.now }
 {

@@ -130,7 +130,8 @@ impl User {
         self.devices.put(kind, address);
     }
 
-    /// Appends a minidisk to those of the user. If the growth is refused, nothing is added.
+    /// Appends a minidisk to those of the user, without any test; if the growth is refused, nothing
+    /// is added.
     fn add_minidisk(&mut self, disk: MinidiskStatement) -> Result<(), AllocError>
         ensures ok { IfOk result (λ _. self.new ≡ with_minidisk disk self.old) }
         ensures err { OnErr result (self.new ≡ self.old) }
@@ -185,7 +186,7 @@ impl Directory {
         }
     }
 
-    /// Appends a user, who must not have minidisks. If the growth is refused, nothing is added.
+    /// Appends a user, who must not have minidisks; if the growth is refused, nothing is added.
     ///
     /// # Errors
     ///

@@ -66,8 +66,8 @@ impl Model for Volser {
 impl Volser {
     ghost use Rattle.std.specs.Prelude.{true};
 
-    /// Returns the serial number that a word spells; None if it is not one to six letters and
-    /// digits.
+    /// Returns the serial number that a word spells; None if it is not one to six upper-case
+    /// letters and digits.
     pub fn new(word: &[u8]) -> Option<Volser>
         ensures { result ≡ (if is_volser word.now then Some word.now else None) }
     {

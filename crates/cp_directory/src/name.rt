@@ -26,7 +26,8 @@ impl Model for UserName {
 impl UserName {
     ghost use Rattle.std.specs.Prelude.{true};
 
-    /// Returns the name that a word spells; None if it is no user's name.
+    /// Returns the user's name that a word spells; None if it is not one to eight upper-case
+    /// letters and digits, begins with a digit, or is `SYSTEM`.
     pub fn new(word: &[u8]) -> Option<UserName>
         ensures { result ≡ (if is_name word.now then Some word.now else None) }
     {
@@ -52,7 +53,8 @@ impl UserName {
     }
 }
 
-/// Returns whether a word is a user's name.
+/// Returns whether a word can be a user's name: one to eight upper-case letters and digits, a
+/// letter first, and not `SYSTEM`.
 fn is_name(word: &[u8]) -> bool
     ensures { result ≡ is_name word.now }
 {

@@ -85,8 +85,8 @@ fn read_user<'a>(operands: &[&'a [u8]]) -> Option<Statement<'a>>
     }
 }
 
-/// Returns the statement of a user of this name and size; None if a word is malformed. The password
-/// is only checked.
+/// Returns the statement of a user of this name and size, which leaves out the password after
+/// checking it; None if a word is malformed.
 fn user_of<'a>(name: &[u8], password: &[u8], size: &'a [u8]) -> Option<Statement<'a>>
     ensures { option_map stated result ≡ user_of name.now password.now size.now }
 {
@@ -168,7 +168,7 @@ pub fn size_of(spelled: SpelledSize<'_>) -> Option<StorageSize>
     }
 }
 
-/// Returns the number that digits spell, or 9999 where it is more.
+/// Returns the number that digits spell, or 9999 if it is more.
 fn capped_number(digits: &[u8]) -> u32
     ensures { result ≡ min 9999 (number 0 digits.now) }
 {

@@ -10,7 +10,7 @@ use saved_bytes::{Input, put_number, put_one, put_zero};
 use std::alloc::{AllocError, Global};
 use user_names::{MOST_USERS, UserNo};
 
-/// Appends the numbers of these users, in order.
+/// Appends the numbers of these users, in order, each after a byte of 1, and then a byte of 0.
 #[tactic(auto, using(saved_bytes::proofs::Codes::each_on))]
 fn put_users(out: &mut Vec<u8>, users: &[UserNo]) -> Result<(), AllocError>
     ensures { OnOk result (out.new.items ≡ out.old.items ++ each number users.now) }
@@ -30,7 +30,8 @@ fn put_program(out: &mut Vec<u8>, program: Program) -> Result<(), AllocError>
     put_number(out, u64::from(program.device.get()))
 }
 
-/// Appends the users and the devices of these programs, in order.
+/// Appends the users and the devices of these programs, in order, each program after a byte of 1,
+/// and then a byte of 0.
 #[tactic(auto, using(saved_bytes::proofs::Codes::each_on))]
 fn put_programs(out: &mut Vec<u8>, programs: &[Program]) -> Result<(), AllocError>
     ensures { OnOk result (out.new.items ≡ out.old.items ++ each program_bytes programs.now) }
@@ -76,8 +77,8 @@ impl Policy {
         put_number(out, *most_users as u64)
     }
 
-    /// Reads a policy for this many users from the input; returns None if it is malformed or memory
-    /// is refused.
+    /// Reads a policy for this many users from the input, whose own number of users is not
+    /// compared; returns None if it is malformed or memory is refused.
     pub fn read(alloc: Global, users: usize, input: &mut Input<'_>) -> Option<Policy>
         ensures { IfSome result (λ policy. policy.most_users ≡ users) }
     {
@@ -93,8 +94,8 @@ impl Policy {
                 break 'programs;
             }
             let user = next_user(input, users)?;
-            let device = input.half()?;
-            policy.started(user, DevAddr::new(device)).ok()?;
+            let device = input.next_u16()?;
+            policy.add_program(user, DevAddr::new(device)).ok()?;
         }
         let _users = input.number()?;
         Some(policy)

@@ -67,7 +67,7 @@ pub fn open_turn(order: &[u16], pins: &[bool]) -> Option<usize>
 }
 
 /// Moves the frame at the index `turn` of the order to its end; those after it move up by one.
-pub fn last(order: &mut [u16], turn: usize)
+pub fn move_to_end(order: &mut [u16], turn: usize)
     requires { turn < length order.old }
     ensures { order.new ≡ remove order.old turn ++ slice_index order.old turn ∷ [] }
 {
@@ -75,7 +75,7 @@ pub fn last(order: &mut [u16], turn: usize)
 }
 
 /// Returns a number plus one, or the number itself if it is the greatest.
-pub fn count(number: u64) -> u64
+pub fn one_more(number: u64) -> u64
     ensures { result ≡ counted number }
 {
     if number == u64::MAX {

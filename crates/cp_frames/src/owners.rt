@@ -7,7 +7,7 @@ ghost use Rattle.cp_frames.specs.Layout.{without, cleared_of, frame_entry, slot_
 ghost use Rattle.cp_frames.specs.Layout.{IsMapped, IsTabled};
 
 use crate::UserPage;
-use crate::table::{ABSENT, entry_of, forget, forget_slots, frame_in};
+use crate::table::{ABSENT, clear_user_slots, entry_of, frame_in, unmap_page};
 use s370_store::Page;
 use std::alloc::{AllocError, Global};
 use user_names::UserNo;
@@ -17,7 +17,7 @@ use user_names::UserNo;
 /// # Errors
 ///
 /// `AllocError` if memory is refused.
-pub fn free_frames(alloc: Global, count: usize) -> Result<Vec<Option<UserPage>>, AllocError>
+pub fn no_owners(alloc: Global, count: usize) -> Result<Vec<Option<UserPage>>, AllocError>
     ensures { IfOk result (λ owners. owners.items ≡ replicate count None) }
 {
     Ok(vec![in alloc; None; count]?)
@@ -71,7 +71,7 @@ pub fn low_after(low: usize, slot: usize, owner: Option<UserPage>) -> usize
 }
 
 /// Removes each page of a user from its frame, and maps it to no frame in `tables` and in `lookup`.
-pub fn leave(
+pub fn free_user_frames(
     owners: &mut Vec<Option<UserPage>>,
     tables: &mut Vec<u8>,
     lookup: &mut Vec<u32>,
@@ -89,7 +89,7 @@ pub fn leave(
         let entry = lookup[entry_of(user, page)];
         if entry != ABSENT {
             owners[frame_in(entry, page)] = None;
-            forget(
+            unmap_page(
                 tables,
                 lookup,
                 Some(UserPage {
@@ -110,7 +110,7 @@ fn pages_of(sizes: &[u32], user: UserNo) -> u32
 }
 
 /// Removes each page of a user from its slot, also in the table; without slots it does nothing.
-pub fn leave_slots(owners: &mut Vec<Option<UserPage>>, table: &mut Vec<u32>, user: UserNo)
+pub fn free_user_slots(owners: &mut Vec<Option<UserPage>>, table: &mut Vec<u32>, user: UserNo)
     ensures owners { owners.new.items ≡ cleared_of user owners.old.items }
     ensures tabled { (sizes : List ℕ) → IsTabled slot_entry owners.old.items sizes table.old.items
         → IsTabled slot_entry owners.new.items sizes table.new.items }
@@ -118,12 +118,12 @@ pub fn leave_slots(owners: &mut Vec<Option<UserPage>>, table: &mut Vec<u32>, use
     if owners.is_empty() {
         return;
     }
-    give_back(owners, user);
-    forget_slots(table, user.index());
+    remove_user_pages(owners, user);
+    clear_user_slots(table, user.index());
 }
 
 /// Removes each page of a user from the list of the pages in slots.
-fn give_back(owners: &mut Vec<Option<UserPage>>, user: UserNo)
+fn remove_user_pages(owners: &mut Vec<Option<UserPage>>, user: UserNo)
     ensures { owners.new.items ≡ cleared_of user owners.old.items }
 {
     for owner in owners.iter_mut() {

@@ -7,9 +7,9 @@ ghost use Rattle.cp_frames.specs.Paging.{IsChosen, IsBrought, IsOpen, IsRefused,
 ghost use Rattle.cp_frames.specs.Paging.{filled, paged_in};
 
 use crate::frame::clear;
-use crate::order::{count, free_turn, last, open_turn};
+use crate::order::{free_turn, move_to_end, one_more, open_turn};
 use crate::owners::{first_free, low_after};
-use crate::table::{forget, forget_slot, note, set_slot};
+use crate::table::{clear_slot, map_page, set_slot, unmap_page};
 use crate::{FrameNo, Frames, UserPage};
 use s370_store::{FramesOut, Page};
 use std::mem::swap;
@@ -18,8 +18,8 @@ use user_names::UserNo;
 impl Frames {
     ghost use Rattle.cp_frames.specs.Layout.{bytes_of};
 
-    /// Returns the frame that a page is in, after paging it in if it is in none. No user's bytes
-    /// change.
+    /// Returns the frame that a page is in; if it is in none, first pages it in, which may page out
+    /// another that is not pinned. No user's bytes change.
     ///
     /// If no frame is free, the page longest in its frame among those not pinned is given up. It
     /// takes a free slot, or the slot that the wanted page leaves.
@@ -54,7 +54,7 @@ impl Frames {
             Ok(()) => {}
             Err(_) => return Err(FramesOut),
         }
-        self.come(turn, end);
+        self.record_page_in(turn, end);
         Ok(FrameNo(frame as u16))
     }
 
@@ -169,14 +169,14 @@ impl Frames {
         ensures storages { self.new.storages ≡ self.old.storages }
         ensures supply { self.new.supply ≡ exchanged self.old.supply frame slot }
     {
-        forget(&mut self.tables, &mut self.lookup, self.owners[frame]);
-        note(
+        unmap_page(&mut self.tables, &mut self.lookup, self.owners[frame]);
+        map_page(
             &mut self.tables,
             &mut self.lookup,
             self.slot_owners[slot],
             frame,
         );
-        forget_slot(&mut self.slot_table, self.slot_owners[slot]);
+        clear_slot(&mut self.slot_table, self.slot_owners[slot]);
         set_slot(&mut self.slot_table, self.owners[frame], slot as u32);
         self.low = low_after(self.low, slot, self.owners[frame]);
         self.end = self.order.len();
@@ -196,7 +196,7 @@ impl Frames {
     {
         clear(&mut self.frames[frame]);
         self.owners[frame] = Some(UserPage { user, page });
-        note(
+        map_page(
             &mut self.tables,
             &mut self.lookup,
             Some(UserPage { user, page }),
@@ -206,15 +206,15 @@ impl Frames {
 
     /// Moves the frame at the index `turn` of the order to its end, sets `end`, from where on all
     /// frames are taken, and counts a page-in.
-    fn come(&mut self, turn: usize, end: usize)
+    fn record_page_in(&mut self, turn: usize, end: usize)
         requires turn { turn < length self.old.supply.order }
         requires end { end ≤ turn }
         requires taken { AreTaken self.old.supply.owners (drop end self.old.supply.order) }
         ensures storages { self.new.storages ≡ self.old.storages }
         ensures supply { self.new.supply ≡ paged_in self.old.supply turn }
     {
-        last(&mut self.order, turn);
+        move_to_end(&mut self.order, turn);
         self.end = end;
-        self.page_ins = count(self.page_ins);
+        self.page_ins = one_more(self.page_ins);
     }
 }

@@ -11,10 +11,10 @@ ghost use Rattle.cp_frames.specs.Tables.{segment_entry, page_entry, walk};
 
 use crate::frame::{blank_frames, copy_in, copy_out_at, copy_over};
 use crate::order::all_frames;
-use crate::owners::{clear_pins, free_frames, leave, leave_slots, no_pins};
+use crate::owners::{clear_pins, free_user_frames, free_user_slots, no_owners, no_pins};
 use crate::table::{
-    ABSENT, INVALID, NO_SEGMENT, NO_SLOT, PAGES, empty_looks, empty_slot_table, entry_of, frame_in,
-    half_at, new_tables, page_place, place_in, segment_place, word_at,
+    ABSENT, INVALID, NO_SEGMENT, NO_SLOT, PAGES, empty_lookup, empty_slot_table, entry_of,
+    frame_in, half_at, new_tables, page_place, place_in, segment_place, word_at,
 };
 use crate::{FRAME_SIZE, FrameNo, UserPage};
 use s370_store::{BLOCK_SIZE, PAGE_SIZE, Page};
@@ -106,15 +106,15 @@ impl Frames {
     {
         let frame_count = usize::from(frames);
         let slot_count = slots as usize;
-        let owners = free_frames(alloc, frame_count)?;
-        let slot_owners = free_frames(alloc, slot_count)?;
+        let owners = no_owners(alloc, frame_count)?;
+        let slot_owners = no_owners(alloc, slot_count)?;
         let pins = no_pins(alloc, frame_count)?;
         let order = all_frames(alloc, frames)?;
         let frames = blank_frames(alloc, frame_count)?;
         let slots = blank_frames(alloc, slot_count)?;
         let tables = new_tables(alloc, &sizes)?;
         let entries = PAGES * sizes.len();
-        let lookup = empty_looks(alloc, entries)?;
+        let lookup = empty_lookup(alloc, entries)?;
         let slot_table = empty_slot_table(alloc, entries)?;
         Ok(Frames {
             frames,
@@ -387,14 +387,14 @@ impl Frames {
         self.unpin_all();
         self.end = self.order.len();
         self.low = 0;
-        leave(
+        free_user_frames(
             &mut self.owners,
             &mut self.tables,
             &mut self.lookup,
             &self.sizes,
             user,
         );
-        leave_slots(&mut self.slot_owners, &mut self.slot_table, user);
+        free_user_slots(&mut self.slot_owners, &mut self.slot_table, user);
     }
 
     /// Borrows the bytes of a frame for reading and writing; None if there is no such frame.

@@ -11,7 +11,7 @@ ghost use Rattle.cp_frames.specs.Saved.{IsOneBySaved, is_zero, packed, page_byte
 ghost use Rattle.cp_frames.specs.Saved.{pool_bytes, storage_bytes, supply_bytes};
 
 use crate::frame::whole;
-use crate::order::last;
+use crate::order::move_to_end;
 use crate::table::PAGES;
 use crate::{FRAME_SIZE, FrameNo, Frames, UserPage};
 use s370_store::{PAGE_SIZE, Page};
@@ -40,7 +40,8 @@ fn put_place(out: &mut Vec<u8>, owner: Option<UserPage>) -> Result<(), AllocErro
     }
 }
 
-/// Appends which page, if any, is in each of these frames or slots.
+/// Appends which page, if any, is in each of these frames or slots, each after a byte of 1, and
+/// then a byte of 0.
 #[tactic(auto, using(saved_bytes::proofs::Codes::each_on))]
 fn put_places(out: &mut Vec<u8>, owners: &[Option<UserPage>]) -> Result<(), AllocError>
     ensures { OnOk result (out.new.items ≡ out.old.items ++ each (optional page_bytes) owners.now) }
@@ -52,7 +53,8 @@ fn put_places(out: &mut Vec<u8>, owners: &[Option<UserPage>]) -> Result<(), Allo
     put_zero(out)
 }
 
-/// Appends a flag for each frame: whether it is pinned.
+/// Appends for each frame a byte of 1 and a flag, whether it is pinned, and after all of them a
+/// byte of 0.
 #[tactic(auto, using(saved_bytes::proofs::Codes::each_on))]
 fn put_pins(out: &mut Vec<u8>, pins: &[bool]) -> Result<(), AllocError>
     ensures { OnOk result (out.new.items ≡ out.old.items ++ each flag pins.now) }
@@ -64,7 +66,8 @@ fn put_pins(out: &mut Vec<u8>, pins: &[bool]) -> Result<(), AllocError>
     put_zero(out)
 }
 
-/// Appends the numbers of these frames, in their order.
+/// Appends the numbers of these frames, in their order, each after a byte of 1, and then a byte of
+/// 0.
 #[tactic(auto, using(saved_bytes::proofs::Codes::each_on))]
 fn put_order(out: &mut Vec<u8>, order: &[u16]) -> Result<(), AllocError>
     ensures { OnOk result (out.new.items ≡ out.old.items ++ each number order.now) }
@@ -167,7 +170,7 @@ impl Frames {
         put_number(out, *page_ins)
     }
 
-    /// Appends the storages of all users.
+    /// Appends the storages of all users, each after a byte of 1, and then a byte of 0.
     fn save_storages(&self, out: &mut Vec<u8>) -> Result<(), AllocError>
         ensures { OnOk result (out.new.items ≡ out.old.items
             ++ each storage_bytes self.now.storages) }
@@ -233,8 +236,8 @@ impl Frames {
         Some(())
     }
 
-    /// Puts a page of zeros into a free slot, by way of frame 0, which is left free; returns None
-    /// if the page, the slot or the frame does not allow that.
+    /// Puts a page of zeros into a free slot, by way of frame 0, which is left free; returns None,
+    /// perhaps with the page in frame 0, if the page, the slot or the frame does not allow that.
     fn seat_in_slot(&mut self, slot: usize, there: UserPage) -> Option<()>
         ensures sizes { map length self.new.storages ≡ map length self.old.storages }
         ensures pins { self.new.supply.pins ≡ self.old.supply.pins }
@@ -295,8 +298,8 @@ impl Frames {
         }
     }
 
-    /// Moves the frame at the index `turn` of the order to its end; the next search for a free
-    /// frame begins there.
+    /// Moves the frame at the index `turn` of the order to its end, from which the next search for
+    /// a free frame goes backwards.
     fn put_last(&mut self, turn: usize)
         requires { turn < length self.old.supply.order }
         ensures storages { self.new.storages ≡ self.old.storages }
@@ -304,7 +307,7 @@ impl Frames {
         ensures owners { self.new.supply.owners ≡ self.old.supply.owners }
     {
         self.end = self.order.len();
-        last(&mut self.order, turn);
+        move_to_end(&mut self.order, turn);
     }
 
     /// Reads frame numbers from the input, and moves each frame to the end of the order; returns
@@ -318,7 +321,7 @@ impl Frames {
             if !input.flag()? {
                 return Some(());
             }
-            let turn = self.turn_of(input.half()?)?;
+            let turn = self.turn_of(input.next_u16()?)?;
             self.put_last(turn);
         }
         None
@@ -404,7 +407,8 @@ impl Frames {
     }
 
     /// Reads pages, their places, the order of frames and the number of page-ins from the input
-    /// into free frames and slots; returns None if the input has no such.
+    /// into free frames and slots; returns None, perhaps after restoring a part, if the input has
+    /// no such or memory is refused.
     ///
     /// What is left after None is lawful, and nothing else is said of it.
     pub fn restore(&mut self, alloc: Global, input: &mut Input<'_>) -> Option<()>
@@ -430,8 +434,8 @@ fn next_place(input: &mut Input<'_>) -> Option<Option<UserPage>> {
     if !input.flag()? {
         return Some(None);
     }
-    let user = input.small()?;
-    let page = input.half()?;
+    let user = input.next_u8()?;
+    let page = input.next_u16()?;
     if usize::from(user) >= MOST_USERS || usize::from(page) >= PAGES {
         return None;
     }

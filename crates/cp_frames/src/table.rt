@@ -181,7 +181,7 @@ pub fn new_tables(alloc: Global, sizes: &[u32]) -> Result<Vec<u8>, AllocError>
 /// # Errors
 ///
 /// `AllocError` if memory is refused.
-pub fn empty_looks(alloc: Global, count: usize) -> Result<Vec<u32>, AllocError>
+pub fn empty_lookup(alloc: Global, count: usize) -> Result<Vec<u32>, AllocError>
     ensures { IfOk result (λ lookup. lookup.items ≡ replicate count 1) }
 {
     Ok(vec![in alloc; ABSENT; count]?)
@@ -207,7 +207,7 @@ pub fn entry_of(user: UserNo, page: u32) -> usize
 }
 
 /// Maps a page, if one is given, to this frame, both in the page tables and in the lookup list.
-pub fn note(tables: &mut Vec<u8>, lookup: &mut Vec<u32>, owner: Option<UserPage>, frame: usize)
+pub fn map_page(tables: &mut Vec<u8>, lookup: &mut Vec<u32>, owner: Option<UserPage>, frame: usize)
     requires tables { IfSome owner (λ p. page_place p.user p.page.0 + 1 < length tables.old.items) }
     requires lookup { IfSome owner (λ p. p.user * 1024 + p.page.0 < length lookup.old.items) }
     requires frame { frame < 4096 }
@@ -225,7 +225,7 @@ pub fn note(tables: &mut Vec<u8>, lookup: &mut Vec<u32>, owner: Option<UserPage>
 }
 
 /// Maps a page, if one is given, to no frame, both in the page tables and in the lookup list.
-pub fn forget(tables: &mut Vec<u8>, lookup: &mut Vec<u32>, owner: Option<UserPage>)
+pub fn unmap_page(tables: &mut Vec<u8>, lookup: &mut Vec<u32>, owner: Option<UserPage>)
     requires tables { IfSome owner (λ p. page_place p.user p.page.0 + 1 < length tables.old.items) }
     requires lookup { IfSome owner (λ p. p.user * 1024 + p.page.0 < length lookup.old.items) }
     ensures tables { tables.new.items ≡ noted owner 8 tables.old.items }
@@ -252,7 +252,7 @@ pub fn set_slot(table: &mut Vec<u32>, owner: Option<UserPage>, slot: u32)
 }
 
 /// Sets in the table of slots that a page, if one is given, is in no slot.
-pub fn forget_slot(table: &mut Vec<u32>, owner: Option<UserPage>)
+pub fn clear_slot(table: &mut Vec<u32>, owner: Option<UserPage>)
     requires { IfSome owner (λ p. p.user * 1024 + p.page.0 < length table.old.items) }
     ensures { table.new.items ≡ reported slot_entry owner None table.old.items }
 {
@@ -263,7 +263,7 @@ pub fn forget_slot(table: &mut Vec<u32>, owner: Option<UserPage>)
 
 /// Sets in the table of slots that each page of a user is in no slot; past the table it does
 /// nothing.
-pub fn forget_slots(table: &mut Vec<u32>, user: usize)
+pub fn clear_user_slots(table: &mut Vec<u32>, user: usize)
     requires { user < 256 }
     ensures own { (page : ℕ) → page < 1024 → user * 1024 + 1024 ≤ length table.old.items
         → slice_index table.new.items (user * 1024 + page) ≡ 4294967295 }

@@ -36,9 +36,8 @@ fn copy_word<S: Storage>(
     requires known { IsIndexed places.old.items index.old }
     requires few { vec_len places.old + unmarked index.old ≤ 2147483648 }
     ensures row { IfOk result (IsRow places.new.items (S.memory storage.now) place.address) }
-    ensures present { IfOk result
-        (λ node. AllPresent (length (S.memory storage.now).bytes) (S.present storage.now)
-        node.list.items) }
+    ensures present { IfOk result (λ node. AllPresent (length (S.memory storage.now).bytes)
+        (S.present storage.now) node.list.items) }
     ensures grown { IfOk result (λ _. Grows places.old.items places.new.items) }
     ensures reached { IfOk result (λ _. (start : ℕ)
         → IsReachedPlace (S.memory storage.now) start place

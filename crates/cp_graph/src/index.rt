@@ -24,7 +24,7 @@ fn slot(place: CcwLocation) -> usize
 }
 
 /// Returns the number of a place, which is added to `places` and to `index` if it is new.
-fn number_of(
+fn number_or_add(
     places: &mut Vec<CcwLocation>,
     index: &mut Slots,
     place: CcwLocation,
@@ -76,7 +76,7 @@ pub(crate) fn link<S: Storage>(
     ensures size { length index.new ≡ length index.old }
 {
     if leads && place.address as u64 + 8 <= storage.size() as u64 {
-        return number_of(places, index, place);
+        return number_or_add(places, index, place);
     }
     Ok(PAST + place.address)
 }

@@ -53,8 +53,8 @@ impl Slots {
         }
     }
 
-    /// Sets the number of a slot, in place of the one that it has. Where memory is refused all
-    /// stays.
+    /// Sets the number of a slot, in place of the one that it has; if memory is refused, nothing
+    /// changes.
     ///
     /// # Errors
     ///

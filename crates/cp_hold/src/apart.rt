@@ -24,7 +24,7 @@ fn copy_of(alloc: Global, storage: &Dat<'_>) -> Result<TrialStorage, AllocError>
 }
 
 /// Makes each page of a copy present.
-fn fill(copy: &mut TrialStorage)
+fn touch_all_pages(copy: &mut TrialStorage)
     requires { (page : ℕ) → is_touched copy.old page ≡ false }
     ensures memory { trial_memory copy.new ≡ trial_memory copy.old }
     ensures there { (page : ℕ) → page * 4096 < length (trial_bytes copy.old)
@@ -64,7 +64,7 @@ pub(crate) fn pages_apart(
         → IsProgramPage (lent_memory storage.now) address page)) }
 {
     let mut copy = copy_of(alloc, storage)?;
-    fill(&mut copy);
+    touch_all_pages(&mut copy);
     match analyze(alloc, &copy, address)? {
         Analysis::Fixed(text, pages) => {
             let flags = flags_of(alloc, copy.size() / PAGE_SIZE, &text, &pages)?;

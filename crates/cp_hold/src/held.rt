@@ -69,8 +69,8 @@ fn bring_wanted(storage: &mut Dat<'_>, wanted: &[bool]) -> Result<(), FramesOut>
     }
 }
 
-/// Pages in and pins the pages of the program at an address that are in no frame, if no input can
-/// change it, and returns its words and pages; else returns that it is self-modifying.
+/// Pages in and pins the absent pages of the program at an address and returns its words and pages;
+/// or returns that it is self-modifying, also if the address is not on a doubleword.
 ///
 /// A program that starts at no doubleword counts as self-modifying too. Whoever calls it unpins the
 /// pages, also after an error.

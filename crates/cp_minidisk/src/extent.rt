@@ -84,7 +84,7 @@ impl Extent {
     }
 
     /// Returns the place on the volume of a track of the minidisk; None if the minidisk has no such
-    /// cylinder. The head is not checked.
+    /// cylinder; the head is not checked.
     pub fn relocate(self, seek: Seek) -> Option<Seek>
         ensures place { result ≡ relocated self seek }
         ensures stays { IfSome result (λ place. IsWithin self place.cylinder) }

@@ -176,19 +176,19 @@ impl Minidisk {
         put_sense(out, *sense)
     }
 
-    /// Reads the arm's place and the sense from the input and sets them; returns None, and changes
-    /// nothing, if they are no such. The extent is read too, but stays.
+    /// Reads an extent, the arm's place and the sense from the input, and sets the last two;
+    /// returns None, and changes nothing, if they are malformed or the minidisk has no such place.
     pub fn restore(&mut self, input: &mut Input<'_>) -> Option<()>
         ensures { self.new.extent ≡ self.old.extent }
     {
         pass_extent(input)?;
-        let cylinder = input.place()?;
-        let head = input.place()?;
+        let cylinder = input.next_usize()?;
+        let head = input.next_usize()?;
         if cylinder >= usize::from(self.extent.count()) || head >= HEADS {
             return None;
         }
-        let first = input.small()?;
-        let second = input.small()?;
+        let first = input.next_u8()?;
+        let second = input.next_u8()?;
         self.cylinder = cylinder;
         self.head = head;
         self.sense = Sense { first, second };

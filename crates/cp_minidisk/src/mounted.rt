@@ -102,12 +102,13 @@ impl Device for Mounted {
         self.unit.command(order)
     }
 
-    /// Returns whether the unit wants no more bytes, though it has fewer than it said.
+    /// Returns whether the unit's command is a Write Count, Key and Data that has all its bytes.
     fn is_done(&self) -> bool {
         self.unit.is_done()
     }
 
-    /// Returns the next byte that the unit gives.
+    /// Returns the next byte that the unit gives and moves on past it, or returns zero if none is
+    /// left.
     fn give(&mut self) -> u8 {
         self.unit.give()
     }
@@ -122,7 +123,7 @@ impl Device for Mounted {
         self.unit.ready()
     }
 
-    /// Fills `into` with the next bytes that the unit gives.
+    /// Fills `into` with the next bytes that the unit gives, and with zeros after the last.
     fn give_bytes(&mut self, into: &mut [u8]) {
         self.unit.give_bytes(into);
     }

@@ -143,23 +143,20 @@ pub enum Analysis {
 pub fn analyze<S: Storage>(alloc: Global, storage: &S, start: u32) -> Result<Analysis, AllocError>
     requires even { start % 8 ≡ 0 }
     requires whole { length (S.memory storage.now).bytes % 4 ≡ 0 }
-    ensures absent { IfOk result
-        (λ found. IfFound found (IsAbsent (length (S.memory storage.now).bytes)
-        (S.present storage.now))) }
+    ensures absent { IfOk result (λ found. IfFound found
+        (IsAbsent (length (S.memory storage.now).bytes) (S.present storage.now))) }
     ensures needed { IfOk result
         (λ found. IfFound found (IsProgramPage (S.memory storage.now) start)) }
     ensures fixed { IfOk result
         (λ found. IfText found (λ text. IsFixed (S.memory storage.now) start)) }
-    ensures held { IfOk result
-        (λ found. IfText found (λ text.
-        IsHeld (S.memory storage.now) start (S.present storage.now))) }
+    ensures held { IfOk result (λ found. IfText found
+        (λ text. IsHeld (S.memory storage.now) start (S.present storage.now))) }
     ensures text { IfOk result
         (λ found. IfText found (λ text. IsText (S.memory storage.now) start text)) }
     ensures only { IfOk result
         (λ found. IfText found (λ text. IsTextOnly (S.memory storage.now) start text)) }
-    ensures stands { IfOk result
-        (λ found. IfText found (λ text.
-        All (IsAsItStood (S.memory storage.now).bytes (S.present storage.now)) text)) }
+    ensures stands { IfOk result (λ found. IfText found
+        (λ text. All (IsAsItStood (S.memory storage.now).bytes (S.present storage.now)) text)) }
     ensures pages { IfOk result
         (λ found. IfPages found (λ pages. IsPaged (S.memory storage.now) start pages)) }
     ensures pages_only { IfOk result

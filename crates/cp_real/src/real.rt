@@ -221,7 +221,8 @@ impl<'a, 'b, 'c> Storage for Real<'a, 'b, 'c> {
         self.store_area(start, from);
     }
 
-    /// Fills `into` with bytes of real storage from `start` on, which may lie in two pages.
+    /// Fills `into` with bytes of real storage from `start` on, which may lie in two pages; a part
+    /// in a frame with no page of the user is left as it is.
     fn load(&self, start: u32, into: &mut [u8]) {
         if into.is_empty() {
             return;
@@ -236,7 +237,8 @@ impl<'a, 'b, 'c> Storage for Real<'a, 'b, 'c> {
         }
     }
 
-    /// Copies bytes into real storage from `start` on, which may lie in two pages.
+    /// Copies bytes into real storage from `start` on, which may lie in two pages; those for a
+    /// frame with no page of the user are dropped.
     fn store(&mut self, start: u32, from: &[u8]) {
         if from.is_empty() {
             return;

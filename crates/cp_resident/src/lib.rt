@@ -28,11 +28,11 @@
 //! store_doubleword(&mut storage, 0x800, 0x0900_2000_0000_0005); // write five bytes of page 2
 //! let (mut volumes, mut minidisks) = (Volumes::none(alloc), Vec::new(alloc)); // no disks
 //! let mut reuse = Reuse::empty(alloc, 0)?;
-//! let mut channels = GuestChannels::take(alloc, &mut volumes, &mut minidisks, &mut reuse);
+//! let mut channels = GuestChannels::take_from(alloc, &mut volumes, &mut minidisks, &mut reuse);
 //! let (start, mut printer) = (Caw::from_word(0x800).ok_or("no address")?, Printer::new(alloc));
 //! channels.run(&mut storage, start, UnitRecord::Printer, &mut printer)?;
 //! channels.run(&mut storage, start, UnitRecord::Printer, &mut printer)?;
-//! channels.give(&mut volumes, &mut minidisks, &mut reuse);
+//! channels.return_to(&mut volumes, &mut minidisks, &mut reuse);
 //! assert_eq!(rt; printer.entries().len(), 2);
 //! assert_eq!(rt; reuse.reuses(), 1); // the second run was of the program that was kept
 //! ```

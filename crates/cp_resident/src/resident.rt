@@ -52,7 +52,7 @@ impl GuestChannels {
 
     /// Moves a user's minidisks, all volumes and his cached programs into new channels, which
     /// leaves none in their places. It takes no memory.
-    pub fn take(
+    pub fn take_from(
         alloc: Global,
         volumes: &mut Volumes,
         minidisks: &mut Vec<SharedDisk>,
@@ -74,7 +74,12 @@ impl GuestChannels {
 
     /// Moves minidisks, volumes and cached programs from the channels back into these places. It
     /// takes no memory.
-    pub fn give(self, volumes: &mut Volumes, minidisks: &mut Vec<SharedDisk>, reuse: &mut Reuse)
+    pub fn return_to(
+        self,
+        volumes: &mut Volumes,
+        minidisks: &mut Vec<SharedDisk>,
+        reuse: &mut Reuse,
+    )
         ensures volumes { volumes.new ≡ (hung_on self).volumes }
         ensures minidisks { minidisks.new.items ≡ (hung_on self).minidisks }
         ensures kept { reuse.new ≡ reuse_of self }
@@ -154,8 +159,9 @@ impl<'a> Channels<Dat<'a>> for GuestChannels {
     ghost ReusesDisk = { λ r d start index done s.
         HasReusedDisk (reuse_of r) d start index done (reuse_of s) };
 
-    /// Runs the program with this start for a device that is no disk: its cached copy if that is
-    /// valid, else a new copy, which it caches; or after a dry run if an input could change it.
+    /// Runs the program with this start for a device that is no disk: its valid cached copy, which
+    /// is counted, or a new copy, which is cached; or after a dry run, uncached, if an input could
+    /// change it.
     fn run<D: DryRun>(
         &mut self,
         storage: &mut Dat<'a>,
@@ -165,7 +171,7 @@ impl<'a> Channels<Dat<'a>> for GuestChannels {
     ) -> Result<Ending, ChannelError> {
         if let Some(kept) = self.reuse.of_unit(unit, storage, &start) {
             let ended = run_again(kept, storage, &start, device);
-            self.reuse.count();
+            self.reuse.count_reuse();
             return ended;
         }
         match lock_pages(self.alloc, storage, start.address.get()) {
@@ -193,16 +199,17 @@ impl<'a> Channels<Dat<'a>> for GuestChannels {
         }
     }
 
-    /// Runs the program with this start for the disk of this index: at once if its cache is valid,
-    /// else pinning its pages and caching it; or after a dry run if an input could change it.
+    /// Runs the program with this start for the disk of this index: at once, which is counted, if
+    /// its cache is valid, else with its pages pinned and cached; or after a dry run, uncached, if
+    /// an input could change it.
     fn run_disk(
         &mut self,
         storage: &mut Dat<'a>,
         start: Caw,
         index: usize,
     ) -> Result<Ending, ChannelError> {
-        if self.reuse.has_disk(index, storage, &start) {
-            self.reuse.count();
+        if self.reuse.is_disk_valid(index, storage, &start) {
+            self.reuse.count_reuse();
             return Ok(self.disks.run_held(storage, start, index));
         }
         match lock_pages(self.alloc, storage, start.address.get()) {

@@ -109,14 +109,14 @@ impl Reuse {
 
     /// Adds one to the count of how often a cached program was run again, unless that is at its
     /// greatest value.
-    pub fn count(&mut self)
+    pub fn count_reuse(&mut self)
         ensures { self.new ≡ run_again self.old }
     {
         self.reuses = one_more(self.reuses);
     }
 
-    /// Returns the cached program of a device that is no disk, if it has one and all that this was
-    /// copied from is as it was.
+    /// Returns the cached program of a device that is no disk, if it has one that began with this
+    /// start and all that it was copied from is as it was.
     pub fn of_unit(
         &self,
         unit: UnitRecord,
@@ -147,7 +147,7 @@ impl Reuse {
 
     /// Returns whether the program of the minidisk of this index may run again: whether one is
     /// cached and all that is known of it is as it was.
-    pub fn has_disk(&self, index: usize, storage: &Dat<'_>, start: &Caw) -> bool
+    pub fn is_disk_valid(&self, index: usize, storage: &Dat<'_>, start: &Caw) -> bool
         ensures known_again { result ≡ true → KnowsAgain self.now index storage.now start.now }
         ensures other { KnowsAgain self.now index storage.now start.now → result ≡ true }
         ensures still { result ≡ true

@@ -9,3 +9,4 @@ pub mod Search
 pub mod Sound
 pub mod Walks
 pub mod FileCodes
+pub mod Forgotten

@@ -19,10 +19,12 @@ use Rattle.cp_spool.specs.Queues.{with_place, with_printed, with_punched, withou
 use Rattle.cp_spool.specs.Keys.{IsMade, IsSound, IsSoundOf, QueueKeys, StandsWith, closed_at, deck_at, file_at}
 use Rattle.cp_spool.specs.Keys.{is_given, keys_in, no_file, no_keys, queue_of, user_files, with_printed_key}
 use Rattle.cp_spool.specs.Keys.{with_punched_key, with_queue, with_waiting, without_waiting}
-use Rattle.cp_spool.proofs.Sound.{IsFree, map-remove, sound_apart, sound_less, sound_placed, sound_printed}
+use Rattle.cp_spool.proofs.Sound.{IsFree, apart_printed, apart_punched, each_set, map-remove, sound_apart, sound_less}
+use Rattle.cp_spool.proofs.Sound.{sound_placed, sound_printed}
 use Rattle.cp_spool.proofs.Sound.{sound_punched, sound_roomier, sound_set, sound_waiting, taken_is_free, users_apart}
 use Rattle.cp_spool.proofs.Sound.{vacant_is_free}
 
+-- The files of a user among those of all are those of his queue.
 pub files_there : (files : Slab SpoolFileValue) (queues : List QueueKeys) (user : ℕ)
     → get_or (map (user_files files) queues) user no_files ≡ user_files files (queue_of queues user)
 files_there files [] user = refl
@@ -86,8 +88,8 @@ module _ (files files' : Slab SpoolFileValue) (queues : List QueueKeys) (user ke
   pub sound_given : (w : Waiting) → w.key ≡ key → StandsWith user file
       → IsSound files' (with_queue user (with_waiting w (queue_of queues user)) queues)
   sound_given w is stands =
-      sound_set files' queues user (with_waiting w (queue_of queues user)) inside
-      (sound_waiting files' user w (queue_of queues user) (still_sound user)
+      sound_set files' queues user (with_waiting w (queue_of queues user)) inside refl refl
+      (sound_waiting files' user w (queue_of queues user) (still_sound.0 user)
       (subst (λ (k : ℕ). IsSomeAnd (get files' k) (StandsWith user)) (sym is) (stands_now (StandsWith user) stands))
       (λ given. λ i l e. (free user).waiting i l (e ∙ is)))
       still_sound
@@ -114,14 +116,20 @@ module _ (files files' : Slab SpoolFileValue) (queues : List QueueKeys) (user ke
   pub sound_closed_punch : IsMade file
       → IsSound files' (with_queue user (with_punched_key key (queue_of queues user)) queues)
   sound_closed_punch made =
-      sound_set files' queues user (with_punched_key key (queue_of queues user)) inside
-      (sound_punched files' user key (queue_of queues user) (still_sound user) (stands_now IsMade made)) still_sound
+      let q = with_punched_key key (queue_of queues user) in
+      let now = sound_punched files' user key (queue_of queues user) (still_sound.0 user) (stands_now IsMade made) in (
+        each_set (λ u x. IsSoundOf files' u x) queues user q inside now still_sound.0,
+        apart_punched queues user key inside free still_sound.1,
+      )
 
   pub sound_closed_print : IsMade file
       → IsSound files' (with_queue user (with_printed_key key (queue_of queues user)) queues)
   sound_closed_print made =
-      sound_set files' queues user (with_printed_key key (queue_of queues user)) inside
-      (sound_printed files' user key (queue_of queues user) (still_sound user) (stands_now IsMade made)) still_sound
+      let q = with_printed_key key (queue_of queues user) in
+      let now = sound_printed files' user key (queue_of queues user) (still_sound.0 user) (stands_now IsMade made) in (
+        each_set (λ u x. IsSoundOf files' u x) queues user q inside now still_sound.0,
+        apart_printed queues user key inside free still_sound.1,
+      )
 
   closed_now : (keys : List ℕ)
       → map (closed_at files') (keys ++ key ∷ []) ≡ map (closed_at files') keys ++ closed_file file ∷ []
@@ -182,15 +190,15 @@ module _ (files : Slab SpoolFileValue) (queues : List QueueKeys) (from index use
     (found : slice_get (queue_of queues from).punched index ≡ Some key) where
   made_here : IsSomeAnd (get files key) IsMade
   made_here = subst (λ (k : ℕ). IsSomeAnd (get files k) IsMade)
-      (get_or_from_slice_get (queue_of queues from).punched index key 0 found) ((sound from).punched index within)
+      (get_or_from_slice_get (queue_of queues from).punched index key 0 found) ((sound.0 from).punched index within)
 
   pub sound_delivered : (w : Waiting) → w.key ≡ key
       → IsSound files (with_queue user (with_waiting w (queue_of queues user)) queues)
   sound_delivered w is =
       let here : IsSomeAnd (get files w.key) IsMade =
       subst (λ (k : ℕ). IsSomeAnd (get files k) IsMade) (sym is) made_here in
-      sound_set files queues user (with_waiting w (queue_of queues user)) inside
-      (sound_waiting files user w (queue_of queues user) (sound user) (made_stands (get files w.key) user here)
+      sound_set files queues user (with_waiting w (queue_of queues user)) inside refl refl
+      (sound_waiting files user w (queue_of queues user) (sound.0 user) (made_stands (get files w.key) user here)
       (λ given. absurd (made_not_given (get files w.key) here given)))
       sound
 
@@ -241,8 +249,8 @@ module _ (files files' : Slab SpoolFileValue) (queues : List QueueKeys) (user in
   left = set queues user (without_waiting index (queue_of queues user))
 
   sound_left : IsSound files left
-  sound_left = sound_set files queues user (without_waiting index (queue_of queues user)) inside
-      (sound_less files user index (queue_of queues user) there (sound user)) sound
+  sound_left = sound_set files queues user (without_waiting index (queue_of queues user)) inside refl refl
+      (sound_less files user index (queue_of queues user) there (sound.0 user)) sound
 
   users_left : map (user_files files) left
       ≡ with_files user (without_deck index (files_of (map (user_files files) queues) user))
@@ -274,8 +282,8 @@ pub placed_sound : (files : Slab SpoolFileValue) (queues : List QueueKeys) (user
     → user < length queues → IsSound files queues
     → IsSound files (with_queue user (record (queue_of queues user) { place = place }) queues)
 placed_sound files queues user place inside sound =
-    sound_set files queues user (record (queue_of queues user) { place = place }) inside
-    (sound_placed files user place (queue_of queues user) (sound user)) sound
+    sound_set files queues user (record (queue_of queues user) { place = place }) inside refl refl
+    (sound_placed files user place (queue_of queues user) (sound.0 user)) sound
 
 -- Moving a reader to another card changes its user's place alone.
 pub users_placed : (files : Slab SpoolFileValue) (queues : List QueueKeys) (user : ℕ) (place : Option ℕ)
@@ -289,8 +297,8 @@ pub roomier_sound : (files : Slab SpoolFileValue) (queues : List QueueKeys) (use
     → IsSound files queues → IsSound files
     (with_queue user (record (queue_of queues user) { punch_room = m; print_room = n }) queues)
 roomier_sound files queues user m n inside sound =
-    sound_set files queues user (record (queue_of queues user) { punch_room = m; print_room = n }) inside
-    (sound_roomier files user m n (queue_of queues user) (sound user)) sound
+    sound_set files queues user (record (queue_of queues user) { punch_room = m; print_room = n }) inside refl refl
+    (sound_roomier files user m n (queue_of queues user) (sound.0 user)) sound
 
 -- More room for closed files changes no file.
 pub users_roomier : (files : Slab SpoolFileValue) (queues : List QueueKeys) (user m n : ℕ)
@@ -400,7 +408,7 @@ file_there files queues user index w sound inside found none =
     let key : get_or (keys_in q) index 0 ≡ w.key = get_or_from_slice_get (keys_in q) index w.key 0 at in
     let here : IsSomeAnd (get files w.key) (StandsWith user) =
     subst (λ (k : ℕ). IsSomeAnd (get files k) (StandsWith user)) key
-    ((sound user).waiting index (keys_seen q index inside)) in
+    ((sound.0 user).waiting index (keys_seen q index inside)) in
     some_there (get files w.key) (StandsWith user) here none
 
 module _ (files : Slab SpoolFileValue) (queues : List QueueKeys) (user index key : ℕ)
@@ -414,7 +422,7 @@ module _ (files : Slab SpoolFileValue) (queues : List QueueKeys) (user index key
       ≡ slice_get ((files_of (map (user_files files) queues) user).punched) index
   punched_found within found =
       made_found (subst (λ (k : ℕ). IsSomeAnd (get files k) IsMade)
-      (get_or_from_slice_get (queue_of queues user).punched index key 0 found) ((sound user).punched index within))
+      (get_or_from_slice_get (queue_of queues user).punched index key 0 found) ((sound.0 user).punched index within))
       ∙ sym (ap (λ (f : UserFiles). slice_get f.punched index) (files_there files queues user)
       ∙ slice_get-map (closed_at files) (queue_of queues user).punched index
       ∙ ap (λ (o : Option ℕ). option_map (closed_at files) o) found)
@@ -425,7 +433,7 @@ module _ (files : Slab SpoolFileValue) (queues : List QueueKeys) (user index key
       ≡ slice_get ((files_of (map (user_files files) queues) user).printed) index
   printed_found within found =
       made_found (subst (λ (k : ℕ). IsSomeAnd (get files k) IsMade)
-      (get_or_from_slice_get (queue_of queues user).printed index key 0 found) ((sound user).printed index within))
+      (get_or_from_slice_get (queue_of queues user).printed index key 0 found) ((sound.0 user).printed index within))
       ∙ sym (ap (λ (f : UserFiles). slice_get f.printed index) (files_there files queues user)
       ∙ slice_get-map (closed_at files) (queue_of queues user).printed index
       ∙ ap (λ (o : Option ℕ). option_map (closed_at files) o) found)

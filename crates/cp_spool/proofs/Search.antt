@@ -1,8 +1,8 @@
 -- A step of a search along a list.
 use Rattle.std.proofs.Common.{◌≡◌, ◌≢◌, ℕ, zero, suc, ◌+◌, ◌==◌, Bool, true, false, List, [], ◌∷◌, drop, Some, ◌∙◌, ap}
 use Rattle.std.proofs.Common.{arith}
-use Rattle.std.specs.Prelude.{slice_get, if◌then◌else◌}
-use Rattle.std.specs.List.{position_from}
+use Rattle.std.specs.Prelude.{slice_get, if◌then◌else◌, ◌||◌}
+use Rattle.std.specs.List.{list_any, position_from}
 use Rattle.std.proofs.lemmas.Bool.Decides.{nat_tests}
 
 drop_at : {X : Type 0} (xs : List X) (i : ℕ) (x : X) → slice_get xs i ≡ Some x → drop i xs ≡ x ∷ drop (suc i) xs
@@ -21,6 +21,15 @@ module _ {X : Type 0} (p : X → Bool) (xs : List X) (i : ℕ) (x : X) (found : 
       ap (λ ys. position_from p i ys) (drop_at xs i x found)
       ∙ ap (λ (b : Bool). if b then Some i else position_from p (i + 1) (drop (suc i) xs)) h
       ∙ ap (λ (n : ℕ). position_from p (i + 1) (drop n xs)) (let e : suc i ≡ i + 1 = omega arith in e)
+
+  pub any_here : p x ≡ true → list_any p (drop i xs) ≡ true
+  any_here h = ap (list_any p) (drop_at xs i x found) ∙ ap (λ (b : Bool). b || list_any p (drop (suc i) xs)) h
+
+  pub any_past : p x ≡ false → list_any p (drop i xs) ≡ list_any p (drop (i + 1) xs)
+  any_past h =
+      ap (list_any p) (drop_at xs i x found)
+      ∙ ap (λ (b : Bool). b || list_any p (drop (suc i) xs)) h
+      ∙ ap (λ (n : ℕ). list_any p (drop n xs)) (let e : suc i ≡ i + 1 = omega arith in e)
 
 -- Equal numbers are compared as equal.
 pub equal : (a b : ℕ) → a ≡ b → (a == b) ≡ true

@@ -1,7 +1,7 @@
 -- Each key has its file, whatever comes and goes.
-use Rattle.std.proofs.Common.{◌≡◌, ◌≢◌, ℕ, zero, suc, ◌+◌, ◌<◌, ◌≤◌, inl, inr, Bool, true, List, [], ◌∷◌, ◌++◌, length}
-use Rattle.std.proofs.Common.{get_or, map, set, Option, Some, None, refl, sym, ◌∙◌, ap, subst, arith}
-use Rattle.std.specs.Prelude.{IsSomeAnd, remove, unwrap_or}
+use Rattle.std.proofs.Common.{◌≡◌, ◌≢◌, ℕ, zero, suc, ◌+◌, ◌<◌, inl, inr, Bool, true, false, List, [], ◌∷◌, ◌++◌}
+use Rattle.std.proofs.Common.{length, get_or, map, set, Option, Some, None, refl, sym, ◌∙◌, ap, subst, arith}
+use Rattle.std.specs.Prelude.{◌⊎◌, IsSomeAnd, remove, unwrap_or}
 use Rattle.std.proofs.lemmas.Bool.{cases_eq, cases_lt}
 use Rattle.std.proofs.lemmas.List.{map-append, get_or-set_same, get_or-set_other, get_or_append_left, length-append}
 use Rattle.std.proofs.Math.Seq.{get_or-append_seam}
@@ -10,7 +10,8 @@ use Rattle.slab.specs.Slab.{Slab, get}
 use Rattle.unit_record.specs.declared.output.Target.TheVariants as targets
 use Rattle.cp_spool.specs.declared.queue.Waiting.{Waiting}
 use Rattle.cp_spool.specs.File.{SpoolFileValue}
-use Rattle.cp_spool.specs.Keys.{AllAt, IsMade, IsSound, IsSoundOf, Lacks, Once, QueueKeys, StandsWith, deck_at}
+use Rattle.cp_spool.specs.Keys.{AllAt, AreApart, IsMade, IsSound, IsSoundOf, Lacks, Once, QueueKeys, StandsWith}
+use Rattle.cp_spool.specs.Keys.{closed_keys, deck_at}
 use Rattle.cp_spool.specs.Keys.{closed_at, file_at, is_given, keys_in, no_file, no_keys, queue_of, user_files}
 use Rattle.cp_spool.specs.Keys.{with_printed_key, with_punched_key, with_waiting, without_waiting}
 
@@ -30,6 +31,7 @@ keys_less q index = map-remove (λ (x : Waiting). x.key) q.decks index
 
 -- ---- a key that nobody holds may get or lose its file
 
+-- nobody's list has this key
 pub record IsFreeIn (key : ℕ) (q : QueueKeys) : Type 0 where
   pub waiting : Lacks (keys_in q) key
   pub punched : Lacks q.punched key
@@ -51,18 +53,19 @@ all_lacks files P keys key all vacant i l e =
 pub vacant_is_free : (files : Slab SpoolFileValue) (queues : List QueueKeys) (key : ℕ) → IsSound files queues
     → get files key ≡ None → IsFree key queues
 vacant_is_free files queues key sound vacant user = record {
-  waiting = all_lacks files (StandsWith user) (keys_in (queue_of queues user)) key (sound user).waiting vacant;
-  punched = all_lacks files IsMade (queue_of queues user).punched key (sound user).punched vacant;
-  printed = all_lacks files IsMade (queue_of queues user).printed key (sound user).printed vacant;
+  waiting = all_lacks files (StandsWith user) (keys_in (queue_of queues user)) key (sound.0 user).waiting vacant;
+  punched = all_lacks files IsMade (queue_of queues user).punched key (sound.0 user).punched vacant;
+  printed = all_lacks files IsMade (queue_of queues user).printed key (sound.0 user).printed vacant;
 }
 
 module _ (files files' : Slab SpoolFileValue) (key : ℕ)
     (others : (other : ℕ) → other ≢ key → get files' other ≡ get files other) where
-  all_apart : (P : SpoolFileValue → Type 0) (keys : List ℕ) → Lacks keys key → AllAt files P keys → AllAt files' P keys
+  pub all_apart : (P : SpoolFileValue → Type 0) (keys : List ℕ) → Lacks keys key → AllAt files P keys
+      → AllAt files' P keys
   all_apart P keys free all i l =
       subst (λ (o : Option SpoolFileValue). IsSomeAnd o P) (sym (others (get_or keys i 0) (free i l))) (all i l)
 
-  once_apart : (keys : List ℕ) → Lacks keys key → Once files keys → Once files' keys
+  pub once_apart : (keys : List ℕ) → Lacks keys key → Once files keys → Once files' keys
   once_apart keys free once i j li lj e given =
       once i j li lj e (ap is_given (sym (others (get_or keys i 0) (free i li))) ∙ given)
 
@@ -75,22 +78,23 @@ module _ (files files' : Slab SpoolFileValue) (key : ℕ)
   }
 
   pub sound_apart : (queues : List QueueKeys) → IsFree key queues → IsSound files queues → IsSound files' queues
-  sound_apart queues free sound user = sound_apart_of user (queue_of queues user) (free user) (sound user)
+  sound_apart queues free sound =
+      (λ user. sound_apart_of user (queue_of queues user) (free user) (sound.0 user), sound.1)
 
-  same_file : (k : ℕ) → k ≢ key → file_at files' k ≡ file_at files k
+  pub same_file : (k : ℕ) → k ≢ key → file_at files' k ≡ file_at files k
   same_file k other = ap (λ (o : Option SpoolFileValue). unwrap_or o no_file) (others k other)
 
-  closed_apart : (keys : List ℕ) → Lacks keys key → map (closed_at files') keys ≡ map (closed_at files) keys
+  pub closed_apart : (keys : List ℕ) → Lacks keys key → map (closed_at files') keys ≡ map (closed_at files) keys
   closed_apart [] h = refl
   closed_apart (k ∷ ks) h = rw (same_file k (h 0 (omega arith)), closed_apart ks (λ i l. h (suc i) (omega arith))) refl
 
-  decks_apart : (decks : List Waiting) → Lacks (map (λ (w : Waiting). w.key) decks) key
+  pub decks_apart : (decks : List Waiting) → Lacks (map (λ (w : Waiting). w.key) decks) key
       → map (deck_at files') decks ≡ map (deck_at files) decks
   decks_apart [] h = refl
   decks_apart (w ∷ ws) h =
       rw (same_file w.key (h 0 (omega arith)), decks_apart ws (λ i l. h (suc i) (omega arith))) refl
 
-  user_apart : (q : QueueKeys) → IsFreeIn key q → user_files files' q ≡ user_files files q
+  pub user_apart : (q : QueueKeys) → IsFreeIn key q → user_files files' q ≡ user_files files q
   user_apart q free = rw (
     decks_apart q.decks free.waiting,
     closed_apart q.punched free.punched,
@@ -105,20 +109,25 @@ module _ (files files' : Slab SpoolFileValue) (key : ℕ)
 -- more room changes no file
 pub sound_like : (files files' : Slab SpoolFileValue) → ((k : ℕ) → get files' k ≡ get files k)
     → (queues : List QueueKeys) → IsSound files queues → IsSound files' queues
-sound_like files files' like queues sound user = record {
-  waiting = λ i l. subst (λ (o : Option SpoolFileValue). IsSomeAnd o (StandsWith user))
-      (sym (like (get_or (keys_in (queue_of queues user)) i 0))) ((sound user).waiting i l);
-  once = λ i j li lj e given.
-      (sound user).once i j li lj e (ap is_given (sym (like (get_or (keys_in (queue_of queues user)) i 0))) ∙ given);
-  punched = λ i l. subst (λ (o : Option SpoolFileValue). IsSomeAnd o IsMade)
-      (sym (like (get_or (queue_of queues user).punched i 0))) ((sound user).punched i l);
-  printed = λ i l. subst (λ (o : Option SpoolFileValue). IsSomeAnd o IsMade)
-      (sym (like (get_or (queue_of queues user).printed i 0))) ((sound user).printed i l);
-}
+sound_like files files' like queues sound = (
+  λ user. record {
+    waiting = λ i l. subst (λ (o : Option SpoolFileValue). IsSomeAnd o (StandsWith user))
+        (sym (like (get_or (keys_in (queue_of queues user)) i 0))) ((sound.0 user).waiting i l);
+    once = λ i j li lj e given.
+        (sound.0 user).once i j li lj e
+        (ap is_given (sym (like (get_or (keys_in (queue_of queues user)) i 0))) ∙ given);
+    punched = λ i l. subst (λ (o : Option SpoolFileValue). IsSomeAnd o IsMade)
+        (sym (like (get_or (queue_of queues user).punched i 0))) ((sound.0 user).punched i l);
+    printed = λ i l. subst (λ (o : Option SpoolFileValue). IsSomeAnd o IsMade)
+        (sym (like (get_or (queue_of queues user).printed i 0))) ((sound.0 user).printed i l);
+  },
+  sound.1,
+)
 
 -- ---- one queue in the place of another
 
-each_set : (P : ℕ → QueueKeys → Type 0) (queues : List QueueKeys) (user : ℕ) (q : QueueKeys) → user < length queues
+-- What holds of each user's queue holds after one is set to a queue of which it holds.
+pub each_set : (P : ℕ → QueueKeys → Type 0) (queues : List QueueKeys) (user : ℕ) (q : QueueKeys) → user < length queues
     → P user q → ((other : ℕ) → P other (queue_of queues other)) → (other : ℕ)
     → P other (queue_of (set queues user q) other)
 each_set P queues user q inside now before other =
@@ -131,10 +140,179 @@ each_set P queues user q inside now before other =
           (before other)
     ]
 
--- The queues stay sound when one user's queue is set to a sound one.
+-- ---- the keys of closed files
+
+same_keys : (kind : Bool) (q p : QueueKeys) → q.punched ≡ p.punched → q.printed ≡ p.printed
+    → closed_keys kind q ≡ closed_keys kind p
+same_keys true q p punched printed = punched
+same_keys false q p punched printed = printed
+
+apart_same : (queues queues' : List QueueKeys)
+    → ((user : ℕ) (kind : Bool) → closed_keys kind (queue_of queues' user) ≡ closed_keys kind (queue_of queues user))
+    → AreApart queues → AreApart queues'
+apart_same queues queues' same apart user other kind like i j li lj e =
+    apart user other kind like i j (subst (λ (ks : List ℕ). i < length ks) (same user kind) li)
+    (subst (λ (ks : List ℕ). j < length ks) (same other like) lj)
+    (ap (λ (ks : List ℕ). get_or ks i 0) (sym (same user kind)) ∙ e
+    ∙ ap (λ (ks : List ℕ). get_or ks j 0) (same other like))
+
+keys_set : (queues : List QueueKeys) (user : ℕ) (q : QueueKeys) → user < length queues
+    → q.punched ≡ (queue_of queues user).punched → q.printed ≡ (queue_of queues user).printed
+    → (other : ℕ) (kind : Bool)
+    → closed_keys kind (queue_of (set queues user q) other) ≡ closed_keys kind (queue_of queues other)
+keys_set queues user q inside punched printed other kind =
+    elim (cases_eq other user) [
+      | inl same ↦
+          ap (λ (u : ℕ). closed_keys kind (queue_of (set queues user q) u)) same
+          ∙ ap (closed_keys kind) (get_or-set_same queues user q no_keys inside)
+          ∙ same_keys kind q (queue_of queues user) punched printed
+          ∙ ap (λ (u : ℕ). closed_keys kind (queue_of queues u)) (sym same)
+      | inr apart ↦ ap (closed_keys kind) (get_or-set_other queues user other q no_keys apart)
+    ]
+
+-- The queues stay sound when one user's queue is set to a sound one with the same closed files.
 pub sound_set : (files : Slab SpoolFileValue) (queues : List QueueKeys) (user : ℕ) (q : QueueKeys)
-    → user < length queues → IsSoundOf files user q → IsSound files queues → IsSound files (set queues user q)
-sound_set files queues user q inside now before = each_set (λ u x. IsSoundOf files u x) queues user q inside now before
+    → user < length queues → q.punched ≡ (queue_of queues user).punched → q.printed ≡ (queue_of queues user).printed
+    → IsSoundOf files user q → IsSound files queues → IsSound files (set queues user q)
+sound_set files queues user q inside punched printed now before = (
+  each_set (λ u x. IsSoundOf files u x) queues user q inside now before.0,
+  apart_same queues (set queues user q) (keys_set queues user q inside punched printed) before.1,
+)
+
+-- ---- one more closed file
+
+lacks_closed : (kind : Bool) (key : ℕ) (q : QueueKeys) → IsFreeIn key q → Lacks (closed_keys kind q) key
+lacks_closed true key q free = free.punched
+lacks_closed false key q free = free.printed
+
+kinds : (a b : Bool) → (a ≡ b) ⊎ (a ≢ b)
+kinds true true = inl refl
+kinds true false = inr (λ e. absurd (cc))
+kinds false true = inr (λ e. absurd (cc))
+kinds false false = inl refl
+
+-- the closed files of all users, of which one list has one more key, that nobody holds
+module _ (queues queues' : List QueueKeys) (user key : ℕ) (kind : Bool) (free : IsFree key queues)
+    (here : closed_keys kind (queue_of queues' user) ≡ closed_keys kind (queue_of queues user) ++ key ∷ [])
+    (there : (other : ℕ) (like : Bool) → (other ≡ user → like ≡ kind → ⊥)
+    → closed_keys like (queue_of queues' other) ≡ closed_keys like (queue_of queues other)) where
+  abbrev keys : ℕ → Bool → List ℕ
+  keys u k = closed_keys k (queue_of queues u)
+
+  abbrev key_now : ℕ → Bool → ℕ → ℕ
+  key_now u k i = get_or (closed_keys k (queue_of queues' u)) i 0
+
+  record IsNew (u : ℕ) (k : Bool) (i : ℕ) : Type 0 where
+    user_is : u ≡ user
+    kind_is : k ≡ kind
+    last : i ≡ length (keys user kind)
+    is : key_now u k i ≡ key
+
+  record WasThere (u : ℕ) (k : Bool) (i : ℕ) : Type 0 where
+    inside : i < length (keys u k)
+    is : key_now u k i ≡ get_or (keys u k) i 0
+
+  was_other : (u : ℕ) (k : Bool) (i : ℕ) → (u ≡ user → k ≡ kind → ⊥) → i < length (closed_keys k (queue_of queues' u))
+      → WasThere u k i
+  was_other u k i apart l = record {
+    inside = subst (λ (ks : List ℕ). i < length ks) (there u k apart) l;
+    is = ap (λ (ks : List ℕ). get_or ks i 0) (there u k apart);
+  }
+
+  was_here : (i : ℕ) → i < length (closed_keys kind (queue_of queues' user)) → IsNew user kind i ⊎ WasThere user kind i
+  was_here i l =
+      let within : i < length (keys user kind ++ key ∷ []) = subst (λ (ks : List ℕ). i < length ks) here l in
+      let count : length (keys user kind ++ key ∷ []) ≡ length (keys user kind) + 1 =
+      length-append (keys user kind) (key ∷ []) in
+      elim (cases_lt i (length (keys user kind))) [
+        | inl a ↦ inr (record {
+          inside = a;
+          is = ap (λ (ks : List ℕ). get_or ks i 0) here ∙ get_or_append_left (keys user kind) (key ∷ []) 0 i a;
+        })
+        | inr a ↦
+            let last : i ≡ length (keys user kind) = omega arith in
+            inl (record {
+              user_is = refl;
+              kind_is = refl;
+              last = last;
+              is = ap (λ (ks : List ℕ). get_or ks i 0) here
+                  ∙ ap (λ (m : ℕ). get_or (keys user kind ++ key ∷ []) m 0) last
+                  ∙ get_or-append_seam (keys user kind) key [] 0;
+            })
+      ]
+
+  was : (u : ℕ) (k : Bool) (i : ℕ) → i < length (closed_keys k (queue_of queues' u)) → IsNew u k i ⊎ WasThere u k i
+  was u k i l =
+      elim (cases_eq u user) [
+        | inl same ↦ elim (kinds k kind) [
+          | inl like ↦
+              let it : IsNew user kind i ⊎ WasThere user kind i =
+              was_here i (subst (λ (x : Bool). i < length (closed_keys x (queue_of queues' user))) like
+              (subst (λ (x : ℕ). i < length (closed_keys k (queue_of queues' x))) same l)) in
+              subst (λ (x : ℕ). IsNew x k i ⊎ WasThere x k i) (sym same)
+              (subst (λ (x : Bool). IsNew user x i ⊎ WasThere user x i) (sym like) it)
+          | inr unlike ↦ inr (was_other u k i (λ a b. unlike b) l)
+        ]
+        | inr apart ↦ inr (was_other u k i (λ a b. apart a) l)
+      ]
+
+  is_not_there : (u : ℕ) (k : Bool) (i : ℕ) → WasThere u k i → key ≡ key_now u k i → ⊥
+  is_not_there u k i w e = lacks_closed k key (queue_of queues u) (free u) i w.inside (sym w.is ∙ sym e)
+
+  pub apart_more : AreApart queues → AreApart queues'
+  apart_more apart u v k l i j li lj e =
+      elim (was u k i li) [
+        | inl a ↦ elim (was v l j lj) [
+          | inl b ↦ (a.user_is ∙ sym b.user_is, a.kind_is ∙ sym b.kind_is, a.last ∙ sym b.last)
+          | inr b ↦ absurd (is_not_there v l j b (sym a.is ∙ e))
+        ]
+        | inr a ↦ elim (was v l j lj) [
+          | inl b ↦ absurd (is_not_there u k i a (sym b.is ∙ sym e))
+          | inr b ↦ apart u v k l i j a.inside b.inside (sym a.is ∙ e ∙ b.is)
+        ]
+      ]
+
+-- one user's queue is set to one with one more closed file
+module _ (queues : List QueueKeys) (user key : ℕ) (inside : user < length queues) (free : IsFree key queues) where
+  here_set : (kind : Bool) (q : QueueKeys) → closed_keys kind q ≡ closed_keys kind (queue_of queues user) ++ key ∷ []
+      → closed_keys kind (queue_of (set queues user q) user) ≡ closed_keys kind (queue_of queues user) ++ key ∷ []
+  here_set kind q is = ap (closed_keys kind) (get_or-set_same queues user q no_keys inside) ∙ is
+
+  there_set : (kind : Bool) (q : QueueKeys)
+      → ((like : Bool) → (like ≡ kind → ⊥) → closed_keys like q ≡ closed_keys like (queue_of queues user))
+      → (other : ℕ) (like : Bool) → (other ≡ user → like ≡ kind → ⊥)
+      → closed_keys like (queue_of (set queues user q) other) ≡ closed_keys like (queue_of queues other)
+  there_set kind q rest other like unlike =
+      elim (cases_eq other user) [
+        | inl same ↦
+            ap (λ (u : ℕ). closed_keys like (queue_of (set queues user q) u)) same
+            ∙ ap (closed_keys like) (get_or-set_same queues user q no_keys inside)
+            ∙ rest like (λ e. unlike same e)
+            ∙ ap (λ (u : ℕ). closed_keys like (queue_of queues u)) (sym same)
+        | inr apart ↦ ap (closed_keys like) (get_or-set_other queues user other q no_keys apart)
+      ]
+
+  not_printed : (like : Bool) → (like ≡ true → ⊥)
+      → closed_keys like (with_punched_key key (queue_of queues user)) ≡ closed_keys like (queue_of queues user)
+  not_printed true not = absurd (not refl)
+  not_printed false not = refl
+
+  not_punched : (like : Bool) → (like ≡ false → ⊥)
+      → closed_keys like (with_printed_key key (queue_of queues user)) ≡ closed_keys like (queue_of queues user)
+  not_punched true not = refl
+  not_punched false not = absurd (not refl)
+
+  -- The closed files stay apart when a punch file with a new key joins them.
+  pub apart_punched : AreApart queues → AreApart (set queues user (with_punched_key key (queue_of queues user)))
+  apart_punched =
+      let q = with_punched_key key (queue_of queues user) in
+      apart_more queues (set queues user q) user key true free (here_set true q refl) (there_set true q not_printed)
+
+  -- The closed files stay apart when a printer file with a new key joins them.
+  pub apart_printed : AreApart queues → AreApart (set queues user (with_printed_key key (queue_of queues user)))
+  apart_printed =
+      let q = with_printed_key key (queue_of queues user) in
+      apart_more queues (set queues user q) user key false free (here_set false q refl) (there_set false q not_punched)
 
 -- ---- a key comes
 
@@ -327,15 +505,15 @@ module _ (files : Slab SpoolFileValue) (queues : List QueueKeys) (user index key
       let found : get_or (remove (keys_in (queue_of queues user)) index) i 0 ≡ key =
       subst (λ (ks : List ℕ). get_or ks i 0 ≡ key) keys e in
       let its : get_or (keys_in (queue_of queues user)) was.before 0 ≡ key = sym was.same ∙ found in
-      was.apart ((sound user).once was.before index was.inside there (its ∙ sym is)
+      was.apart ((sound.0 user).once was.before index was.inside there (its ∙ sym is)
       (ap (λ (k : ℕ). is_given (get files k)) its ∙ given))
 
   free_there : (other : ℕ) → other ≢ user → Lacks (keys_in (queue_of queues other)) key
   free_there other apart i l e =
       let its : IsSomeAnd (get files key) (StandsWith other) =
-      subst (λ (k : ℕ). IsSomeAnd (get files k) (StandsWith other)) e ((sound other).waiting i l) in
+      subst (λ (k : ℕ). IsSomeAnd (get files k) (StandsWith other)) e ((sound.0 other).waiting i l) in
       let mine : IsSomeAnd (get files key) (StandsWith user) =
-      subst (λ (k : ℕ). IsSomeAnd (get files k) (StandsWith user)) is ((sound user).waiting index there) in
+      subst (λ (k : ℕ). IsSomeAnd (get files k) (StandsWith user)) is ((sound.0 user).waiting index there) in
       apart (sym (one_owner (get files key) user other given mine its))
 
   made_free : (other : ℕ) (q : QueueKeys) → IsSoundOf files other q → Lacks (keys_in q) key → IsFreeIn key q
@@ -351,12 +529,12 @@ module _ (files : Slab SpoolFileValue) (queues : List QueueKeys) (user index key
         | inl same ↦
             let q = without_waiting index (queue_of queues user) in
             let now : IsFreeIn key q =
-            made_free user q (sound_less files user index (queue_of queues user) there (sound user)) free_here in
+            made_free user q (sound_less files user index (queue_of queues user) there (sound.0 user)) free_here in
             let here : IsFreeIn key (queue_of (set queues user q) user) =
             subst (λ (x : QueueKeys). IsFreeIn key x) (sym (get_or-set_same queues user q no_keys inside)) now in
             subst (λ (u : ℕ). IsFreeIn key (queue_of (set queues user q) u)) (sym same) here
         | inr apart ↦
             subst (λ (x : QueueKeys). IsFreeIn key x)
             (sym (get_or-set_other queues user other (without_waiting index (queue_of queues user)) no_keys apart))
-            (made_free other (queue_of queues other) (sound other) (free_there other apart))
+            (made_free other (queue_of queues other) (sound.0 other) (free_there other apart))
       ]

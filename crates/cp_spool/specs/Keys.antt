@@ -129,5 +129,23 @@ pub record IsSoundOf (files : Slab SpoolFileValue) (user : ℕ) (q : QueueKeys) 
   pub printed : AllAt files IsMade q.printed
 
 -- so do the keys of each user
+abbrev pub AreSound : Slab SpoolFileValue → List QueueKeys → Type 0
+AreSound files queues = (user : ℕ) → IsSoundOf files user (queue_of queues user)
+
+-- the keys of what a user's punch closed, or of what his printer closed
+abbrev pub closed_keys : Bool → QueueKeys → List ℕ
+closed_keys true q = q.punched
+closed_keys false q = q.printed
+
+-- each closed file has a key of its own: no other user, no other kind and no other index has it
+abbrev pub AreApart : List QueueKeys → Type 0
+AreApart queues = (user other : ℕ) (kind like : Bool) (i j : ℕ)
+    → i < length (closed_keys kind (queue_of queues user))
+    → j < length (closed_keys like (queue_of queues other))
+    → slice_index_or (closed_keys kind (queue_of queues user)) i 0
+    ≡ slice_index_or (closed_keys like (queue_of queues other)) j 0
+    → (user ≡ other) × (kind ≡ like) × (i ≡ j)
+
+-- what is always so of all keys
 abbrev pub IsSound : Slab SpoolFileValue → List QueueKeys → Type 0
-IsSound files queues = (user : ℕ) → IsSoundOf files user (queue_of queues user)
+IsSound files queues = AreSound files queues × AreApart queues

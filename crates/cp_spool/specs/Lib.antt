@@ -4,3 +4,4 @@ pub mod Keys
 pub mod Reader
 pub mod Alike
 pub mod Saved
+pub mod Forgotten

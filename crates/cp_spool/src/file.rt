@@ -36,6 +36,7 @@ impl Model for SpoolFile {
 
 impl SpoolFile {
     ghost use Rattle.cp_spool.specs.File.{cards_in, contents_of, entries_in, is_deck};
+    ghost use Rattle.cp_spool.specs.Forgotten.{emptied};
 
     /// Returns a file with this target and these contents.
     pub(crate) fn new(target: Target, contents: Contents) -> SpoolFile
@@ -54,6 +55,23 @@ impl SpoolFile {
             contents: _,
         } = self;
         *target
+    }
+
+    /// Returns the file without the entries that a punch or a printer made, whose memory is given
+    /// back; a deck that was given keeps its cards.
+    pub(crate) fn without_entries(self) -> SpoolFile
+        ensures { result ≡ emptied self }
+    {
+        let SpoolFile { target, contents } = self;
+        let contents = match contents {
+            Contents::Cards(cards) => Contents::Cards(cards),
+            Contents::Entries(mut entries) => {
+                entries.clear();
+                entries.shrink_to(0);
+                Contents::Entries(entries)
+            }
+        };
+        SpoolFile { target, contents }
     }
 
     /// Returns whether the file is a deck that was given, and not what a punch or a printer made.

@@ -3,9 +3,9 @@ ghost use Rattle.std.specs.Prelude.{◌≡◌, ℕ, ◌<◌, ◌≤◌, [], None
 ghost use Rattle.std.specs.Prelude.{replicate, slice_index_or, IfOk, OnErr, OnOk};
 ghost use Rattle.slab.specs.Slab.{get, Updates, Slab as Files};
 ghost use Rattle.cp_spool.specs.File.{SpoolFileValue};
-ghost use Rattle.cp_spool.specs.Keys.{is_given, no_keys, queue_of, user_files, with_printed_key};
-ghost use Rattle.cp_spool.specs.Keys.{with_punched_key, with_queue, with_waiting, without_waiting};
-ghost use Rattle.cp_spool.specs.Keys.{keys_in};
+ghost use Rattle.cp_spool.specs.Keys.{AreApart, is_given, keys_in, no_keys, queue_of, user_files};
+ghost use Rattle.cp_spool.specs.Keys.{with_printed_key, with_punched_key, with_queue, with_waiting};
+ghost use Rattle.cp_spool.specs.Keys.{without_waiting};
 ghost use Rattle.cp_spool.specs.Queues.{no_files};
 
 use crate::file::SpoolFile;
@@ -121,6 +121,7 @@ pub(crate) fn empty_queues(alloc: Global, count: usize) -> Result<Vec<UserQueue>
         (λ queues. (user : ℕ) → (queue_of queues.items user).punched ≡ []) }
     ensures printed { IfOk result
         (λ queues. (user : ℕ) → (queue_of queues.items user).printed ≡ []) }
+    ensures apart { IfOk result (λ queues. AreApart queues.items) }
     ensures files { (files : Files SpoolFileValue)
         → IfOk result (λ queues. map (user_files files) queues.items ≡ replicate count no_files) }
 {

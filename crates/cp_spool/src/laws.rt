@@ -7,7 +7,7 @@ ghost use Rattle.cp_spool.specs.Alike.{AFedReaderTouchesLoading};
 /// decks of the queue itself.
 ///
 /// The queue is left as that reader is, after it has taken over what was read
-/// ([`Queues::take_back`](crate::Queues::take_back)).
+/// ([`Queues::remove_read`](crate::Queues::remove_read)).
 pub fn a_fed_reader_is_a_reader()
     ensures walks { AFedReaderIsAReader }
     ensures loads { AFedReaderIsLoadedFrom }

@@ -10,7 +10,8 @@
 //! entries come into the slab as they are ([`Queues::close_punched`]), its key comes to the queue
 //! of that user's reader ([`Queues::deliver`]), and no card is copied. The key stays with the
 //! punch, too, since a user's closed files are part of what he is shown. A deck that was given is
-//! kept by its reader alone, and is gone when it was read or purged.
+//! kept by its reader alone, and is gone when it was read or purged. A closed file that was written
+//! elsewhere can lose its entries ([`Queues::forget_printed`]): its place stays.
 //!
 //! A reader feeds from the queue of its user ([`FedReader`]): it is a [`Device`](s370_walk::Device)
 //! that leaves the queue as it is while a program runs, and says afterwards what it has read.
@@ -33,13 +34,14 @@
 //! assert_eq!(rt; reader.give(), 0xC1);
 //! reader.finish();
 //! let (_reader, progress) = reader.into_parts();
-//! queues.take_back(b, progress);
+//! queues.remove_read(b, progress);
 //! assert_eq!(rt; queues.punched_count(a), 1); // the file stays with the punch
 //! ```
 #![tactic(auto)]
 
 mod error;
 mod file;
+mod forgetting;
 mod keeping;
 mod laws;
 mod progress;

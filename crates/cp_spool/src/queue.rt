@@ -2,6 +2,7 @@
 ghost use Rattle.std.specs.Prelude.{◌≡◌, ◌<◌, ◌≤◌, [], ◌∷◌, ◌++◌, length, map, slice_get};
 ghost use Rattle.std.specs.Prelude.{slice_index_or, None, IfSome, OnOk, OnErr};
 ghost use Rattle.unit_record.specs.Reader.{currents};
+ghost use Rattle.cp_spool.specs.Forgotten.{has_key};
 ghost use Rattle.cp_spool.specs.Keys.{no_keys, with_printed_key, with_punched_key, with_waiting};
 ghost use Rattle.cp_spool.specs.Keys.{without_waiting};
 
@@ -124,7 +125,7 @@ impl UserQueue {
         self.place = place;
     }
 
-    /// Returns how many cards of the first deck were read; None where it is not current.
+    /// Returns how many cards of the first deck were read; None if it is not current.
     pub(crate) fn place(&self) -> Option<usize>
         ensures { result ≡ self.now.place }
     {
@@ -156,6 +157,21 @@ impl UserQueue {
         } else {
             None
         }
+    }
+
+    /// Returns whether a deck in the queue of the reader has the file of this key.
+    pub(crate) fn has_key(&self, key: usize) -> bool
+        ensures { result ≡ has_key key self.now }
+    {
+        for index in 0..self.len() {
+            let Some(deck) = self.deck(index) else {
+                return false;
+            };
+            if deck.key == key {
+                return true;
+            }
+        }
+        false
     }
 
     /// Returns the key of the file of this index among those that the punch closed, if there is

@@ -29,8 +29,8 @@ use user_names::UserNo;
 /// printers closed.
 #[derive(Drop)]
 pub struct Queues {
-    files: Slab<SpoolFile>,
-    users: Vec<UserQueue>,
+    pub(crate) files: Slab<SpoolFile>,
+    pub(crate) users: Vec<UserQueue>,
 }
 
 impl Model for Queues {
@@ -268,8 +268,8 @@ impl Queues {
         Ok(())
     }
 
-    /// Removes the first deck of this label that is not current from the queue of this user's
-    /// reader; with an error if there is none.
+    /// Removes from the queue of this user's reader the first deck of this label that is not
+    /// current, or returns an error if there is none.
     ///
     /// # Errors
     ///
@@ -318,7 +318,7 @@ impl Queues {
     fn currents(&self, user: UserNo) -> usize
         ensures { result ≡ currents (files_of self.now.users user).place }
     {
-        match self.place(user) {
+        match self.cards_read(user) {
             None => 0,
             Some(_) => 1,
         }
@@ -326,7 +326,7 @@ impl Queues {
 
     /// Returns how many cards of this user's current deck were read; None if he has none, or is not
     /// there.
-    pub fn place(&self, user: UserNo) -> Option<usize>
+    pub fn cards_read(&self, user: UserNo) -> Option<usize>
         ensures { result ≡ (files_of self.now.users user).place }
     {
         if user.index() < self.users.len() {
@@ -460,7 +460,7 @@ impl Queues {
 
     /// Removes the decks that a reader of this user has read to their ends, and sets how many cards
     /// of the next one it has read.
-    pub fn take_back(&mut self, user: UserNo, progress: ReaderProgress)
+    pub fn remove_read(&mut self, user: UserNo, progress: ReaderProgress)
         ensures { self.new.users ≡ with_files user
             (read_on progress.ended progress.place (files_of self.old.users user)) self.old.users }
     {

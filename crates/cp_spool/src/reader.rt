@@ -96,7 +96,8 @@ impl SpoolReader {
         self.given = 0;
     }
 
-    /// Returns the next of the bytes to be given, or zero if none is left.
+    /// Returns the next of the bytes to be given and moves on past it, or returns zero if none is
+    /// left.
     fn give(&mut self) -> u8
         ensures byte { result ≡ slice_index self.old.giving 0 }
         ensures after { self.new ≡ record self.old { giving = drop 1 self.old.giving } }
@@ -110,7 +111,7 @@ impl SpoolReader {
 }
 
 /// A card reader that feeds from the queue of one user. The queue stays as it is, and is told
-/// afterwards what was read ([`Queues::take_back`]).
+/// afterwards what was read ([`Queues::remove_read`]).
 #[derive(Drop)]
 pub struct FedReader<'a> {
     queues: &'a Queues,
@@ -177,7 +178,8 @@ impl<'a> Device for FedReader<'a> {
         u32::MAX
     }
 
-    /// Returns the next of the bytes to be given, or zero if none is left.
+    /// Returns the next of the bytes to be given and moves on past it, or returns zero if none is
+    /// left.
     fn give(&mut self) -> u8 {
         self.reader.give()
     }
@@ -185,7 +187,7 @@ impl<'a> Device for FedReader<'a> {
     /// Ignores a byte: no command of a reader takes any.
     fn take(&mut self, _byte: u8) {}
 
-    /// Returns the status with which a command ends: nothing besides its normal end.
+    /// Returns no status beyond the end of the command.
     fn finish(&mut self) -> UnitStatus {
         UnitStatus::NONE
     }
@@ -217,7 +219,7 @@ impl<'a> FedReader<'a> {
         FedReader {
             progress: ReaderProgress {
                 ended: 0,
-                place: queues.place(user),
+                place: queues.cards_read(user),
             },
             queues,
             user,
@@ -252,8 +254,8 @@ impl<'a> FedReader<'a> {
         (reader, progress)
     }
 
-    /// Begins to read the next card, whose 80 bytes are given then; refused if the deck has ended
-    /// or there is none.
+    /// Begins to read the next card, whose 80 bytes are given then, or refuses it: at the deck's
+    /// end, after which the next deck is read, or if there is no deck.
     fn read(&mut self) -> Answer
         ensures answer { result ≡ read_answer (next_card self.old) }
         ensures after { self.new ≡ read_started self.old (next_card self.old) }

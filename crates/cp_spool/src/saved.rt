@@ -39,7 +39,7 @@ impl SpoolReader {
     /// Reads the sense byte and the bytes to be given from the input and sets them; returns None,
     /// and changes nothing, if malformed.
     pub fn restore(&mut self, input: &mut Input<'_>) -> Option<()> {
-        let sense = input.small()?;
+        let sense = input.next_u8()?;
         let bytes = record_of(input)?;
         *self = SpoolReader {
             sense,
@@ -99,7 +99,7 @@ fn put_place(out: &mut Vec<u8>, place: Option<usize>) -> Result<(), AllocError>
 /// if malformed.
 fn place_of(input: &mut Input<'_>) -> Option<Option<usize>> {
     if input.flag()? {
-        Some(Some(input.place()?))
+        Some(Some(input.next_usize()?))
     } else {
         Some(None)
     }
@@ -129,12 +129,13 @@ impl Queues {
             ++ files_bytes (files_of self.now.users user)) }
     {
         self.put_decks(user, out)?;
-        put_place(out, self.place(user))?;
+        put_place(out, self.cards_read(user))?;
         self.put_punched(user, out)?;
         self.put_printed(user, out)
     }
 
-    /// Appends the decks of a user's reader, in order.
+    /// Appends the decks of a user's reader, in order, each after a byte of 1, and then a byte of
+    /// 0.
     fn put_decks(&self, user: UserNo, out: &mut Vec<u8>) -> Result<(), AllocError>
         ensures { OnOk result (out.new.items
             ≡ out.old.items ++ each deck_bytes (files_of self.now.users user).decks) }
@@ -149,7 +150,8 @@ impl Queues {
         put_zero(out)
     }
 
-    /// Appends the files that a user's punch closed, in order.
+    /// Appends the files that a user's punch closed, in order, each after a byte of 1, and then a
+    /// byte of 0.
     fn put_punched(&self, user: UserNo, out: &mut Vec<u8>) -> Result<(), AllocError>
         ensures { OnOk result (out.new.items
             ≡ out.old.items ++ each file_bytes (files_of self.now.users user).punched) }
@@ -164,7 +166,8 @@ impl Queues {
         put_zero(out)
     }
 
-    /// Appends the files that a user's printer closed, in order.
+    /// Appends the files that a user's printer closed, in order, each after a byte of 1, and then a
+    /// byte of 0.
     fn put_printed(&self, user: UserNo, out: &mut Vec<u8>) -> Result<(), AllocError>
         ensures { OnOk result (out.new.items
             ≡ out.old.items ++ each file_bytes (files_of self.now.users user).printed) }
@@ -180,7 +183,7 @@ impl Queues {
     }
 
     /// Reads the decks and the closed files of a user, who has none, from the input and adds them;
-    /// returns None if malformed, or if memory is refused.
+    /// returns None, perhaps after adding some, if malformed, or if memory is refused.
     ///
     /// There are as many users as before in either case.
     pub fn restore(&mut self, alloc: Global, user: UserNo, input: &mut Input<'_>) -> Option<()>
@@ -193,8 +196,8 @@ impl Queues {
         self.take_printed(alloc, user, input)
     }
 
-    /// Reads decks from the input and appends them to the queue of a user's reader; returns None if
-    /// malformed, or if memory is refused.
+    /// Reads decks from the input and appends them to the queue of a user's reader; returns None,
+    /// perhaps after appending some, if malformed, or if memory is refused.
     fn take_decks(&mut self, alloc: Global, user: UserNo, input: &mut Input<'_>) -> Option<()>
         ensures { length self.new.users ≡ length self.old.users }
     {
@@ -211,7 +214,7 @@ impl Queues {
     }
 
     /// Reads files from the input and appends them to those that a user's punch closed; returns
-    /// None if malformed, or if memory is refused.
+    /// None, perhaps after appending some, if malformed, or if memory is refused.
     fn take_punched(&mut self, alloc: Global, user: UserNo, input: &mut Input<'_>) -> Option<()>
         ensures { length self.new.users ≡ length self.old.users }
     {
@@ -228,7 +231,7 @@ impl Queues {
     }
 
     /// Reads files from the input and appends them to those that a user's printer closed; returns
-    /// None if malformed, or if memory is refused.
+    /// None, perhaps after appending some, if malformed, or if memory is refused.
     fn take_printed(&mut self, alloc: Global, user: UserNo, input: &mut Input<'_>) -> Option<()>
         ensures { length self.new.users ≡ length self.old.users }
     {

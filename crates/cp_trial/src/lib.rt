@@ -148,7 +148,7 @@ pub fn run_tried<D: Device>(
     ensures paged_in { CameOnly storage.old (is_wanted (trial_flags tried.now)) 2 storage.new }
     ensures between { IsBetweenUnits (lent_pool storage.new).supply }
 {
-    match storage.place(tried.touched()) {
+    match storage.page_in_wanted(tried.touched()) {
         Ok(()) => {}
         Err(FramesOut) => return Err(DryRunError::FramesOut),
     }
@@ -248,7 +248,7 @@ pub fn load_tried<D: Device>(
     ensures paged_in { CameOnly storage.old (is_wanted (trial_flags tried.now)) 2 storage.new }
     ensures between { IsBetweenUnits (lent_pool storage.new).supply }
 {
-    match storage.place(tried.touched()) {
+    match storage.page_in_wanted(tried.touched()) {
         Ok(()) => {}
         Err(FramesOut) => return Err(DryRunError::FramesOut),
     }

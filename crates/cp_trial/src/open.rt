@@ -97,7 +97,8 @@ pub fn load_open<D: TriedLoading>(
     Ok(ending)
 }
 
-/// Pages in page 0 if it is in no frame, before a loading.
+/// Pages in page 0 if it is in no frame, before a loading; a storage without bytes is refused as
+/// out of memory.
 ///
 /// # Errors
 ///
@@ -117,7 +118,7 @@ pub fn fetch_first(storage: &mut Dat<'_>) -> Result<(), DryRunError>
     if storage.size() == 0 {
         return Err(DryRunError::Memory);
     }
-    match storage.fetch(Page(0)) {
+    match storage.page_in_unpinned(Page(0)) {
         Ok(()) => Ok(()),
         Err(FramesOut) => Err(DryRunError::FramesOut),
     }
@@ -133,7 +134,7 @@ pub fn fetch_again(storage: &mut Dat<'_>)
     ensures between { IsBetweenUnits (lent_pool storage.new).supply }
     ensures memory { lent_memory storage.new ≡ lent_memory storage.old }
 {
-    match storage.fetch(Page(0)) {
+    match storage.page_in_unpinned(Page(0)) {
         Ok(()) => {}
         // It is somewhere.
         Err(FramesOut) => unreachable!(),

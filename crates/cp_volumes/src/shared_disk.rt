@@ -112,8 +112,9 @@ impl SharedDisk {
         minidisk.save(out)
     }
 
-    /// Reads the arm and the sense from the input and sets them; returns None if they are no such.
-    /// Address, volume and extent are read too, but stay.
+    /// Reads an address, a volume, an extent, the arm and the sense from the input, and sets the
+    /// last two; returns None, and changes nothing, if they are malformed or the minidisk has no
+    /// such place.
     pub fn restore(&mut self, input: &mut Input<'_>) -> Option<()>
         ensures { placement_of self.new ≡ placement_of self.old }
     {

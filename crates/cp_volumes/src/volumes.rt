@@ -268,10 +268,9 @@ impl Volumes {
             (disk_on self.old disk.old).unit storage.new }
         ensures placements { placement_of disk.new ≡ placement_of disk.old }
         ensures confined { IsConfined (placement_of disk.old ∷ []) self.old self.new }
-        ensures paged_in { CameOnly storage.old
-            (IsTouched guest_written (setting disk_machine loading_limits)
-            (loading disk_machine (lent_memory storage.old) (disk_on self.old disk.old).unit))
-            2 storage.new }
+        ensures paged_in { CameOnly storage.old (IsTouched guest_written
+            (setting disk_machine loading_limits) (loading disk_machine (lent_memory storage.old)
+            (disk_on self.old disk.old).unit)) 2 storage.new }
         ensures between { IsBetweenUnits (lent_pool storage.new).supply }
     {
         let tried = match self.try_load(alloc, disk, storage) {

@@ -37,8 +37,9 @@ The map goes to standard output, a fault as one line to standard error. Exit sta
   4  there was not memory enough
 ";
 
-/// Runs the whole program: plays the script that its arguments name and prints the map of frames
-/// and slots that it leaves; reports a failure on standard error.
+/// Runs the whole program: plays the script that its arguments name, prints the map of frames and
+/// slots that it leaves, and saves the volumes if `--save` is given; reports a failure on standard
+/// error.
 pub fn program<R: AllocGlobal + Files + Env + Print + Eprint>(rt: &R) -> ProgramEnd {
     finish(rt, run(rt))
 }
@@ -101,8 +102,8 @@ fn restored<F: FileStore>(
     }
 }
 
-/// Does the script at this path as one part, and returns the machines that it leaves. Its last line
-/// need not be ended.
+/// Does the script at this path, whose last line need not be ended, as one part, and returns the
+/// machines that it leaves.
 fn follow<F: FileStore>(
     alloc: Global,
     files: &mut F,
@@ -117,7 +118,7 @@ fn follow<F: FileStore>(
         };
     }
     match follower.part(alloc, &text, &mut Nowhere)? {
-        Part::Done(follower) => Ok(follower.close(alloc, &mut Nowhere)?),
+        Part::Done(follower) => Ok(follower.close(&mut Nowhere)?),
         Part::Refused(_same, line) => Err(Failure::Script(line)),
     }
 }

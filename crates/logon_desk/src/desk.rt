@@ -388,8 +388,8 @@ impl LogonDesk {
         place.stage = Stage::Waiting(guess);
     }
 
-    /// Does what is due for a connection at this time: ends it if it is too late or its user is on
-    /// elsewhere, asks the host about a guess, or answers a wrong one.
+    /// Does what is due for a connection at this time: ends it if it is too late, or if its user is
+    /// on elsewhere or has logged off; asks the host about a guess, or answers a wrong one.
     ///
     /// # Errors
     ///
@@ -455,7 +455,8 @@ impl LogonDesk {
         Ok(())
     }
 
-    /// Ends a connection whose user is on elsewhere or has logged off, and else does nothing.
+    /// Ends a connection whose user has logged off, or, after a notice, one whose user is on
+    /// elsewhere; else does nothing.
     fn leave_behind(
         &mut self,
         alloc: Global,
@@ -468,7 +469,7 @@ impl LogonDesk {
             (Rattle.logon_desk.specs.Desk.wake_by self.old connection
             (connection_at self.old connection) (Stage.On user) 0) out.old self.new out.new) }
     {
-        let terminal = self.terminal(user);
+        let terminal = self.last_terminal(user);
         if is_terminal(terminal, connection) {
             return Ok(());
         }
@@ -479,7 +480,7 @@ impl LogonDesk {
     }
 
     /// Returns the last connection at which a user logged on, if he has not logged off.
-    fn terminal(&self, user: UserNo) -> Option<usize>
+    fn last_terminal(&self, user: UserNo) -> Option<usize>
         ensures { result ≡ (account_of self.now user).terminal }
     {
         match self.accounts.get(user.index()) {
@@ -541,7 +542,7 @@ impl LogonDesk {
         let place = &mut self.connections[connection];
         let queue = queue_of(guess.name.as_slice(), place.address);
         place.stage = Stage::On(user);
-        self.guesses.was_right(queue, now);
+        self.guesses.remove_right_guess(queue, now);
         let account = &mut self.accounts[user.index()];
         account.terminal = Some(connection);
         account.is_busy = account.is_busy || !account.is_on;
@@ -567,7 +568,8 @@ impl LogonDesk {
         out.push(DeskAction::Notes(JournalEntry::WrongPassword { user, connection }))
     }
 
-    /// Ends a connection, and adds an entry to the journal if it was the terminal of a user.
+    /// Makes a place empty and adds that its connection ends, also if there was none; before that
+    /// adds a journal entry if it was the terminal of a user.
     ///
     /// # Errors
     ///
@@ -583,14 +585,14 @@ impl LogonDesk {
     {
         if let Stage::On(user) = &self.connections[connection].stage {
             let user = *user;
-            if is_terminal(self.terminal(user), connection) {
+            if is_terminal(self.last_terminal(user), connection) {
                 out.push(DeskAction::Notes(JournalEntry::Leaves { user, connection }))?;
             }
         }
         self.end(alloc, connection, out)
     }
 
-    /// Makes a place empty, and adds that its connection ends; an error if memory is refused.
+    /// Makes a place empty, and adds that its connection ends, also if there was none.
     fn end(&mut self, alloc: Global, connection: usize, out: &mut Outputs) -> Result<(), AllocError>
         requires within { connection < length self.old.connections }
         ensures { OnOk result (Does (ended self.old connection []) out.old self.new out.new) }
@@ -599,7 +601,8 @@ impl LogonDesk {
         out.push(DeskAction::Ends { connection })
     }
 
-    /// Shows a user a line of the transcript at his terminal, if he is on at one.
+    /// Adds the action that shows a user a line of the transcript, cut to 1024 characters, at his
+    /// terminal, if he is on at one.
     ///
     /// # Errors
     ///
@@ -627,14 +630,15 @@ impl LogonDesk {
     pub fn terminal_of(&self, user: UserNo) -> Option<usize>
         ensures { result ≡ terminal_of self.now user }
     {
-        let connection = self.terminal(user)?;
+        let connection = self.last_terminal(user)?;
         match self.connections.get(connection) {
             Some(place) if is_user(&place.stage, user) => Some(connection),
             _ => None,
         }
     }
 
-    /// Keeps a copy of a line for when its user is back; of more than 24 the oldest goes.
+    /// Keeps a copy of a line as it is shown, cut to 1024 characters, for when its user is back; of
+    /// more than 24 the oldest goes.
     ///
     /// # Errors
     ///
@@ -651,7 +655,7 @@ impl LogonDesk {
     }
 
     /// Sets whether a user's machine is on and runs; if off, his terminal and kept lines go.
-    pub fn turn(&mut self, user: UserNo, is_on: bool, is_running: bool)
+    pub fn set_mode(&mut self, user: UserNo, is_on: bool, is_running: bool)
         requires { user < length self.old.accounts }
         ensures { IsStep self.old (Turns user is_on is_running) [] self.new [] }
     {
@@ -665,7 +669,7 @@ impl LogonDesk {
     }
 
     /// Marks a user's typed line as done; if his machine is off, he has no terminal any more.
-    pub fn finish(&mut self, user: UserNo)
+    pub fn end_typed_line(&mut self, user: UserNo)
         requires { user < length self.old.accounts }
         ensures { IsStep self.old (Finishes user) [] self.new [] }
     {
@@ -706,8 +710,8 @@ fn say(connection: usize, notice: Notice, out: &mut Outputs) -> Result<(), Alloc
     out.push(DeskAction::Says { connection, notice })
 }
 
-/// Logs a user's machine on, or shows his last lines again if it is on or a line of his is under
-/// way.
+/// Adds a journal entry and the action that types `LOGON` for a user, or, if he is on or a line of
+/// his is under way, a notice and his last lines.
 fn greet(
     alloc: Global,
     connection: usize,

@@ -66,7 +66,7 @@ impl Guesses {
     }
 
     /// Removes a guess, which was right, from what a queue remembers.
-    pub fn was_right(&mut self, queue: usize, now: u64)
+    pub fn remove_right_guess(&mut self, queue: usize, now: u64)
         requires queue { queue < QUEUES }
         requires now { now < 2 ^ 62 }
         ensures { self.new ≡ slice_set self.old queue
@@ -97,7 +97,8 @@ fn wait(owed: u64) -> u64
     }
 }
 
-/// Returns the number of the queue of the guesses of a name from an address.
+/// Returns the number, below 1024, of the queue of the guesses of a name from an address, which
+/// others may share.
 pub fn queue_of(name: &[u8], address: u64) -> usize
     ensures value { result ≡ queue_of name.now address }
     ensures within { result < QUEUES }

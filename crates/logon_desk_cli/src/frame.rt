@@ -145,8 +145,8 @@ impl<'a> Words<'a> {
         Some(word)
     }
 
-    /// Removes the next word of a line, and returns the hexadecimal number that it spells; a fault
-    /// if it spells none.
+    /// Removes the next word of a line, and returns the number that its hexadecimal digits, with
+    /// letters in upper case, spell; a fault if it spells none.
     fn number(&mut self) -> Result<u64, FrameError>
         ensures value { IsRead result (number_at self.old) }
         ensures rest { OnOk result (self.new ≡ after_first self.old) }
@@ -166,8 +166,8 @@ impl<'a> Words<'a> {
         Ok(self.number()? as usize)
     }
 
-    /// Removes the next word of a line, and returns the bytes that it spells in hexadecimal, `-`
-    /// being none; a fault if it spells none.
+    /// Removes the next word of a line, and returns the bytes that its pairs of hexadecimal digits,
+    /// with letters in upper case, spell, none for `-`; a fault if it spells none.
     fn bytes(&mut self, alloc: Global) -> Result<Bytes, FrameError>
         ensures value { IsRead result (bytes_at self.old) }
         ensures rest { OnOk result (self.new ≡ after_first self.old) }
@@ -179,8 +179,8 @@ impl<'a> Words<'a> {
     }
 }
 
-/// Returns the number that hexadecimal digits spell; None if one of them is no digit or it has more
-/// than 64 bits.
+/// Returns the number that hexadecimal digits, with letters in upper case, spell, zero for no
+/// digit; None if one of them is no digit or it has more than 64 bits.
 fn number_of(digits: &[u8]) -> Option<u64>
     ensures { result ≡ number_from 0 digits.now }
 {
@@ -198,7 +198,8 @@ fn more_digit(number: u64, digit: u8) -> Option<u64>
     number.checked_mul(16)?.checked_add(u64::from(digit))
 }
 
-/// Returns the bytes that hexadecimal digits spell, `-` being none; a fault if they spell none.
+/// Returns the bytes that pairs of hexadecimal digits, with letters in upper case, spell, none for
+/// `-`; a fault if the word is anything else.
 fn bytes_of(alloc: Global, digits: &[u8]) -> Result<Bytes, FrameError>
     ensures { IsRead result (bytes_of digits.now) }
 {
@@ -208,8 +209,8 @@ fn bytes_of(alloc: Global, digits: &[u8]) -> Result<Bytes, FrameError>
     pairs_of(alloc, digits)
 }
 
-/// Returns the bytes that pairs of hexadecimal digits spell; a fault if they spell none or one is
-/// left over.
+/// Returns the bytes that pairs of hexadecimal digits, with letters in upper case, spell, none for
+/// no digit; a fault if a byte is no digit or one is left over.
 fn pairs_of(alloc: Global, digits: &[u8]) -> Result<Bytes, FrameError>
     ensures { IsRead result (pairs_of digits.now) }
 {
@@ -226,7 +227,8 @@ fn pairs_of(alloc: Global, digits: &[u8]) -> Result<Bytes, FrameError>
     }
 }
 
-/// Returns the byte that two hexadecimal digits spell; a fault if one of them is no digit.
+/// Returns the byte that two hexadecimal digits, with letters in upper case, spell; a fault if one
+/// of them is no digit.
 fn byte_of(high: u8, low: u8) -> Result<u8, FrameError>
     ensures { IsRead result (byte_of high low) }
 {
@@ -235,7 +237,8 @@ fn byte_of(high: u8, low: u8) -> Result<u8, FrameError>
     Ok(high * 16 + low)
 }
 
-/// Returns the frame that a line is, and its time; a fault if it is none.
+/// Returns the frame that a line is, and its time, at most `LATEST`, and ignores words after those
+/// of the frame; a fault if it is none.
 ///
 /// # Errors
 ///

@@ -12,8 +12,8 @@ use crate::program::Session;
 use std::io::{self, BufRead, BufReader};
 use std::{env, fs};
 
-/// Serves the lines of the file that the first argument names, or of standard input if there is
-/// none.
+/// Runs the logon desk on the lines of the file that the first argument names, or of standard
+/// input, and writes what it does to standard output.
 fn main(rt: HostRuntime) -> io::Result<()> {
     let alloc = rt.alloc();
     match env::args(&rt)?.nth(1) {
@@ -22,7 +22,8 @@ fn main(rt: HostRuntime) -> io::Result<()> {
     }
 }
 
-/// Takes lines and writes what the desk does for each, until they end or one is malformed.
+/// Takes lines and writes on standard output what the desk does for each, until they end or one is
+/// malformed or does not fit.
 fn serve<R: BufRead + Drop>(rt: &HostRuntime, reader: R) -> io::Result<()> {
     let alloc = rt.alloc();
     let mut session = Session::new(alloc);

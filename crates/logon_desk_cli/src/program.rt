@@ -75,8 +75,8 @@ impl Session {
         self.text.clear();
     }
 
-    /// Does what a line says, and appends the lines for what the desk does to the text; false, and
-    /// nothing is done, if the line is malformed or does not fit here.
+    /// Does what a line says, and appends the lines for what the desk does to the text; false if
+    /// the line is malformed or does not fit here.
     ///
     /// # Errors
     ///
@@ -110,7 +110,8 @@ impl Session {
     }
 
     /// Takes a frame before there is a desk: adds a user, or makes the desk with so many places;
-    /// false if it is another frame or there are too many.
+    /// false for another frame, for too many places, or for a user too many, who is added all the
+    /// same.
     fn begin(&mut self, alloc: Global, frame: Frame) -> Result<bool, AllocError>
         ensures { IfOk result (λ taken. Begins self.old frame taken self.new) }
     {
@@ -148,8 +149,8 @@ fn is_for(desk: &LogonDesk, frame: &Frame) -> bool
     }
 }
 
-/// Does what a frame says and what is due then at a desk, and appends the lines for that to the
-/// text.
+/// Does what a frame says and what is due then at a desk, appends the lines for that to the text,
+/// and keeps in `reading` the places whose bytes are still to be taken.
 fn answer(
     alloc: Global,
     desk: &mut LogonDesk,
@@ -228,13 +229,17 @@ fn make_room_for(
         × Does (run desk.old room) out.old desk.new out.new) }
 {
     match frame {
-        Frame::Open { .. } => make_room(alloc, desk, out),
+        Frame::Open { .. } => end_busiest_stranger(alloc, desk, out),
         _ => Ok(()),
     }
 }
 
 /// Ends a connection of those about to log on, from the busiest address, if there are 80 or more.
-fn make_room(alloc: Global, desk: &mut LogonDesk, out: &mut Outputs) -> Result<(), AllocError>
+fn end_busiest_stranger(
+    alloc: Global,
+    desk: &mut LogonDesk,
+    out: &mut Outputs,
+) -> Result<(), AllocError>
     ensures places { OnOk result (length desk.new.connections ≡ length desk.old.connections) }
     ensures room { OnOk result
         ((room : List Event) × MakesRoom desk.old room
@@ -283,11 +288,11 @@ fn give(
         Frame::Show { user, text } => desk.print(alloc, user_no(desk, *user), text.as_slice(), out),
         Frame::Keep { user, line } => desk.keep(alloc, user_no(desk, *user), line),
         Frame::Turn { user, state } => {
-            desk.turn(user_no(desk, *user), *state > 0, *state == 2);
+            desk.set_mode(user_no(desk, *user), *state > 0, *state == 2);
             Ok(())
         }
         Frame::Done(user) => {
-            desk.finish(user_no(desk, *user));
+            desk.end_typed_line(user_no(desk, *user));
             Ok(())
         }
         _ => Ok(()),

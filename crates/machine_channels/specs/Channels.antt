@@ -1,6 +1,6 @@
 -- The channels of a machine: the programs of its devices run on them, and its disks hang on them.
-use Rattle.std.specs.Prelude.{ℕ, ◌≡◌, ◌*◌, ◌<◌, ◌⊎◌, Bool, true, List, set, slice_get, Option, Some}
-use Rattle.std.specs.Prelude.{None}
+use Rattle.std.specs.Prelude.{ℕ, ◌≡◌, ◌*◌, ◌<◌, ◌⊎◌, Bool, true, List, length, set, slice_get}
+use Rattle.std.specs.Prelude.{Option, Some, None, Result, IfErr}
 use Rattle.s370_store.specs.Access.{IsAbsent}
 use Rattle.s370_walk.specs.declared.parts.Ending.{Ending}
 use Rattle.s370_store.specs.Memory.{Memory}
@@ -103,6 +103,14 @@ pub record IsOutOfFrames (size : ℕ) (Needs IsOut : ℕ → Type 0) : Type 0 wh
 abbrev pub WhereOut : ℕ → (ℕ → Type 0) → (ℕ → Type 0) → Type 0 → ChannelError → Type 0
 WhereOut size Needs IsOut P errors.Memory = Unit {0}
 WhereOut size Needs IsOut P (errors.Absent page) = IsOutOfFrames size Needs IsOut × P
+
+-- what is run as a whole or not at all is refused only where there is no room for a page that it
+-- needs, if memory is not refused; storage and devices have not changed then
+abbrev pub RefusesWhole : {S D : Type 0} → Bool → (S → Memory) → (S → (ℕ → Type 0) → ℕ → Type 0) → S
+    → D → (ℕ → Type 0) → Result Ending ChannelError → S → D → Type 0
+RefusesWhole is_whole memory NoRoomFor old part needs result new part' = is_whole ≡ true
+    → IfErr result (WhereOut (length (memory old).bytes) needs (NoRoomFor new needs)
+    ((memory new ≡ memory old) × (part' ≡ part)))
 
 -- a device that is never refused memory stops only at an absent page
 abbrev pub StopsForPage : {D : Type 0} → Machine D → (ℕ → Bool) → Caw → Memory → D → ChannelError

@@ -11,8 +11,8 @@ ghost use Rattle.s370_channel.specs.declared.running.ChannelError.TheVariants as
 ghost use Rattle.s370_walk.specs.Hardware.{Machine};
 ghost use Rattle.machine_channels.specs.Channels.{Brings, DiskHadRoom, DiskHadRoomToLoad};
 ghost use Rattle.machine_channels.specs.Channels.{DiskLoads, DiskNeeds, LacksPage, LoadNeeds};
-ghost use Rattle.machine_channels.specs.Channels.{LoadsDisk, NoRoom, ProgramNeeds, StopsDisk};
-ghost use Rattle.machine_channels.specs.Channels.{WalksDisk, WalksLoading, WhereOut};
+ghost use Rattle.machine_channels.specs.Channels.{LoadsDisk, NoRoom, ProgramNeeds, RefusesWhole};
+ghost use Rattle.machine_channels.specs.Channels.{StopsDisk, WalksDisk, WalksLoading};
 ghost use Rattle.machine_channels.specs.Channels.{load_times, serve_times};
 ghost use Rattle.machine_channels.specs.Disks.{DiskAt, cleared_disk, is_disk_at, reset_disk};
 ghost use Rattle.machine_channels.specs.declared.channels.UnitRecord.{UnitRecord};
@@ -124,26 +124,19 @@ pub trait Channels<S: Storage>: Disks {
         device: &mut D,
     ) -> Result<Ending, ChannelError>
         requires { IsReady storage.old }
-        ensures walk { IfOk result
-            (λ ending. Walks reads D.Device.machine start
-            (S.memory storage.old) device.old ending
-            (S.memory storage.new) device.new) }
+        ensures walk { IfOk result (λ ending. Walks reads D.Device.machine start
+            (S.memory storage.old) device.old ending (S.memory storage.new) device.new) }
         ensures disks { Self.disks self.new ≡ Self.disks self.old }
         ensures stopped { is_whole ≡ false
             → IfErr result (IsStopped D.Device.machine D.Device.needs_memory (S.present storage.old)
-            start
-            (S.memory storage.old) device.old) }
-        ensures whole { let needs = ProgramNeeds holds D.Device.machine start
-            (S.memory storage.old) device.old in
-            is_whole ≡ true
-            → IfErr result (WhereOut (length (S.memory storage.old).bytes) needs
-            (NoRoom IsOut IsFilled S.present storage.new needs)
-            ((S.memory storage.new ≡ S.memory storage.old) × (device.new ≡ device.old))) }
+            start (S.memory storage.old) device.old) }
+        ensures whole { RefusesWhole is_whole S.memory (NoRoom IsOut IsFilled S.present)
+            storage.old device.old (ProgramNeeds holds D.Device.machine start
+            (S.memory storage.old) device.old) result storage.new device.new }
         ensures roomy { is_whole ≡ true → result ≡ Err errors.Memory
             → HadRoom _ D.Device.machine storage.old start device.old storage.new }
-        ensures paged_in { Brings (Came serve_times) storage.old
-            (ProgramNeeds holds D.Device.machine start
-            (S.memory storage.old) device.old) storage.new }
+        ensures paged_in { Brings (Came serve_times) storage.old (ProgramNeeds holds
+            D.Device.machine start (S.memory storage.old) device.old) storage.new }
         ensures ready { IsReady storage.new }
         ensures others { Self.KeepsOthers self.old self.new }
         ensures kept { Reuses self.old storage.old start unit (is_ok result) self.new };
@@ -162,25 +155,18 @@ pub trait Channels<S: Storage>: Disks {
     ) -> Result<Ending, ChannelError>
         requires inside { index < length (Self.disks self.old) }
         requires ready { IsReady storage.old }
-        ensures walk { IfOk result
-            (λ ending. WalksDisk reads start (S.memory storage.old)
+        ensures walk { IfOk result (λ ending. WalksDisk reads start (S.memory storage.old)
             (Self.disks self.old) index ending (S.memory storage.new) (Self.disks self.new)) }
-        ensures stopped { is_whole ≡ false
-            → IfErr result (StopsDisk (S.present storage.old) start
+        ensures stopped { is_whole ≡ false → IfErr result (StopsDisk (S.present storage.old) start
             (S.memory storage.old) (slice_get (Self.disks self.old) index)) }
-        ensures whole { let needs = DiskNeeds holds start (S.memory storage.old)
-            (slice_get (Self.disks self.old) index) in
-            is_whole ≡ true
-            → IfErr result (WhereOut (length (S.memory storage.old).bytes) needs
-            (NoRoom IsOut IsFilled S.present storage.new needs)
-            ((S.memory storage.new ≡ S.memory storage.old)
-            × (Self.disks self.new ≡ Self.disks self.old))) }
+        ensures whole { RefusesWhole is_whole S.memory (NoRoom IsOut IsFilled S.present)
+            storage.old (Self.disks self.old) (DiskNeeds holds start (S.memory storage.old)
+            (slice_get (Self.disks self.old) index)) result storage.new (Self.disks self.new) }
         ensures roomy { is_whole ≡ true → result ≡ Err errors.Memory
             → DiskHadRoom HadRoom storage.old start (slice_get (Self.disks self.old) index)
             storage.new }
-        ensures paged_in { Brings (Came serve_times) storage.old
-            (DiskNeeds holds start (S.memory storage.old)
-            (slice_get (Self.disks self.old) index)) storage.new }
+        ensures paged_in { Brings (Came serve_times) storage.old (DiskNeeds holds start
+            (S.memory storage.old) (slice_get (Self.disks self.old) index)) storage.new }
         ensures ready { IsReady storage.new }
         ensures others { Self.KeepsOthers self.old self.new }
         ensures kept { ReusesDisk self.old storage.old start index (is_ok result) self.new };
@@ -199,21 +185,16 @@ pub trait Channels<S: Storage>: Disks {
         device: &mut D,
     ) -> Result<Ending, ChannelError>
         requires { IsReady storage.old }
-        ensures walk { IfOk result
-            (λ ending. WalksLoading D.Device.machine (S.memory storage.old)
-            device.old ending (S.memory storage.new) device.new) }
+        ensures walk { IfOk result (λ ending. WalksLoading D.Device.machine
+            (S.memory storage.old) device.old ending (S.memory storage.new) device.new) }
         ensures disks { Self.disks self.new ≡ Self.disks self.old }
         ensures kept { self.new ≡ self.old }
         ensures stopped { is_whole ≡ false
             → IfErr result (MatchLoading guest_written D.Device.machine D.Device.needs_memory
-            (S.present storage.old)
-            (S.memory storage.old) device.old) }
-        ensures whole { let needs = LoadNeeds D.Device.machine (S.memory storage.old)
-            device.old in
-            is_whole ≡ true
-            → IfErr result (WhereOut (length (S.memory storage.old).bytes) needs
-            (NoRoom IsOut IsFilled S.present storage.new needs)
-            ((S.memory storage.new ≡ S.memory storage.old) × (device.new ≡ device.old))) }
+            (S.present storage.old) (S.memory storage.old) device.old) }
+        ensures whole { RefusesWhole is_whole S.memory (NoRoom IsOut IsFilled S.present)
+            storage.old device.old (LoadNeeds D.Device.machine (S.memory storage.old) device.old)
+            result storage.new device.new }
         ensures roomy { is_whole ≡ true → result ≡ Err errors.Memory
             → HadRoomToLoad _ D.Device.machine storage.old device.old storage.new }
         ensures there { is_whole ≡ true → OnOk result (S.present storage.new 0 ≡ true) }
@@ -235,24 +216,18 @@ pub trait Channels<S: Storage>: Disks {
     fn load_disk(&mut self, storage: &mut S, index: usize) -> Result<Ending, ChannelError>
         requires inside { index < length (Self.disks self.old) }
         requires ready { IsReady storage.old }
-        ensures walk { IfOk result
-            (λ ending. LoadsDisk (S.memory storage.old)
-            (map reset_disk (Self.disks self.old)) index ending
-            (S.memory storage.new) (Self.disks self.new)) }
-        ensures lacks { is_whole ≡ false
-            → IfErr result (LacksPage (length (S.memory storage.old).bytes)
-            (S.present storage.old)) }
-        ensures whole { let needs = DiskLoads (S.memory storage.old)
-            (slice_get (map reset_disk (Self.disks self.old)) index) in
-            is_whole ≡ true
-            → IfErr result (WhereOut (length (S.memory storage.old).bytes) needs
-            (NoRoom IsOut IsFilled S.present storage.new needs)
-            ((S.memory storage.new ≡ S.memory storage.old)
-            × (Self.disks self.new ≡ Self.disks self.old))) }
+        ensures walk { IfOk result (λ ending. LoadsDisk (S.memory storage.old)
+            (map reset_disk (Self.disks self.old)) index ending (S.memory storage.new)
+            (Self.disks self.new)) }
+        ensures lacks { is_whole ≡ false → IfErr result
+            (LacksPage (length (S.memory storage.old).bytes) (S.present storage.old)) }
+        ensures whole { RefusesWhole is_whole S.memory (NoRoom IsOut IsFilled S.present)
+            storage.old (Self.disks self.old) (DiskLoads (S.memory storage.old)
+            (slice_get (map reset_disk (Self.disks self.old)) index)) result storage.new
+            (Self.disks self.new) }
         ensures roomy { is_whole ≡ true → result ≡ Err errors.Memory
             → DiskHadRoomToLoad HadRoomToLoad storage.old
-            (slice_get (map reset_disk (Self.disks self.old)) index)
-            storage.new }
+            (slice_get (map reset_disk (Self.disks self.old)) index) storage.new }
         ensures there { is_whole ≡ true → OnOk result (S.present storage.new 0 ≡ true) }
         ensures pages_unchanged { is_whole ≡ false → S.present storage.new ≡ S.present storage.old }
         ensures paged_in { Brings (Came load_times) storage.old (DiskLoads (S.memory storage.old)

@@ -14,4 +14,5 @@ mod Working
 pub mod DeviceCodes
 pub mod Forgotten
 pub mod Written
+pub mod Lost
 mod Served

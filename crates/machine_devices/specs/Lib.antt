@@ -10,6 +10,7 @@ pub mod Requests
 pub mod Lines
 pub mod Comes
 pub mod Life
+pub mod Events
 pub mod Attention
 pub mod Files
 pub mod Lent

@@ -1,12 +1,14 @@
 -- Entries of closed files that were written elsewhere do not matter to what happens to a machine
 -- with devices.
-use Rattle.std.specs.Prelude.{◌≡◌, Bool, true, false, List, [], ◌∷◌, ◌++◌}
+use Rattle.std.specs.Prelude.{◌≡◌, Bool, true, false, List, [], ◌∷◌, ◌++◌, slice_get, IsSomeAnd}
 use Rattle.std.specs.List.{list_all}
 use Rattle.s370_channel.specs.Reading.{Reading}
 use Rattle.unit_record.specs.Output.{EntryValue, FileValue}
 use Rattle.machine_devices.specs.Devices.{DevicesValue}
 use Rattle.machine_devices.specs.Equipped.{Equipped}
 use Rattle.machine_devices.specs.Life.{Event, Lives}
+use Rattle.machine_devices.specs.declared.files.FileKind.{FileKind}
+use Rattle.machine_devices.specs.declared.files.FileKind.TheVariants as kinds
 
 -- ---- files that have lost their entries
 
@@ -74,3 +76,12 @@ ClosedFilesStay = (reads : Reading) (events : List Event) (old new : Equipped)
     → Lives reads events old new
     → AreClosedAfter old.devices.punched new.devices.punched
     × AreClosedAfter old.devices.printed new.devices.printed
+
+-- the file of this kind and place is there and has an entry; a deck of the operator is no closed
+-- file
+abbrev pub IsFull : Equipped → FileKind → Type 0
+IsFull e (kinds.Punch place) =
+    IsSomeAnd (slice_get e.devices.punched place) (λ file. has_entry file.entries ≡ true)
+IsFull e (kinds.Printer place) =
+    IsSomeAnd (slice_get e.devices.printed place) (λ file. has_entry file.entries ≡ true)
+IsFull e kinds.Deck = Unit {0}

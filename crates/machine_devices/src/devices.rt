@@ -42,8 +42,8 @@ impl Model for Devices {
 }
 
 impl Devices {
-    /// Returns devices at these places that have done nothing, whose files are those of this user.
-    /// What is punched is for the operator.
+    /// Returns devices at these places that have done nothing, whose files are those of this user;
+    /// what is punched is for the operator.
     pub fn new(alloc: Global, places: Places, user: UserNo) -> Devices
         ensures { result ≡ parts_new places user }
     {
@@ -105,7 +105,7 @@ impl Devices {
     }
 
     /// Resets console, punch and printer, but neither the reader nor the disks.
-    pub(crate) fn reset_beside(&mut self)
+    pub(crate) fn reset_except_reader(&mut self)
         ensures { self.new ≡ record (parts_reset self.old) { reader = self.old.reader } }
     {
         self.console.reset();

@@ -21,7 +21,7 @@ use user_names::UserNo;
 ///
 /// It walks as on a reader that has the decks itself. An error is reported only where memory was
 /// refused, a page is not present, or there is no room for one.
-pub(crate) fn feed<S: Storage, C: Channels<S>>(
+pub(crate) fn run_fed<S: Storage, C: Channels<S>>(
     reader: &mut SpoolReader,
     queues: &mut Queues,
     user: UserNo,
@@ -52,7 +52,7 @@ pub(crate) fn feed<S: Storage, C: Channels<S>>(
     let ended = channels.run(storage, start, UnitRecord::Reader, &mut fed);
     let (left, progress) = fed.into_parts();
     *reader = left;
-    queues.take_back(user, progress);
+    queues.remove_read(user, progress);
     ended
 }
 
@@ -87,7 +87,7 @@ pub(crate) fn load_fed<S: Storage, C: Channels<S>>(
     match ended {
         Ok(ending) => {
             *reader = left;
-            queues.take_back(user, progress);
+            queues.remove_read(user, progress);
             Ok(ending)
         }
         Err(error) => Err(error),

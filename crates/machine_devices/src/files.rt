@@ -48,7 +48,7 @@ impl ClosedFiles {
 }
 
 /// Returns the line that reports a deck of the reader: its number, the name of its sender among
-/// these users, and how many cards it has. Only lack of memory is an error.
+/// these users, and how many cards it has; the only error is that memory is refused.
 ///
 /// ```text
 /// let line = deck_line(alloc, &users, deck)?; // b"FILE 0001 FROM A CARDS 3"

@@ -64,8 +64,8 @@ impl Devices {
         }
     }
 
-    /// Runs the loading program of the reader, resets the other devices, the disks and the machine,
-    /// and starts the machine if the program ended well.
+    /// Runs the loading program of the reader, and resets the other devices, the disks and the
+    /// machine; then starts the machine, or prints that IPL failed if the program ended badly.
     fn load_reader<S: Storage, C: Channels<S>>(
         &mut self,
         queues: &mut Queues,
@@ -90,7 +90,7 @@ impl Devices {
             Err(ChannelError::Memory) => return Err(LineError::Memory),
             Err(ChannelError::Absent(_)) => return Err(LineError::FramesOut),
         };
-        self.reset_beside();
+        self.reset_except_reader();
         channels.reset_disks();
         machine.reset();
         match start_loaded(machine, storage, device, &ending) {
@@ -100,8 +100,9 @@ impl Devices {
         }
     }
 
-    /// Resets the disks, runs the loading program of the one of this index, resets the other
-    /// devices and the machine, and starts the machine if the program ended well.
+    /// Resets the disks, runs the loading program of the one of this index, and resets the other
+    /// devices and the machine; then starts the machine, or prints that IPL failed if the program
+    /// ended badly.
     fn load_disk<S: Storage, C: Channels<S>>(
         &mut self,
         queues: &Queues,

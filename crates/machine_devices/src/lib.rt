@@ -16,7 +16,7 @@
 //! assert!(rt; devices.part_at(0x00E) == Some(AttachedDevice::Printer));
 //! assert!(rt; devices.part_at(0x00D).is_none());
 //! let mut queues = Queues::new(alloc, 1)?;
-//! devices.log_off(alloc, &mut queues)?;
+//! devices.close_for_logoff(alloc, &mut queues)?;
 //! assert_eq!(rt; queues.printed_count(UserNo::new(0)), 0); // nothing was printed
 //! assert_eq!(rt; devices.target(), Target::System);
 //! ```
@@ -24,6 +24,7 @@
 
 mod attaching;
 mod devices;
+mod event;
 mod feeding;
 mod files;
 mod ipl;
@@ -42,6 +43,7 @@ mod world;
 
 pub use attaching::AttachError;
 pub use devices::Devices;
+pub use event::Event;
 pub use files::{ClosedFiles, FileKind, FileNote, deck_line};
 pub use laws::{attention_agrees, printed_lines_do_not_matter};
 pub use line::LineOutcome;

@@ -113,12 +113,12 @@ impl Devices {
         let has_console = self.places().console.is_some();
         match request_of(machine.mode(), has_console, text.as_slice()) {
             Request::LogsOn => {
-                machine.clear(storage);
+                machine.switch_on(storage);
                 self.reset();
                 channels.clear_disks();
                 Ok(LineOutcome::Said(Response::LogonOk))
             }
-            Request::LogsOff => self.leave(alloc, queues, machine, storage, channels),
+            Request::LogsOff => self.do_logoff(alloc, queues, machine, storage, channels),
             Request::Resets => self.reset_machine(machine, channels),
             Request::Types => self.type_line(machine, text.as_slice()),
             Request::Loads(device) => self.ipl(queues, machine, storage, channels, device),
@@ -130,9 +130,10 @@ impl Devices {
         }
     }
 
-    /// Does LOGOFF: closes the open files, switches the machine off and zeroes its storage, resets
-    /// the devices and clears the disks; returns which files it closed.
-    fn leave<S: Supply, D: Disks>(
+    /// Does LOGOFF: closes the open files, makes the current deck wait again, switches the machine
+    /// off and zeroes its storage, resets the devices and clears the disks; returns which files it
+    /// closed.
+    fn do_logoff<S: Supply, D: Disks>(
         &mut self,
         alloc: Global,
         queues: &mut Queues,
@@ -163,7 +164,7 @@ impl Devices {
             ≡ length (S.Storage.memory storage.old).bytes }
     {
         let closed = self.open_files(queues);
-        match self.log_off(alloc, queues) {
+        match self.close_for_logoff(alloc, queues) {
             Ok(()) => {}
             Err(_) => return Err(LineError::Memory),
         }

@@ -46,7 +46,7 @@ fn target_of<W: UserDirectory>(world: &W, name: &[u8]) -> Option<Target>
 
 /// Does MSG: returns the line that the user of this name is to be sent, or the response that there
 /// is no such user or that he is not logged on.
-fn send<W: UserDirectory>(
+fn message_outcome<W: UserDirectory>(
     alloc: Global,
     world: &W,
     name: &[u8],
@@ -73,7 +73,7 @@ fn send<W: UserDirectory>(
 
 impl Devices {
     /// Does a command that concerns the files of these devices or other users, and returns its
-    /// outcome. If it is not obeyed, nothing has happened.
+    /// outcome; if it is not obeyed, nothing has happened.
     pub(crate) fn obey<W: UserDirectory>(
         &mut self,
         alloc: Global,
@@ -104,7 +104,7 @@ impl Devices {
             DeviceCommand::Close(device) => self.answer_close(alloc, queues, *device),
             DeviceCommand::Purge(file) => Ok(self.answer_purge(queues, *file)),
             DeviceCommand::Message(name, text) => {
-                send(alloc, world, name.as_slice(), text.as_slice())
+                message_outcome(alloc, world, name.as_slice(), text.as_slice())
             }
         }
     }
@@ -157,7 +157,7 @@ impl Devices {
         match self.part_at(device.get()) {
             Some(AttachedDevice::Punch) => match target_of(world, name) {
                 Some(target) => {
-                    self.spool(target);
+                    self.set_punch_target(target);
                     LineOutcome::Said(Response::Spooled)
                 }
                 None => LineOutcome::Said(Response::UserNotFound),

@@ -34,7 +34,7 @@ fn put_address(out: &mut Vec<u8>, address: Option<DevAddr>) -> Result<(), AllocE
 /// malformed.
 fn address_of(input: &mut Input<'_>) -> Option<Option<DevAddr>> {
     if input.flag()? {
-        Some(Some(DevAddr::new(input.half()?)))
+        Some(Some(DevAddr::new(input.next_u16()?)))
     } else {
         Some(None)
     }
@@ -71,7 +71,7 @@ fn places_of(input: &mut Input<'_>) -> Option<Places> {
 /// Reads the number of a user from the input; returns None if no user can have it, or it is
 /// malformed.
 fn user_of(input: &mut Input<'_>) -> Option<UserNo> {
-    let number = input.small()?;
+    let number = input.next_u8()?;
     if usize::from(number) < MOST_USERS {
         Some(UserNo::new(number))
     } else {
@@ -129,8 +129,9 @@ impl Devices {
         self.put_owner(out)
     }
 
-    /// Reads the state of these devices, which have done nothing, from the input; returns None if
-    /// it is malformed, or one of devices at other addresses or of another user.
+    /// Reads the state of these devices, which have done nothing, from the input; returns None,
+    /// perhaps after restoring a part, if it is malformed, one of devices at other addresses or of
+    /// another user, or if memory is refused.
     ///
     /// What is left after None is lawful, and nothing else is said of it.
     pub fn restore(&mut self, alloc: Global, input: &mut Input<'_>) -> Option<()>
@@ -193,8 +194,8 @@ pub fn put_note(out: &mut Vec<u8>, note: FileNote) -> Result<(), AllocError>
 /// malformed.
 pub fn note_of(input: &mut Input<'_>) -> Option<FileNote> {
     let user = user_of(input)?;
-    let number = input.small()?;
-    let place = input.place()?;
+    let number = input.next_u8()?;
+    let place = input.next_usize()?;
     let kind = match number {
         0 => FileKind::Deck,
         1 => FileKind::Punch(place),

@@ -64,11 +64,11 @@ impl<'a> SeenDevices<'a> {
         self.queues.deck(self.devices.user(), index)
     }
 
-    /// Returns how many cards of the current deck were read, or None where no deck is current.
+    /// Returns how many cards of the current deck were read, or None if no deck is current.
     pub fn place(&self) -> Option<usize>
         ensures { result ≡ self.now.reader.place }
     {
-        self.queues.place(self.devices.user())
+        self.queues.cards_read(self.devices.user())
     }
 
     /// Returns the sense byte of the reader: that of its last unit check, or zero.

@@ -6,7 +6,7 @@ ghost use Rattle.machine_devices.specs.declared.places.AttachedDevice.TheVariant
 ghost use Rattle.machine_devices.specs.Borrowed.{IsServed, Runs, ServeEnds, borrowed};
 
 use crate::devices::Devices;
-use crate::feeding::feed;
+use crate::feeding::run_fed;
 use crate::places::AttachedDevice;
 use cp_console::console_line::ConsoleLine;
 use cp_console::responses::Response;
@@ -140,7 +140,7 @@ impl Devices {
             (borrowed self.new queues.new machine.new storage.new channels.new) result }
     {
         let key = start.key;
-        let ending = match feed(
+        let ending = match run_fed(
             &mut self.reader,
             queues,
             self.user,
@@ -155,8 +155,9 @@ impl Devices {
         Ok(())
     }
 
-    /// Runs the program with this start on the console, makes its status pending, and prints the
-    /// lines that the console has finished.
+    /// Runs the program with this start on the console, sets its mark of attention, makes its
+    /// status pending, and moves the lines that the console has finished to those that the machine
+    /// has printed.
     fn run_console<S: Storage, C: Channels<S>>(
         &mut self,
         queues: &Queues,

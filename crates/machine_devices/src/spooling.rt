@@ -19,7 +19,7 @@ use user_names::UserNo;
 
 impl Devices {
     /// Sets the target of the punch's files that are closed from now on, also of the open one.
-    pub(crate) fn spool(&mut self, to: Target)
+    pub(crate) fn set_punch_target(&mut self, to: Target)
         ensures { self.new ≡ record self.old { target = to } }
     {
         self.target = to;
@@ -36,7 +36,8 @@ impl Devices {
         }
     }
 
-    /// Closes the punch's open file, if it has an entry, for the punch's target.
+    /// Closes the punch's open file, if it has an entry, for the punch's target; a card that is
+    /// being punched is dropped.
     ///
     /// Where memory is refused all stays. No card is copied.
     ///
@@ -58,7 +59,8 @@ impl Devices {
         Ok(())
     }
 
-    /// Closes the printer's open file, if it has an entry, for the operator.
+    /// Closes the printer's open file, if it has an entry, for the operator; a line that is being
+    /// printed is dropped.
     ///
     /// Where memory is refused all stays. No line is copied.
     ///
@@ -82,7 +84,7 @@ impl Devices {
     }
 
     /// Closes the punch's open file, if it has an entry, for the punch's target, in memory that was
-    /// reserved.
+    /// reserved; a card that is being punched is dropped.
     fn close_punch_reserved(&mut self, alloc: Global, queues: &mut Queues)
         requires user { self.old.user < length queues.old.users }
         requires files { 0 < length self.old.punch.entries → 1 ≤ queues.old.room.files }
@@ -101,7 +103,7 @@ impl Devices {
     }
 
     /// Closes the printer's open file, if it has an entry, for the operator, in memory that was
-    /// reserved.
+    /// reserved; a line that is being printed is dropped.
     fn close_printer_reserved(&mut self, alloc: Global, queues: &mut Queues)
         requires user { self.old.user < length queues.old.users }
         requires files { 0 < length self.old.printer.entries → 1 ≤ queues.old.room.files }
@@ -142,7 +144,7 @@ impl Devices {
     /// # Errors
     ///
     /// `AllocError` if memory is refused; nothing has changed.
-    pub fn log_off(&mut self, alloc: Global, queues: &mut Queues) -> Result<(), AllocError>
+    pub fn close_for_logoff(&mut self, alloc: Global, queues: &mut Queues) -> Result<(), AllocError>
         requires { self.old.user < length queues.old.users }
         ensures after { OnOk result
             (devices_on self.new queues.new ≡ devices_logged_off (devices_on self.old queues.old)) }

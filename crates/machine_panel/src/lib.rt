@@ -16,7 +16,7 @@
 //!
 //! let mut storage = PlainStorage::new(alloc, 4)?;
 //! let mut machine = Machine::new(alloc, Subchannels::new(alloc));
-//! machine.clear(&mut storage);
+//! machine.switch_on(&mut storage);
 //! store_word(&mut storage, 0x100, 0x47F0_0100); // a branch to itself
 //! machine.answer(&mut storage, PanelLine::Begin(Some(Addr24::wrapping(0x100))))?;
 //! assert_eq!(rt; machine.run::<RealCpu, _>(&mut storage, 100).units, 100);

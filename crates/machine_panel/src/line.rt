@@ -44,8 +44,8 @@ pub enum PanelLine {
 }
 
 impl Machine {
-    /// Carries out what a line asks of the machine alone and returns the response, if there is one;
-    /// on an error the machine is as it was.
+    /// Carries out what a line asks of the machine itself, without its devices, and returns the
+    /// response, if there is one; on an error the machine is as it was.
     ///
     /// # Errors
     ///

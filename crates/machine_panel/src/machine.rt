@@ -88,7 +88,7 @@ impl Machine {
 
     /// Does LOGON: resets the machine, makes general registers, storage and keys zero, and sets the
     /// mode to stopped; printed lines stay.
-    pub fn clear<S: Supply>(&mut self, storage: &mut S)
+    pub fn switch_on<S: Supply>(&mut self, storage: &mut S)
         ensures machine { machine_of self.new (S.Storage.memory storage.new)
             ≡ cleared (machine_of self.old (S.Storage.memory storage.old)) }
         ensures cleared { S.Cleared storage.old storage.new }
@@ -115,7 +115,7 @@ impl Machine {
         ensures keys { length (S.Storage.memory storage.new).keys
             ≡ length (S.Storage.memory storage.old).keys }
     {
-        self.clear(storage);
+        self.switch_on(storage);
         self.mode = Mode::Off;
     }
 

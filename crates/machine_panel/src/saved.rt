@@ -33,7 +33,7 @@ fn registers_of(input: &mut Input<'_>) -> Option<[u32; 16]> {
         if !input.flag()? {
             return None;
         }
-        registers[place] = input.word()?;
+        registers[place] = input.next_u32()?;
     }
     if input.flag()? { None } else { Some(registers) }
 }
@@ -74,11 +74,12 @@ fn bit_of(input: &mut Input<'_>, bit: u64) -> Option<u64> {
     if input.flag()? { Some(bit) } else { Some(0) }
 }
 
-/// Takes a PSW from `input` and returns it, or `None` if there is none or it is bad.
+/// Takes a PSW from `input` and returns it, or `None` if a part is missing or bad; key, program
+/// mask, condition code and address are cut to their bits.
 fn psw_of(input: &mut Input<'_>) -> Option<Psw> {
-    let system_mask = input.small()?;
-    let key = input.small()?;
-    let program_mask = input.small()?;
+    let system_mask = input.next_u8()?;
+    let key = input.next_u8()?;
+    let program_mask = input.next_u8()?;
     let extended = bit_of(input, 0x0008_0000_0000_0000)?;
     let machine_check = bit_of(input, 0x0004_0000_0000_0000)?;
     let mut psw = Psw::from_word(u64::from(key % 16) << 52 | extended | machine_check);
@@ -86,8 +87,8 @@ fn psw_of(input: &mut Input<'_>) -> Option<Psw> {
     psw.set_program_mask(program_mask % 16);
     psw.set_wait(input.flag()?);
     psw.set_problem(input.flag()?);
-    psw.set_condition(ConditionCode::new(input.small()? % 4));
-    psw.set_address(Addr24::wrapping(input.word()?));
+    psw.set_condition(ConditionCode::new(input.next_u8()? % 4));
+    psw.set_address(Addr24::wrapping(input.next_u32()?));
     Some(psw)
 }
 

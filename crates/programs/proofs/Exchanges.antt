@@ -2,11 +2,11 @@
 use Rattle.std.proofs.Common.{◌≡◌, ℕ, true, inl, inr, List, [], ◌∷◌, ◌++◌, Option, Some, Result, Ok, Err, refl, sym, ap}
 use Rattle.std.proofs.Common.{◌∙◌, subst, append_assoc, append-nil, length, arith}
 use Rattle.std.specs.Prelude.{IsErrAnd}
-use Rattle.std.specs.Io.KnownBytes.{Appends, Consumes}
-use Rattle.std.proofs.KnownBytes.{Appends-nil, Appends-trans, Consumes-nil, Consumes-trans}
+use Rattle.std.specs.Io.KnownBytes.{Appends, Consumes, Keeps}
+use Rattle.std.proofs.KnownBytes.{Appends-kept, Appends-nil, Appends-trans, Consumes-nil, Consumes-trans}
 use Rattle.s370_num.specs.Host.{AppendsFront, IsCounted}
 use Rattle.s370_num.specs.declared.host.HostFault.TheVariants as hosts
-use Rattle.sessions.specs.Files.{closing_lines}
+use Rattle.sessions.specs.Continuing.{ContinuesAs, but_printed}
 use Rattle.sessions.specs.Follow.{HasWholeLines, Became, IsFollowed, part_of}
 use Rattle.sessions.specs.Installed.{Installation, names_of}
 use Rattle.sessions.specs.Schedule.{Scene, acts}
@@ -19,6 +19,8 @@ use Rattle.sessions.specs.Transcript.{ended, transcript}
 use Rattle.sessions.specs.declared.faults.PlayError.{PlayError}
 use Rattle.sessions.specs.declared.faults.PlayError.TheVariants as plays
 use Rattle.sessions.specs.declared.schedule.Detail.{Detail}
+use Rattle.sessions.specs.declared.files.Telling.TheVariants.{Answer}
+use Rattle.sessions.proofs.Continuing.{idle_same, seen_files, seen_modes, seen_names}
 use Rattle.sessions.proofs.Histories.{front_after}
 use Rattle.programs.specs.Faults.{play_failure}
 use Rattle.programs.specs.declared.requests.NextRequest.{NextRequest}
@@ -30,12 +32,12 @@ use Rattle.programs.specs.declared.faults.Failure.{Failure}
 
 -- ---- one part
 
--- what it has as a transcript
-alone : {W : Type 0} (i : Installation W) (old new : Scene W) (part : List ℕ) (a b : Option (List ℕ))
-    (f : IsFollowed i part old new a b)
-    → IsFollowed i part old new (Some [])
+-- what it has as a transcript, where it has led to what goes on as this
+abbrev alone : {W : Type 0} (i : Installation W) (old new left : Scene W) (part : List ℕ) (a b : Option (List ℕ))
+    (f : IsFollowed i part old new a b) → ContinuesAs i f.end left
+    → IsFollowed i part old left (Some [])
     (Some (transcript i old.detail (names_of (i.seen old.world)) f.played.entries))
-alone i old new part a b f =
+alone i old new left part a b f on =
     let p = f.played in
     let played : IsPlayed i (acts f.script) old f.end (Some [])
     (Some (transcript i old.detail (names_of (i.seen old.world)) p.entries)) =
@@ -47,40 +49,66 @@ alone i old new part a b f =
       detail = p.detail;
       dealing = p.dealing;
     } in
-    record { script = f.script; accepted = f.accepted; end = f.end; played = played; on = f.on }
+    record { script = f.script; accepted = f.accepted; end = f.end; played = played; on = on }
+
+-- the news of a scene are those of one that has forgotten printed lines alone
+news_same : {W : Type 0} (i : Installation W) (old one other : Scene W) → one.lines ≡ other.lines
+    → but_printed (i.seen one.world) ≡ but_printed (i.seen other.world)
+    → news_lines i old other ≡ news_lines i old one
+news_same i old one other lines same =
+    let s = i.seen one.world in
+    let t = i.seen other.world in
+    let before = i.seen old.world in
+    rw (
+      seen_files s t same Answer (length before.files),
+      seen_names s t same,
+      seen_modes s t same,
+      idle_same i one other lines same,
+    ) refl
 
 -- it was done, and the news were reported
-pub done : {W : Type 0} (i : Installation W) (old new : Scene W) (part : List ℕ) (a b c : Option (List ℕ))
-    → HasWholeLines part → IsFollowed i part old new a b → Appends b c (ended (news_lines i old new))
-    → (answer : List ℕ) × AnswersPart i old part answer new × Appends a c answer
-done i old new part a b c whole f w =
+pub done : {W : Type 0} (i : Installation W) (old new left : Scene W) (part : List ℕ) (a b c : Option (List ℕ))
+    → HasWholeLines part → (f : IsFollowed i part old new a b)
+    → but_printed (i.seen f.end.world) ≡ but_printed (i.seen new.world) → ContinuesAs i f.end left
+    → Appends b c (ended (news_lines i old new))
+    → (answer : List ℕ) × AnswersPart i old part answer left × Appends a c answer
+done i old new left part a b c whole f seen on w =
     let p = f.played in
     let text = transcript i old.detail (names_of (i.seen old.world)) p.entries in
-    let news = ended (news_lines i old new) in (
+    let news = ended (news_lines i old f.end) in
+    let told =
+    subst (λ (lines : List (List ℕ)). Appends b c (ended lines)) (news_same i old f.end new f.on.lines seen) w
+    in (
       text ++ news,
-      inl (record { whole = whole; text = text; followed = alone i old new part a b f; reported = refl }),
-      Appends-trans a b c text news p.written w,
+      inl (record { whole = whole; text = text; followed = alone i old new left part a b f on; reported = refl }),
+      Appends-trans a b c text news p.written told,
     )
 
 -- it was done, and a beginning of the news was reported
 pub done_front : {W : Type 0} (i : Installation W) (old new : Scene W) (part : List ℕ) (a b c : Option (List ℕ))
-    → HasWholeLines part → IsFollowed i part old new a b → AppendsFront b c (ended (news_lines i old new))
+    → HasWholeLines part → (f : IsFollowed i part old new a b)
+    → but_printed (i.seen f.end.world) ≡ but_printed (i.seen new.world)
+    → AppendsFront b c (ended (news_lines i old new))
     → IsPartAnsweredPartly i old part a c
-done_front i old new part a b c whole f w =
+done_front i old new part a b c whole f seen w =
     let p = f.played in
     let text = transcript i old.detail (names_of (i.seen old.world)) p.entries in
-    let news = ended (news_lines i old new) in
+    let news = ended (news_lines i old f.end) in
+    let told = subst (λ (lines : List (List ℕ)). AppendsFront b c (ended lines))
+    (news_same i old f.end new f.on.lines seen) w in
     inr (inr (
       text ++ news,
       new,
-      inl (record { whole = whole; text = text; followed = alone i old new part a b f; reported = refl }),
-      front_after a b c text news p.written w,
+      inl (record { whole = whole; text = text; followed = alone i old new new part a b f f.on; reported = refl }),
+      front_after a b c text news p.written told,
     ))
 
 -- it was done, and there were no news
 pub done_untold : {W : Type 0} (i : Installation W) (old new : Scene W) (part : List ℕ) (a b : Option (List ℕ))
-    → HasWholeLines part → IsFollowed i part old new a b → IsPartAnsweredPartly i old part a b
-done_untold i old new part a b whole f = done_front i old new part a b b whole f (0, omega arith, Appends-nil b)
+    → HasWholeLines part → (f : IsFollowed i part old new a b)
+    → but_printed (i.seen f.end.world) ≡ but_printed (i.seen new.world) → IsPartAnsweredPartly i old part a b
+done_untold i old new part a b whole f seen =
+    done_front i old new part a b b whole f seen (0, omega arith, Appends-nil b)
 
 -- it was refused, and that was reported
 pub refused : {W : Type 0} (i : Installation W) (old new : Scene W) (part : List ℕ) (line : ℕ) (a b c : Option (List ℕ))
@@ -110,7 +138,8 @@ refused_front i old new part line a b c e same kept w =
 -- what became of it
 pub was_done : {W : Type 0} (i : Installation W) (old new : Scene W) (text : List ℕ) (part : Part W)
     (a b : Option (List ℕ)) → part ≡ parts.Done new → Became i text old part a b
-    → HasWholeLines text × IsFollowed i text old new a b
+    → HasWholeLines text × (f : IsFollowed i text old new a b)
+    × (but_printed (i.seen f.end.world) ≡ but_printed (i.seen new.world))
 was_done {W} i old new text part a b e h = subst (λ (p : Part W). Became i text old p a b) e h
 
 -- A part that was refused left all as it was.
@@ -168,18 +197,15 @@ so_far_more i first mid r s t w x y it h one read written = record {
 -- A follow that ends has read and answered all parts.
 pub followed_to : {W : Type 0} (i : Installation W) (detail : Detail) (old new : W) (last : Scene W) (end : List ℕ)
     (r s t w x y : Option (List ℕ)) → IsSoFar i (at_first i detail old) last r s w x → new ≡ last.world
-    → Consumes s t end → Appends x y (ended (closing_lines (i.seen last.world)))
-    → IsFollowedTo i detail old new end r t w y
-followed_to {W} i detail old new last end r s t w x y h left read closed =
-    let lines = subst (λ (v : W). Appends x y (ended (closing_lines (i.seen v)))) (sym left) closed in
-    record {
-      exchanges = h.exchanges;
-      last = last;
-      answered = h.answered;
-      left = left;
-      read = Consumes-trans r s t (read_of h.exchanges) end h.read read;
-      written = Appends-trans w x y (answers_of h.exchanges) (ended (closing_lines (i.seen new))) h.written lines;
-    }
+    → Consumes s t end → Keeps x y → IsFollowedTo i detail old new end r t w y
+followed_to i detail old new last end r s t w x y h left read kept = record {
+  exchanges = h.exchanges;
+  last = last;
+  answered = h.answered;
+  left = left;
+  read = Consumes-trans r s t (read_of h.exchanges) end h.read read;
+  written = Appends-kept w x y (answers_of h.exchanges) h.written kept;
+}
 
 -- ---- an input that is not followed to its end
 

@@ -2,11 +2,11 @@
 use Rattle.std.specs.Prelude.{◌≡◌, ℕ, Bool, true, false, List, [], ◌∷◌, ◌++◌, ◌⊎◌, codes, length}
 use Rattle.std.specs.Prelude.{Option, Some, Result, Ok, Err}
 use Rattle.std.specs.Fmt.{decimal}
-use Rattle.std.specs.Io.KnownBytes.{Appends, Consumes, IsAtEnd}
+use Rattle.std.specs.Io.KnownBytes.{Appends, Consumes, IsAtEnd, Keeps}
 use Rattle.s370_num.specs.Host.{AppendsFront, IsCounted}
 use Rattle.s370_num.specs.declared.host.HostFault.TheVariants as hosts
 use Rattle.machine_panel.specs.declared.machine.Mode.{Mode}
-use Rattle.sessions.specs.Files.{closing_lines, lines_since}
+use Rattle.sessions.specs.Files.{lines_since}
 use Rattle.sessions.specs.Follow.{HasWholeLines, IsFollowed, IsFollowedPartly, part_of}
 use Rattle.sessions.specs.Installed.{Installation, names_of}
 use Rattle.sessions.specs.News.{changed_lines, is_idle, modes_of}
@@ -56,13 +56,13 @@ refused_line line = codes "> REFUSED " ++ decimal line
 -- ---- what is answered
 
 -- a part that is a script of whole lines was done, and this is its transcript with the news after
--- it
+-- it: those of the scene to which it has led, before closed files are forgotten
 pub record IsDoneAs {W : Type 0} (i : Installation W) (old : Scene W) (part answer : List ℕ)
     (new : Scene W) : Type 0 where
   pub whole : HasWholeLines part
   pub text : List ℕ
   pub followed : IsFollowed i part old new (Some []) (Some text)
-  pub reported : answer ≡ text ++ ended (news_lines i old new)
+  pub reported : answer ≡ text ++ ended (news_lines i old followed.end)
 
 -- nothing of a part was done, since a line of it is refused, and that is reported
 pub record IsRefusedAs {W : Type 0} (i : Installation W) (old : Scene W) (part answer : List ℕ)
@@ -141,8 +141,7 @@ pub record IsSoFar {W : Type 0} (i : Installation W) (first last : Scene W)
   pub read : Consumes reader_old reader_new (read_of exchanges)
   pub written : Appends writer_old writer_new (answers_of exchanges)
 
--- requests were read and answered from the beginning on, and then these last bytes were read, and
--- the files for the operator written
+-- requests were read and answered from the beginning on, and then these last bytes were read
 pub record IsFollowedTo {W : Type 0} (i : Installation W) (detail : Detail) (old new : W)
     (end : List ℕ) (reader_old reader_new writer_old writer_new : Option (List ℕ)) : Type 0 where
   pub exchanges : List (Exchange W)
@@ -150,8 +149,7 @@ pub record IsFollowedTo {W : Type 0} (i : Installation W) (detail : Detail) (old
   pub answered : AreExchanges i (at_first i detail old) exchanges last
   pub left : new ≡ last.world
   pub read : Consumes reader_old reader_new (read_of exchanges ++ end)
-  pub written : Appends writer_old writer_new
-      (answers_of exchanges ++ ended (closing_lines (i.seen new)))
+  pub written : Appends writer_old writer_new (answers_of exchanges)
 
 -- an input whose end was asked for, and one that has just ended
 abbrev pub IsLeft : {W : Type 0} → Installation W → Detail → W → Left W → Option (List ℕ)
@@ -205,15 +203,14 @@ PartAccounts (Err failures.Spent) old new = new ≡ old
 PartAccounts (Err failures.State) old new = new ≡ old
 PartAccounts (Err other) old new = ⊥
 
--- after the requests that were answered: nothing was written; or a beginning of the answer to one
--- more, or of the files for the operator
+-- after the requests that were answered: nothing was written, also where the end was reached; or a
+-- beginning of the answer to one more
 abbrev pub IsBegun : {W : Type 0} → Installation W → Scene W → List ℕ → Option (List ℕ)
     → Option (List ℕ) → Type 0
 IsBegun i last more before after =
     (after ≡ before) ⊎ ((request : FollowRequest) × IsAsked more request
     × IsAnsweredPartly i last request before after)
-    ⊎ (((more ≡ end_line) ⊎ (more ≡ []))
-    × AppendsFront before after (ended (closing_lines (i.seen last.world))))
+    ⊎ (((more ≡ end_line) ⊎ (more ≡ [])) × Keeps before after)
 
 -- requests were read and answered from the beginning on, and then no more was read than this, and
 -- written than is begun

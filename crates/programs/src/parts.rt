@@ -79,8 +79,8 @@ pub fn follow_parts<R: HostReader, W: HostWriter, I: Installation + Drop>(
             NextRequest::Asked(request) => follower = answer(
                 alloc, follower, detail, request, writer,
             )?,
-            NextRequest::End => return Ok(Left::ProgramEnd(follower.close(alloc, writer)?)),
-            NextRequest::Nothing => return Ok(Left::Cut(follower.close(alloc, writer)?)),
+            NextRequest::End => return Ok(Left::ProgramEnd(follower.close(writer)?)),
+            NextRequest::Nothing => return Ok(Left::Cut(follower.close(writer)?)),
         }
     }
     // No input has so many parts.
@@ -88,7 +88,7 @@ pub fn follow_parts<R: HostReader, W: HostWriter, I: Installation + Drop>(
 }
 
 /// Does what a request asks: a part, to write the state, or to go on from a state; writes the
-/// answer and returns the follower after it.
+/// answer, flushes the writer and returns the follower after it.
 fn answer<W: HostWriter, I: Installation + Drop>(
     alloc: Global,
     follower: Follower<I>,
@@ -113,12 +113,12 @@ fn answer<W: HostWriter, I: Installation + Drop>(
             save(alloc, &follower, writer)?;
             Ok(follower)
         }
-        FollowRequest::State(state) => go_on(alloc, follower, &state, writer),
+        FollowRequest::State(state) => restore_state(alloc, follower, &state, writer),
     }
 }
 
-/// Writes the state between a line with its size and the line `> DONE`; or the line `> REFUSED 0`
-/// if there are no states.
+/// Writes the state between a line with its size and the line `> DONE`, or the line `> REFUSED 0`
+/// if there are no states, and flushes the writer.
 fn save<W: HostWriter, I: Installation + Drop>(
     alloc: Global,
     follower: &Follower<I>,
@@ -134,18 +134,18 @@ fn save<W: HostWriter, I: Installation + Drop>(
 {
     let mut state = Vec::new(alloc);
     if !follower.save(&mut state)? {
-        tell(writer, b"> REFUSED 0\n")?;
+        write_flushed(writer, b"> REFUSED 0\n")?;
         return Ok(());
     }
     let size = state.len();
     let head = format!(in alloc; "> STATE {size}\n")?;
-    tell_all(writer, head.as_bytes(), &state, b"> DONE\n")?;
+    write_all_flushed(writer, head.as_bytes(), &state, b"> DONE\n")?;
     Ok(())
 }
 
-/// Returns the follower that a state restores, and writes the line `> DONE`; an error if it is no
-/// state of this follower.
-fn go_on<W: HostWriter, I: Installation + Drop>(
+/// Returns the follower that a state restores, writes the line `> DONE` and flushes the writer; an
+/// error, and no line, if it is no state of this follower.
+fn restore_state<W: HostWriter, I: Installation + Drop>(
     alloc: Global,
     follower: Follower<I>,
     state: &[u8],
@@ -163,12 +163,12 @@ fn go_on<W: HostWriter, I: Installation + Drop>(
     let Some(follower) = follower.restored(alloc, state)? else {
         return Err(Failure::State);
     };
-    tell(writer, b"> DONE\n")?;
+    write_flushed(writer, b"> DONE\n")?;
     Ok(follower)
 }
 
-/// Does a part, which writes its transcript lines, and then writes what it reports, or which line
-/// of it is refused.
+/// Does a part, which writes its transcript lines, then writes what it reports, or which line of it
+/// is refused, and flushes the writer.
 fn follow_part<W: HostWriter, I: Installation + Drop>(
     alloc: Global,
     follower: Follower<I>,
@@ -193,22 +193,24 @@ fn follow_part<W: HostWriter, I: Installation + Drop>(
     let closed = follower.installation().files();
     let modes = follower.modes(alloc)?;
     match follower.part(alloc, part, writer)? {
-        Part::Done(follower) => {
-            let reported = news(alloc, &follower, detail, closed, &modes)?;
-            tell(writer, &reported)?;
+        Part::Done(mut follower) => {
+            let reported = part_report(alloc, &follower, detail, closed, &modes)?;
+            write_flushed(writer, &reported)?;
+            follower.forget_files(closed);
             Ok(follower)
         }
         Part::Refused(follower, line) => {
             let reported = format!(in alloc; "> REFUSED {line}\n")?;
-            tell(writer, reported.as_bytes())?;
+            write_flushed(writer, reported.as_bytes())?;
             Ok(follower)
         }
     }
 }
 
 /// Returns the lines that a part which was done reports: the files that it closed, who logged on or
-/// off, runs or has stopped, and `> DONE`.
-fn news<I: Installation + Drop>(
+/// off, runs or has stopped, `> IDLE` if all wait and the transcript is one of terminals, and `>
+/// DONE`.
+fn part_report<I: Installation + Drop>(
     alloc: Global,
     follower: &Follower<I>,
     detail: Detail,
@@ -241,7 +243,7 @@ fn idle_line(detail: Detail, is_idle: bool) -> &'static [u8]
 }
 
 /// Writes these lines, and flushes the writer.
-fn tell<W: HostWriter>(writer: &mut W, reported: &[u8]) -> Result<(), HostFault>
+fn write_flushed<W: HostWriter>(writer: &mut W, reported: &[u8]) -> Result<(), HostFault>
     ensures ok { OnOk result
         (Appends (W.contents writer.old) (W.contents writer.new) reported.now) }
     ensures err { OnErr result
@@ -255,7 +257,7 @@ fn tell<W: HostWriter>(writer: &mut W, reported: &[u8]) -> Result<(), HostFault>
 }
 
 /// Writes three texts one after another, and flushes the writer.
-fn tell_all<W: HostWriter>(
+fn write_all_flushed<W: HostWriter>(
     writer: &mut W,
     first: &[u8],
     second: &[u8],
@@ -271,5 +273,5 @@ fn tell_all<W: HostWriter>(
 {
     write_all(writer, first)?;
     write_all(writer, second)?;
-    tell(writer, third)
+    write_flushed(writer, third)
 }

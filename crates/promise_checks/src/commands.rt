@@ -83,8 +83,7 @@ fn make_ready(
     Ok(())
 }
 
-/// Returns the next cards by a sequence, from none to two, each of which begins as one for a
-/// loading.
+/// Draws the next cards from a sequence: none to two, each of which begins as one for a loading.
 fn next_cards(alloc: Global, sequence: &mut Sequence) -> Result<Vec<Card>, AllocError> {
     let mut cards = Vec::new(alloc);
     for _card in 0..sequence.below(3) {

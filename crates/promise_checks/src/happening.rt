@@ -55,7 +55,7 @@ pub fn ready_line(alloc: Global, user: UserNo, place: usize) -> Result<CheckEven
     Ok(CheckEvent::Line(text_for(alloc, user, text)?))
 }
 
-/// Returns the next event of a user by a sequence, while there are so many files.
+/// Draws the next event of a user from a sequence, while there are so many files.
 pub fn next_happening(
     alloc: Global,
     sequence: &mut Sequence,
@@ -73,14 +73,14 @@ pub fn next_happening(
     })
 }
 
-/// Returns the address of one of a user's devices, by a sequence.
+/// Draws the address of one of a user's devices from a sequence.
 fn next_device(sequence: &mut Sequence, user: UserNo) -> DevAddr {
     let place = sequence.next_number() as usize % 4;
     let first = channel_of(user).wrapping_mul(0x100);
     DevAddr::new(first.wrapping_add(DEVICES[place]))
 }
 
-/// Returns one to three cards by a sequence.
+/// Draws one to three cards from a sequence.
 fn next_cards(alloc: Global, sequence: &mut Sequence) -> Result<Vec<Card>, AllocError> {
     let mut cards = Vec::new(alloc);
     for _card in 0..sequence.next_number() % 3 + 1 {
@@ -89,7 +89,7 @@ fn next_cards(alloc: Global, sequence: &mut Sequence) -> Result<Vec<Card>, Alloc
     Ok(cards)
 }
 
-/// Returns a card by a sequence: twenty columns of any bytes, and blanks.
+/// Draws a card from a sequence: twenty columns of any bytes, and blanks.
 fn next_card(sequence: &mut Sequence) -> Card {
     let mut card = [0x40; 80];
     for column in 0..20 {
@@ -98,7 +98,7 @@ fn next_card(sequence: &mut Sequence) -> Card {
     card
 }
 
-/// Returns a line by a sequence by which a user sends a message or works with his files.
+/// Draws a line from a sequence by which a user sends a message or works with his files.
 fn next_talk(
     alloc: Global,
     sequence: &mut Sequence,

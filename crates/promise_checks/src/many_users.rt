@@ -49,7 +49,7 @@ fn next_happening(sequence: &mut Sequence) -> CheckEvent {
     }
 }
 
-/// Returns the user to whom the next event happens, by a sequence.
+/// Draws the user to whom the next event happens from a sequence.
 fn next_user(sequence: &mut Sequence) -> UserNo {
     UserNo::new((sequence.next_number() % 64) as u8)
 }

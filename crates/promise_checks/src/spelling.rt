@@ -41,14 +41,14 @@ const WORDS: &str =
 /// What is before a command: most often what makes it one whether the machine runs or not.
 const BEFORE: &str = "#CP |#CP |#CP |#CP |#CP |||#CP   |  #CP | |#cp |#CP";
 
-/// Returns one of the texts of a list that bars separate, by a sequence.
+/// Draws one of the texts of a list that bars separate from a sequence.
 fn pick(sequence: &mut Sequence, list: &'static str) -> &'static str {
     let count = list.split('|').count();
     let place = sequence.next_number() as usize % count.max(1);
     list.split('|').nth(place).unwrap_or("")
 }
 
-/// Returns one of the operands that a letter names, by a sequence.
+/// Draws one of the operands that a letter names from a sequence.
 fn next_operand(sequence: &mut Sequence, letter: char) -> &'static str {
     let list = match letter {
         'a' => ADDRESSES,
@@ -63,7 +63,7 @@ fn next_operand(sequence: &mut Sequence, letter: char) -> &'static str {
     pick(sequence, list)
 }
 
-/// Returns the next line that a user types, by a sequence: a command with operands, good or bad.
+/// Draws the next line that a user types from a sequence: a command with operands, good or bad.
 pub fn next_line(alloc: Global, sequence: &mut Sequence) -> Result<String, AllocError> {
     let mut line = String::from_str(alloc, pick(sequence, BEFORE))?;
     let mut is_operand = false;

@@ -107,8 +107,8 @@ impl Talkers {
         self.machines.compare_devices(user)
     }
 
-    /// Returns whether a user's next event is a line that makes his machine ready: mostly, if not
-    /// all of them were typed. If he is off, they begin anew.
+    /// Returns whether a user's next event is a line that makes his machine ready: mostly so, by
+    /// the sequence, if not all of them were typed; if he is off, they begin anew.
     fn is_getting_ready(&mut self, user: UserNo) -> Result<bool> {
         if !is_logged_on(self.machines.bare(user)?.mode()) {
             self.ready[user.index() % 16] = 0;

@@ -10,12 +10,13 @@ ghost use Rattle.s370_rows.specs.Rows.{MeetsRow};
 ghost use Rattle.s370_bytes.specs.declared.combine.Combine.{Combine};
 ghost use Rattle.s370_bytes.specs.Combine.{combined, combined_condition, string_combined, made_of};
 ghost use Rattle.s370_bytes.specs.Combine.{lag_of, lagged};
-ghost use Rattle.s370_bytes.specs.Strings.{number};
+ghost use Rattle.s370_bytes.specs.Strings.{LiesIn, number};
 
 use crate::compare::{front_number, holds_eight};
+use crate::straight::StringAt;
 use s370_num::ConditionCode;
 use s370_rows::{Completion, Cpu, Instruction, Refusal, grant_two};
-use s370_store::{Access, Block, Range, Storage};
+use s370_store::{Access, Range, Storage};
 
 /// The left halves of eight bytes.
 const ZONES: u64 = 0xF0F0_F0F0_F0F0_F0F0;
@@ -195,36 +196,31 @@ fn combine_at<S: Storage>(
 fn combine_in<S: Storage>(
     operation: Combine,
     storage: &mut S,
-    target: Block,
-    to: u32,
-    source: Block,
-    from: u32,
+    target: StringAt,
+    source: StringAt,
     made: &mut [u8],
     other: &mut [u8],
 )
     requires some { 0 < length made.old }
     requires same { length made.old ≡ length other.old }
     requires short { length made.old ≤ 256 }
-    requires source_placed { S.IsPlaced storage.old source }
-    requires source_inside { from + length made.old ≤ length (S.memory storage.old).bytes }
-    requires source_begins { source.first ≤ from }
-    requires source_ends { from + length made.old ≤ source.first + 2048 }
-    requires target_placed { S.IsPlaced storage.old target }
-    requires target_inside { to + length made.old ≤ length (S.memory storage.old).bytes }
-    requires target_begins { target.first ≤ to }
-    requires target_ends { to + length made.old ≤ target.first + 2048 }
+    requires source { LiesIn (S.IsPlaced storage.old) (length (S.memory storage.old).bytes) source
+        (length made.old) }
+    requires target { LiesIn (S.IsPlaced storage.old) (length (S.memory storage.old).bytes) target
+        (length made.old) }
     ensures stored { S.memory storage.new
-        ≡ with_stored (S.memory storage.old) to
-        (made_of operation (S.memory storage.old).bytes to from (length made.old)) }
-    ensures made { made.new ≡ made_of operation (S.memory storage.old).bytes to from
+        ≡ with_stored (S.memory storage.old) target.start (made_of operation
+        (S.memory storage.old).bytes target.start source.start (length made.old)) }
+    ensures made { made.new ≡ made_of operation (S.memory storage.old).bytes target.start
+        source.start
         (length made.old) }
     ensures rest { S.Keeps storage.old storage.new }
 {
-    storage.load_in(target, to, made);
-    storage.load_in(source, from, other);
-    let lag = lag_of(to, from, made.len() as u32);
+    storage.load_in(target.block, target.start, made);
+    storage.load_in(source.block, source.start, other);
+    let lag = lag_of(target.start, source.start, made.len() as u32);
     combine_all(operation, made, other, lag as usize);
-    storage.store_in(target, to, made);
+    storage.store_in(target.block, target.start, made);
 }
 
 /// Combines two strings in blocks that `find_block` returned, through buffers, and sets the
@@ -236,28 +232,22 @@ fn combine_long<S: Storage>(
     operation: Combine,
     cpu: &mut Cpu,
     storage: &mut S,
-    target: Block,
-    to: u32,
-    source: Block,
-    from: u32,
+    target: StringAt,
+    source: StringAt,
     count: u32,
 )
     requires some { 0 < count }
     requires short { count ≤ 256 }
-    requires source_placed { S.IsPlaced storage.old source }
-    requires source_inside { from + count ≤ length (S.memory storage.old).bytes }
-    requires source_begins { source.first ≤ from }
-    requires source_ends { from + count ≤ source.first + 2048 }
-    requires target_placed { S.IsPlaced storage.old target }
-    requires target_inside { to + count ≤ length (S.memory storage.old).bytes }
-    requires target_begins { target.first ≤ to }
-    requires target_ends { to + count ≤ target.first + 2048 }
+    requires source { LiesIn (S.IsPlaced storage.old) (length (S.memory storage.old).bytes) source
+        count }
+    requires target { LiesIn (S.IsPlaced storage.old) (length (S.memory storage.old).bytes) target
+        count }
     ensures stored { S.memory storage.new
-        ≡ with_stored (S.memory storage.old) to
-        (made_of operation (S.memory storage.old).bytes to from count) }
+        ≡ with_stored (S.memory storage.old) target.start
+        (made_of operation (S.memory storage.old).bytes target.start source.start count) }
     ensures condition { cpu.new
         ≡ combined_condition operation cpu.old
-        (made_of operation (S.memory storage.old).bytes to from count) }
+        (made_of operation (S.memory storage.old).bytes target.start source.start count) }
     ensures rest { S.Keeps storage.old storage.new }
 {
     let count = count as usize;
@@ -269,9 +259,7 @@ fn combine_long<S: Storage>(
             operation,
             storage,
             target,
-            to,
             source,
-            from,
             made,
             &mut other[..count],
         );
@@ -284,9 +272,7 @@ fn combine_long<S: Storage>(
             operation,
             storage,
             target,
-            to,
             source,
-            from,
             made,
             &mut other[..count],
         );
@@ -345,7 +331,7 @@ fn set_front_condition(operation: Combine, cpu: &mut Cpu, made: [u8; 8], count: 
 }
 
 /// Combines at most eight bytes, none of which is read after it was written, and sets the condition
-/// code unless it is a move.
+/// code unless it is a move; eight bytes from each address on have to be in its block.
 ///
 /// Eight bytes are loaded and stored, and those past `count` stay as they are.
 #[inline(always)]
@@ -353,39 +339,33 @@ fn combine_short<S: Storage>(
     operation: Combine,
     cpu: &mut Cpu,
     storage: &mut S,
-    target: Block,
-    to: u32,
-    source: Block,
-    from: u32,
+    target: StringAt,
+    source: StringAt,
     count: u32,
 )
     requires some { 0 < count }
     requires few { count ≤ 8 }
-    requires apart { lag_of to from count ≡ count }
-    requires source_room { from + 8 ≤ source.first + 2048 }
-    requires target_room { to + 8 ≤ target.first + 2048 }
-    requires source_placed { S.IsPlaced storage.old source }
-    requires source_inside { from + count ≤ length (S.memory storage.old).bytes }
-    requires source_begins { source.first ≤ from }
-    requires source_ends { from + count ≤ source.first + 2048 }
-    requires target_placed { S.IsPlaced storage.old target }
-    requires target_inside { to + count ≤ length (S.memory storage.old).bytes }
-    requires target_begins { target.first ≤ to }
-    requires target_ends { to + count ≤ target.first + 2048 }
+    requires apart { lag_of target.start source.start count ≡ count }
+    requires source_room { source.start + 8 ≤ source.block.first + 2048 }
+    requires target_room { target.start + 8 ≤ target.block.first + 2048 }
+    requires source { LiesIn (S.IsPlaced storage.old) (length (S.memory storage.old).bytes) source
+        count }
+    requires target { LiesIn (S.IsPlaced storage.old) (length (S.memory storage.old).bytes) target
+        count }
     ensures stored { S.memory storage.new
-        ≡ with_stored (S.memory storage.old) to
-        (made_of operation (S.memory storage.old).bytes to from count) }
+        ≡ with_stored (S.memory storage.old) target.start
+        (made_of operation (S.memory storage.old).bytes target.start source.start count) }
     ensures condition { cpu.new
         ≡ combined_condition operation cpu.old
-        (made_of operation (S.memory storage.old).bytes to from count) }
+        (made_of operation (S.memory storage.old).bytes target.start source.start count) }
     ensures rest { S.Keeps storage.old storage.new }
 {
     let mut made = [0u8; 8];
     let mut other = [0u8; 8];
-    storage.load_in(target, to, &mut made);
-    storage.load_in(source, from, &mut other);
+    storage.load_in(target.block, target.start, &mut made);
+    storage.load_in(source.block, source.start, &mut other);
     combine_front(operation, &mut made, &other, count as usize);
-    storage.store_in(target, to, &made);
+    storage.store_in(target.block, target.start, &made);
     set_front_condition(operation, cpu, made, count);
 }
 
@@ -396,38 +376,32 @@ pub fn combine_straight<S: Storage>(
     operation: Combine,
     cpu: &mut Cpu,
     storage: &mut S,
-    target: Block,
-    to: u32,
-    source: Block,
-    from: u32,
+    target: StringAt,
+    source: StringAt,
     count: u32,
 )
     requires some { 0 < count }
     requires short { count ≤ 256 }
-    requires source_placed { S.IsPlaced storage.old source }
-    requires source_inside { from + count ≤ length (S.memory storage.old).bytes }
-    requires source_begins { source.first ≤ from }
-    requires source_ends { from + count ≤ source.first + 2048 }
-    requires target_placed { S.IsPlaced storage.old target }
-    requires target_inside { to + count ≤ length (S.memory storage.old).bytes }
-    requires target_begins { target.first ≤ to }
-    requires target_ends { to + count ≤ target.first + 2048 }
+    requires source { LiesIn (S.IsPlaced storage.old) (length (S.memory storage.old).bytes) source
+        count }
+    requires target { LiesIn (S.IsPlaced storage.old) (length (S.memory storage.old).bytes) target
+        count }
     ensures stored { S.memory storage.new
-        ≡ with_stored (S.memory storage.old) to
-        (made_of operation (S.memory storage.old).bytes to from count) }
+        ≡ with_stored (S.memory storage.old) target.start
+        (made_of operation (S.memory storage.old).bytes target.start source.start count) }
     ensures condition { cpu.new
         ≡ combined_condition operation cpu.old
-        (made_of operation (S.memory storage.old).bytes to from count) }
+        (made_of operation (S.memory storage.old).bytes target.start source.start count) }
     ensures rest { S.Keeps storage.old storage.new }
 {
     if count <= 8
-        && lag_of(to, from, count) == count
-        && holds_eight(target, to)
-        && holds_eight(source, from)
+        && lag_of(target.start, source.start, count) == count
+        && holds_eight(target.block, target.start)
+        && holds_eight(source.block, source.start)
     {
-        return combine_short(operation, cpu, storage, target, to, source, from, count);
+        return combine_short(operation, cpu, storage, target, source, count);
     }
-    combine_long(operation, cpu, storage, target, to, source, from, count)
+    combine_long(operation, cpu, storage, target, source, count)
 }
 
 /// Does MVN (D1), MVZ (D3), NC (D4), OC (D6) or XC (D7): combines the first operand with the second

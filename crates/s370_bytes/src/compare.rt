@@ -5,8 +5,9 @@ ghost use Rattle.s370_rows.specs.State.{state_of};
 ghost use Rattle.s370_rows.specs.Rows.{MeetsRow};
 ghost use Rattle.s370_rows.specs.Arithmetic.{order_code};
 ghost use Rattle.s370_bytes.specs.Compare.{equal_pairs, string_order, strings_compared};
-ghost use Rattle.s370_bytes.specs.Strings.{number};
+ghost use Rattle.s370_bytes.specs.Strings.{LiesIn, number};
 
+use crate::straight::StringAt;
 use s370_num::ConditionCode;
 use s370_rows::{Completion, Cpu, Instruction, Refusal, grant_two, order_of};
 use s370_store::{Access, Block, Range, Storage};
@@ -111,29 +112,23 @@ pub fn compare_row<S: Storage>(
 #[inline(always)]
 fn order_in<S: Storage>(
     storage: &S,
-    left: Block,
-    first: u32,
-    right: Block,
-    second: u32,
+    left: StringAt,
+    right: StringAt,
     xs: &mut [u8],
     ys: &mut [u8],
 ) -> ConditionCode
     requires some { 0 < length xs.old }
     requires same { length xs.old ≡ length ys.old }
-    requires left_placed { S.IsPlaced storage.now left }
-    requires left_inside { first + length xs.old ≤ length (S.memory storage.now).bytes }
-    requires left_begins { left.first ≤ first }
-    requires left_ends { first + length xs.old ≤ left.first + 2048 }
-    requires right_placed { S.IsPlaced storage.now right }
-    requires right_inside { second + length xs.old ≤ length (S.memory storage.now).bytes }
-    requires right_begins { right.first ≤ second }
-    requires right_ends { second + length xs.old ≤ right.first + 2048 }
-    ensures { result ≡ string_order
-        (slice_range (S.memory storage.now).bytes first (first + length xs.old))
-        (slice_range (S.memory storage.now).bytes second (second + length xs.old)) }
+    requires left { LiesIn (S.IsPlaced storage.now) (length (S.memory storage.now).bytes) left
+        (length xs.old) }
+    requires right { LiesIn (S.IsPlaced storage.now) (length (S.memory storage.now).bytes) right
+        (length xs.old) }
+    ensures { let bytes = (S.memory storage.now).bytes in result ≡ string_order
+        (slice_range bytes left.start (left.start + length xs.old))
+        (slice_range bytes right.start (right.start + length xs.old)) }
 {
-    storage.load_in(left, first, xs);
-    storage.load_in(right, second, ys);
+    storage.load_in(left.block, left.start, xs);
+    storage.load_in(right.block, right.start, ys);
     string_order(xs, ys)
 }
 
@@ -144,50 +139,29 @@ fn order_in<S: Storage>(
 #[inline(never)]
 fn compare_long<S: Storage>(
     storage: &S,
-    left: Block,
-    first: u32,
-    right: Block,
-    second: u32,
+    left: StringAt,
+    right: StringAt,
     count: u32,
 ) -> ConditionCode
     requires some { 0 < count }
     requires short { count ≤ 256 }
-    requires left_placed { S.IsPlaced storage.now left }
-    requires left_inside { first + count ≤ length (S.memory storage.now).bytes }
-    requires left_begins { left.first ≤ first }
-    requires left_ends { first + count ≤ left.first + 2048 }
-    requires right_placed { S.IsPlaced storage.now right }
-    requires right_inside { second + count ≤ length (S.memory storage.now).bytes }
-    requires right_begins { right.first ≤ second }
-    requires right_ends { second + count ≤ right.first + 2048 }
-    ensures { result ≡ string_order (slice_range (S.memory storage.now).bytes first (first + count))
-        (slice_range (S.memory storage.now).bytes second (second + count)) }
+    requires left { LiesIn (S.IsPlaced storage.now) (length (S.memory storage.now).bytes) left
+        count }
+    requires right { LiesIn (S.IsPlaced storage.now) (length (S.memory storage.now).bytes) right
+        count }
+    ensures { let bytes = (S.memory storage.now).bytes in result ≡ string_order
+        (slice_range bytes left.start (left.start + count))
+        (slice_range bytes right.start (right.start + count)) }
 {
     let count = count as usize;
     if count <= 16 {
         let mut xs = [0u8; 16];
         let mut ys = [0u8; 16];
-        order_in(
-            storage,
-            left,
-            first,
-            right,
-            second,
-            &mut xs[..count],
-            &mut ys[..count],
-        )
+        order_in(storage, left, right, &mut xs[..count], &mut ys[..count])
     } else {
         let mut xs = [0u8; 256];
         let mut ys = [0u8; 256];
-        order_in(
-            storage,
-            left,
-            first,
-            right,
-            second,
-            &mut xs[..count],
-            &mut ys[..count],
-        )
+        order_in(storage, left, right, &mut xs[..count], &mut ys[..count])
     }
 }
 
@@ -247,29 +221,24 @@ pub fn holds_eight(block: Block, start: u32) -> bool
 #[inline(always)]
 pub fn compare_straight<S: Storage>(
     storage: &S,
-    left: Block,
-    first: u32,
-    right: Block,
-    second: u32,
+    left: StringAt,
+    right: StringAt,
     count: u32,
 ) -> ConditionCode
     requires some { 0 < count }
     requires short { count ≤ 256 }
-    requires left_placed { S.IsPlaced storage.now left }
-    requires left_inside { first + count ≤ length (S.memory storage.now).bytes }
-    requires left_begins { left.first ≤ first }
-    requires left_ends { first + count ≤ left.first + 2048 }
-    requires right_placed { S.IsPlaced storage.now right }
-    requires right_inside { second + count ≤ length (S.memory storage.now).bytes }
-    requires right_begins { right.first ≤ second }
-    requires right_ends { second + count ≤ right.first + 2048 }
-    ensures { result ≡ string_order (slice_range (S.memory storage.now).bytes first (first + count))
-        (slice_range (S.memory storage.now).bytes second (second + count)) }
+    requires left { LiesIn (S.IsPlaced storage.now) (length (S.memory storage.now).bytes) left
+        count }
+    requires right { LiesIn (S.IsPlaced storage.now) (length (S.memory storage.now).bytes) right
+        count }
+    ensures { let bytes = (S.memory storage.now).bytes in result ≡ string_order
+        (slice_range bytes left.start (left.start + count))
+        (slice_range bytes right.start (right.start + count)) }
 {
-    if count <= 8 && holds_eight(left, first) && holds_eight(right, second) {
-        let x = number_in(storage, left, first, count);
-        let y = number_in(storage, right, second, count);
+    if count <= 8 && holds_eight(left.block, left.start) && holds_eight(right.block, right.start) {
+        let x = number_in(storage, left.block, left.start, count);
+        let y = number_in(storage, right.block, right.start, count);
         return number_order(x, y);
     }
-    compare_long(storage, left, first, right, second, count)
+    compare_long(storage, left, right, count)
 }

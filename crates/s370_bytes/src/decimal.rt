@@ -48,8 +48,8 @@ fn signed_value(doubleword: u64) -> Option<i64>
     })
 }
 
-/// Loads the low 32 bits of a packed decimal number into a register, and returns a divide exception
-/// if it does not fit.
+/// Loads the low 32 bits of a packed decimal number into a register; returns a divide exception if
+/// it does not fit, and an error if a digit or the sign is invalid.
 #[inline]
 fn load_binary(
     cpu: &mut Cpu,

@@ -46,5 +46,5 @@ pub use multiple::{
     load_multiple_row, load_registers, load_registers_in, store_multiple_row, store_registers,
     store_registers_in, words_range,
 };
-pub use straight::{fill_straight, move_straight};
+pub use straight::{StringAt, fill_straight, move_straight};
 pub use translate::{translate_row, translate_straight, translate_test_row};

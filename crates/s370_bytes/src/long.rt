@@ -65,7 +65,7 @@ impl Operand {
     /// Sets a register pair's address to this operand's and subtracts `count` from its count; the
     /// byte above that stays.
     #[inline(always)]
-    fn set_left(self, cpu: &mut Cpu, register: Register, count: u32)
+    fn advance_pair(self, cpu: &mut Cpu, register: Register, count: u32)
         requires register { register < 15 }
         requires enough { count ≤ (operand_of cpu.old register).count }
         requires left { self ≡ past (operand_of cpu.old register) count }
@@ -77,7 +77,7 @@ impl Operand {
 
     /// Sets a register pair to this operand: to its address, and to its pad byte and count.
     #[inline(always)]
-    fn set(self, cpu: &mut Cpu, register: Register)
+    fn write_pair(self, cpu: &mut Cpu, register: Register)
         requires register { register < 15 }
         requires count_below { self.count < 2 ^ 24 }
         ensures { cpu.new ≡ with_operand cpu.old register self }
@@ -226,8 +226,8 @@ fn move_part<S: Storage>(
     };
     grant_two(cpu, storage, target, Access::Store, source, Access::Fetch)?;
     move_padded(storage, to, from, second.pad, count, count_2);
-    first.past(count).set(cpu, r1);
-    second.past(count_2).set(cpu, r2);
+    first.past(count).write_pair(cpu, r1);
+    second.past(count_2).write_pair(cpu, r2);
     if first.count == count {
         cpu.psw.set_condition(counts_code(first, second));
         Ok(Completion::Done)
@@ -355,8 +355,8 @@ fn move_whole_parts<S: Storage>(
     if !copy_granted(cpu, storage, from, to, count) {
         return 0;
     }
-    first.past(count).set_left(cpu, r1, count);
-    second.past(count).set_left(cpu, r2, count);
+    first.past(count).advance_pair(cpu, r1, count);
+    second.past(count).advance_pair(cpu, r2, count);
     parts
 }
 
@@ -442,7 +442,6 @@ fn conclude(
     cpu: &mut Cpu,
     r1: Register,
     r2: Register,
-    count: u32,
     count_1: u32,
     count_2: u32,
     left: &[u8],
@@ -450,20 +449,23 @@ fn conclude(
 ) -> Completion
     requires first { r1 < 15 }
     requires second { r2 < 15 }
-    requires short { count ≤ 256 }
-    requires left { length left.now ≡ count }
-    requires right { length right.now ≡ count }
+    requires short { length left.now ≤ 256 }
+    requires right { length right.now ≡ length left.now }
     requires count_1 { count_1 ≤ (operand_of cpu.old r1).count }
     requires count_2 { count_2 ≤ (operand_of cpu.old r2).count }
-    ensures { part_ordered cpu.old r1 r2 count count_1 count_2 left.now right.now
+    ensures { part_ordered cpu.old r1 r2 (length left.now) count_1 count_2 left.now right.now
         ≡ record { ending = result; cpu = cpu.new } }
 {
     let first = Operand::of(cpu, r1);
     let second = Operand::of(cpu, r2);
     let front = equal_front(left, right);
-    first.past(at_most(front as u32, count_1)).set(cpu, r1);
-    second.past(at_most(front as u32, count_2)).set(cpu, r2);
-    if front < count as usize {
+    first
+        .past(at_most(front as u32, count_1))
+        .write_pair(cpu, r1);
+    second
+        .past(at_most(front as u32, count_2))
+        .write_pair(cpu, r2);
+    if front < left.len() {
         cpu.psw
             .set_condition(order_of(left[front] as u32, right[front] as u32));
         Completion::Done
@@ -509,7 +511,7 @@ fn compare_at<S: Storage>(
     let count_2 = at_most(count, second.count);
     load_padded(storage, first.address.get(), second.pad, left, count_1);
     load_padded(storage, second.address.get(), second.pad, right, count_2);
-    conclude(cpu, r1, r2, count, count_1, count_2, left, right)
+    conclude(cpu, r1, r2, count_1, count_2, left, right)
 }
 
 /// Does one part of CLCL, of at most 256 pairs of bytes: moves both register pairs on and, if CLCL
@@ -551,8 +553,8 @@ fn compare_part<S: Storage>(
     ))
 }
 
-/// Does one part of CLCL (0F), of at most 256 pairs of bytes, and moves both register pairs on; the
-/// last part sets the condition code, else the result is `Again`.
+/// Does or refuses one part of CLCL (0F), of at most 256 pairs of bytes: moves both register pairs
+/// on and, with the last part, sets the condition code; before that the result is `Again`.
 ///
 /// # Errors
 ///

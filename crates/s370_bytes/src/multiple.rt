@@ -93,7 +93,8 @@ pub fn store_registers_in<S: Storage>(
     storage.store_in(block, address.get(), &words[..4 * count as usize]);
 }
 
-/// Loads R1 to R3 of `registers` from the words from an address on; 0 follows 15.
+/// Loads R1 to R3 of `registers`, 0 after 15, from the words from `address` on, whose access has
+/// been granted: it tests nothing.
 #[inline(always)]
 pub fn load_registers<S: Storage>(
     registers: &mut [u32; 16],

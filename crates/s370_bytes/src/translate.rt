@@ -188,7 +188,7 @@ fn translate_front<S: Storage>(
 }
 
 /// Translates at most eight bytes by a table that does not overlap them, each in a block that
-/// `find_block` returned.
+/// `find_block` returned, with eight bytes from `to` on in its block.
 ///
 /// Eight bytes are loaded and stored, and those past `count` stay as they are.
 #[inline(always)]

@@ -25,7 +25,12 @@ pub(crate) fn end_at(at: u32, status: UnitStatus, channel: ChannelStatus, count:
 }
 
 /// Finishes the device's command and returns the program's ending, with a channel check.
-pub(crate) fn stop<D: Device>(device: &mut D, at: u32, check: ChannelStatus, count: u16) -> Ending
+pub(crate) fn end_with_check<D: Device>(
+    device: &mut D,
+    at: u32,
+    check: ChannelStatus,
+    count: u16,
+) -> Ending
     ensures ending { result ≡ ending at (D.machine.status device.old) check count }
     ensures after { device.new ≡ D.machine.finished device.old }
 {
@@ -34,12 +39,16 @@ pub(crate) fn stop<D: Device>(device: &mut D, at: u32, check: ChannelStatus, cou
 
 /// Returns the ending of a program with a program check, after finishing the device's command if
 /// one is under way.
-pub(crate) fn fail<D: Device>(device: &mut D, role: Option<Transfer>, at: u32) -> Ending
+pub(crate) fn end_with_program_check<D: Device>(
+    device: &mut D,
+    role: Option<Transfer>,
+    at: u32,
+) -> Ending
     ensures ending { result ≡ failure D.machine role at device.old }
     ensures after { device.new ≡ failed D.machine role device.old }
 {
     match role {
-        Some(_) => stop(device, at, ChannelStatus::PROGRAM_CHECK, 0),
+        Some(_) => end_with_check(device, at, ChannelStatus::PROGRAM_CHECK, 0),
         None => end_at(at, UnitStatus::NONE, ChannelStatus::PROGRAM_CHECK, 0),
     }
 }
@@ -48,7 +57,7 @@ pub(crate) fn fail<D: Device>(device: &mut D, role: Option<Transfer>, at: u32) -
 /// the program's ending.
 ///
 /// An incorrect length, or an unusual unit status, ends the program in spite of chaining.
-pub(crate) fn close(
+pub(crate) fn chain_or_end(
     prefix: u32,
     wrong: bool,
     status: UnitStatus,
@@ -100,11 +109,12 @@ pub(crate) fn left_of<D: Device>(device: &D, p: &Position) -> u32
     if device.is_done() { 0 } else { p.transfer.left }
 }
 
-/// Ends a word whose count is zero or whose device has nothing left, and returns what follows.
+/// Ends a word whose count is zero or whose device has nothing left, and returns what follows; the
+/// device's command ends too, unless the count is zero and data are chained.
 ///
 /// The device's command is finished, unless the count is zero and data are chained.
 #[tactic(auto, unfolding(crate::specs::Progress::weight))]
-pub(crate) fn finish<D: Device>(device: &mut D, limits: &Limits, p: &Position) -> Progress
+pub(crate) fn end_word<D: Device>(device: &mut D, limits: &Limits, p: &Position) -> Progress
     requires { (p.now.count ≡ 0) ⊎ (rest D.machine p.now device.old ≡ 0) }
     ensures next { (form : Form) (m : Memory)
         → next form (setting D.machine limits.now) (Moving p.now m device.old)
@@ -123,7 +133,7 @@ pub(crate) fn finish<D: Device>(device: &mut D, limits: &Limits, p: &Position) -
         }
         let left = left_of(device, p);
         let status = device.finish();
-        close(
+        chain_or_end(
             limits.prefix,
             left != 0 && wrong,
             status,
@@ -134,7 +144,7 @@ pub(crate) fn finish<D: Device>(device: &mut D, limits: &Limits, p: &Position) -
         )
     } else {
         let status = device.finish();
-        close(
+        chain_or_end(
             limits.prefix,
             wrong,
             status,

@@ -28,8 +28,9 @@ fn further(at: u32, bytes: u32) -> u32
     ((at as u64 + bytes as u64) % 0x100_0000) as u32
 }
 
-/// Returns a stored command word with the addresses of the words that may follow it.
-fn linked(at: u32, ccw: StoredCcw) -> Ccw
+/// Returns a stored command word with the addresses of the words that may follow it; the flags of a
+/// transfer in channel are dropped.
+fn with_next_addresses(at: u32, ccw: StoredCcw) -> Ccw
     ensures word { result ≡ word_at at ccw }
     ensures next { result.next < 2 ^ 24 }
     ensures skipped { result.skipped < 2 ^ 24 }
@@ -149,7 +150,7 @@ pub fn fetch_word<S: Storage>(storage: &S, at: u32) -> Result<Option<Ccw>, Page>
         Ok(()) => {
             let mut bytes = [0u8; 8];
             storage.load(at, &mut bytes);
-            Ok(Some(linked(at, StoredCcw::from_bytes(&bytes))))
+            Ok(Some(with_next_addresses(at, StoredCcw::from_bytes(&bytes))))
         }
         Err(Fault::Absent(page)) => Err(page),
         Err(Fault::Addressing) => Ok(None),

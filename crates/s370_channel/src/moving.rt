@@ -9,7 +9,7 @@ ghost use Rattle.s370_channel.specs.declared.moving.Moved.TheVariants.{Done};
 ghost use Rattle.s370_channel.specs.Progress.{setting, moved_state, IsOut, IsOneOn, IsFurther};
 ghost use Rattle.s370_channel.specs.Halts.{Lacks, HaltsIn, HasMovedTo};
 
-use crate::endings::{left_of, stop};
+use crate::endings::{end_with_check, left_of};
 use crate::limits::Limits;
 use crate::pieces::move_many;
 use s370_store::{Access, Fault, Page, Range, Storage, load_byte, store_byte};
@@ -42,7 +42,8 @@ fn is_first_of_block(before: Option<u32>) -> bool
     }
 }
 
-/// Returns the address after an address, or `None` if there is none.
+/// Returns the address after an address, or `None` if no address is given or the next one is over
+/// 32 bits.
 fn one_further(before: Option<u32>) -> Option<u32>
     ensures { result ≡ after before }
 {
@@ -95,7 +96,7 @@ fn one_on(p: &Position, before: Option<u32>) -> Moved
 /// Takes a byte from the device and stores it, or drops it if the word skips; or stops the transfer
 /// with a check.
 #[tactic(auto, using(crate::proofs::Stuck::lacks_giving_place, crate::proofs::Stuck::lacks_giving_byte))]
-fn give_byte<F: WordForm, S: Storage, D: Device>(
+fn store_input_byte<F: WordForm, S: Storage, D: Device>(
     program: &F,
     storage: &mut S,
     device: &mut D,
@@ -123,7 +124,12 @@ fn give_byte<F: WordForm, S: Storage, D: Device>(
         return Ok(one_on(p, p.before));
     }
     let Some(address) = place(program, storage, p)? else {
-        return Ok(Moved::Stopped(stop(device, p.at, ChannelStatus::PROGRAM_CHECK, p.count)));
+        return Ok(Moved::Stopped(end_with_check(
+            device,
+            p.at,
+            ChannelStatus::PROGRAM_CHECK,
+            p.count,
+        )));
     };
     let one_byte = Range {
         start: address,
@@ -135,13 +141,13 @@ fn give_byte<F: WordForm, S: Storage, D: Device>(
             store_byte(storage, address, byte);
             Ok(one_on(p, Some(address)))
         }
-        Err(Fault::Protection) => Ok(Moved::Stopped(stop(
+        Err(Fault::Protection) => Ok(Moved::Stopped(end_with_check(
             device,
             p.at,
             ChannelStatus::PROTECTION_CHECK,
             p.count,
         ))),
-        Err(Fault::Addressing) => Ok(Moved::Stopped(stop(
+        Err(Fault::Addressing) => Ok(Moved::Stopped(end_with_check(
             device,
             p.at,
             ChannelStatus::PROGRAM_CHECK,
@@ -153,7 +159,7 @@ fn give_byte<F: WordForm, S: Storage, D: Device>(
 
 /// Loads a byte and passes it to the device, or stops the transfer with a check.
 #[tactic(auto, using(crate::proofs::Stuck::lacks_taking_place, crate::proofs::Stuck::lacks_taking_byte))]
-fn take_byte<F: WordForm, S: Storage, D: Device>(
+fn send_output_byte<F: WordForm, S: Storage, D: Device>(
     program: &F,
     storage: &S,
     device: &mut D,
@@ -175,7 +181,12 @@ fn take_byte<F: WordForm, S: Storage, D: Device>(
     ensures idle { IfErr result (λ page. device.new ≡ device.old) }
 {
     let Some(address) = place(program, storage, p)? else {
-        return Ok(Moved::Stopped(stop(device, p.at, ChannelStatus::PROGRAM_CHECK, p.count)));
+        return Ok(Moved::Stopped(end_with_check(
+            device,
+            p.at,
+            ChannelStatus::PROGRAM_CHECK,
+            p.count,
+        )));
     };
     let one_byte = Range {
         start: address,
@@ -187,13 +198,13 @@ fn take_byte<F: WordForm, S: Storage, D: Device>(
             device.take(byte);
             Ok(one_on(p, Some(address)))
         }
-        Err(Fault::Protection) => Ok(Moved::Stopped(stop(
+        Err(Fault::Protection) => Ok(Moved::Stopped(end_with_check(
             device,
             p.at,
             ChannelStatus::PROTECTION_CHECK,
             p.count,
         ))),
-        Err(Fault::Addressing) => Ok(Moved::Stopped(stop(
+        Err(Fault::Addressing) => Ok(Moved::Stopped(end_with_check(
             device,
             p.at,
             ChannelStatus::PROGRAM_CHECK,
@@ -228,9 +239,9 @@ fn move_byte<F: WordForm, S: Storage, D: Device>(
     ensures idle { IfErr result (λ page. device.new ≡ device.old) }
 {
     match p.transfer.kind {
-        Direction::Gives => give_byte(program, storage, device, limits, p),
-        Direction::Takes => take_byte(program, storage, device, limits, p),
-        Direction::TakesUpTo => take_byte(program, storage, device, limits, p),
+        Direction::Gives => store_input_byte(program, storage, device, limits, p),
+        Direction::Takes => send_output_byte(program, storage, device, limits, p),
+        Direction::TakesUpTo => send_output_byte(program, storage, device, limits, p),
     }
 }
 

@@ -62,7 +62,7 @@ fn many_on(p: &Position, n: u32, last: u32) -> Position
 }
 
 /// Takes `n` bytes from the device and stores them from an address on, without any test.
-fn give_piece<S: Storage, D: Device>(storage: &mut S, device: &mut D, address: u32, n: u32)
+fn store_input_piece<S: Storage, D: Device>(storage: &mut S, device: &mut D, address: u32, n: u32)
     requires granted { IsGranted (length (S.memory storage.old).bytes) (S.present storage.old)
         address n }
     requires short { n ≤ 256 }
@@ -78,7 +78,7 @@ fn give_piece<S: Storage, D: Device>(storage: &mut S, device: &mut D, address: u
 }
 
 /// Loads `n` bytes from an address on and passes them to the device, without any test.
-fn take_piece<S: Storage, D: Device>(storage: &S, device: &mut D, address: u32, n: u32)
+fn send_output_piece<S: Storage, D: Device>(storage: &S, device: &mut D, address: u32, n: u32)
     requires granted { IsGranted (length (S.memory storage.now).bytes) (S.present storage.now)
         address n }
     requires short { n ≤ 256 }
@@ -94,7 +94,7 @@ fn take_piece<S: Storage, D: Device>(storage: &S, device: &mut D, address: u32, 
 
 /// Takes at least two bytes from the device, stores them and returns the new position; or does
 /// nothing and returns `None`.
-fn give_many<S: Storage, D: Device>(
+fn store_input_bytes<S: Storage, D: Device>(
     storage: &mut S,
     device: &mut D,
     limits: &Limits,
@@ -128,13 +128,13 @@ fn give_many<S: Storage, D: Device>(
     let Ok(()) = storage.check(range, Access::Store, limits.key) else {
         return None;
     };
-    give_piece(storage, device, address, n);
+    store_input_piece(storage, device, address, n);
     Some(many_on(p, n, end - 1))
 }
 
 /// Loads at least two bytes, passes them to the device and returns the new position; or does
 /// nothing and returns `None`.
-fn take_many<S: Storage, D: Device>(
+fn send_output_bytes<S: Storage, D: Device>(
     storage: &S,
     device: &mut D,
     limits: &Limits,
@@ -163,7 +163,7 @@ fn take_many<S: Storage, D: Device>(
     let Ok(()) = storage.check(range, Access::Fetch, limits.key) else {
         return None;
     };
-    take_piece(storage, device, address, n);
+    send_output_piece(storage, device, address, n);
     Some(many_on(p, n, end - 1))
 }
 
@@ -191,8 +191,8 @@ pub(crate) fn move_many<F: WordForm, S: Storage, D: Device>(
         return None;
     };
     match p.transfer.kind {
-        Direction::Gives => give_many(storage, device, limits, p, address),
-        Direction::Takes => take_many(storage, device, limits, p, address),
-        Direction::TakesUpTo => take_many(storage, device, limits, p, address),
+        Direction::Gives => store_input_bytes(storage, device, limits, p, address),
+        Direction::Takes => send_output_bytes(storage, device, limits, p, address),
+        Direction::TakesUpTo => send_output_bytes(storage, device, limits, p, address),
     }
 }

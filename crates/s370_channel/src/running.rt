@@ -7,7 +7,7 @@ ghost use Rattle.s370_channel.specs.Halts.{HaltsBeyond, HaltsIn, HaltsOn, HasMov
 ghost use Rattle.s370_channel.specs.Halts.{MatchHalt, MatchHaltBegun, stands};
 ghost use Rattle.s370_channel.specs.declared.running.Place.TheVariants.{Next};
 
-use crate::endings::{close, end_at, fail, finish};
+use crate::endings::{chain_or_end, end_at, end_with_program_check, end_word};
 use crate::judging::{Verdict, judge};
 use crate::limits::Limits;
 use crate::moving::{MissingPage, Moved, transfer};
@@ -47,7 +47,7 @@ fn obey<F: WordForm, S: Storage, D: Device>(
 {
     match transfer(program, storage, device, limits, position)? {
         Moved::Stopped(ending) => Ok(Progress::Ended(ending)),
-        Moved::Done(p) => Ok(finish(device, limits, &p)),
+        Moved::Done(p) => Ok(end_word(device, limits, &p)),
     }
 }
 
@@ -124,7 +124,7 @@ pub(crate) fn begin<F: WordForm, S: Storage, D: Device>(
         Answer::Refused(status) => {
             return Ok(Progress::Ended(end_at(spot.at, status, ChannelStatus::NONE, word.count)));
         }
-        Answer::Immediate => return Ok(close(
+        Answer::Immediate => return Ok(chain_or_end(
             limits.prefix,
             false,
             UnitStatus::NONE,
@@ -233,10 +233,10 @@ fn one_word<F: WordForm, S: Storage, D: Device>(
         Err(page) => return Err(RunStop::Absent(page, Place::Next(*spot))),
     };
     let Some(word) = found else {
-        return Ok(Progress::Ended(fail(device, spot.role, spot.at)));
+        return Ok(Progress::Ended(end_with_program_check(device, spot.role, spot.at)));
     };
     match judge(limits.commands, spot, &word) {
-        Verdict::Bad => Ok(Progress::Ended(fail(device, spot.role, spot.at))),
+        Verdict::Bad => Ok(Progress::Ended(end_with_program_check(device, spot.role, spot.at))),
         Verdict::Jump => Ok(Progress::At(NextCcw {
             at: word.next,
             role: spot.role,

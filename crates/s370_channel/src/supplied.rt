@@ -78,7 +78,7 @@ fn weight_of(commands: u32, place: &Place) -> u128
 
 /// Runs the program until it ends or stops further on at an absent page; the pages that it needs
 /// for that are made present.
-fn supply_step<S: AmpleSupply, D: Device>(
+fn bring_and_advance<S: AmpleSupply, D: Device>(
     storage: &mut S,
     device: &mut D,
     limits: &Limits,
@@ -124,7 +124,7 @@ fn supply_step<S: AmpleSupply, D: Device>(
 /// the pages that it made present.
 ///
 /// The storage has room for every page.
-fn supply_unit<S: AmpleSupply, D: Device>(
+fn advance_supplied<S: AmpleSupply, D: Device>(
     storage: &mut S,
     device: &mut D,
     limits: &Limits,
@@ -148,7 +148,7 @@ fn supply_unit<S: AmpleSupply, D: Device>(
     ensures ample { S.IsAmple storage.new }
     ensures keys { (S.Storage.memory storage.new).keys ≡ (S.Storage.memory storage.old).keys }
 {
-    let gone = supply_step(storage, device, limits, from);
+    let gone = bring_and_advance(storage, device, limits, from);
     storage.let_go();
     match gone {
         Ok(gone) => Ok(gone),
@@ -161,7 +161,7 @@ fn supply_unit<S: AmpleSupply, D: Device>(
 }
 
 /// Runs the program from a place to its end, and makes absent pages present as it needs them.
-fn go_supplied<S: AmpleSupply, D: Device>(
+fn run_supplied_from<S: AmpleSupply, D: Device>(
     storage: &mut S,
     device: &mut D,
     limits: &Limits,
@@ -186,7 +186,7 @@ fn go_supplied<S: AmpleSupply, D: Device>(
 {
     let mut place = from;
     'unit: loop {
-        let gone = match supply_unit(storage, device, limits, place) {
+        let gone = match advance_supplied(storage, device, limits, place) {
             Ok(gone) => gone,
             Err(error) => return Err(error),
         };
@@ -228,7 +228,7 @@ pub fn run_supplied<S: AmpleSupply, D: Device>(
     ensures ample { S.IsAmple storage.new }
     ensures keys { (S.Storage.memory storage.new).keys ≡ (S.Storage.memory storage.old).keys }
 {
-    go_supplied(storage, device, limits, Place::Next(first_spot(start)))
+    run_supplied_from(storage, device, limits, Place::Next(first_spot(start)))
 }
 
 /// Runs the channel program of an initial program loading; absent pages are made present as it
@@ -260,6 +260,6 @@ pub fn load_supplied<S: AmpleSupply, D: Device>(
     match load(&Guest, storage, device) {
         Ok(ending) => Ok(ending),
         Err(RunStop::Memory) => Err(ChannelError::Memory),
-        Err(RunStop::Absent(_, place)) => go_supplied(storage, device, &LIMITS, place),
+        Err(RunStop::Absent(_, place)) => run_supplied_from(storage, device, &LIMITS, place),
     }
 }

@@ -14,7 +14,7 @@ pub const EXECUTE: u8 = 0x44;
 /// Returns EX's target with the rightmost byte of R1 ORed into its second byte, unless R1 is
 /// register 0.
 #[inline(always)]
-fn join(cpu: &Cpu, i: Instruction, target: Instruction) -> Instruction
+fn modified_target(cpu: &Cpu, i: Instruction, target: Instruction) -> Instruction
     ensures { result ≡ joined cpu.now i target }
 {
     if i.r1().number() == 0 {
@@ -43,5 +43,5 @@ pub fn target_of<S: Storage>(cpu: &Cpu, storage: &S, i: Instruction) -> Result<I
         return Ok(i);
     }
     let target = fetch(cpu, storage, cpu.indexed(i.r2(), i.second_half))?;
-    Ok(join(cpu, i, target))
+    Ok(modified_target(cpu, i, target))
 }

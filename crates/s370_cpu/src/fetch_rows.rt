@@ -59,7 +59,8 @@ fn fetched_byte<S: Storage>(cpu: &Cpu, storage: &S, address: Addr24) -> Result<u
     Ok(load_byte(storage, start))
 }
 
-/// Does an operation on register R1 and a word of storage: sets R1 and the condition code.
+/// Does an operation on register R1 and a word of storage: sets R1, the condition code, or both, as
+/// the operation says.
 ///
 /// It serves N 54, CL 55, O 56, X 57, L 58, C 59, A 5A, S 5B, AL 5E and SL 5F. CL and C keep R1,
 /// and L keeps the condition code.
@@ -83,8 +84,8 @@ pub fn word_row<S: Storage>(
     word_row_at(operation, cpu, storage, i, start)
 }
 
-/// Does an operation on register R1 and the word at this address, as [`word_row`] does: sets R1 and
-/// the condition code.
+/// Does an operation on register R1 and the word at this address: sets R1, the condition code, or
+/// both, as [`word_row`] does.
 ///
 /// # Errors
 ///

@@ -17,8 +17,8 @@ pub fn protection_holds()
     ensures unit { UnitsAreProtected }
 {}
 
-/// Proves that in the problem state an instruction changes no storage key, control register, system
-/// mask, PSW key or state; it has no effect.
+/// States that in the problem state no instruction changes a storage key, a control register, the
+/// system mask, the PSW key or one of PSW bits 12 to 15.
 ///
 /// Only an interruption leads out of the problem state.
 pub fn problem_state_holds()

@@ -129,8 +129,8 @@ pub fn branch_register(kind: Branching, cpu: &mut Cpu, place: Place, i: Instruct
     branch_row(kind, cpu, place, i, i.r2().number() != 0, target)
 }
 
-/// Does an operation on registers R1 and R2: sets R1 and the condition code, and may return an
-/// overflow exception.
+/// Does an operation on registers R1 and R2: sets R1, the condition code, or both, as the operation
+/// says, and may return an overflow exception.
 #[inline(always)]
 pub fn register_operation(operation: Arithmetic, cpu: &mut Cpu, i: Instruction) -> Completion
     ensures { arithmetic operation cpu.old (r1_of i) (slice_index cpu.old.general (r2_of i))

@@ -24,7 +24,8 @@ use s370_psw::{Ilc, ProgramCode};
 use s370_rows::{Arithmetic, Completion, Cpu, Instruction, Place, Refusal, Shift};
 use s370_store::{Block, Storage, load_byte, load_byte_in};
 
-/// Does a fetched instruction that is not privileged; the caller sets the next address.
+/// Does a fetched instruction that is not privileged, but refuses EX with an execute exception; the
+/// caller sets the next address.
 ///
 /// The operation code is passed next to the instruction, so that where it is a constant all but
 /// that instruction's row is left out of the code.
@@ -247,7 +248,8 @@ pub fn is_steady(code: u8) -> bool
     }
 }
 
-/// Returns whether an instruction of an operation code can end with a fixed-point overflow.
+/// Returns true for each operation code whose instruction can end with a fixed-point overflow, and
+/// for LNR (11), which cannot.
 #[inline(always)]
 pub fn may_overflow(code: u8) -> bool
     ensures { result ≡ may_overflow (opcode_at code) }
@@ -262,7 +264,8 @@ pub fn may_overflow(code: u8) -> bool
     }
 }
 
-/// Returns whether an operation can overflow: its signed result may not fit a register.
+/// Returns whether the result of an operation is tested for overflow: load positive, negative and
+/// complement, add and subtract; load negative never overflows.
 #[inline(always)]
 fn is_signed(operation: Arithmetic) -> bool
     ensures { result ≡ is_signed operation }

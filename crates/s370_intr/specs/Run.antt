@@ -1,12 +1,16 @@
 -- What a running processor does in at most n units of operation (docs/MACHINE.md, "Units, states
 -- and runs"), and what code may say of it whose storage has to bring its pages.
-use Rattle.std.specs.Prelude.{◌≡◌, ℕ, ◌+◌, ◌*◌, ◌<◌, ◌≤◌, ◌⊎◌, zero, suc, List, [], ◌∷◌, length}
-use Rattle.std.specs.Prelude.{Result, Ok, Err, ⊤}
+use Rattle.std.specs.Prelude.{◌≡◌, ℕ, ◌+◌, ◌*◌, ◌%◌, ◌<◌, ◌≤◌, ◌⊎◌, zero, suc, Bool, true}
+use Rattle.std.specs.Prelude.{List, [], ◌∷◌, length, Result, Ok, Err, ⊤}
+use Rattle.s370_store.specs.Blocks.{MayFetch}
+use Rattle.s370_store.specs.Memory.{Memory}
+use Rattle.s370_store.specs.declared.block.Block.{Block}
 use Rattle.s370_store.specs.declared.supply.FramesOut.{FramesOut as Lack}
 use Rattle.s370_intr.specs.declared.next.Next.{Next}
 use Rattle.s370_intr.specs.declared.next.Next.TheVariants.{Stops, Accepts, AcceptsStatus, Instructs}
 use Rattle.s370_intr.specs.declared.next.Reason.{Reason}
 use Rattle.s370_intr.specs.declared.next.Reason.TheVariants.{Count, FramesOut}
+use Rattle.s370_rows.specs.declared.cpu.Cpu.{Cpu}
 use Rattle.s370_rows.specs.State.{State}
 use Rattle.s370_subchannels.specs.declared.subchannel.Subchannel.{Subchannel}
 use Rattle.s370_intr.specs.declared.pending.Pending.{Pending}
@@ -42,6 +46,30 @@ DoesInstructions n m m' = (pending : Pending) → (list : List Subchannel) →
     let after = core_of m' pending list in
     look before ≡ Instructs → (run n before ≡ record { core = after; units = n; reason = Count })
     × (look after ≡ Instructs)
+
+-- n units, at most so many, take a running processor to this core; where it is said to be plain, an
+-- instruction is next
+pub record RunsTo (limit n : ℕ) (is_plain : Bool) (before after : Core) : Type 0 where
+  pub done : run n before ≡ record { core = after; units = n; reason = Count }
+  pub plain : is_plain ≡ true → look after ≡ Instructs
+  pub within : n ≤ limit
+
+-- ---- the block from which instructions are fetched
+
+-- instructions may be fetched from it with the key of the PSW
+pub record IsFetched (is_placed : Block → Type 0) (m : Memory) (present : ℕ → Bool) (cpu : Cpu)
+    (block : Block) : Type 0 where
+  pub low : block.first < 16777216
+  pub may_fetch : MayFetch (length m.bytes) m.keys present cpu.psw.key block.first
+  pub placed : is_placed block
+
+-- and it has the next one, however long that is
+pub record HasNext (is_placed : Block → Type 0) (m : Memory) (present : ℕ → Bool) (cpu : Cpu)
+    (block : Block) : Type 0 where
+  pub fetched : IsFetched is_placed m present cpu block
+  pub begins : block.first ≤ cpu.psw.address
+  pub ends : cpu.psw.address ≤ block.first + 2042
+  pub even : cpu.psw.address % 2 ≡ 0
 
 -- ---- pages that are brought
 

@@ -16,7 +16,7 @@ pub enum Class {
 impl Class {
     /// Returns the address at which an interruption of this class stores the old PSW.
     #[inline]
-    pub fn old_psw(self) -> u32
+    pub fn old_psw_address(self) -> u32
         ensures { result ≡ old_psw_of self }
     {
         match self {
@@ -30,7 +30,7 @@ impl Class {
 
     /// Returns the address from which an interruption of this class loads the new PSW.
     #[inline]
-    pub fn new_psw(self) -> u32
+    pub fn new_psw_address(self) -> u32
         ensures { result ≡ new_psw_of self }
     {
         match self {

@@ -91,27 +91,27 @@ pub fn look(cpu: &Cpu, pending: Pending, subchannels: &Subchannels) -> Next
         }
     }
     if subchannels.is_quiet(&cpu.psw) {
-        return waits(&cpu.psw);
+        return wait_or_instruct(&cpu.psw);
     }
-    offered(subchannels.first_status(&cpu.psw), &cpu.psw)
+    accept_status_or_wait(subchannels.first_status(&cpu.psw), &cpu.psw)
 }
 
 /// Returns that the processor accepts the status, if there is one, else whether it waits or does an
 /// instruction.
 #[inline(always)]
-fn offered(status: Option<Status>, psw: &Psw) -> Next
+fn accept_status_or_wait(status: Option<Status>, psw: &Psw) -> Next
     ensures { result ≡ offered status psw.now }
 {
     match status {
         Some(status) => Next::AcceptsStatus(status),
-        None => waits(psw),
+        None => wait_or_instruct(psw),
     }
 }
 
 /// Returns that the processor stops if its PSW is in the wait state, else that it does an
 /// instruction.
 #[inline(always)]
-fn waits(psw: &Psw) -> Next
+fn wait_or_instruct(psw: &Psw) -> Next
     ensures { result ≡ waits psw.now }
 {
     if !psw.waits() {

@@ -43,7 +43,7 @@ pub fn swap<S: Storage>(
         Err(Fault::Addressing) => unreachable!(),
         Err(Fault::Protection) => unreachable!(),
     }
-    store_doubleword(storage, class.old_psw(), cpu.psw.to_word(code, ilc));
-    cpu.psw = Psw::from_word(load_doubleword(storage, class.new_psw()));
+    store_doubleword(storage, class.old_psw_address(), cpu.psw.to_word(code, ilc));
+    cpu.psw = Psw::from_word(load_doubleword(storage, class.new_psw_address()));
     Ok(())
 }

@@ -2,15 +2,13 @@
 ghost use Rattle.std.specs.Prelude.{◌≡◌, ℕ, ◌+◌, ◌*◌, ◌/◌, ◌%◌, ◌<◌, ◌≤◌, List, [], ◌∷◌, IfSome};
 ghost use Rattle.std.specs.Prelude.{IsSome, length, Result, true};
 ghost use Rattle.s370_store.specs.Blocks.{MayFetch};
-ghost use Rattle.s370_store.specs.Memory.{Memory};
 ghost use Rattle.s370_rows.specs.State.{state_of};
 ghost use Rattle.s370_quick.specs.Quick.{AreHeld, IsLongMoveAt};
 ghost use Rattle.s370_intr.specs.Laws.{begun};
 ghost use Rattle.s370_intr.specs.Units.{MeetsUnitAt, NeedsAt, core_of, look};
 ghost use Rattle.s370_intr.specs.declared.next.Next.TheVariants as next;
-ghost use Rattle.s370_intr.specs.Run.{AllNeeded, DoesInstructions, EachBrings, SuppliesUnit};
-ghost use Rattle.s370_intr.specs.Run.{TellsRun, run};
-ghost use Rattle.s370_intr.specs.declared.next.Reason.TheVariants as reasons;
+ghost use Rattle.s370_intr.specs.Run.{AllNeeded, DoesInstructions, EachBrings, HasNext, IsFetched};
+ghost use Rattle.s370_intr.specs.Run.{RunsTo, SuppliesUnit, TellsRun};
 
 use crate::apart::instruct_in;
 use crate::next::{Next, Reason, is_plain, next_of};
@@ -60,9 +58,9 @@ fn try_unit<P: Processor, S: Keyed>(
     }
 }
 
-/// Does the unit that `said` names, after making each absent page that it needs present; if there
-/// is no room for one, the unit is not done.
-fn bring_pages<P: Processor, S: UnitSupply>(
+/// Does the unit that `said` names, after making each absent page that it needs present and holding
+/// it; if there is no room for one, the unit is not done.
+fn bring_until_done<P: Processor, S: UnitSupply>(
     said: Next,
     cpu: &mut Cpu,
     spare: &mut Cpu,
@@ -99,7 +97,7 @@ fn bring_pages<P: Processor, S: UnitSupply>(
 ///
 /// It is not inlined, so that a unit that brings nothing pays nothing for it.
 #[inline(never)]
-fn bring_for_unit<P: Processor, S: UnitSupply>(
+fn bring_and_do_unit<P: Processor, S: UnitSupply>(
     said: Next,
     cpu: &mut Cpu,
     spare: &mut Cpu,
@@ -121,7 +119,7 @@ fn bring_for_unit<P: Processor, S: UnitSupply>(
         × (length pages ≤ 9) }
     ensures between { S.IsBetween storage.new }
 {
-    let done = bring_pages::<P, S>(said, cpu, spare, pending, subchannels, storage);
+    let done = bring_until_done::<P, S>(said, cpu, spare, pending, subchannels, storage);
     storage.let_go();
     done
 }
@@ -155,13 +153,14 @@ fn try_or_bring<P: Processor, S: UnitSupply>(
 {
     match try_unit::<P, S>(said, cpu, spare, pending, subchannels, storage) {
         Ok(()) => Ok(()),
-        Err(_) => bring_for_unit::<P, S>(said, cpu, spare, pending, subchannels, storage),
+        Err(_) => bring_and_do_unit::<P, S>(said, cpu, spare, pending, subchannels, storage),
     }
 }
 
-/// Does the unit that `said` names as `try_or_bring` does, in a function that is not inlined.
+/// Does the unit that `said` names, in a function that is not inlined, with the absent pages that
+/// it needs made present; if there is no room for one, the unit is not done.
 #[inline(never)]
-fn accept_supplied<P: Processor, S: UnitSupply>(
+fn do_unit_apart<P: Processor, S: UnitSupply>(
     said: Next,
     cpu: &mut Cpu,
     spare: &mut Cpu,
@@ -186,12 +185,13 @@ fn accept_supplied<P: Processor, S: UnitSupply>(
     try_or_bring::<P, S>(said, cpu, spare, pending, subchannels, storage)
 }
 
-/// Does the unit that `said` names as `try_or_bring` does.
+/// Does the unit that `said` names, with the absent pages that it needs made present; if there is
+/// no room for one, the unit is not done.
 ///
 /// An instruction is named here, and all else is out of line, so that nothing of other units is
 /// carried through it.
 #[inline(always)]
-fn supplied<P: Processor, S: UnitSupply>(
+fn do_unit<P: Processor, S: UnitSupply>(
     said: Next,
     cpu: &mut Cpu,
     spare: &mut Cpu,
@@ -217,7 +217,7 @@ fn supplied<P: Processor, S: UnitSupply>(
         Next::Instructs => {
             try_or_bring::<P, S>(Next::Instructs, cpu, spare, pending, subchannels, storage)
         }
-        _ => accept_supplied::<P, S>(said, cpu, spare, pending, subchannels, storage),
+        _ => do_unit_apart::<P, S>(said, cpu, spare, pending, subchannels, storage),
     }
 }
 
@@ -337,10 +337,8 @@ fn instruct_steadily<S: Storage>(
     held: &mut HeldBlock,
     limit: u32,
 ) -> Steady
-    requires low { block.first < 16777216 }
-    requires may_fetch { MayFetch (length (S.memory storage.old).bytes) (S.memory storage.old).keys
-        (S.present storage.old) cpu.old.psw.key block.first }
-    requires placed { S.IsPlaced storage.old block }
+    requires fetched { IsFetched (S.IsPlaced storage.old) (S.memory storage.old)
+        (S.present storage.old) cpu.old block }
     requires operands { AreHeld (S.IsPlaced storage.old) (S.memory storage.old)
         (S.present storage.old) cpu.old.psw.key held.old }
     ensures done { let before = state_of cpu.old (S.memory storage.old) in
@@ -348,14 +346,8 @@ fn instruct_steadily<S: Storage>(
         DoesInstructions result.units before after }
     ensures within { result.units ≤ limit }
     ensures left { IfSome result.block (λ block. result.units < limit) }
-    ensures low { IfSome result.block (λ block. block.first < 16777216) }
-    ensures may_fetch { IfSome result.block
-        (λ block. MayFetch (length (S.memory storage.new).bytes) (S.memory storage.new).keys
-        (S.present storage.new) cpu.new.psw.key block.first) }
-    ensures placed { IfSome result.block (λ block. S.IsPlaced storage.new block) }
-    ensures begins { IfSome result.block (λ block. block.first ≤ cpu.new.psw.address) }
-    ensures ends { IfSome result.block (λ block. cpu.new.psw.address ≤ block.first + 2042) }
-    ensures even { IfSome result.block (λ _. cpu.new.psw.address % 2 ≡ 0) }
+    ensures next { IfSome result.block (λ block. HasNext (S.IsPlaced storage.new)
+        (S.memory storage.new) (S.present storage.new) cpu.new block) }
     ensures operands { IfSome result.block
         (λ _. AreHeld (S.IsPlaced storage.new) (S.memory storage.new)
         (S.present storage.new) cpu.new.psw.key held.new) }
@@ -399,25 +391,15 @@ fn instruct_apart<P: Processor, S: Keyed>(
     limit: u32,
 ) -> UnitsDone
     requires size { 8192 ≤ length (S.Storage.memory storage.old).bytes }
-    requires plain { (m : Memory)
-        → look (core_of (state_of cpu.old m) pending subchannels.old) ≡ next.Instructs }
+    requires plain { let m = state_of cpu.old (S.Storage.memory storage.old) in
+        look (core_of m pending subchannels.old) ≡ next.Instructs }
     requires some { 0 < limit }
-    requires may_fetch { MayFetch (length (S.Storage.memory storage.old).bytes)
-        (S.Storage.memory storage.old).keys
-        (S.Storage.present storage.old) cpu.old.psw.key block.first }
-    requires placed { S.Storage.IsPlaced storage.old block }
-    requires begins { block.first ≤ cpu.old.psw.address }
-    requires ends { cpu.old.psw.address ≤ block.first + 2042 }
-    requires even { cpu.old.psw.address % 2 ≡ 0 }
-    ensures done { let before = core_of
-        (state_of cpu.old (S.Storage.memory storage.old)) pending subchannels.old in
-        let after = core_of (state_of cpu.new (S.Storage.memory storage.new)) pending
-        subchannels.new in
-        run result.units before ≡
-        record { core = after; units = result.units; reason = reasons.Count } }
-    ensures plain { (m : Memory) → result.is_plain ≡ true
-        → look (core_of (state_of cpu.new m) pending subchannels.new) ≡ next.Instructs }
-    ensures within { result.units ≤ limit }
+    requires next { HasNext (S.Storage.IsPlaced storage.old) (S.Storage.memory storage.old)
+        (S.Storage.present storage.old) cpu.old block }
+    ensures ran { let before = state_of cpu.old (S.Storage.memory storage.old) in
+        let after = state_of cpu.new (S.Storage.memory storage.new) in
+        RunsTo limit result.units result.is_plain (core_of before pending subchannels.old)
+        (core_of after pending subchannels.new) }
     ensures rest { S.KeepsRest storage.old storage.new }
 {
     let start = cpu.psw.address();
@@ -457,32 +439,19 @@ fn instruct_left_out<P: Processor, S: Keyed>(
     limit: u32,
 ) -> LeftOut
     requires size { 8192 ≤ length (S.Storage.memory storage.old).bytes }
-    requires plain { (m : Memory)
-        → look (core_of (state_of cpu.old m) pending subchannels.old) ≡ next.Instructs }
+    requires plain { let m = state_of cpu.old (S.Storage.memory storage.old) in
+        look (core_of m pending subchannels.old) ≡ next.Instructs }
     requires some { 0 < limit }
-    requires may_fetch { MayFetch (length (S.Storage.memory storage.old).bytes)
-        (S.Storage.memory storage.old).keys
-        (S.Storage.present storage.old) cpu.old.psw.key block.first }
-    requires placed { S.Storage.IsPlaced storage.old block }
-    requires begins { block.first ≤ cpu.old.psw.address }
-    requires ends { cpu.old.psw.address ≤ block.first + 2042 }
-    requires even { cpu.old.psw.address % 2 ≡ 0 }
+    requires next { HasNext (S.Storage.IsPlaced storage.old) (S.Storage.memory storage.old)
+        (S.Storage.present storage.old) cpu.old block }
     requires operands { AreHeld (S.Storage.IsPlaced storage.old) (S.Storage.memory storage.old)
         (S.Storage.present storage.old) cpu.old.psw.key held.old }
-    ensures done { let before = core_of
-        (state_of cpu.old (S.Storage.memory storage.old)) pending subchannels.old in
-        let after = core_of (state_of cpu.new (S.Storage.memory storage.new)) pending
-        subchannels.new in
-        run result.units before ≡
-        record { core = after; units = result.units; reason = reasons.Count } }
-    ensures plain { (m : Memory) → result.is_plain ≡ true
-        → look (core_of (state_of cpu.new m) pending subchannels.new) ≡ next.Instructs }
-    ensures within { result.units ≤ limit }
-    ensures may_fetch { result.keeps_blocks ≡ true
-        → MayFetch (length (S.Storage.memory storage.new).bytes)
-        (S.Storage.memory storage.new).keys
-        (S.Storage.present storage.new) cpu.new.psw.key block.first }
-    ensures placed { result.keeps_blocks ≡ true → S.Storage.IsPlaced storage.new block }
+    ensures ran { let before = state_of cpu.old (S.Storage.memory storage.old) in
+        let after = state_of cpu.new (S.Storage.memory storage.new) in
+        RunsTo limit result.units result.is_plain (core_of before pending subchannels.old)
+        (core_of after pending subchannels.new) }
+    ensures fetched { result.keeps_blocks ≡ true → IsFetched (S.Storage.IsPlaced storage.new)
+        (S.Storage.memory storage.new) (S.Storage.present storage.new) cpu.new block }
     ensures operands { result.keeps_blocks ≡ true
         → AreHeld (S.Storage.IsPlaced storage.new) (S.Storage.memory storage.new)
         (S.Storage.present storage.new) cpu.new.psw.key held.new }
@@ -529,8 +498,8 @@ fn has_key(cpu: &Cpu, key: AccessKey) -> bool
     cpu.psw.key().get() == key.get()
 }
 
-/// Returns the block of the next instruction, which is `block` if `keeps_blocks` is true, else the
-/// one that is found; or `None` if there is none.
+/// Returns the block of the next instruction: `block` if `keeps_blocks` is true, else the one that
+/// is found, to which `held` is then reset; or `None` if there is none.
 ///
 /// With a block that is found operands are fetched from it at first, and none is held for stores.
 #[inline(always)]
@@ -541,19 +510,13 @@ fn block_at<S: Storage>(
     block: Block,
     held: &mut HeldBlock,
 ) -> Option<Block>
-    requires low { keeps_blocks ≡ true → block.first < 16777216 }
-    requires may_fetch { keeps_blocks ≡ true
-        → MayFetch (length (S.memory storage.now).bytes) (S.memory storage.now).keys
-        (S.present storage.now) cpu.now.psw.key block.first }
-    requires placed { keeps_blocks ≡ true → S.IsPlaced storage.now block }
+    requires fetched { keeps_blocks ≡ true → IsFetched (S.IsPlaced storage.now)
+        (S.memory storage.now) (S.present storage.now) cpu.now block }
     requires operands { keeps_blocks ≡ true
         → AreHeld (S.IsPlaced storage.now) (S.memory storage.now)
         (S.present storage.now) cpu.now.psw.key held.old }
-    ensures low { IfSome result (λ found. found.first < 16777216) }
-    ensures may_fetch { IfSome result
-        (λ found. MayFetch (length (S.memory storage.now).bytes) (S.memory storage.now).keys
-        (S.present storage.now) cpu.now.psw.key found.first) }
-    ensures placed { IfSome result (λ found. S.IsPlaced storage.now found) }
+    ensures fetched { IfSome result (λ found. IsFetched (S.IsPlaced storage.now)
+        (S.memory storage.now) (S.present storage.now) cpu.now found) }
     ensures operands { IfSome result
         (λ _. AreHeld (S.IsPlaced storage.now) (S.memory storage.now)
         (S.present storage.now) cpu.now.psw.key held.new) }
@@ -586,17 +549,12 @@ fn instruct_quickly<P: Processor, S: Keyed>(
     limit: u32,
 ) -> UnitsDone
     requires size { 8192 ≤ length (S.Storage.memory storage.old).bytes }
-    requires plain { (m : Memory)
-        → look (core_of (state_of cpu.old m) pending subchannels.old) ≡ next.Instructs }
-    ensures done { let before = core_of
-        (state_of cpu.old (S.Storage.memory storage.old)) pending subchannels.old in
-        let after = core_of (state_of cpu.new (S.Storage.memory storage.new)) pending
-        subchannels.new in
-        run result.units before ≡
-        record { core = after; units = result.units; reason = reasons.Count } }
-    ensures plain { (m : Memory) → result.is_plain ≡ true
-        → look (core_of (state_of cpu.new m) pending subchannels.new) ≡ next.Instructs }
-    ensures within { result.units ≤ limit }
+    requires plain { let m = state_of cpu.old (S.Storage.memory storage.old) in
+        look (core_of m pending subchannels.old) ≡ next.Instructs }
+    ensures ran { let before = state_of cpu.old (S.Storage.memory storage.old) in
+        let after = state_of cpu.new (S.Storage.memory storage.new) in
+        RunsTo limit result.units result.is_plain (core_of before pending subchannels.old)
+        (core_of after pending subchannels.new) }
     ensures rest { S.KeepsRest storage.old storage.new }
 {
     let mut units = 0;
@@ -662,17 +620,12 @@ fn go_quickly<P: Processor, S: Keyed>(
     limit: u32,
 ) -> UnitsDone
     requires size { 8192 ≤ length (S.Storage.memory storage.old).bytes }
-    requires plain { (m : Memory) → is_plain ≡ true
-        → look (core_of (state_of cpu.old m) pending subchannels.old) ≡ next.Instructs }
-    ensures done { let before = core_of
-        (state_of cpu.old (S.Storage.memory storage.old)) pending subchannels.old in
-        let after = core_of (state_of cpu.new (S.Storage.memory storage.new)) pending
-        subchannels.new in
-        run result.units before ≡
-        record { core = after; units = result.units; reason = reasons.Count } }
-    ensures plain { (m : Memory) → result.is_plain ≡ true
-        → look (core_of (state_of cpu.new m) pending subchannels.new) ≡ next.Instructs }
-    ensures within { result.units ≤ limit }
+    requires plain { let m = state_of cpu.old (S.Storage.memory storage.old) in
+        is_plain ≡ true → look (core_of m pending subchannels.old) ≡ next.Instructs }
+    ensures ran { let before = state_of cpu.old (S.Storage.memory storage.old) in
+        let after = state_of cpu.new (S.Storage.memory storage.new) in
+        RunsTo limit result.units result.is_plain (core_of before pending subchannels.old)
+        (core_of after pending subchannels.new) }
     ensures rest { S.KeepsRest storage.old storage.new }
 {
     if is_plain {
@@ -738,7 +691,7 @@ pub fn run_units<P: Processor, S: UnitSupply>(
             Next::Stops(reason) => return Ran { units, reason },
             _ => {}
         }
-        match supplied::<P, S>(next, cpu, &mut spare, pending, subchannels, storage) {
+        match do_unit::<P, S>(next, cpu, &mut spare, pending, subchannels, storage) {
             Ok(()) => {}
             Err(FramesOut) => {
                 return Ran {

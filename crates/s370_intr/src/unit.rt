@@ -158,7 +158,7 @@ pub(crate) fn instruct_saving<P: Processor, S: Keyed>(
         MeetsInstruction (S.Storage.present storage.old) before result after }
     ensures rest { S.KeepsRest storage.old storage.new }
 {
-    save(cpu, spare, storage);
+    save_if_page_0_absent(cpu, spare, storage);
     let stop = step(cpu, storage);
     match stop {
         Stop::Done => return Ok(()),
@@ -181,7 +181,7 @@ pub(crate) fn instruct_saving<P: Processor, S: Keyed>(
 /// Copies the registers to `spare` if page 0 is absent, so that an interruption can be undone; else
 /// does nothing.
 #[inline(always)]
-fn save<S: Storage>(cpu: &Cpu, spare: &mut Cpu, storage: &S)
+fn save_if_page_0_absent<S: Storage>(cpu: &Cpu, spare: &mut Cpu, storage: &S)
     requires { 8192 ≤ length (S.memory storage.now).bytes }
     ensures { (S.present storage.now 0 ≡ true) ⊎ (spare.new ≡ cpu.now) }
 {

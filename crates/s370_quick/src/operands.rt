@@ -97,7 +97,7 @@ pub fn target_block<S: Storage>(
 }
 
 /// Returns the word that is the second operand and holds its block for later fetches, or returns
-/// `None` if no one block has it.
+/// `None` if it lies in two blocks or may not be fetched.
 #[inline(always)]
 fn held_word<S: Storage>(
     cpu: &Cpu,
@@ -121,7 +121,7 @@ fn held_word<S: Storage>(
 }
 
 /// Returns the halfword that is the second operand, its sign extended, and holds its block for
-/// later fetches, or returns `None` if no one block has it.
+/// later fetches, or returns `None` if it lies in two blocks or may not be fetched.
 #[inline(always)]
 fn held_halfword<S: Storage>(
     cpu: &Cpu,
@@ -171,8 +171,8 @@ pub fn held_byte<S: Storage>(
     }
 }
 
-/// Sets R1 and the condition code by an operation on R1 and a word of storage, if that lies in one
-/// block, which is then held; else returns `None`.
+/// Does an operation on R1 and a word of storage, which sets R1, the condition code, or both, and
+/// holds the word's block; returns `None` if the word lies in two blocks or may not be fetched.
 ///
 /// It serves N 54, CL 55, O 56, X 57, L 58, C 59, A 5A, S 5B, AL 5E and SL 5F.
 #[inline(always)]
@@ -198,8 +198,8 @@ fn word_quickly<S: Storage>(
     }
 }
 
-/// Does LH (48), CH (49), AH (4A) or SH (4B) if the halfword lies in one block, which is then held;
-/// else returns `None`.
+/// Does LH (48), CH (49), AH (4A) or SH (4B), and holds the halfword's block; returns `None` if the
+/// halfword lies in two blocks or may not be fetched.
 #[inline(always)]
 fn halfword_quickly<S: Storage>(
     operation: Arithmetic,
@@ -223,7 +223,8 @@ fn halfword_quickly<S: Storage>(
     }
 }
 
-/// Does MH (4C) if the halfword lies in one block, which is then held; else returns `None`.
+/// Does MH (4C), and holds the halfword's block; returns `None` if the halfword lies in two blocks
+/// or may not be fetched.
 #[inline(always)]
 fn multiply_halfword_quickly<S: Storage>(
     cpu: &mut Cpu,
@@ -245,8 +246,8 @@ fn multiply_halfword_quickly<S: Storage>(
     }
 }
 
-/// Does M (5C) if R1 is even and the word lies in one block, which is then held; else returns
-/// `None`.
+/// Does M (5C), and holds the word's block; returns `None` if R1 is odd, or the word lies in two
+/// blocks or may not be fetched.
 #[inline(always)]
 fn multiply_word_quickly<S: Storage>(
     cpu: &mut Cpu,
@@ -271,8 +272,8 @@ fn multiply_word_quickly<S: Storage>(
     }
 }
 
-/// Does D (5D) if R1 is even, the word lies in one block, which is then held, and the quotient
-/// fits; else returns `None`.
+/// Does D (5D), and holds the word's block; returns `None` if R1 is odd, the word lies in two
+/// blocks or may not be fetched, or the quotient does not fit.
 #[inline(always)]
 fn divide_word_quickly<S: Storage>(
     cpu: &mut Cpu,
@@ -348,7 +349,8 @@ fn test_byte_quickly<S: Storage>(
     }
 }
 
-/// Does LM (98) if all its words lie in one block, which is then held; else returns `None`.
+/// Does LM (98), and holds the block of its words; returns `None` if they lie in two blocks or may
+/// not be fetched.
 #[inline(always)]
 fn load_multiple_quickly<S: Storage>(
     cpu: &mut Cpu,
@@ -374,8 +376,8 @@ fn load_multiple_quickly<S: Storage>(
     }
 }
 
-/// Does CLM (BD) if its bytes lie in one block, which is then held, or if its mask is zero and the
-/// access is granted; else returns `None`.
+/// Does CLM (BD), and holds the block of its bytes, unless its mask is zero; returns `None` if the
+/// bytes lie in two blocks or the access is not granted.
 #[inline(always)]
 fn compare_characters_quickly<S: Storage>(
     cpu: &mut Cpu,
@@ -408,7 +410,8 @@ fn compare_characters_quickly<S: Storage>(
     }
 }
 
-/// Does ST (50) if the word lies in one block, which is then held for stores; else returns `None`.
+/// Does ST (50), and holds the word's block for stores; returns `None` if the word lies in two
+/// blocks or may not be stored.
 #[inline(always)]
 fn store_word_quickly<S: Storage>(
     cpu: &Cpu,
@@ -435,8 +438,8 @@ fn store_word_quickly<S: Storage>(
     }
 }
 
-/// Does STH (40) if the halfword lies in one block, which is then held for stores; else returns
-/// `None`.
+/// Does STH (40), and holds the halfword's block for stores; returns `None` if the halfword lies in
+/// two blocks or may not be stored.
 #[inline(always)]
 fn store_halfword_quickly<S: Storage>(
     cpu: &Cpu,
@@ -492,8 +495,8 @@ fn store_character_quickly<S: Storage>(
     }
 }
 
-/// Does STM (90) if all its words lie in one block, which is then held for stores; else returns
-/// `None`.
+/// Does STM (90), and holds the block of its words for stores; returns `None` if they lie in two
+/// blocks or may not be stored.
 #[inline(always)]
 fn store_multiple_quickly<S: Storage>(
     cpu: &Cpu,
@@ -552,8 +555,8 @@ fn change_byte_quickly<S: Storage>(
     }
 }
 
-/// Does CS (BA) if the operand is on a word and may be stored, and holds its block for stores; else
-/// returns `None`.
+/// Does CS (BA), and holds the word's block for stores; returns `None` if the word is not on a word
+/// boundary or may not be stored.
 #[inline(always)]
 fn swap_word_quickly<S: Storage>(
     cpu: &mut Cpu,
@@ -587,8 +590,8 @@ fn swap_word_quickly<S: Storage>(
     }
 }
 
-/// Does CDS (BB) if R1 and R3 are even and the operand is on a doubleword and may be stored, and
-/// holds its block for stores; else returns `None`.
+/// Does CDS (BB), and holds the doubleword's block for stores; returns `None` if R1 or R3 is odd,
+/// or the doubleword is not on its boundary or may not be stored.
 #[inline(always)]
 fn swap_doubleword_quickly<S: Storage>(
     cpu: &mut Cpu,
@@ -623,8 +626,8 @@ fn swap_doubleword_quickly<S: Storage>(
     }
 }
 
-/// Does CVD (4E) if the doubleword lies in one block, which is then held for stores; else returns
-/// `None`.
+/// Does CVD (4E), and holds the doubleword's block for stores; returns `None` if the doubleword
+/// lies in two blocks or may not be stored.
 #[inline(always)]
 fn store_decimal_quickly<S: Storage>(
     cpu: &Cpu,
@@ -652,8 +655,8 @@ fn store_decimal_quickly<S: Storage>(
     }
 }
 
-/// Does STCM (BE) if its bytes lie in one block, which is then held for stores, or if its mask is
-/// zero and the access is granted; else returns `None`.
+/// Does STCM (BE), and holds the block of its bytes for stores, unless its mask is zero; returns
+/// `None` if the bytes lie in two blocks or the access is not granted.
 #[inline(always)]
 fn store_characters_quickly<S: Storage>(
     cpu: &Cpu,

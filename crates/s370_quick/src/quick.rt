@@ -70,7 +70,8 @@ pub fn step_quickly<S: Storage>(
     step_found_quickly(cpu, storage, start, block, held)
 }
 
-/// Does the instruction at `start` as [`step_quickly`] does, by its operation code.
+/// Does the instruction at `start` by its operation code and returns the next address, if it is a
+/// frequent one and the processor goes on; else returns `None` and changes only `held`.
 #[inline(always)]
 fn step_found_quickly<S: Storage>(
     cpu: &mut Cpu,
@@ -212,7 +213,8 @@ pub fn move_parts_quickly<S: Storage>(
     move_long_quickly(cpu, storage, start, second_byte, limit)
 }
 
-/// Does the instruction at `start`, whose operation code is `CODE`, as [`step_quickly`] does.
+/// Does the instruction at `start`, whose operation code is `CODE`, and returns the next address,
+/// if the processor goes on; else returns `None` and changes only `held`.
 #[inline(always)]
 fn carry_quickly<S: Storage, const CODE: u8>(
     cpu: &mut Cpu,
@@ -246,7 +248,8 @@ fn carry_quickly<S: Storage, const CODE: u8>(
     finish_quickly::<S, CODE, IN_TURN>(cpu, storage, Place { next, ilc }, first, held)
 }
 
-/// Does an instruction as `carry_quickly` does, in a function that is not inlined.
+/// Does the instruction at `start`, in a function that is not inlined, and returns the next
+/// address, if the processor goes on; else returns `None` and changes only `held`.
 ///
 /// A call is little next to what these instructions do, and the loop keeps its registers for those
 /// that it inlines.
@@ -277,8 +280,8 @@ fn carry_apart<S: Storage, const CODE: u8>(
     carry_quickly::<S, CODE>(cpu, storage, start, block, held)
 }
 
-/// Fetches the target of EX and does it as [`step_quickly`] does, or returns `None` if it may not
-/// be fetched.
+/// Fetches the target of EX, does it and returns the next address, if it may be fetched, is a
+/// frequent one and the processor goes on; else returns `None` and changes only `held`.
 #[inline(always)]
 fn execute_quickly<S: Storage>(
     cpu: &mut Cpu,
@@ -307,7 +310,8 @@ fn execute_quickly<S: Storage>(
     }
 }
 
-/// Does the target of an EX as [`step_quickly`] does, by the target's operation code.
+/// Does the target of an EX by its operation code and returns the next address, if it is a frequent
+/// one and the processor goes on; else returns `None` and changes only `held`.
 #[inline(always)]
 fn finish_target<S: Storage>(
     cpu: &mut Cpu,
@@ -416,7 +420,8 @@ fn finish_target<S: Storage>(
     }
 }
 
-/// Does the target of an EX as `finish_quickly` does, in a function that is not inlined.
+/// Does the target of an EX, in a function that is not inlined, and returns the next address, if
+/// the processor goes on; else returns `None` and changes only `held`.
 #[inline(never)]
 fn finish_apart<S: Storage, const CODE: u8>(
     cpu: &mut Cpu,

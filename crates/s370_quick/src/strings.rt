@@ -12,14 +12,14 @@ ghost use Rattle.s370_quick.specs.Quick.{AreHeld, MeetsAtOnce};
 use crate::held::{HeldBlock, operand_block};
 use crate::operands::{done_of, source_block, target_block};
 use s370_bytes::{
-    Combine, combine_row, combine_straight, compare_row, compare_straight, fill_straight, move_row,
-    move_straight, translate_row, translate_straight,
+    Combine, StringAt, combine_row, combine_straight, compare_row, compare_straight, fill_straight,
+    move_row, move_straight, translate_row, translate_straight,
 };
 use s370_rows::{Completion, Cpu, Instruction};
 use s370_store::{Access, Storage};
 
-/// Does MVC (D2) if each operand lies in one block, which is then held, and it is one copy or fills
-/// the target with one byte; returns whether it did.
+/// Does MVC (D2) and returns true if each operand lies in one block, may be accessed there and is
+/// then held, and one copy does it or it fills the target with one byte; else returns false.
 #[inline(always)]
 fn move_held<S: Storage>(cpu: &Cpu, storage: &mut S, i: Instruction, held: &mut HeldBlock) -> bool
     requires operands { AreHeld (S.IsPlaced storage.old) (S.memory storage.old)
@@ -47,10 +47,18 @@ fn move_held<S: Storage>(cpu: &Cpu, storage: &mut S, i: Instruction, held: &mut 
         Some(found) => found,
         None => return false,
     };
-    if move_straight(storage, source, from.get(), target, to.get(), count) {
+    let target = StringAt {
+        block: target,
+        start: to.get(),
+    };
+    let source = StringAt {
+        block: source,
+        start: from.get(),
+    };
+    if move_straight(storage, source, target, count) {
         return true;
     }
-    fill_straight(storage, source, from.get(), target, to.get(), count)
+    fill_straight(storage, source, target, count)
 }
 
 /// Does MVC (D2) over held blocks if it can, else with all its tests; returns `None` if it is
@@ -160,16 +168,15 @@ pub fn combine_quickly<S: Storage>(
         Some(found) => found,
         None => return done_of(combine_row(operation, cpu, storage, i)),
     };
-    combine_straight(
-        operation,
-        cpu,
-        storage,
-        target,
-        to.get(),
-        source,
-        from.get(),
-        count,
-    );
+    let target = StringAt {
+        block: target,
+        start: to.get(),
+    };
+    let source = StringAt {
+        block: source,
+        start: from.get(),
+    };
+    combine_straight(operation, cpu, storage, target, source, count);
     Some(Completion::Done)
 }
 
@@ -237,7 +244,15 @@ pub fn compare_quickly<S: Storage>(
         Some(found) => found,
         None => return done_of(compare_row(cpu, storage, i)),
     };
-    let condition = compare_straight(storage, left, first.get(), right, second.get(), count);
+    let left = StringAt {
+        block: left,
+        start: first.get(),
+    };
+    let right = StringAt {
+        block: right,
+        start: second.get(),
+    };
+    let condition = compare_straight(storage, left, right, count);
     cpu.psw.set_condition(condition);
     Some(Completion::Done)
 }

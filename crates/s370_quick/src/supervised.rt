@@ -57,7 +57,9 @@ pub fn supervise_quickly<S: Keyed>(
     supervise_found(cpu, storage, start, block, held)
 }
 
-/// Does the instruction at `start` as [`supervise_quickly`] does, by its operation code.
+/// Does the instruction at `start` by its operation code and returns the next address, if it is
+/// privileged, sets no storage key, asks no device and is not refused; else returns `None` and
+/// changes only `held`.
 #[inline(always)]
 fn supervise_found<S: Keyed>(
     cpu: &mut Cpu,
@@ -93,7 +95,9 @@ fn supervise_found<S: Keyed>(
     }
 }
 
-/// Does the instruction at `start`, whose operation code is `CODE`, as [`supervise_quickly`] does.
+/// Does the privileged instruction at `start`, whose operation code is `CODE`, and returns the next
+/// address, if it sets no storage key, asks no device and is not refused; else returns `None` and
+/// changes only `held`.
 #[inline(always)]
 fn carry_control<S: Keyed, const CODE: u8>(
     cpu: &mut Cpu,
@@ -271,8 +275,8 @@ fn set_mask_quickly<S: Storage>(
     }
 }
 
-/// Does LPSW (82) if the doubleword is where it has to be and may be fetched, and holds its block;
-/// else returns `None`.
+/// Does LPSW (82), and holds the doubleword's block; returns `None` if the doubleword is not on its
+/// boundary or may not be fetched.
 #[inline(always)]
 fn load_psw_quickly<S: Storage>(
     cpu: &mut Cpu,
@@ -336,8 +340,8 @@ fn store_mask_quickly<S: Storage>(
     }
 }
 
-/// Does STCTL (B6) if the words are where they have to be and lie in one block, which is then held
-/// for stores; else returns `None`.
+/// Does STCTL (B6), and holds the block of its words for stores; returns `None` if they are not on
+/// a word boundary, lie in two blocks or may not be stored.
 #[inline(always)]
 fn store_control_quickly<S: Storage>(
     cpu: &Cpu,
@@ -368,8 +372,8 @@ fn store_control_quickly<S: Storage>(
     }
 }
 
-/// Does LCTL (B7) if the words are where they have to be and lie in one block, which is then held;
-/// else returns `None`.
+/// Does LCTL (B7), and holds the block of its words; returns `None` if they are not on a word
+/// boundary, lie in two blocks or may not be fetched.
 #[inline(always)]
 fn load_control_quickly<S: Storage>(
     cpu: &mut Cpu,

@@ -30,7 +30,7 @@ pub fn grant<S: Storage>(
     ensures { Grants (state_of cpu.now (S.memory storage.now)) (S.present storage.now)
         (tested access range ∷ []) result }
 {
-    leave_of(storage.check(range, access, cpu.psw.key()))
+    refusal_of(storage.check(range, access, cpu.psw.key()))
 }
 
 /// Returns `Ok` if two ranges of at most 256 bytes may be accessed with the PSW's key, or else the
@@ -62,11 +62,11 @@ pub fn grant_two<S: Storage>(
         second_access,
         cpu.psw.key(),
     );
-    leave_of(answer)
+    refusal_of(answer)
 }
 
-/// Copies at most 2048 bytes if one test of each range grants it with the PSW's key, and returns
-/// whether it did.
+/// Copies bytes with the PSW's key if the storage grants it and can do it at once, and returns
+/// whether it did; else nothing changes.
 ///
 /// All bytes are read before any is written. If the result is false, nothing has changed.
 #[inline(always)]
@@ -89,7 +89,7 @@ pub fn copy_granted<S: Storage>(cpu: &Cpu, storage: &mut S, from: u32, to: u32, 
 /// Turns the fault of a check into the instruction's refusal: a program exception, or an absent
 /// page.
 #[inline(always)]
-fn leave_of(answer: Result<(), Fault>) -> Result<(), Refusal>
+fn refusal_of(answer: Result<(), Fault>) -> Result<(), Refusal>
     ensures { (m : State) → (present : ℕ → Bool) → (ts : List Test)
         → IsVerdict (length m.bytes) m.keys present m.cpu.psw.key ts answer
         → Grants m present ts result }

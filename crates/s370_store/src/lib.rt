@@ -235,7 +235,8 @@ pub trait Storage {
         self.store(to, part);
     }
 
-    /// Copies at most 2048 bytes, if one test of each range grants it, and returns whether it did.
+    /// Copies bytes from one address to another if this storage can at once (by default 1 to 256
+    /// bytes) and the test of each range grants it, and returns whether it did.
     ///
     /// All bytes are read before any is written. If the result is false, nothing has changed;
     /// without a body of its own, a storage copies only 1 to 256 bytes.

@@ -77,8 +77,8 @@ impl Storage for PagedStorage {
         self.bytes.len() as u32
     }
 
-    /// Returns a fault if size or keys forbid an access, or if the page of its first or last byte
-    /// is absent.
+    /// Returns a fault if size or keys forbid an access to a range, or if the page of its first or
+    /// last byte is absent; an access to no byte passes.
     fn check(&self, range: Range, access: Access, key: AccessKey) -> Result<(), Fault> {
         let keys = KeySlice { keys: &self.keys };
         test_range(self.bytes.len() as u32, &keys, range, access, key)?;

@@ -79,7 +79,8 @@ impl Storage for PlainStorage {
         self.bytes.len() as u32
     }
 
-    /// Returns a fault if size or keys forbid an access; no page is ever absent.
+    /// Returns a fault if size or keys forbid an access to a range; no page is ever absent, and an
+    /// access to no byte passes.
     #[inline(always)]
     fn check(&self, range: Range, access: Access, key: AccessKey) -> Result<(), Fault> {
         let keys = KeySlice { keys: &self.keys };

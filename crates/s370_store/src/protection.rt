@@ -114,7 +114,8 @@ pub fn may_access_block<K: KeyTable>(
     block_passes(keys, block, access, key)
 }
 
-/// Returns a fault if size or keys forbid an access to a range, as if every page were present.
+/// Returns a fault if size or keys forbid an access to a range of at most 2048 bytes, as if every
+/// page were present; an access to no byte passes.
 ///
 /// A body's own `check` makes it first, and then looks for the pages. At most 2048 bytes lie in one
 /// block or in two that follow one another, so the key of the first byte decides, or those of the
@@ -158,7 +159,8 @@ pub fn test_range<K: KeyTable>(
     Ok(())
 }
 
-/// Returns whether size and keys let an access to one range pass, as if every page were present.
+/// Returns whether size and keys let an access to a range of at most 2048 bytes pass, as if every
+/// page were present; an access to no byte passes.
 #[inline(always)]
 pub(crate) fn passes_range<K: KeyTable>(
     size: u32,

@@ -163,13 +163,13 @@ pub fn check_two<S: Storage>(
 {
     let one = storage.check(first, first_access, key);
     let other = storage.check(second, second_access, key);
-    join(one, other)
+    graver_fault(one, other)
 }
 
 /// Returns the graver of two checks' faults, or the first of two alike: addressing, then
 /// protection, then an absent page.
 #[inline(always)]
-fn join(first: Result<(), Fault>, second: Result<(), Fault>) -> Result<(), Fault>
+fn graver_fault(first: Result<(), Fault>, second: Result<(), Fault>) -> Result<(), Fault>
     ensures { result ≡ join_of first second }
 {
     match first {

@@ -92,8 +92,9 @@ impl Subchannels {
         put_subchannels(out, self.list())
     }
 
-    /// Takes one subchannel from `input` for each device and sets the states of the devices that they
-    /// name, or returns `None` if `input` has fewer, more or bad ones, perhaps after some were set.
+    /// Takes as many subchannels from `input` as there are devices and sets the devices of their
+    /// addresses, if there are such; returns `None`, perhaps after some were set, if `input` has
+    /// fewer, more or bad ones.
     ///
     /// No device is added or removed, whatever the input has.
     pub fn restore(&mut self, input: &mut Input<'_>) -> Option<()>
@@ -107,7 +108,7 @@ impl Subchannels {
     }
 
     /// Takes one subchannel from `input` and sets state, attention and last start of the device of
-    /// its address, or returns `None` and sets nothing.
+    /// its address, if there is one; returns `None` and sets nothing if it is bad or missing.
     #[tactic(auto, using(crate::proofs::Kept::state_kept, crate::proofs::Kept::attention_kept, crate::proofs::Kept::last_start_kept))]
     fn restore_next(&mut self, input: &mut Input<'_>) -> Option<()>
         ensures { addresses self.new ≡ addresses self.old }
@@ -115,7 +116,7 @@ impl Subchannels {
         if !input.flag()? {
             return None;
         }
-        let device = input.half()?;
+        let device = input.next_u16()?;
         let state = state_of(input)?;
         let attention = input.flag()?;
         let last_start = input.number()?;

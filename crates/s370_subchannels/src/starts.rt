@@ -5,7 +5,7 @@ ghost use Rattle.s370_subchannels.specs.Starts.{IsFirstStarted, first_of, is_sta
 use crate::subchannel::{DeviceState, Subchannel};
 
 /// Returns, of the devices that work, the one with the lowest number of a start that is `number` or
-/// higher.
+/// higher, if there is one.
 pub fn first_started(list: &[Subchannel], number: u64) -> Option<Subchannel>
     ensures { IsFirstStarted number list.now result }
 {

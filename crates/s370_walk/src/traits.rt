@@ -57,7 +57,8 @@ pub trait Device {
         ensures status { result ≡ machine.status self.old }
         ensures after { self.new ≡ machine.finished self.old };
 
-    /// Returns a number of bytes that the device is sure to give or take before it is done.
+    /// Returns a number of bytes that the device is sure to give or take before it is done: 1,
+    /// unless a device returns more.
     ///
     /// The body given here returns 1, so that one byte at a time is moved.
     fn ready(&self) -> u32

@@ -16,16 +16,16 @@
 //! put_number(&mut out, 300)?;
 //! put_zero(&mut out)?;
 //! let mut input = Input::new(&out);
-//! assert!(rt; input.half() == Some(0x0102));
+//! assert!(rt; input.next_u16() == Some(0x0102));
 //! assert!(rt; input.flag() == Some(true));
 //! assert!(rt; input.bytes() == Some(b"AB".as_slice()));
 //! assert!(rt; input.flag() == Some(true));
-//! assert!(rt; input.small() == None); // 300 does not fit 8 bits
+//! assert!(rt; input.next_u8() == None); // 300 does not fit 8 bits
 //! assert!(rt; input.flag() == Some(false));
 //! assert!(rt; input.is_empty() && input.number() == None);
 //! let mut words = Input::new(&out);
-//! assert!(rt; words.word() == Some(0x0102));
-//! assert!(rt; words.take(1) == Some([1u8].as_slice()) && words.place() == Some(2));
+//! assert!(rt; words.next_u32() == Some(0x0102));
+//! assert!(rt; words.take(1) == Some([1u8].as_slice()) && words.next_usize() == Some(2));
 //! ```
 #![tactic(auto)]
 
@@ -165,25 +165,25 @@ impl<'a> Input<'a> {
 
     /// Takes an eight-byte number and returns it, or `None` if it does not fit 32 bits (it is taken
     /// even then) or is not there.
-    pub fn word(&mut self) -> Option<u32> {
+    pub fn next_u32(&mut self) -> Option<u32> {
         u32::try_from(self.number()?).ok()
     }
 
     /// Takes an eight-byte number and returns it, or `None` if it does not fit 16 bits (it is taken
     /// even then) or is not there.
-    pub fn half(&mut self) -> Option<u16> {
+    pub fn next_u16(&mut self) -> Option<u16> {
         u16::try_from(self.number()?).ok()
     }
 
     /// Takes an eight-byte number and returns it, or `None` if it does not fit 8 bits (it is taken
     /// even then) or is not there.
-    pub fn small(&mut self) -> Option<u8> {
+    pub fn next_u8(&mut self) -> Option<u8> {
         u8::try_from(self.number()?).ok()
     }
 
     /// Takes an eight-byte number and returns it, or `None` if it does not fit a `usize` (it is
     /// taken even then) or is not there.
-    pub fn place(&mut self) -> Option<usize> {
+    pub fn next_usize(&mut self) -> Option<usize> {
         usize::try_from(self.number()?).ok()
     }
 }

@@ -40,26 +40,26 @@ said (events.Auto turns) = Auto turns
 said (events.Deck user cards) = Deck user (cards_of cards)
 
 -- the user whom an event names; turns name nobody
-abbrev pub user_of_event : ScriptEvent → Option ℕ
-user_of_event (events.Run user units) = Some user
-user_of_event (events.Line user text) = Some user
-user_of_event (events.Tick user) = Some user
-user_of_event (events.Serve user device) = Some user
-user_of_event (events.Auto turns) = None
-user_of_event (events.Deck user cards) = Some user
+abbrev pub user_of_event : EventValue → Option ℕ
+user_of_event (Run user units) = Some user
+user_of_event (Line user text) = Some user
+user_of_event (Tick user) = Some user
+user_of_event (Serve user device) = Some user
+user_of_event (Auto turns) = None
+user_of_event (Deck user cards) = Some user
 
 -- a user whom an event names is one of these
-abbrev pub IsOfUser : List KnownUser → ScriptEvent → Type 0
+abbrev pub IsOfUser : List KnownUser → EventValue → Type 0
 IsOfUser users event = IfSome (user_of_event event) (λ user. user < length users)
 
 -- a device that an event names is one which the user has
-abbrev pub IsOfDevice : List KnownUser → ScriptEvent → Type 0
-IsOfDevice users (events.Run user units) = Unit {0}
-IsOfDevice users (events.Line user text) = Unit {0}
-IsOfDevice users (events.Tick user) = Unit {0}
-IsOfDevice users (events.Auto turns) = Unit {0}
-IsOfDevice users (events.Deck user cards) = Unit {0}
-IsOfDevice users (events.Serve user device) = has_device users user device ≡ true
+abbrev pub IsOfDevice : List KnownUser → EventValue → Type 0
+IsOfDevice users (Run user units) = Unit {0}
+IsOfDevice users (Line user text) = Unit {0}
+IsOfDevice users (Tick user) = Unit {0}
+IsOfDevice users (Auto turns) = Unit {0}
+IsOfDevice users (Deck user cards) = Unit {0}
+IsOfDevice users (Serve user device) = has_device users user device ≡ true
 
 -- a number of units is 1 to 1,000,000
 abbrev pub counted : ℕ → ℕ → Option EventValue

@@ -23,7 +23,8 @@ impl<'a> Cards<'a> {
     ghost use Rattle.std.specs.Option.{option_map};
     ghost use Rattle.session_script.specs.Cards.{cards_in, cards_of};
 
-    /// Returns the first `count` lines of a text as cards; None if it has fewer.
+    /// Returns the first `count` lines of a text, of whatever length, as cards; None if it has
+    /// fewer.
     pub(crate) fn cut(text: &'a [u8], count: usize) -> Option<Cards<'a>>
         ensures { option_map cards_of result ≡ cards_in count (lines_of text.now) }
     {

@@ -1,6 +1,6 @@
 //! What a script says that happens.
 ghost use Rattle.std.specs.Prelude.{◌≡◌};
-ghost use Rattle.session_script.specs.Script.{cards_after, said, user_of_event};
+ghost use Rattle.session_script.specs.Script.{cards_after, said};
 
 use crate::cards::Cards;
 use user_names::UserNo;
@@ -23,20 +23,6 @@ pub enum ScriptEvent<'a> {
 }
 
 impl<'a> ScriptEvent<'a> {
-    /// Returns the user whom the event names; None of turns, which name nobody.
-    pub fn user(&self) -> Option<UserNo>
-        ensures { result ≡ user_of_event self.now }
-    {
-        match self {
-            ScriptEvent::Run(user, _) => Some(*user),
-            ScriptEvent::Line(user, _) => Some(*user),
-            ScriptEvent::Tick(user) => Some(*user),
-            ScriptEvent::Serve(user, _) => Some(*user),
-            ScriptEvent::Auto(_) => None,
-            ScriptEvent::Deck(user, _) => Some(*user),
-        }
-    }
-
     /// Returns how many of the script's next lines are cards of the event: none unless it is a
     /// deck.
     pub(crate) fn cards(&self) -> usize

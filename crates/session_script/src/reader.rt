@@ -63,8 +63,9 @@ pub fn read_script<'a>(
 ) -> Result<Vec<ScriptEvent<'a>>, ScriptError>
     requires { length users.now ≤ MOST_USERS }
     ensures ok { IfOk result (λ events. script_of users.now text.now ≡ Ok (map said events.items)) }
-    ensures users { IfOk result (λ events. All (IsOfUser users.now) events.items) }
-    ensures devices { IfOk result (λ events. All (IsOfDevice users.now) events.items) }
+    ensures users { IfOk result (λ events. All (λ e. IsOfUser users.now (said e)) events.items) }
+    ensures devices { IfOk result
+        (λ events. All (λ e. IsOfDevice users.now (said e)) events.items) }
     ensures err { IfErr result (IsRefusal (script_of users.now text.now)) }
 {
     let mut events = Vec::new(alloc);
@@ -94,10 +95,10 @@ fn read_line<'a>(
     ensures ok { IfOk result (λ left.
         step users.now number (map said events.old.items) cards line.now (lines_of after.now)
         ≡ Ok (record { events = map said events.new.items; cards = left })) }
-    ensures users { All (IsOfUser users.now) events.old.items
-        → OnOk result (All (IsOfUser users.now) events.new.items) }
-    ensures devices { All (IsOfDevice users.now) events.old.items
-        → OnOk result (All (IsOfDevice users.now) events.new.items) }
+    ensures users { All (λ e. IsOfUser users.now (said e)) events.old.items
+        → OnOk result (All (λ e. IsOfUser users.now (said e)) events.new.items) }
+    ensures devices { All (λ e. IsOfDevice users.now (said e)) events.old.items
+        → OnOk result (All (λ e. IsOfDevice users.now (said e)) events.new.items) }
     ensures err { IfErr result
         (IsRefusal (step users.now number (map said events.old.items) cards line.now
         (lines_of after.now))) }
@@ -124,10 +125,10 @@ fn read_entry<'a>(
     ensures ok { IfOk result (λ left.
         line_step users.now number (map said events.old.items) line.now (lines_of after.now)
         ≡ Ok (record { events = map said events.new.items; cards = left })) }
-    ensures users { All (IsOfUser users.now) events.old.items
-        → OnOk result (All (IsOfUser users.now) events.new.items) }
-    ensures devices { All (IsOfDevice users.now) events.old.items
-        → OnOk result (All (IsOfDevice users.now) events.new.items) }
+    ensures users { All (λ e. IsOfUser users.now (said e)) events.old.items
+        → OnOk result (All (λ e. IsOfUser users.now (said e)) events.new.items) }
+    ensures devices { All (λ e. IsOfDevice users.now (said e)) events.old.items
+        → OnOk result (All (λ e. IsOfDevice users.now (said e)) events.new.items) }
     ensures err { IfErr result
         (IsRefusal (line_step users.now number (map said events.old.items) line.now
         (lines_of after.now))) }
@@ -163,8 +164,8 @@ fn read_event<'a>(
     after: &'a [u8],
 ) -> Option<ScriptEvent<'a>>
     requires { length users.now ≤ MOST_USERS }
-    ensures users { IfSome result (IsOfUser users.now) }
-    ensures devices { IfSome result (IsOfDevice users.now) }
+    ensures users { IfSome result (λ event. IsOfUser users.now (said event)) }
+    ensures devices { IfSome result (λ event. IsOfDevice users.now (said event)) }
     ensures event { option_map said result ≡ said_of users.now line.now (lines_of after.now) }
 {
     let (verb, operands) = cut_word(line);
@@ -190,8 +191,8 @@ fn read_event<'a>(
 /// user, or n is not 1 to 1000000.
 fn read_run<'a>(users: &[ScriptUser<'_>], operands: &'a [u8]) -> Option<ScriptEvent<'a>>
     requires { length users.now ≤ MOST_USERS }
-    ensures users { IfSome result (IsOfUser users.now) }
-    ensures devices { IfSome result (IsOfDevice users.now) }
+    ensures users { IfSome result (λ event. IsOfUser users.now (said event)) }
+    ensures devices { IfSome result (λ event. IsOfDevice users.now (said event)) }
     ensures event { option_map said result ≡ run_of (names_of users.now) operands.now }
 {
     let (name, digits) = cut_word(operands);
@@ -208,8 +209,8 @@ fn read_run<'a>(users: &[ScriptUser<'_>], operands: &'a [u8]) -> Option<ScriptEv
 /// user. An empty text may have no blank before it.
 fn read_typed<'a>(users: &[ScriptUser<'_>], operands: &'a [u8]) -> Option<ScriptEvent<'a>>
     requires { length users.now ≤ MOST_USERS }
-    ensures users { IfSome result (IsOfUser users.now) }
-    ensures devices { IfSome result (IsOfDevice users.now) }
+    ensures users { IfSome result (λ event. IsOfUser users.now (said event)) }
+    ensures devices { IfSome result (λ event. IsOfDevice users.now (said event)) }
     ensures event { option_map said result ≡ typed_of (names_of users.now) operands.now }
 {
     let (name, text) = cut_word(operands);
@@ -224,8 +225,8 @@ fn read_typed<'a>(users: &[ScriptUser<'_>], operands: &'a [u8]) -> Option<Script
 /// or more follows.
 fn read_tick<'a>(users: &[ScriptUser<'_>], operands: &'a [u8]) -> Option<ScriptEvent<'a>>
     requires { length users.now ≤ MOST_USERS }
-    ensures users { IfSome result (IsOfUser users.now) }
-    ensures devices { IfSome result (IsOfDevice users.now) }
+    ensures users { IfSome result (λ event. IsOfUser users.now (said event)) }
+    ensures devices { IfSome result (λ event. IsOfDevice users.now (said event)) }
     ensures event { option_map said result ≡ tick_of (names_of users.now) operands.now }
 {
     let (name, more) = cut_word(operands);
@@ -240,8 +241,8 @@ fn read_tick<'a>(users: &[ScriptUser<'_>], operands: &'a [u8]) -> Option<ScriptE
 /// user, or he has no such device.
 fn read_serve<'a>(users: &[ScriptUser<'_>], operands: &'a [u8]) -> Option<ScriptEvent<'a>>
     requires { length users.now ≤ MOST_USERS }
-    ensures users { IfSome result (IsOfUser users.now) }
-    ensures devices { IfSome result (IsOfDevice users.now) }
+    ensures users { IfSome result (λ event. IsOfUser users.now (said event)) }
+    ensures devices { IfSome result (λ event. IsOfDevice users.now (said event)) }
     ensures event { option_map said result ≡ serve_of users.now operands.now }
 {
     let (name, digits) = cut_word(operands);
@@ -275,8 +276,8 @@ fn read_deck<'a>(
     after: &'a [u8],
 ) -> Option<ScriptEvent<'a>>
     requires { length users.now ≤ MOST_USERS }
-    ensures users { IfSome result (IsOfUser users.now) }
-    ensures devices { IfSome result (IsOfDevice users.now) }
+    ensures users { IfSome result (λ event. IsOfUser users.now (said event)) }
+    ensures devices { IfSome result (λ event. IsOfDevice users.now (said event)) }
     ensures event { option_map said result
         ≡ deck_of (names_of users.now) operands.now (lines_of after.now) }
 {

@@ -3,7 +3,7 @@ use Rattle.std.specs.Prelude.{if◌then◌else◌}
 use Rattle.std.specs.List.{list_any}
 use Rattle.std.specs.Io.KnownBytes.{Appends}
 use Rattle.std.proofs.Common.{◌≡◌, ℕ, zero, suc, ◌+◌, Bool, true, false, List, [], ◌∷◌, ◌++◌, Option, Some, None}
-use Rattle.std.proofs.Common.{refl, ap, sym, ◌∙◌, subst, get_or, map}
+use Rattle.std.proofs.Common.{refl, ap, sym, ◌∙◌, ◌&&◌, subst, get_or, map, drop}
 use Rattle.cp_dispatch.specs.Policy.{Lines}
 use Rattle.cp_dispatch.specs.Turns.{IsDealt}
 use Rattle.cp_dispatch.specs.declared.program.Program.{Program}
@@ -23,11 +23,11 @@ use Rattle.session_script.specs.Script.{EventValue}
 use Rattle.session_script.specs.Script as said
 use Rattle.session_script.specs.Users.{KnownUser}
 use Rattle.sessions.specs.Alike.{AreAlike}
-use Rattle.sessions.specs.Continuing.{ContinuesAs, HappensToo, IsToGoOn, but_printed}
-use Rattle.sessions.specs.Files.{closed_in, closing_lines, lines_from, note_lines}
+use Rattle.sessions.specs.Continuing.{ContinuesAs, HappensToo, IsToGoOn, but_printed, but_written, unwritten}
+use Rattle.sessions.specs.Files.{closed_in, lines_from, lines_since, note_lines}
 use Rattle.sessions.specs.declared.files.Telling.{Telling}
-use Rattle.sessions.specs.declared.files.Telling.TheVariants as tellings
 use Rattle.sessions.specs.Installed.{Installation, Installed, Step, machine_at, names_of, subchannels_at, user_at}
+use Rattle.sessions.specs.News.{is_idle, is_none, modes_of}
 use Rattle.sessions.specs.Schedule.{Act, Applies, Slices, Serves, AreDone, Entry, Answered, Dealt, Passed, Idle}
 use Rattle.sessions.specs.Schedule.{IsApplied, IsDone, IsNoServe, IsNoSlice, IsOf, IsServe, IsSlice, Scene, in_order}
 use Rattle.sessions.specs.Schedule.{is_joining, is_on, joined}
@@ -41,11 +41,36 @@ use Rattle.sessions.proofs.SameLines.{agree}
 
 -- ---- what is seen, but for lines that were printed
 
+users_unwritten : (users : List Equipped) (user : ℕ)
+    → get_or (map unwritten users) user nobody ≡ unwritten (get_or users user nobody)
+users_unwritten [] user = refl
+users_unwritten (e ∷ users) zero = refl
+users_unwritten (e ∷ users) (suc user) = users_unwritten users user
+
 users_unprinted : (users : List Equipped) (user : ℕ)
     → get_or (map unprinted users) user nobody ≡ unprinted (get_or users user nobody)
 users_unprinted [] user = refl
 users_unprinted (e ∷ users) zero = refl
 users_unprinted (e ∷ users) (suc user) = users_unprinted users user
+
+printed_too : (users : List Equipped) → map unwritten (map unprinted users) ≡ map unwritten users
+printed_too [] = refl
+printed_too (e ∷ users) = ap (λ (us : List Equipped). unwritten e ∷ us) (printed_too users)
+
+printed_again : (users : List Equipped) → map unprinted (map unprinted users) ≡ map unprinted users
+printed_again [] = refl
+printed_again (e ∷ users) = ap (λ (us : List Equipped). unprinted e ∷ us) (printed_again users)
+
+-- What is seen is the same but for printed lines, if these are forgotten.
+pub but_forgotten : (s t : Installed) → t ≡ but_printed s → but_printed s ≡ but_printed t
+but_forgotten s t same =
+    let with_users = λ (us : List Equipped). let x : Installed = record s { machines = us } in x in
+    sym (ap but_printed same ∙ ap with_users (printed_again s.machines))
+
+less_same : (s t : Installed) → but_printed s ≡ but_printed t → but_written s ≡ but_written t
+less_same s t same =
+    let with_users = λ (x : Installed). λ (us : List Equipped). let y : Installed = record x { machines = us } in y in
+    ap (with_users s) (sym (printed_too s.machines)) ∙ ap but_written same ∙ ap (with_users t) (printed_too t.machines)
 
 any_same : {X : Type 0} (p q : X → Bool) → ((x : X) → p x ≡ q x) → (xs : List X) → list_any p xs ≡ list_any q xs
 any_same p q same [] = refl
@@ -78,11 +103,11 @@ joining_same s t user number same sorted (d ∷ ds) =
     (known users) user number d then in_order d sorted else sorted) ds) same
     ∙ joining_same s t user number same (if is_joining t user number d then in_order d sorted else sorted) ds
 
-module _ (s t : Installed) (same : but_printed s ≡ but_printed t) where
-  user_same : (user : ℕ) → unprinted (user_at s user) ≡ unprinted (user_at t user)
+module _ (s t : Installed) (same : but_written s ≡ but_written t) where
+  user_same : (user : ℕ) → unwritten (user_at s user) ≡ unwritten (user_at t user)
   user_same user =
-      sym (users_unprinted s.machines user) ∙ ap (λ (x : Installed). user_at x user) same
-      ∙ users_unprinted t.machines user
+      sym (users_unwritten s.machines user) ∙ ap (λ (x : Installed). user_at x user) same
+      ∙ users_unwritten t.machines user
 
   pub users_same : s.users ≡ t.users
   users_same = ap (λ (x : Installed). x.users) same
@@ -118,16 +143,35 @@ module _ (s t : Installed) (same : but_printed s ≡ but_printed t) where
   dealing_same lines h = subst (λ (users : List KnownUser). IsOf (record s { users = users }) lines) (sym users_same)
       (record { seats = h.seats; stated = h.stated })
 
+-- ---- what is seen, but for lines that were printed
+
+modes_unprinted : (users : List Equipped) → map (λ (e : Equipped). e.machine.mode) (map unprinted users)
+    ≡ map (λ (e : Equipped). e.machine.mode) users
+modes_unprinted [] = refl
+modes_unprinted (e ∷ users) = ap (λ (modes : List Mode). e.machine.mode ∷ modes) (modes_unprinted users)
+
+module _ (s t : Installed) (same : but_printed s ≡ but_printed t) where
+  printed_same : (user : ℕ) → unprinted (user_at s user) ≡ unprinted (user_at t user)
+  printed_same user =
+      sym (users_unprinted s.machines user) ∙ ap (λ (x : Installed). user_at x user) same
+      ∙ users_unprinted t.machines user
+
+  pub seen_names : names_of s ≡ names_of t
+  seen_names = ap (λ (x : Installed). names_of x) same
+
+  pub seen_modes : modes_of s ≡ modes_of t
+  seen_modes = sym (modes_unprinted s.machines) ∙ ap (λ (x : Installed). modes_of x) same ∙ modes_unprinted t.machines
+
   closed_same : (user : ℕ) (kind : FileKind) → closed_in s user kind ≡ closed_in t user kind
   closed_same user (kinds.Punch place) = ap (λ (e : Equipped). closed_in (record s { machines = e ∷ [] }) 0
-      (kinds.Punch place)) (user_same user)
+      (kinds.Punch place)) (printed_same user)
   closed_same user (kinds.Printer place) = ap (λ (e : Equipped). closed_in (record s { machines = e ∷ [] }) 0
-      (kinds.Printer place)) (user_same user)
+      (kinds.Printer place)) (printed_same user)
   closed_same user kinds.Deck = refl
 
   noted_same : (telling : Telling) (number : ℕ) (note : FileNote)
       → note_lines telling s number note ≡ note_lines telling t number note
-  noted_same telling number note = rw (names_same, closed_same note.user note.kind) refl
+  noted_same telling number note = rw (seen_names, closed_same note.user note.kind) refl
 
   from_same : (telling : Telling) (number : ℕ) (notes : List FileNote)
       → lines_from telling s number notes ≡ lines_from telling t number notes
@@ -138,14 +182,25 @@ module _ (s t : Installed) (same : but_printed s ≡ but_printed t) where
         (number + 1) notes,
   ) refl
 
-  pub closing_same : closing_lines s ≡ closing_lines t
-  closing_same =
-      ap (λ (files : List FileNote). lines_from tellings.Transcript s 1 files) (ap (λ (x : Installed). x.files) same)
-      ∙ from_same tellings.Transcript 1 t.files
+  pub seen_files : (telling : Telling) (count : ℕ) → lines_since telling count s ≡ lines_since telling count t
+  seen_files telling count =
+      ap (λ (files : List FileNote). lines_from telling s (count + 1) (drop count files))
+      (ap (λ (x : Installed). x.files) same)
+      ∙ from_same telling (count + 1) (drop count t.files)
+
+-- Nobody is ready in one scene where nobody is in the other.
+pub idle_same : {W : Type 0} (i : Installation W) (one other : Scene W) → one.lines ≡ other.lines
+    → but_printed (i.seen one.world) ≡ but_printed (i.seen other.world) → is_idle i one ≡ is_idle i other
+idle_same i one other lines same =
+    let s = i.seen one.world in
+    let t = i.seen other.world in
+    ap (λ (l : Lines). is_none l.programs && (if list_any (ready_in s) l.users then false else true)) lines
+    ∙ ap (λ (b : Bool). is_none other.lines.programs && (if b then false else true))
+    (any_same (ready_in s) (ready_in t) (ready_same s t (less_same s t same)) other.lines.users)
 
 -- ---- what is seen before and after an event
 
-module _ (s t s' t' : Installed) (before : but_printed s ≡ but_printed t) (after : but_printed s' ≡ but_printed t')
+module _ (s t s' t' : Installed) (before : but_written s ≡ but_written t) (after : but_written s' ≡ but_written t')
     (user : ℕ) where
   queue_same : (queue : List ℕ) → queue_after s s' user queue ≡ queue_after t t' user queue
   queue_same queue =
@@ -200,7 +255,7 @@ module _ {W : Type 0} (i : Installation W) (law : IsToGoOn i) where
   }
 
   pub seen_same : (one other : Scene W) → ContinuesAs i one other
-      → but_printed (i.seen one.world) ≡ but_printed (i.seen other.world)
+      → but_written (i.seen one.world) ≡ but_written (i.seen other.world)
   seen_same one other c = law.seen one.world other.world c.world
 
   -- ---- an act
@@ -216,7 +271,7 @@ module _ {W : Type 0} (i : Installation W) (law : IsToGoOn i) where
     abbrev here : Scene W
     here = within had one lines detail
 
-    before : but_printed (i.seen one) ≡ but_printed (i.seen other)
+    before : but_written (i.seen one) ≡ but_written (i.seen other)
     before = law.seen one other g
 
     -- what goes on as what an event has left goes on as this

@@ -1,23 +1,28 @@
 -- Parts of a script that are joined.
 use Rattle.std.proofs.Common.{◌≡◌, ℕ, zero, suc, Bool, true, false, inl, inr, List, [], ◌∷◌, ◌++◌, Ok, Option, refl, ap}
-use Rattle.std.proofs.Common.{sym, ◌∙◌, subst, append_assoc, append-nil}
+use Rattle.std.proofs.Common.{sym, ◌∙◌, subst, append_assoc, append-nil, length}
 use Rattle.std.specs.Prelude.{◌==◌}
 use Rattle.std.proofs.KnownBytes.{Appends-trans}
 use Rattle.text_words.specs.Lines.{lines_of}
 use Rattle.session_script.specs.Grammar.{Reads, ReadsGrammar, Says}
 use Rattle.session_script.specs.Script.{EventValue, Run, Line, Tick, Serve, Auto, Deck, cards_after, script_of}
 use Rattle.session_script.specs.Users.{KnownUser}
-use Rattle.sessions.specs.Files.{closing_lines}
-use Rattle.sessions.specs.Installed.{Installation, names_of}
-use Rattle.std.specs.Io.KnownBytes.{Appends}
-use Rattle.sessions.specs.Continuing.{IsToGoOn}
+use Rattle.session_script.specs.Users.{names_of as names_in}
+use Rattle.machine_devices.specs.declared.files.FileNote.{FileNote}
+use Rattle.sessions.specs.Files.{closing_lines, lines_since}
+use Rattle.sessions.specs.Installed.{Installation, Installed, names_of}
+use Rattle.sessions.specs.Continuing.{ContinuesAs, IsToGoOn, but_printed}
 use Rattle.sessions.specs.Follow.{BeginsWithNothing, EndsAsSession, HasWholeLines, IsFollowed, PartsJoin}
-use Rattle.sessions.specs.Schedule.{Scene, acts, scene}
+use Rattle.sessions.specs.Noted.{closed_between}
+use Rattle.sessions.specs.Schedule.{Act, Scene, acts, scene}
+use Rattle.sessions.specs.declared.files.Telling.{Telling}
+use Rattle.sessions.specs.declared.files.Telling.TheVariants.{Transcript}
 use Rattle.sessions.specs.declared.schedule.Detail.{Detail}
 use Rattle.cp_dispatch.specs.Policy.{Lines}
 use Rattle.sessions.specs.Session.{IsPlayed, IsSession, at_first}
 use Rattle.sessions.specs.Transcript.{ended, transcript}
-use Rattle.sessions.proofs.Continuing.{closing_same, played_alike, same_scene, scenes_chain, seen_same, users_same}
+use Rattle.sessions.proofs.Continuing.{names_same, played_alike, same_scene, scenes_chain, seen_same, users_same}
+use Rattle.sessions.proofs.Noted.{played_notes, since_joined, since_same}
 use Rattle.sessions.proofs.Histories.{acts_append, history, played_more, played_none}
 
 -- ---- lines
@@ -95,19 +100,24 @@ scripts_join grammar users one other es fs whole first second =
 
 -- ---- what is followed
 
--- a script that was played, to a world that then has forgotten printed lines
+-- a script that was played, to a world that then has forgotten printed lines alone
 pub followed_on : {W : Type 0} (i : Installation W) (text : List ℕ) (script : List EventValue) (old : Scene W)
     (world next : W) (lines : Lines) (detail : Detail)
     (a b : Option (List ℕ)) → script_of (i.seen old.world).users text ≡ Ok script
     → IsPlayed i (acts script) old (scene world lines detail) a b → i.GoesOnAs world next
-    → IsFollowed i text old (scene next lines detail) a b
-followed_on i text script old world next lines detail a b accepted played on = record {
-  script = script;
-  accepted = accepted;
-  end = scene world lines detail;
-  played = played;
-  on = record { world = on; lines = refl; detail = refl; had_slice = refl };
-}
+    → but_printed (i.seen world) ≡ but_printed (i.seen next)
+    → (followed : IsFollowed i text old (scene next lines detail) a b)
+    × (but_printed (i.seen followed.end.world) ≡ but_printed (i.seen next))
+followed_on i text script old world next lines detail a b accepted played on seen = (
+  record {
+    script = script;
+    accepted = accepted;
+    end = scene world lines detail;
+    played = played;
+    on = record { world = on; lines = refl; detail = refl; had_slice = refl };
+  },
+  seen,
+)
 
 module _ {W : Type 0} (i : Installation W) (law : IsToGoOn i) where
   pub nothing : BeginsWithNothing i
@@ -123,8 +133,6 @@ module _ {W : Type 0} (i : Installation W) (law : IsToGoOn i) where
   session detail text first last r s before between after read followed closed =
       let p = followed.played in
       let end = followed.end in
-      let same = closing_same (i.seen end.world) (i.seen last.world) (seen_same i law end last followed.on) in
-      let lines = subst (λ (ls : List (List ℕ)). Appends between after (ended ls)) (sym same) closed in
       let whole : IsSession i detail first end.world r s before after = record {
         text = text;
         read = read;
@@ -136,9 +144,25 @@ module _ {W : Type 0} (i : Installation W) (law : IsToGoOn i) where
         left = refl;
         history = history i (acts followed.script) (at_first i detail first) end p.entries p.done;
         written = Appends-trans before between after (transcript i detail (names_of (i.seen first)) p.entries)
-            (ended (closing_lines (i.seen end.world))) p.written lines;
-      } in
-      (end.world, whole, followed.on.world)
+            (ended (closing_lines (i.seen end.world))) p.written closed;
+      } in (
+        whole,
+        followed.on.world,
+        λ none. ap (λ (files : List FileNote). lines_since Transcript (length files) (i.seen end.world)) none,
+      )
+
+-- What was played from a scene has closed the files that it closed from one that goes on as it.
+pub between_same : {W : Type 0} (i : Installation W) → IsToGoOn i → (telling : Telling) (xs : List Act)
+    (one other end last : Scene W) (a b : Option (List ℕ)) → ContinuesAs i one other → ContinuesAs i end last
+    → IsPlayed i xs other last a b → closed_between i telling one end ≡ closed_between i telling other last
+between_same i law telling xs one other end last a b before after played =
+    let s = i.seen end.world in
+    let t = i.seen last.world in
+    let same = seen_same i law end last after in
+    since_same telling (i.seen one.world) (i.seen other.world) s t
+    (ap (λ (x : Installed). x.files) (seen_same i law one other before)) (ap (λ (x : Installed). x.files) same)
+    (sym (names_same s t same)) (law.full end.world last.world after.world)
+    (played_notes i law xs other last a b played)
 
 -- The parts of a script are one session.
 pub join : ReadsGrammar → {W : Type 0} (i : Installation W) → IsToGoOn i → PartsJoin i
@@ -148,11 +172,20 @@ join grammar i law one other first middle last before between after whole p q =
     let known = sym (users_same (i.seen p.end.world) (i.seen middle.world) (seen_same i law p.end middle p.on)) ∙
     p.played.users in
     let second = subst (λ (u : List KnownUser). script_of u other ≡ Ok q.script) known q.accepted in
-    record {
+    let all : IsFollowed i (one ++ other) first last before after = record {
       script = p.script ++ q.script;
       accepted = scripts_join grammar users one other p.script q.script whole p.accepted second;
       end = found.0;
       played = rw (acts_append p.script q.script)
           (played_more i (acts p.script) (acts q.script) first p.end found.0 before between after p.played found.1);
       on = scenes_chain i law found.0 q.end last found.2 q.on;
-    }
+    } in
+    let closed = played_notes i law (acts p.script) first p.end before between p.played in
+    let more = played_notes i law (acts q.script) p.end found.0 between after found.1 in
+    let names = sym (ap names_in found.1.users) in (
+      all,
+      λ telling.
+          since_joined telling (i.seen first.world) (i.seen p.end.world) (i.seen found.0.world) closed more names
+          ∙ ap (λ (l : List (List ℕ)). closed_between i telling first p.end ++ l)
+          (between_same i law telling (acts q.script) p.end middle found.0 q.end between after p.on found.2 q.played),
+    )

@@ -10,6 +10,7 @@ pub mod Histories
 pub mod Queues
 pub mod Sessions
 pub mod Continuing
+pub mod Noted
 pub mod Joined
 pub mod UsersKnown
 pub mod Changes

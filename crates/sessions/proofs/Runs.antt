@@ -7,14 +7,16 @@ use Rattle.session_script.specs.Users.{KnownUser}
 use Rattle.sessions.specs.Continuing.{ContinuesAs, IsToGoOn}
 use Rattle.sessions.specs.Follow.{HasWholeLines, IsFollowed}
 use Rattle.sessions.specs.Installed.{Installation, IsHistory, Step}
-use Rattle.sessions.specs.Runs.{AreRuns, GoesOn, IsFollowedAs, ProgramRun, RunsAreASession, left_by, texts_of}
-use Rattle.sessions.specs.Runs.{written_of}
+use Rattle.sessions.specs.Noted.{closed_between}
+use Rattle.sessions.specs.Runs.{AreRuns, GoesOn, IsFollowedAs, ProgramRun, RunsAreASession, closed_of, left_by}
+use Rattle.sessions.specs.Runs.{texts_of, written_of}
 use Rattle.sessions.specs.Saved.{IsOneBySaved, KeepsBase}
 use Rattle.sessions.specs.Schedule.{Scene, acts, steps_of}
 use Rattle.sessions.specs.Session.{IsPlayed}
 use Rattle.sessions.proofs.Continuing.{played_alike, scenes_chain, seen_same, users_same}
 use Rattle.sessions.proofs.Histories.{history}
-use Rattle.sessions.proofs.Joined.{join}
+use Rattle.sessions.specs.declared.files.Telling.{Telling}
+use Rattle.sessions.proofs.Joined.{between_same, join}
 use Rattle.sessions.proofs.Restored.{restored}
 
 -- parts of whole lines are joined to whole lines
@@ -30,7 +32,9 @@ module _ {W : Type 0} (i : Installation W) (law : IsToGoOn i) where
 
   -- what was played from a scene was played from one that goes on as it, after what was written before
   played_after : (other : List ℕ) (middle again last : Scene W) (written more : List ℕ) → ContinuesAs i middle again
-      → IsFollowedAs i other again last more → IsFollowed i other middle last (Some written) (Some (written ++ more))
+      → (q : IsFollowedAs i other again last more)
+      → (p : IsFollowed i other middle last (Some written) (Some (written ++ more)))
+      × ((telling : Telling) → closed_between i telling middle p.end ≡ closed_between i telling again q.end)
   played_after other middle again last written more c q =
       let found = played_alike i law (acts q.script) middle again q.end (Some []) (Some more) c q.played in
       let p = found.1 in
@@ -43,18 +47,27 @@ module _ {W : Type 0} (i : Installation W) (law : IsToGoOn i) where
         detail = p.detail;
         dealing = p.dealing;
       } in
-      record {
+      let followed : IsFollowed i other middle last (Some written) (Some (written ++ more)) = record {
         script = q.script;
         accepted = subst (λ (u : List KnownUser). script_of u other ≡ Ok q.script) (sym users) q.accepted;
         end = found.0;
         played = played;
         on = scenes_chain i law found.0 q.end last found.2 q.on;
-      }
+      } in (
+        followed,
+        λ telling. between_same i law telling (acts q.script) middle again found.0 q.end (Some []) (Some more) c found.2
+            q.played,
+      )
 
   pub goes_on : ReadsGrammar → GoesOn i
   goes_on grammar one other first middle again last written more whole p c q =
       let followed = played_after other middle again last written more c q in
-      join grammar i law one other first middle last (Some []) (Some written) (Some (written ++ more)) whole p followed
+      let all = join grammar i law one other first middle last (Some []) (Some written) (Some (written ++ more)) whole p
+      followed.0 in (
+        all.0,
+        λ telling. all.1 telling
+            ∙ ap (λ (l : List (List ℕ)). closed_between i telling first p.end ++ l) (followed.1 telling),
+      )
 
   -- ---- runs
 
@@ -74,14 +87,23 @@ module _ {W : Type 0} (i : Installation W) (law : IsToGoOn i) where
         base.transitive first.world f.end.world last.world same (law.base f.end.world last.world f.on.world)
 
     module _ (grammar : ReadsGrammar) (saved : IsOneBySaved i) where
+      -- a script was followed, and has closed files of these lines
+      abbrev Closes : List ℕ → Scene W → Scene W → List ℕ → (Telling → List (List ℕ)) → Type 0
+      Closes text first last written lines = (all : IsFollowedAs i text first last written)
+          × ((telling : Telling) → closed_between i telling first all.end ≡ lines telling)
+
       -- what the first scene has led to goes on as what the runs go on from
       runs_on : (runs : List (ProgramRun W)) (text : List ℕ) (first here : Scene W) (written : List ℕ)
-          → HasWholeLines text → IsFollowedAs i text first here written
-          → i.HasSameBase first.world here.world → here.detail ≡ first.detail → AreRuns i first here runs
-          → IsFollowedAs i (text ++ texts_of runs) first (left_by here runs) (written ++ written_of runs)
+          → HasWholeLines text → (p : IsFollowedAs i text first here written)
+          → i.HasSameBase first.world here.world → here.detail ≡ first.detail → (h : AreRuns i first here runs)
+          → Closes (text ++ texts_of runs) first (left_by here runs) (written ++ written_of runs)
+          (λ telling. closed_between i telling first p.end ++ closed_of i telling first here runs h)
       runs_on [] text first here written whole p b d h =
-          let shorter = subst (λ (t : List ℕ). IsFollowedAs i t first here written) (sym (append-nil text)) p in
-          subst (λ (w : List ℕ). IsFollowedAs i (text ++ []) first here w) (sym (append-nil written)) shorter
+          let lines = λ (telling : Telling). closed_between i telling first p.end ++ [] in
+          let it : Closes text first here written lines =
+          (p, λ telling. sym (append-nil (closed_between i telling first p.end))) in
+          let shorter = subst (λ (t : List ℕ). Closes t first here written lines) (sym (append-nil text)) it in
+          subst (λ (w : List ℕ). Closes (text ++ []) first here w lines) (sym (append-nil written)) shorter
       runs_on (run ∷ runs) text first here written whole p b d h =
           let r = h.0 in
           let back = base.symmetric first.world here.world b in
@@ -96,14 +118,23 @@ module _ {W : Type 0} (i : Installation W) (law : IsToGoOn i) where
           let detail = sym r.followed.on.detail ∙ (r.followed.played.detail ∙ (r.restored.detail ∙ r.detail)) in
           let lines = whole_join text run.text whole r.lines in
           let more = runs_on runs (text ++ run.text) first run.left
-          (written ++ run.written) lines joined left detail h.1 in
+          (written ++ run.written) lines joined.0 left detail h.1 in
           let last = left_by run.left runs in
           let texts = append_assoc text run.text (texts_of runs) in
           let all = (written ++ run.written) ++ written_of runs in
-          let longer = subst (λ (t : List ℕ). IsFollowedAs i t first last all) texts more in
+          let closed = λ (telling : Telling). closed_between i telling first p.end
+          ++ closed_of i telling first here (run ∷ runs) h in
+          let it : Closes ((text ++ run.text) ++ texts_of runs) first last all closed = (
+            more.0,
+            λ telling. more.1 telling
+                ∙ ap (λ (l : List (List ℕ)). l ++ closed_of i telling first run.left runs h.1) (joined.1 telling)
+                ∙ append_assoc (closed_between i telling first p.end)
+                (closed_between i telling run.begun r.followed.end) (closed_of i telling first run.left runs h.1),
+          ) in
+          let longer = subst (λ (t : List ℕ). Closes t first last all closed) texts it in
           let whole_text = text ++ (run.text ++ texts_of runs) in
           let writings = append_assoc written run.written (written_of runs) in
-          subst (λ (w : List ℕ). IsFollowedAs i whole_text first last w) writings longer
+          subst (λ (w : List ℕ). Closes whole_text first last w closed) writings longer
 
       pub runs_are_a_session : RunsAreASession i
       runs_are_a_session text first middle written runs whole p h =

@@ -1,12 +1,23 @@
--- What is reported of an event that was answered.
-use Rattle.std.proofs.Common.{◌≡◌, ℕ, List, ap, ◌∙◌}
+-- Whose event was said, and what is reported of one that was answered.
+use Rattle.std.proofs.Common.{◌≡◌, ℕ, List, ap, refl, ◌∙◌}
+use Rattle.machine_devices.specs.Events.{user_of}
+use Rattle.machine_devices.specs.declared.event.Event.{Event}
+use Rattle.machine_devices.specs.declared.event.Event.TheVariants as events
 use Rattle.machine_devices.specs.declared.reply.Reply.{Reply}
 use Rattle.session_script.specs.Script.{EventValue}
 use Rattle.session_script.specs.Users.{KnownUser, names_of as names_in}
-use Rattle.sessions.specs.Installed.{Installation, names_of, user_at}
+use Rattle.sessions.specs.Installed.{Installation, as_said, names_of, user_at}
 use Rattle.sessions.specs.Schedule.{user_said}
 use Rattle.sessions.specs.Transcript.{ended, reply_lines, step_lines}
 use Rattle.sessions.specs.declared.schedule.Detail.{Detail}
+
+-- an event is one of the user whom it names
+pub user_same : (event : Event) → user_of event ≡ user_said (as_said event)
+user_same (events.Run user units) = refl
+user_same (events.Line user text) = refl
+user_same (events.Tick user) = refl
+user_same (events.Serve user device) = refl
+user_same (events.Deck user cards) = refl
 
 -- the lines of a reply to an event that was said are those of the step
 pub told_alike : {W : Type 0} (i : Installation W) (detail : Detail) (what : EventValue) (old new : W) (reply : Reply)

@@ -6,11 +6,14 @@ use Rattle.text_words.specs.Lines.{lines_of}
 use Rattle.session_script.specs.Script.{EventValue, script_of}
 use Rattle.session_script.specs.Users.{KnownUser}
 use Rattle.sessions.specs.Files.{closing_lines}
-use Rattle.sessions.specs.Continuing.{ContinuesAs}
+use Rattle.sessions.specs.Continuing.{ContinuesAs, but_printed}
 use Rattle.sessions.specs.Installed.{Installation}
+use Rattle.sessions.specs.Noted.{closed_between}
 use Rattle.sessions.specs.Schedule.{IsOf, Scene, acts}
 use Rattle.sessions.specs.Session.{IsPartly, IsPlayed, IsRead, IsSession, at_first}
 use Rattle.sessions.specs.Transcript.{ended}
+use Rattle.sessions.specs.declared.files.Telling.{Telling}
+use Rattle.sessions.specs.declared.files.Telling.TheVariants.{Transcript}
 use Rattle.sessions.specs.declared.follow.Part.{Part}
 use Rattle.sessions.specs.declared.follow.Part.TheVariants as parts
 use Rattle.sessions.specs.declared.schedule.Detail.{Detail}
@@ -40,7 +43,7 @@ abbrev pub part_of : List KnownUser → List ℕ → Result (List EventValue) �
 part_of users text = ended_script (script_of users text) (unended_line text)
 
 -- the text is a script; it was done, and its transcript was written; the scene to which it has led
--- goes on as this one, which may have forgotten printed lines
+-- goes on as this one, which may have forgotten printed lines and entries of closed files
 pub record IsFollowed {W : Type 0} (i : Installation W) (text : List ℕ) (old new : Scene W)
     (before after : Option (List ℕ)) : Type 0 where
   pub script : List EventValue
@@ -62,30 +65,40 @@ abbrev pub BeginsWithNothing : {W : Type 0} → Installation W → Type 0
 BeginsWithNothing {W} i = (first : Scene W) (before : Option (List ℕ))
     → IsOf (i.seen first.world) first.lines → IsFollowed i [] first first before before
 
--- parts that were followed one after another are one script that was followed, whose transcript is
--- theirs joined
+-- parts that were followed one after another are one script that was followed. Its transcript is
+-- theirs joined, and the files for the operator that it closed are those of the first part and then
+-- those of the second, also where files were forgotten between them
 abbrev pub PartsJoin : {W : Type 0} → Installation W → Type 0
 PartsJoin {W} i = (one other : List ℕ) (first middle last : Scene W)
     (before between after : Option (List ℕ)) → HasWholeLines one →
-    IsFollowed i one first middle before between → IsFollowed i other middle last between after →
-    IsFollowed i (one ++ other) first last before after
+    (front : IsFollowed i one first middle before between)
+    → (rest : IsFollowed i other middle last between after)
+    → (all : IsFollowed i (one ++ other) first last before after)
+    × ((telling : Telling) → closed_between i telling first all.end
+    ≡ closed_between i telling first front.end ++ closed_between i telling middle rest.end)
 
--- a script that was followed from the beginning on, and the files for the operator after it, are
--- its session; and what that leaves goes on as what the script has led to
+-- a script that was followed from the beginning on, and the files for the operator of the scene to
+-- which it has led after it, are its session; and that goes on as what is left, which may have
+-- forgotten these files. They are all that it has closed, where none were closed before
 abbrev pub EndsAsSession : {W : Type 0} → Installation W → Type 0
 EndsAsSession {W} i = (detail : Detail) (text : List ℕ) (first : W) (last : Scene W)
     (reader_old reader_new before between after : Option (List ℕ)) →
     IsRead reader_old reader_new text
-    → IsFollowed i text (at_first i detail first) last before between →
-    Appends between after (ended (closing_lines (i.seen last.world))) →
-    (end : W) × IsSession i detail first end reader_old reader_new before after
-    × i.GoesOnAs end last.world
+    → (followed : IsFollowed i text (at_first i detail first) last before between) →
+    Appends between after (ended (closing_lines (i.seen followed.end.world))) →
+    IsSession i detail first followed.end.world reader_old reader_new before after
+    × i.GoesOnAs followed.end.world last.world
+    × ((i.seen first).files ≡ []
+    → closed_between i Transcript (at_first i detail first) followed.end
+    ≡ closing_lines (i.seen followed.end.world))
 
--- what became of a part: it was done, and has whole lines; or nothing was, since this line of it is
--- the first that is refused
+-- what became of a part: it was done, has whole lines, and of the scene to which it has led only
+-- printed lines are forgotten; or nothing was done, since this line of it is the first that is
+-- refused
 abbrev pub Became : {W : Type 0} → Installation W → List ℕ → Scene W → Part W → Option (List ℕ)
     → Option (List ℕ) → Type 0
 Became i text old (parts.Done new) before after = HasWholeLines text
-    × IsFollowed i text old new before after
+    × (followed : IsFollowed i text old new before after)
+    × (but_printed (i.seen followed.end.world) ≡ but_printed (i.seen new.world))
 Became i text old (parts.Refused new line) before after =
     (part_of (i.seen old.world).users text ≡ Err line) × (new ≡ old) × (after ≡ before)

@@ -4,10 +4,12 @@ use Rattle.std.specs.List.{list_all}
 use Rattle.s370_subchannels.specs.declared.subchannel.Subchannel.{Subchannel}
 use Rattle.machine_panel.specs.Machine.{Machine}
 use Rattle.machine_devices.specs.Equipped.{Equipped, nobody}
+use Rattle.machine_devices.specs.declared.event.Event.{Event}
+use Rattle.machine_devices.specs.declared.event.Event.TheVariants as events
 use Rattle.machine_devices.specs.declared.files.FileNote.{FileNote}
 use Rattle.machine_devices.specs.declared.reply.Reply.{Reply}
 use Rattle.cp_dispatch.specs.declared.program.Program.{Program}
-use Rattle.session_script.specs.Script.{EventValue}
+use Rattle.session_script.specs.Script.{EventValue, Run, Line, Tick, Serve, Deck}
 use Rattle.session_script.specs.Users.{KnownUser, has_device, names_of as names_in}
 
 -- its users, as scripts know them; each one's machine with its devices; and of each file what it
@@ -40,6 +42,14 @@ is_stated users program = has_device users program.user program.device
 -- each program in the line is of a device of its user
 abbrev pub IsLineStated : List KnownUser → List Program → Type 0
 IsLineStated users line = list_all (is_stated users) line ≡ true
+
+-- an event as a script names it
+abbrev pub as_said : Event → EventValue
+as_said (events.Run user units) = Run user units
+as_said (events.Line user text) = Line user text.now
+as_said (events.Tick user) = Tick user
+as_said (events.Serve user device) = Serve user device
+as_said (events.Deck user cards) = Deck user cards.now
 
 -- How an installation goes on: what is seen of it; what an event that a script says leaves of it,
 -- and what it replies; which event may want memory, and what that may leave; and whether it has

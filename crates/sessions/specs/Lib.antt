@@ -6,6 +6,7 @@ pub mod Files
 pub mod Session
 pub mod News
 pub mod Alike
+pub mod Noted
 pub mod Continuing
 pub mod Follow
 pub mod Fair

@@ -4,7 +4,9 @@ use Rattle.cp_dispatch.specs.Saved.{lines_bytes}
 use Rattle.sessions.specs.Continuing.{ContinuesAs}
 use Rattle.sessions.specs.Follow.{HasWholeLines, IsFollowed}
 use Rattle.sessions.specs.Installed.{Installation}
+use Rattle.sessions.specs.Noted.{closed_between}
 use Rattle.sessions.specs.Schedule.{Scene}
+use Rattle.sessions.specs.declared.files.Telling.{Telling}
 
 -- ---- a scene
 
@@ -47,12 +49,15 @@ abbrev pub IsFollowedAs : {W : Type 0} → Installation W → List ℕ → Scene
 IsFollowedAs i text old new written = IsFollowed i text old new (Some []) (Some written)
 
 -- a script that was followed to a scene that goes on as another, and one that was followed from
--- that other, are one script that was followed. Its transcript is theirs joined
+-- that other, are one script that was followed. Its transcript is theirs joined, and the files for
+-- the operator that it closed are those of both
 abbrev pub GoesOn : {W : Type 0} → Installation W → Type 0
 GoesOn {W} i = (one other : List ℕ) (first middle again last : Scene W) (written more : List ℕ) →
-    HasWholeLines one → IsFollowedAs i one first middle written →
-    ContinuesAs i middle again → IsFollowedAs i other again last more →
-    IsFollowedAs i (one ++ other) first last (written ++ more)
+    HasWholeLines one → (front : IsFollowedAs i one first middle written) →
+    ContinuesAs i middle again → (rest : IsFollowedAs i other again last more) →
+    (all : IsFollowedAs i (one ++ other) first last (written ++ more))
+    × ((telling : Telling) → closed_between i telling first all.end
+    ≡ closed_between i telling first front.end ++ closed_between i telling again rest.end)
 
 -- ---- runs of the program
 
@@ -99,10 +104,23 @@ abbrev pub left_by : {W : Type 0} → Scene W → List (ProgramRun W) → Scene 
 left_by here [] = here
 left_by here (run ∷ runs) = left_by run.left runs
 
+-- the lines of the files for the operator that the runs have closed, one after another
+abbrev pub closed_of : {W : Type 0} (i : Installation W) → Telling → (first here : Scene W)
+    (runs : List (ProgramRun W)) → AreRuns i first here runs → List (List ℕ)
+closed_of i telling first here [] those = []
+closed_of i telling first here (run ∷ runs) those =
+    closed_between i telling run.begun those.0.followed.end
+    ++ closed_of i telling first run.left runs those.1
+
 -- however often the program is started anew, the scripts of its runs are one script that was
--- followed from the first scene, and what they wrote is its transcript
+-- followed from the first scene. What they wrote is its transcript, and the files for the operator
+-- that they closed are its files
 abbrev pub RunsAreASession : {W : Type 0} → Installation W → Type 0
 RunsAreASession {W} i = (text : List ℕ) (first middle : Scene W) (written : List ℕ)
     (runs : List (ProgramRun W)) →
-    HasWholeLines text → IsFollowedAs i text first middle written → AreRuns i first middle runs →
-    IsFollowedAs i (text ++ texts_of runs) first (left_by middle runs) (written ++ written_of runs)
+    HasWholeLines text → (front : IsFollowedAs i text first middle written)
+    → (those : AreRuns i first middle runs)
+    → (all : IsFollowedAs i (text ++ texts_of runs) first (left_by middle runs)
+    (written ++ written_of runs))
+    × ((telling : Telling) → closed_between i telling first all.end
+    ≡ closed_between i telling first front.end ++ closed_of i telling first middle runs those)

@@ -13,8 +13,6 @@ use Rattle.machine_panel.specs.declared.machine.Mode.TheVariants.{Off, Stopped, 
 use Rattle.machine_panel.specs.Ready.{is_ready}
 use Rattle.session_script.specs.Script.{EventValue, Run, Line, Tick, Serve, Deck, Auto}
 use Rattle.session_script.specs.Users.{has_device}
-use Rattle.session_script.specs.declared.event.ScriptEvent.{ScriptEvent}
-use Rattle.session_script.specs.declared.event.ScriptEvent.TheVariants as scripts
 use Rattle.sessions.specs.Installed.{Installation, Installed, IsLineStated, Step, machine_at}
 use Rattle.sessions.specs.Installed.{subchannels_at}
 use Rattle.sessions.specs.declared.schedule.Detail.{Detail}
@@ -61,15 +59,6 @@ user_said (Tick user) = user
 user_said (Serve user device) = user
 user_said (Deck user cards) = user
 user_said (Auto count) = 0
-
--- an event, and no turns
-abbrev pub IsEvent : ScriptEvent → Type 0
-IsEvent (scripts.Run user units) = Unit {0}
-IsEvent (scripts.Line user text) = Unit {0}
-IsEvent (scripts.Tick user) = Unit {0}
-IsEvent (scripts.Serve user device) = Unit {0}
-IsEvent (scripts.Deck user cards) = Unit {0}
-IsEvent (scripts.Auto turns) = ⊥
 
 -- an installation, the queue of the users who are dealt slices and the line of the programs that
 -- are dealt serves, and, within a turn, whether somebody had its slice; and which lines of turns a

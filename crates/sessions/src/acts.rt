@@ -3,22 +3,26 @@ ghost use Rattle.std.specs.Prelude.{[], ◌∷◌, Bool, IfOk, OnErr, OnOk};
 ghost use Rattle.std.specs.Io.KnownBytes.{Appends};
 ghost use Rattle.s370_num.specs.Host.{AppendsFront};
 ghost use Rattle.session_script.specs.Script.{IsOfDevice, IsOfUser, said};
-ghost use Rattle.sessions.specs.Schedule.{Applies, IsEvent, IsOf, Serves, Slices, acts_of, passed};
+ghost use Rattle.sessions.specs.Installed.{as_said};
+ghost use Rattle.sessions.specs.Schedule.{Applies, IsOf, Serves, Slices, acts_of, passed};
 ghost use Rattle.sessions.specs.Schedule.{scene, turn, turns, within};
 ghost use Rattle.sessions.specs.Session.{Accounts, IsPartly, IsPlayed};
 ghost use Rattle.sessions.specs.Transcript.{ended, passed_lines};
 
-use crate::answers::{follow, user_in};
+use crate::answers::apply_and_queue;
 use crate::faults::PlayError;
 use crate::installation::Installation;
-use crate::schedule::{Detail, SLICE_UNITS, is_on, note, ready_users};
+use crate::schedule::{Detail, SLICE_UNITS, is_on, ready_users, update_ready_queue};
 use crate::transcript::idle_line;
 use cp_dispatch::Policy;
+use machine_devices::Event;
+use s370_num::DevAddr;
 use s370_num::host::{HostWriter, write_all};
 use session_script::ScriptEvent;
 use std::alloc::Global;
 
-/// Applies an event of the script or deals its turns, and writes the transcript lines of that.
+/// Applies an event of the script or deals its turns, writes the transcript lines of that, and
+/// updates the queue of users and the serve queue.
 pub(crate) fn act<I: Installation, W: HostWriter>(
     alloc: Global,
     installation: &mut I,
@@ -27,8 +31,8 @@ pub(crate) fn act<I: Installation, W: HostWriter>(
     event: &ScriptEvent<'_>,
     writer: &mut W,
 ) -> Result<(), PlayError>
-    requires user { IsOfUser (I.goes.seen installation.old).users event.now }
-    requires device { IsOfDevice (I.goes.seen installation.old).users event.now }
+    requires user { IsOfUser (I.goes.seen installation.old).users (said event.now) }
+    requires device { IsOfDevice (I.goes.seen installation.old).users (said event.now) }
     requires dealing { IsOf (I.goes.seen installation.old) policy.old }
     ensures ok { OnOk result
         (IsPlayed I.goes (acts_of (said event.now)) (scene installation.old policy.old detail)
@@ -41,46 +45,69 @@ pub(crate) fn act<I: Installation, W: HostWriter>(
         (I.goes.is_spent installation.new)
         (W.HostFile.failures writer.old) (W.HostFile.failures writer.new) }
 {
-    match event {
-        ScriptEvent::Auto(turns) => deal(alloc, installation, policy, detail, *turns, writer),
-        _ => apply(alloc, installation, policy, detail, event, writer),
+    match *event {
+        ScriptEvent::Run(user, units) => {
+            let event = Event::Run(user, units);
+            apply(alloc, installation, policy, detail, &event, writer)
+        }
+        ScriptEvent::Line(user, typed) => {
+            let event = Event::Line(user, typed);
+            apply(alloc, installation, policy, detail, &event, writer)
+        }
+        ScriptEvent::Tick(user) => {
+            let event = Event::Tick(user);
+            apply(alloc, installation, policy, detail, &event, writer)
+        }
+        ScriptEvent::Serve(user, device) => {
+            let event = Event::Serve(user, DevAddr::new(device));
+            apply(alloc, installation, policy, detail, &event, writer)
+        }
+        ScriptEvent::Deck(user, cards) => {
+            let cards = cards.to_vec(alloc)?;
+            let event = Event::Deck(user, &cards);
+            apply(alloc, installation, policy, detail, &event, writer)
+        }
+        ScriptEvent::Auto(turns) => deal(alloc, installation, policy, detail, turns, writer),
     }
 }
 
-/// Applies an event of the script and writes its lines; a user who logs on by it is put at the end
-/// of the queue, one who logs off is removed from it.
+/// Applies an event, writes its lines in full, whatever `detail` is, updates the
+/// serve queue, and puts a user who logs on at the end of the queue of users or removes one who
+/// logs off.
 fn apply<I: Installation, W: HostWriter>(
     alloc: Global,
     installation: &mut I,
     policy: &mut Policy,
     detail: Detail,
-    event: &ScriptEvent<'_>,
+    event: &Event<'_>,
     writer: &mut W,
 ) -> Result<(), PlayError>
-    requires user { IsOfUser (I.goes.seen installation.old).users event.now }
-    requires device { IsOfDevice (I.goes.seen installation.old).users event.now }
-    requires event { IsEvent event.now }
+    requires user { IsOfUser (I.goes.seen installation.old).users (as_said event.now) }
+    requires device { IsOfDevice (I.goes.seen installation.old).users (as_said event.now) }
     requires dealing { IsOf (I.goes.seen installation.old) policy.old }
     ensures ok { OnOk result
-        (IsPlayed I.goes (Applies (said event.now) ∷ []) (scene installation.old policy.old detail)
+        (IsPlayed I.goes (Applies (as_said event.now) ∷ [])
+        (scene installation.old policy.old detail)
         (scene installation.new policy.new detail) (W.contents writer.old)
         (W.contents writer.new)) }
     ensures err { OnErr result
-        (IsPartly I.goes (Applies (said event.now) ∷ []) (scene installation.old policy.old detail)
+        (IsPartly I.goes (Applies (as_said event.now) ∷ [])
+        (scene installation.old policy.old detail)
         installation.new (W.contents writer.old) (W.contents writer.new)) }
     ensures why { Accounts result (I.goes.is_spent installation.old)
         (I.goes.is_spent installation.new)
         (W.HostFile.failures writer.old) (W.HostFile.failures writer.new) }
 {
-    let user = user_in(event);
+    let user = event.user();
     let was_on = is_on(installation, user);
-    follow(alloc, installation, policy, Detail::Whole, event, writer)?;
+    apply_and_queue(alloc, installation, policy, Detail::Whole, event, writer)?;
     let is_on = is_on(installation, user);
-    note(policy, user, was_on, is_on);
+    update_ready_queue(policy, user, was_on, is_on);
     Ok(())
 }
 
-/// Deals this many turns, one after another, and writes the lines of each.
+/// Deals this many turns, one after another, which moves users and programs to the ends of their
+/// queues, and writes the lines of each.
 fn deal<I: Installation, W: HostWriter>(
     alloc: Global,
     installation: &mut I,
@@ -130,8 +157,8 @@ fn turn<I: Installation, W: HostWriter>(
     serve(alloc, installation, policy, detail, had_slice, writer)
 }
 
-/// Lets the machine of the first user in the queue who is ready run for a slice, writes its lines,
-/// and returns whether there was such a user.
+/// Gives a slice to the first user in the queue who is ready, moves those before him and then him
+/// to its end, writes the lines, and returns whether there was such a user.
 fn slice<I: Installation, W: HostWriter>(
     alloc: Global,
     installation: &mut I,
@@ -155,13 +182,13 @@ fn slice<I: Installation, W: HostWriter>(
     let Some(user) = policy.slice(&ready) else {
         return Ok(false);
     };
-    let event = ScriptEvent::Run(user, SLICE_UNITS);
-    follow(alloc, installation, policy, detail, &event, writer)?;
+    let event = Event::Run(user, SLICE_UNITS);
+    apply_and_queue(alloc, installation, policy, detail, &event, writer)?;
     Ok(true)
 }
 
-/// Serves the first program in the serve queue and writes its lines; if there is none, and nobody
-/// had the slice of the turn, writes that the turn was idle.
+/// Moves the first program in the serve queue to its end, serves it and writes its lines; if there
+/// is none, and nobody had the slice of the turn, writes that the turn was idle.
 fn serve<I: Installation, W: HostWriter>(
     alloc: Global,
     installation: &mut I,
@@ -184,8 +211,8 @@ fn serve<I: Installation, W: HostWriter>(
 {
     match policy.serve() {
         Some(program) => {
-            let event = ScriptEvent::Serve(program.user, program.device.get());
-            follow(alloc, installation, policy, detail, &event, writer)
+            let event = Event::Serve(program.user, program.device);
+            apply_and_queue(alloc, installation, policy, detail, &event, writer)
         }
         None => pass(detail, had_slice, writer),
     }

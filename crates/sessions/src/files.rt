@@ -32,7 +32,7 @@ pub enum Telling {
 
 /// Returns the lines of all files that were closed for the operator, but not of those among the
 /// first `since` files, in the order of their numbers, each ended by LF.
-pub(crate) fn print_files<I: Installation>(
+pub(crate) fn operator_file_lines<I: Installation>(
     alloc: Global,
     installation: &I,
     telling: Telling,
@@ -46,7 +46,7 @@ pub(crate) fn print_files<I: Installation>(
         let Some(note) = installation.file(place) else {
             unreachable!();
         };
-        print_noted(
+        append_noted(
             alloc,
             &mut text,
             installation,
@@ -60,7 +60,7 @@ pub(crate) fn print_files<I: Installation>(
 
 /// Appends the lines of the file of this number, of which this is the note, if it was closed for
 /// the operator.
-fn print_noted<I: Installation>(
+fn append_noted<I: Installation>(
     alloc: Global,
     out: &mut Vec<u8>,
     installation: &I,
@@ -71,7 +71,7 @@ fn print_noted<I: Installation>(
     ensures { OnOk result (out.new.items ≡ out.old.items
         ++ ended (note_lines telling (I.goes.seen installation.now) number note)) }
 {
-    print_found(
+    append_found(
         alloc,
         out,
         telling,
@@ -84,7 +84,7 @@ fn print_noted<I: Installation>(
 
 /// Appends the lines of this file, if there is one and it is for the operator, with its kind, its
 /// number and the name of its user.
-fn print_found(
+fn append_found(
     alloc: Global,
     out: &mut Vec<u8>,
     telling: Telling,
@@ -98,7 +98,7 @@ fn print_found(
         (option_map closed_file (option_copied file.entry)))) }
 {
     match file {
-        Some(file) => print_file(alloc, out, telling, kind, number, name, file),
+        Some(file) => append_file(alloc, out, telling, kind, number, name, file),
         None => Ok(()),
     }
 }
@@ -130,7 +130,7 @@ fn closed_file<I: Installation>(
 /// == PRT 0001 A
 /// 09 HELLO
 /// ```
-fn print_file(
+fn append_file(
     alloc: Global,
     out: &mut Vec<u8>,
     telling: Telling,
@@ -144,8 +144,8 @@ fn print_file(
 {
     match file.target() {
         Target::System => {
-            print_heading(alloc, out, telling, kind, number, name)?;
-            print_entries(alloc, out, telling, kind, file.entries())
+            append_heading(alloc, out, telling, kind, number, name)?;
+            append_entries(alloc, out, telling, kind, file.entries())
         }
         Target::User(_) => Ok(()),
     }
@@ -173,7 +173,7 @@ fn entry_mark(telling: Telling) -> &'static [u8]
 }
 
 /// Appends the heading of a file: a mark, its kind, its number and the name of its user.
-fn print_heading(
+fn append_heading(
     alloc: Global,
     out: &mut Vec<u8>,
     telling: Telling,
@@ -208,7 +208,7 @@ fn kind_word(kind: FileKind) -> &'static [u8]
 }
 
 /// Appends a line for each of these entries of a file of this kind.
-fn print_entries(
+fn append_entries(
     alloc: Global,
     out: &mut Vec<u8>,
     telling: Telling,
@@ -219,13 +219,13 @@ fn print_entries(
         ++ ended (map (marked_entry telling kind) entries.now)) }
 {
     for entry in entries {
-        print_entry(alloc, out, telling, kind, entry)?;
+        append_entry(alloc, out, telling, kind, entry)?;
     }
     Ok(())
 }
 
 /// Appends the line of an entry; of a printer's file it has the command's code before the bytes.
-fn print_entry(
+fn append_entry(
     alloc: Global,
     out: &mut Vec<u8>,
     telling: Telling,
@@ -237,16 +237,16 @@ fn print_entry(
 {
     out.extend_from_slice(entry_mark(telling))?;
     match kind {
-        FileKind::Printer(_) => print_code(alloc, out, entry.code())?,
+        FileKind::Printer(_) => append_code(alloc, out, entry.code())?,
         FileKind::Punch(_) | FileKind::Deck => {}
     }
-    print_bytes(out, entry.bytes())?;
+    append_printable(out, entry.bytes())?;
     out.push(b'\n')?;
     Ok(())
 }
 
 /// Appends the code of a command in two hexadecimal digits, and a blank.
-fn print_code(alloc: Global, out: &mut Vec<u8>, code: u8) -> Result<(), AllocError>
+fn append_code(alloc: Global, out: &mut Vec<u8>, code: u8) -> Result<(), AllocError>
     ensures { OnOk result (out.new.items ≡ out.old.items ++ (two_digits code ++ 32 ∷ [])) }
 {
     let code = code_text(alloc, code)?;
@@ -270,7 +270,7 @@ fn number_text(alloc: Global, number: u64) -> Result<String, AllocError>
 }
 
 /// Appends bytes as the characters that they print as.
-fn print_bytes(out: &mut Vec<u8>, bytes: &[u8]) -> Result<(), AllocError>
+fn append_printable(out: &mut Vec<u8>, bytes: &[u8]) -> Result<(), AllocError>
     ensures { OnOk result (out.new.items ≡ out.old.items ++ printed_text bytes.now) }
 {
     for byte in bytes {

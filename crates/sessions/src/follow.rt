@@ -5,9 +5,9 @@
 //! session ([`parts_are_a_session`]).
 ghost use Rattle.std.specs.Prelude.{◌≡◌, ◌⊎◌, ℕ, All, Bool, [], Err, IfErr, IfOk, IfSome, Ok};
 ghost use Rattle.std.specs.Prelude.{OnErr, OnOk, length, map, true};
-ghost use Rattle.std.specs.Io.KnownBytes.{Appends};
-ghost use Rattle.s370_num.specs.Host.{AppendsFront};
-ghost use Rattle.sessions.specs.Files.{closing_lines, lines_since};
+ghost use Rattle.std.specs.Io.KnownBytes.{Keeps};
+ghost use Rattle.sessions.specs.Continuing.{ContinuesAs};
+ghost use Rattle.sessions.specs.Files.{lines_since};
 ghost use Rattle.session_script.specs.Script.{IsOfDevice, IsOfUser, IsRefusal, said, script_of};
 ghost use Rattle.sessions.specs.Follow.{Became, BeginsWithNothing, EndsAsSession, HasWholeLines};
 ghost use Rattle.sessions.specs.Follow.{IsFollowedPartly, PartsJoin, part_of, unended_line};
@@ -22,12 +22,12 @@ ghost use Rattle.sessions.specs.Transcript.{ended};
 ghost use Rattle.sessions.specs.declared.files.Telling.TheVariants.{Answer};
 
 use crate::faults::PlayError;
-use crate::files::{Telling, print_files};
+use crate::files::{Telling, operator_file_lines};
 use crate::installation::Installation;
 use crate::known::read_events;
-use crate::news::{modes, print_changes};
+use crate::news::{mode_change_lines, modes};
 use crate::schedule::{Detail, first_policy, ready_users};
-use crate::session::{close, play};
+use crate::session::play;
 use crate::transcript::names;
 use cp_dispatch::{Policy, Program, Ready};
 use machine_panel::Mode;
@@ -108,8 +108,9 @@ impl<I: Installation + Drop> Follower<I> {
         &self.installation
     }
 
-    /// Does a part of the script and writes its transcript lines; if one of its lines is refused,
-    /// or the last one is not ended, does nothing and returns the number of that line.
+    /// Does a part of the script, writes its transcript lines and drops the consoles' printed
+    /// lines; if a line is refused or the last one is not ended, does nothing and returns that
+    /// line's number.
     ///
     /// What consoles have printed is dropped then, since it was written. After a failure there is
     /// nothing that goes on.
@@ -169,24 +170,32 @@ impl<I: Installation + Drop> Follower<I> {
         }))
     }
 
-    /// Writes the files for the operator, flushes the writer, and returns the installation: the
-    /// session is over.
+    /// Drops the entries of the files that were closed since there were so many, which were written
+    /// as the answer to their part; what follows goes on as with them.
+    pub fn forget_files(&mut self, files: usize)
+        ensures on { ContinuesAs I.goes self.old self.new }
+        ensures chain { (first : Scene I) → ContinuesAs I.goes first self.old
+            → ContinuesAs I.goes first self.new }
+    {
+        I::printed_lines_do_not_matter();
+        self.installation.forget_files(files);
+    }
+
+    /// Flushes the writer, and returns the installation: the session is over.
+    ///
+    /// The files for the operator were written in the answers to the parts that closed them.
     ///
     /// # Errors
     ///
-    /// A `PlayError`: refused memory, a failure of the writer, or a spent installation. A beginning
-    /// may be written.
-    pub fn close<W: HostWriter>(self, alloc: Global, writer: &mut W) -> Result<I, PlayError>
+    /// A `PlayError`: a failure of the writer.
+    pub fn close<W: HostWriter>(self, writer: &mut W) -> Result<I, PlayError>
         ensures installation { IfOk result (λ installation. installation ≡ self.world) }
-        ensures ok { OnOk result (Appends (W.contents writer.old) (W.contents writer.new)
-            (ended (closing_lines (I.goes.seen self.world)))) }
-        ensures err { OnErr result (AppendsFront (W.contents writer.old) (W.contents writer.new)
-            (ended (closing_lines (I.goes.seen self.world)))) }
+        ensures unwritten { Keeps (W.contents writer.old) (W.contents writer.new) }
         ensures flushed { OnOk result (W.held writer.new ≡ []) }
         ensures why { (is : Bool) → Accounts result is is (W.HostFile.failures writer.old)
             (W.HostFile.failures writer.new) }
     {
-        close(alloc, &self.installation, writer)?;
+        writer.flush()?;
         Ok(self.installation)
     }
 
@@ -277,7 +286,7 @@ impl<I: Installation + Drop> Follower<I> {
         ensures { IfOk result (λ text. text.items
             ≡ ended (lines_since Answer files (I.goes.seen self.now.world))) }
     {
-        print_files(alloc, &self.installation, Telling::Answer, files)
+        operator_file_lines(alloc, &self.installation, Telling::Answer, files)
     }
 
     /// Returns a new list of the mode of each user's machine.
@@ -307,7 +316,7 @@ impl<I: Installation + Drop> Follower<I> {
         let _users = self.installation.users();
         let names = names(alloc, &self.installation)?;
         let news = modes(alloc, &self.installation)?;
-        print_changes(alloc, &names, olds, &news)
+        mode_change_lines(alloc, &names, olds, &news)
     }
 
     /// Returns whether no user in the queue is ready for a slice, and the serve queue is empty.
@@ -348,9 +357,11 @@ fn read_part<'a, I: Installation>(
         ≡ Ok (map said events.items)) }
     ensures whole { OnOk result (HasWholeLines text.now) }
     ensures users { IfOk result
-        (λ events. All (IsOfUser (I.goes.seen installation.now).users) events.items) }
+        (λ events. All (λ e. IsOfUser (I.goes.seen installation.now).users (said e))
+        events.items) }
     ensures devices { IfOk result
-        (λ events. All (IsOfDevice (I.goes.seen installation.now).users) events.items) }
+        (λ events. All (λ e. IsOfDevice (I.goes.seen installation.now).users (said e))
+        events.items) }
     ensures err { IfErr result (IsRefusal (part_of (I.goes.seen installation.now).users text.now)) }
 {
     let events = read_events(alloc, installation, text)?;

@@ -2,20 +2,19 @@
 ghost use Rattle.std.specs.Prelude.{◌≡◌, ◌<◌, ◌≤◌, ◌⊎◌, Bool, true, false, Err, IfOk, IfSome};
 ghost use Rattle.std.specs.Prelude.{OnErr, OnOk, length, slice_get};
 ghost use Rattle.std.specs.Option.{option_map};
-ghost use Rattle.session_script.specs.Script.{IsOfDevice, IsOfUser, said};
+ghost use Rattle.session_script.specs.Script.{IsOfDevice, IsOfUser};
 ghost use Rattle.session_script.specs.Users.{devices_of, has_device};
 ghost use Rattle.user_names.specs.Users.{name_of};
 ghost use Rattle.sessions.specs.Continuing.{IsToGoOn, but_printed};
-ghost use Rattle.sessions.specs.Installed.{Installation as Goings, machine_at, names_of};
-ghost use Rattle.sessions.specs.Installed.{subchannels_at, user_at};
+ghost use Rattle.sessions.specs.Installed.{Installation as Goings, as_said, machine_at};
+ghost use Rattle.sessions.specs.Installed.{names_of, subchannels_at, user_at};
 ghost use Rattle.sessions.specs.Saved.{AppendsState, IsOneBySaved, KeepsBase};
-ghost use Rattle.sessions.specs.Schedule.{IsEvent, ready_in};
+ghost use Rattle.sessions.specs.Schedule.{ready_in};
 
-use machine_devices::{FileNote, Reply, SeenDevices};
+use machine_devices::{Event, FileNote, Reply, SeenDevices};
 use machine_panel::Mode;
 use s370_subchannels::Subchannel;
 use saved_bytes::Input;
-use session_script::ScriptEvent;
 use std::alloc::{AllocError, Global};
 use thiserror::Error;
 use user_names::UserNo;
@@ -100,20 +99,19 @@ pub trait Installation {
     fn file(&self, place: usize) -> Option<FileNote>
         ensures { result ≡ slice_get ((goes).seen self.now).files place };
 
-    /// Applies an event of a script, and returns the reply.
+    /// Applies an event to the machine of the user whom it names, and returns the reply.
     ///
     /// # Errors
     ///
     /// A `Refused`: refused memory, or a spent installation.
-    fn apply_event(&mut self, alloc: Global, event: &ScriptEvent<'_>) -> Result<Reply, Refused>
-        requires user { IsOfUser ((goes).seen self.old).users event.now }
-        requires device { IsOfDevice ((goes).seen self.old).users event.now }
-        requires event { IsEvent event.now }
+    fn apply_event(&mut self, alloc: Global, event: &Event<'_>) -> Result<Reply, Refused>
+        requires user { IsOfUser ((goes).seen self.old).users (as_said event.now) }
+        requires device { IsOfDevice ((goes).seen self.old).users (as_said event.now) }
         ensures ok { IfOk result
-            (λ reply. (goes).Happens self.old (said event.now) reply self.new) }
+            (λ reply. (goes).Happens self.old (as_said event.now) reply self.new) }
         ensures err { OnErr result
-            ((self.new ≡ self.old) ⊎ (goes).Lacks self.old (said event.now) self.new) }
-        ensures memory { result ≡ Err Refused.Memory → (goes).May self.old (said event.now) }
+            ((self.new ≡ self.old) ⊎ (goes).Lacks self.old (as_said event.now) self.new) }
+        ensures memory { result ≡ Err Refused.Memory → (goes).May self.old (as_said event.now) }
         ensures users { ((goes).seen self.new).users ≡ ((goes).seen self.old).users }
         ensures alive { OnOk result ((goes).is_spent self.new ≡ false) }
         ensures spent { result ≡ Err Refused.Spent → (goes).is_spent self.old ≡ true };
@@ -122,6 +120,12 @@ pub trait Installation {
     fn forget_printed(&mut self)
         ensures on { (goes).GoesOnAs self.old self.new }
         ensures seen { (goes).seen self.new ≡ but_printed ((goes).seen self.old) };
+
+    /// Drops the entries of the closed files that have a number but of the first `since`; what
+    /// follows goes on as with them.
+    fn forget_files(&mut self, since: usize)
+        ensures on { (goes).GoesOnAs self.old self.new }
+        ensures users { ((goes).seen self.new).users ≡ ((goes).seen self.old).users };
 
     /// Appends the state of the installation, and returns true; returns false if it has no states.
     ///

@@ -19,9 +19,11 @@ pub(crate) fn read_events<'a, I: Installation>(
         (λ events. script_of (I.goes.seen installation.now).users text.now
         ≡ Ok (map said events.items)) }
     ensures users { IfOk result
-        (λ events. All (IsOfUser (I.goes.seen installation.now).users) events.items) }
+        (λ events. All (λ e. IsOfUser (I.goes.seen installation.now).users (said e))
+        events.items) }
     ensures devices { IfOk result
-        (λ events. All (IsOfDevice (I.goes.seen installation.now).users) events.items) }
+        (λ events. All (λ e. IsOfDevice (I.goes.seen installation.now).users (said e))
+        events.items) }
     ensures err { IfErr result
         (IsRefusal (script_of (I.goes.seen installation.now).users text.now)) }
 {

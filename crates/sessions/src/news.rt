@@ -26,7 +26,7 @@ pub(crate) fn modes<I: Installation>(
 
 /// Returns the lines of who of these users has logged on or off, and whose machine was started or
 /// stopped, from the old modes to the new ones, each ended by LF.
-pub(crate) fn print_changes(
+pub(crate) fn mode_change_lines(
     alloc: Global,
     names: &[Vec<u8>],
     olds: &[Mode],
@@ -41,7 +41,7 @@ pub(crate) fn print_changes(
     for place in 0..names.len() {
         let old = mode_at(olds, place);
         let new = mode_at(news, place);
-        print_change(&mut text, &names[place], old, new)?;
+        append_change(&mut text, &names[place], old, new)?;
     }
     Ok(text)
 }
@@ -56,29 +56,29 @@ fn mode_at(modes: &[Mode], place: usize) -> Mode
 
 /// Appends the lines of whether the user of this name has logged on or off and whether his machine
 /// was started or stopped, if so.
-fn print_change(out: &mut Vec<u8>, name: &[u8], old: Mode, new: Mode) -> Result<(), AllocError>
+fn append_change(out: &mut Vec<u8>, name: &[u8], old: Mode, new: Mode) -> Result<(), AllocError>
     ensures { OnOk result (out.new.items ≡ out.old.items ++ ended (change_lines name.now old new)) }
 {
     match (old, new) {
-        (Mode::Off, Mode::Stopped) => print_news(out, b"> ON ", name),
+        (Mode::Off, Mode::Stopped) => append_mode_line(out, b"> ON ", name),
         (Mode::Off, Mode::Running) => {
-            print_news(out, b"> ON ", name)?;
-            print_news(out, b"> RUNS ", name)
+            append_mode_line(out, b"> ON ", name)?;
+            append_mode_line(out, b"> RUNS ", name)
         }
-        (Mode::Stopped, Mode::Off) => print_news(out, b"> OFF ", name),
-        (Mode::Stopped, Mode::Running) => print_news(out, b"> RUNS ", name),
+        (Mode::Stopped, Mode::Off) => append_mode_line(out, b"> OFF ", name),
+        (Mode::Stopped, Mode::Running) => append_mode_line(out, b"> RUNS ", name),
         (Mode::Running, Mode::Off) => {
-            print_news(out, b"> STOPS ", name)?;
-            print_news(out, b"> OFF ", name)
+            append_mode_line(out, b"> STOPS ", name)?;
+            append_mode_line(out, b"> OFF ", name)
         }
-        (Mode::Running, Mode::Stopped) => print_news(out, b"> STOPS ", name),
+        (Mode::Running, Mode::Stopped) => append_mode_line(out, b"> STOPS ", name),
         (Mode::Off, Mode::Off) | (Mode::Stopped, Mode::Stopped) | (Mode::Running, Mode::Running) =>
             Ok(()),
     }
 }
 
 /// Appends a line with this word and a name.
-fn print_news(out: &mut Vec<u8>, word: &[u8], name: &[u8]) -> Result<(), AllocError>
+fn append_mode_line(out: &mut Vec<u8>, word: &[u8], name: &[u8]) -> Result<(), AllocError>
     ensures { OnOk result (out.new.items ≡ out.old.items ++ ended ((word.now ++ name.now) ∷ [])) }
 {
     out.extend_from_slice(word)?;

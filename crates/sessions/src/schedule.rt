@@ -4,7 +4,7 @@ ghost use Rattle.cp_dispatch.specs.Policy.{is_ready as is_flagged};
 ghost use Rattle.sessions.specs.Schedule.{first_lines, is_on, is_user_on, queue_with, ready_in};
 
 use crate::installation::Installation;
-use crate::starts::line_up;
+use crate::starts::update_serve_queue;
 use cp_dispatch::{Policy, Ready};
 use machine_panel::Mode;
 use std::alloc::{AllocError, Global};
@@ -42,7 +42,7 @@ pub(crate) fn is_on<I: Installation>(installation: &I, user: UserNo) -> bool
 
 /// Puts a user who has logged on at the end of the queue, and removes one who has logged off from
 /// it; else it does nothing.
-pub(crate) fn note(policy: &mut Policy, user: UserNo, was_on: bool, is_on: bool)
+pub(crate) fn update_ready_queue(policy: &mut Policy, user: UserNo, was_on: bool, is_on: bool)
     requires { user < policy.old.most_users }
     ensures { policy.new ≡ record
         policy.old { users = queue_with user was_on is_on policy.old.users } }
@@ -67,8 +67,8 @@ pub(crate) fn first_policy<I: Installation>(
     let mut policy = Policy::new(alloc, users)?;
     for number in 0..users {
         let user = UserNo::new(number as u8);
-        note(&mut policy, user, false, is_on(installation, user));
-        line_up(alloc, installation, &mut policy, user, 0)?;
+        update_ready_queue(&mut policy, user, false, is_on(installation, user));
+        update_serve_queue(alloc, installation, &mut policy, user, 0)?;
     }
     Ok(policy)
 }

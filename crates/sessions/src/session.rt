@@ -12,7 +12,7 @@ ghost use Rattle.sessions.specs.declared.schedule.Detail.TheVariants.{Whole};
 
 use crate::acts::act;
 use crate::faults::{PlayError, SessionError};
-use crate::files::{Telling, print_files};
+use crate::files::{Telling, operator_file_lines};
 use crate::installation::Installation;
 use crate::known::read_events;
 use crate::schedule::{Detail, first_policy};
@@ -21,8 +21,9 @@ use s370_num::host::{HostReader, HostWriter, read_all, write_all};
 use session_script::ScriptEvent;
 use std::alloc::Global;
 
-/// Reads a whole script, applies its events and deals its turns, and writes the lines of each and
-/// at the end the files for the operator; if a line of it is faulty, does nothing.
+/// Reads a whole script, applies its events and deals its turns, writes the lines of each and at
+/// the end the files for the operator, and flushes the writer; if a line of it is faulty, does
+/// nothing.
 ///
 /// When it ends well, nothing that was written is held back.
 ///
@@ -88,8 +89,8 @@ pub fn session<I: Installation, R: HostReader, W: HostWriter>(
     Ok(())
 }
 
-/// Applies the events and deals the turns of a script one after another, and writes the lines of
-/// each as soon as it is done.
+/// Applies the events and deals the turns of a script one after another, updates both queues, and
+/// writes the lines of each as soon as it is done.
 pub(crate) fn play<I: Installation, W: HostWriter>(
     alloc: Global,
     installation: &mut I,
@@ -98,8 +99,9 @@ pub(crate) fn play<I: Installation, W: HostWriter>(
     events: &[ScriptEvent<'_>],
     writer: &mut W,
 ) -> Result<(), PlayError>
-    requires users { All (IsOfUser (I.goes.seen installation.old).users) events.now }
-    requires devices { All (IsOfDevice (I.goes.seen installation.old).users) events.now }
+    requires users { All (λ e. IsOfUser (I.goes.seen installation.old).users (said e)) events.now }
+    requires devices { All (λ e. IsOfDevice (I.goes.seen installation.old).users (said e))
+        events.now }
     requires dealing { IsOf (I.goes.seen installation.old) policy.old }
     ensures ok { OnOk result
         (IsPlayed I.goes (acts (map said events.now)) (scene installation.old policy.old detail)
@@ -119,7 +121,7 @@ pub(crate) fn play<I: Installation, W: HostWriter>(
 }
 
 /// Writes the lines of all files for the operator, and flushes the writer.
-pub(crate) fn close<I: Installation, W: HostWriter>(
+fn close<I: Installation, W: HostWriter>(
     alloc: Global,
     installation: &I,
     writer: &mut W,
@@ -132,7 +134,7 @@ pub(crate) fn close<I: Installation, W: HostWriter>(
     ensures why { (is : Bool) → Accounts result is is (W.HostFile.failures writer.old)
         (W.HostFile.failures writer.new) }
 {
-    let files = print_files(alloc, installation, Telling::Transcript, 0)?;
+    let files = operator_file_lines(alloc, installation, Telling::Transcript, 0)?;
     write_all(writer, &files)?;
     writer.flush()?;
     Ok(())

@@ -28,7 +28,7 @@ pub(crate) fn next_start<I: Installation>(installation: &I, user: UserNo) -> u64
 
 /// Removes the programs of a user that have ended or were withdrawn from the serve queue, and
 /// appends those that were started with this number or a later one, in the order of their starts.
-pub(crate) fn line_up<I: Installation>(
+pub(crate) fn update_serve_queue<I: Installation>(
     alloc: Global,
     installation: &I,
     policy: &mut Policy,
@@ -45,7 +45,7 @@ pub(crate) fn line_up<I: Installation>(
 {
     let started = started_since(alloc, installation, user, number)?;
     withdraw(policy, user, installation.subchannels(user));
-    join(policy, user, &started)
+    queue_started(policy, user, &started)
 }
 
 /// Returns the number of the latest start of these devices, or 0.
@@ -140,7 +140,8 @@ fn place_in_order(started: &[Subchannel], d: &Subchannel) -> Option<usize>
         .position(|other| d.last_start < other.last_start)
 }
 
-/// Removes from the serve queue the programs of those of these devices of a user that do not work.
+/// Removes from the serve queue the programs of those of these devices of a user that are not
+/// working.
 fn withdraw(policy: &mut Policy, user: UserNo, list: &[Subchannel])
     ensures { policy.new ≡ record
         policy.old { programs = withdrawn user list.now policy.old.programs } }
@@ -150,7 +151,8 @@ fn withdraw(policy: &mut Policy, user: UserNo, list: &[Subchannel])
     }
 }
 
-/// Removes the program of a device of a user from the serve queue, if the device does not work.
+/// Removes the program of a device of a user from the serve queue, if the device is not
+/// working.
 fn withdraw_one(policy: &mut Policy, user: UserNo, d: &Subchannel)
     ensures { policy.new ≡ record policy.old {
       programs = if works d.now.state then policy.old.programs
@@ -158,18 +160,23 @@ fn withdraw_one(policy: &mut Policy, user: UserNo, d: &Subchannel)
     } }
 {
     if !works(d.state) {
-        policy.ended(user, d.address);
+        policy.remove_program(user, d.address);
     }
 }
 
-/// Moves the program of each of these devices of a user to the end of the serve queue, in order.
-fn join(policy: &mut Policy, user: UserNo, started: &[Subchannel]) -> Result<(), AllocError>
+/// Puts the program of each of these devices of a user at the end of the serve queue, in order:
+/// adds it, or moves it there if it is in the queue.
+fn queue_started(
+    policy: &mut Policy,
+    user: UserNo,
+    started: &[Subchannel],
+) -> Result<(), AllocError>
     ensures ok { OnOk result (policy.new
         ≡ record policy.old { programs = joined user started.now policy.old.programs }) }
     ensures rest { policy.new ≡ record policy.old { programs = policy.new.programs } }
 {
     for d in started {
-        policy.started(user, d.address)?;
+        policy.add_program(user, d.address)?;
     }
     Ok(())
 }

@@ -1,8 +1,7 @@
 //! The transcript: the lines of an event and its reply.
 ghost use Rattle.std.specs.Prelude.{◌≡◌, ◌++◌, ◌∷◌, ◌<◌, [], IfOk, OnOk, length, map};
-ghost use Rattle.session_script.specs.Script.{said};
 ghost use Rattle.user_names.specs.Users.{name_of};
-ghost use Rattle.sessions.specs.Installed.{machine_at, names_of, user_at};
+ghost use Rattle.sessions.specs.Installed.{as_said, machine_at, names_of, user_at};
 ghost use Rattle.sessions.specs.Schedule.{Idle};
 ghost use Rattle.sessions.specs.Transcript.{CutsBack, delivered_lines, ended, ending_lines};
 ghost use Rattle.sessions.specs.Transcript.{frames_line, idle_lines, lacking_lines, last_lines};
@@ -13,10 +12,9 @@ ghost use Rattle.sessions.specs.Transcript.{served_word, told_line, end_lines, w
 use crate::installation::Installation;
 use crate::schedule::Detail;
 use cp_console::printing;
-use machine_devices::{Delivered, Delivery, Ended, Reply, UserResponse, deck_line};
+use machine_devices::{Delivered, Delivery, Ended, Event, Reply, UserResponse, deck_line};
 use s370_intr::{Ran, Reason};
 use s370_num::DevAddr;
-use session_script::ScriptEvent;
 use std::alloc::{AllocError, Global};
 use user_names::UserNo;
 
@@ -30,20 +28,20 @@ pub(crate) fn print_reply<I: Installation>(
     installation: &I,
     detail: Detail,
     user: UserNo,
-    event: &ScriptEvent<'_>,
+    event: &Event<'_>,
     reply: &Reply,
 ) -> Result<Vec<u8>, AllocError>
     requires { user < length (I.goes.seen installation.now).users }
     ensures { let seen = user_at (I.goes.seen installation.now) user in
         IfOk result (λ text. text.items
         ≡ ended (reply_lines detail (names_of (I.goes.seen installation.now)) user
-        (said event.now) seen.devices.reader.decks seen.machine.output reply.now)) }
+        (as_said event.now) seen.devices.reader.decks seen.machine.output reply.now)) }
 {
     let mut text = Vec::new(alloc);
-    print_said(alloc, &mut text, installation, user, reply.said)?;
-    print_written(&mut text, installation, user, reply)?;
-    print_delivered(&mut text, installation, reply.delivered)?;
-    print_end(
+    append_response(alloc, &mut text, installation, user, reply.said)?;
+    append_written(&mut text, installation, user, reply)?;
+    append_message(&mut text, installation, reply.delivered)?;
+    append_ending(
         alloc,
         &mut text,
         detail,
@@ -55,7 +53,7 @@ pub(crate) fn print_reply<I: Installation>(
 }
 
 /// Appends the lines of what was said to this user: a response, or a line for each of his decks.
-fn print_said<I: Installation>(
+fn append_response<I: Installation>(
     alloc: Global,
     out: &mut Vec<u8>,
     installation: &I,
@@ -71,11 +69,11 @@ fn print_said<I: Installation>(
     match said {
         UserResponse::Said(response) => {
             let text = printing::reply(alloc, &response)?;
-            print_line(out, installation.name(user), &text)
+            append_line(out, installation.name(user), &text)
         }
         UserResponse::Files => {
             let names = names(alloc, installation)?;
-            print_queue(alloc, out, installation, &names, user)
+            append_decks(alloc, out, installation, &names, user)
         }
         UserResponse::Nothing => Ok(()),
     }
@@ -99,7 +97,7 @@ pub(crate) fn names<I: Installation>(
 
 /// Appends a line for each deck of a user's reader, in their order.
 #[tactic(auto, using(crate::proofs::Decks::one_more, crate::proofs::Decks::no_more))]
-fn print_queue<I: Installation>(
+fn append_decks<I: Installation>(
     alloc: Global,
     out: &mut Vec<u8>,
     installation: &I,
@@ -119,13 +117,13 @@ fn print_queue<I: Installation>(
             unreachable!();
         };
         let line = deck_line(alloc, names, &deck)?;
-        print_line(out, installation.name(user), &line)?;
+        append_line(out, installation.name(user), &line)?;
     }
     Ok(())
 }
 
 /// Appends the lines that a user's console has printed by an event, if that was a serve.
-fn print_written<I: Installation>(
+fn append_written<I: Installation>(
     out: &mut Vec<u8>,
     installation: &I,
     user: UserNo,
@@ -138,14 +136,14 @@ fn print_written<I: Installation>(
         reply.now.ended)) }
 {
     match reply.ended {
-        Ended::Served(_) => print_last(out, installation, user, reply.lines),
+        Ended::Served(_) => append_last_lines(out, installation, user, reply.lines),
         Ended::Ran(_) | Ended::Done | Ended::FramesOut => Ok(()),
     }
 }
 
 /// Appends the last so many lines that the console of this user has printed.
 #[tactic(auto, using(crate::proofs::Written::one_more, crate::proofs::Written::no_more))]
-fn print_last<I: Installation>(
+fn append_last_lines<I: Installation>(
     out: &mut Vec<u8>,
     installation: &I,
     user: UserNo,
@@ -161,13 +159,13 @@ fn print_last<I: Installation>(
         let Some(line) = installation.console_output(user, index) else {
             unreachable!();
         };
-        print_line(out, installation.name(user), line)?;
+        append_line(out, installation.name(user), line)?;
     }
     Ok(())
 }
 
 /// Appends the line of a message at its receiver's terminal, if one was delivered.
-fn print_delivered<I: Installation>(
+fn append_message<I: Installation>(
     out: &mut Vec<u8>,
     installation: &I,
     delivered: Option<Delivered>,
@@ -180,12 +178,12 @@ fn print_delivered<I: Installation>(
     };
     match what {
         Delivery::Deck(_) => Ok(()),
-        Delivery::Message(line) => print_line(out, installation.name(to), line.as_slice()),
+        Delivery::Message(line) => append_line(out, installation.name(to), line.as_slice()),
     }
 }
 
 /// Appends the line `u: text`.
-fn print_line(out: &mut Vec<u8>, name: &[u8], text: &[u8]) -> Result<(), AllocError>
+fn append_line(out: &mut Vec<u8>, name: &[u8], text: &[u8]) -> Result<(), AllocError>
     ensures { OnOk result (out.new.items ≡ out.old.items
         ++ ended (told_line name.now text.now ∷ [])) }
 {
@@ -197,49 +195,43 @@ fn print_line(out: &mut Vec<u8>, name: &[u8], text: &[u8]) -> Result<(), AllocEr
 }
 
 /// Appends the line of how an event ended, if a full transcript has one for it.
-fn print_ending(
+fn append_full_ending(
     alloc: Global,
     out: &mut Vec<u8>,
     name: &[u8],
-    event: &ScriptEvent<'_>,
+    event: &Event<'_>,
     ending: Ended,
 ) -> Result<(), AllocError>
     ensures { OnOk result (out.new.items ≡ out.old.items
-        ++ ended (ending_lines name.now (said event.now) ending)) }
+        ++ ended (ending_lines name.now (as_said event.now) ending)) }
 {
     match ending {
-        Ended::Ran(ran) => print_ran(alloc, out, name, ran),
-        Ended::Served(done) => print_serve(alloc, out, name, event, done),
+        Ended::Ran(ran) => append_ran(alloc, out, name, ran),
+        Ended::Served(done) => append_serve(alloc, out, name, event, done),
         Ended::Done => Ok(()),
-        Ended::FramesOut => print_frames_out(out, name),
+        Ended::FramesOut => append_frames_out(out, name),
     }
 }
 
 /// Appends the line of how the serve of an event ended; nothing for another event.
-fn print_serve(
+fn append_serve(
     alloc: Global,
     out: &mut Vec<u8>,
     name: &[u8],
-    event: &ScriptEvent<'_>,
+    event: &Event<'_>,
     done: bool,
 ) -> Result<(), AllocError>
     ensures { OnOk result (out.new.items ≡ out.old.items
-        ++ ended (served_lines name.now (said event.now) done)) }
+        ++ ended (served_lines name.now (as_said event.now) done)) }
 {
     match event {
-        ScriptEvent::Serve(_, device) => {
-            print_served(alloc, out, name, DevAddr::new(*device), done)
-        }
-        ScriptEvent::Run(_, _)
-        | ScriptEvent::Line(_, _)
-        | ScriptEvent::Tick(_)
-        | ScriptEvent::Deck(_, _)
-        | ScriptEvent::Auto(_) => Ok(()),
+        Event::Serve(_, device) => append_served(alloc, out, name, *device, done),
+        Event::Run(_, _) | Event::Line(_, _) | Event::Tick(_) | Event::Deck(_, _) => Ok(()),
     }
 }
 
 /// Appends the line `= u SERVED addr`, or `= u IDLE addr`.
-fn print_served(
+fn append_served(
     alloc: Global,
     out: &mut Vec<u8>,
     name: &[u8],
@@ -266,7 +258,7 @@ fn served_word(done: bool) -> &'static [u8]
 }
 
 /// Appends the line `= u units REASON`.
-fn print_ran(alloc: Global, out: &mut Vec<u8>, name: &[u8], ran: Ran) -> Result<(), AllocError>
+fn append_ran(alloc: Global, out: &mut Vec<u8>, name: &[u8], ran: Ran) -> Result<(), AllocError>
     ensures { OnOk result (out.new.items ≡ out.old.items ++ ended (ran_line name.now ran ∷ [])) }
 {
     let units = ran.units.to_string(alloc)?;
@@ -281,25 +273,25 @@ fn print_ran(alloc: Global, out: &mut Vec<u8>, name: &[u8], ran: Ran) -> Result<
 }
 
 /// Appends the line of how an event ended, if a transcript of this detail has one for it.
-fn print_end(
+fn append_ending(
     alloc: Global,
     out: &mut Vec<u8>,
     detail: Detail,
     name: &[u8],
-    event: &ScriptEvent<'_>,
+    event: &Event<'_>,
     ending: Ended,
 ) -> Result<(), AllocError>
     ensures { OnOk result (out.new.items ≡ out.old.items
-        ++ ended (end_lines detail name.now (said event.now) ending)) }
+        ++ ended (end_lines detail name.now (as_said event.now) ending)) }
 {
     match detail {
-        Detail::Whole => print_ending(alloc, out, name, event, ending),
-        Detail::Terminals => print_scant(alloc, out, name, ending),
+        Detail::Whole => append_full_ending(alloc, out, name, event, ending),
+        Detail::Terminals => append_terse_ending(alloc, out, name, ending),
     }
 }
 
 /// Appends the line of how an event ended, if it was out of frames.
-fn print_scant(
+fn append_terse_ending(
     alloc: Global,
     out: &mut Vec<u8>,
     name: &[u8],
@@ -308,19 +300,24 @@ fn print_scant(
     ensures { OnOk result (out.new.items ≡ out.old.items ++ ended (scant_lines name.now ending)) }
 {
     match ending {
-        Ended::Ran(ran) => print_lacking(alloc, out, name, ran),
-        Ended::FramesOut => print_frames_out(out, name),
+        Ended::Ran(ran) => append_run_out_of_frames(alloc, out, name, ran),
+        Ended::FramesOut => append_frames_out(out, name),
         Ended::Served(_) | Ended::Done => Ok(()),
     }
 }
 
 /// Appends the line of how a run ended, if it was out of frames.
-fn print_lacking(alloc: Global, out: &mut Vec<u8>, name: &[u8], ran: Ran) -> Result<(), AllocError>
+fn append_run_out_of_frames(
+    alloc: Global,
+    out: &mut Vec<u8>,
+    name: &[u8],
+    ran: Ran,
+) -> Result<(), AllocError>
     ensures { OnOk result (out.new.items ≡ out.old.items
         ++ ended (lacking_lines name.now ran ran.reason)) }
 {
     match ran.reason {
-        Reason::FramesOut => print_ran(alloc, out, name, ran),
+        Reason::FramesOut => append_ran(alloc, out, name, ran),
         Reason::Count | Reason::Wait | Reason::DisabledWait | Reason::EcMode | Reason::Stopped =>
             Ok(()),
     }
@@ -338,7 +335,7 @@ pub(crate) fn idle_line(detail: Detail) -> &'static [u8]
 }
 
 /// Appends the line `= u FRAMES`.
-fn print_frames_out(out: &mut Vec<u8>, name: &[u8]) -> Result<(), AllocError>
+fn append_frames_out(out: &mut Vec<u8>, name: &[u8]) -> Result<(), AllocError>
     ensures { OnOk result (out.new.items ≡ out.old.items ++ ended (frames_line name.now ∷ [])) }
 {
     out.extend_from_slice(b"= ")?;

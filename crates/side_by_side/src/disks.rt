@@ -30,8 +30,8 @@ fn first_track(extent: &DiskExtent) -> Arm
     }
 }
 
-/// Returns a new volume with the cylinders of an extent; an error if none of these volumes has
-/// them.
+/// Returns a new volume with the cylinders of an extent, copied from the first of these volumes
+/// with its serial number; an error if there is none or it is too short.
 fn part_of(alloc: Global, extent: &DiskExtent, volumes: &[Volume]) -> Result<Volume, SideError> {
     let serial = extent.volser().padded();
     let Some(volume) = volumes.iter().find(|volume| volume.volser() == serial) else {

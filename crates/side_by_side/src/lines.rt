@@ -94,8 +94,8 @@ impl SideBySide {
         user: UserNo,
         typed: &[u8],
     ) -> Result<Option<Response>, SideError> {
-        let answered = self.system.apply(Event::Line(user, typed))?;
-        if self.lacks_frames(answered)? {
+        let answered = self.system.apply(&Event::Line(user, typed))?;
+        if self.count_out_of_frames(answered)? {
             return Ok(None);
         }
         let before = Before::of(self.bare(user)?);
@@ -110,8 +110,7 @@ impl SideBySide {
         Ok(response_of(&said))
     }
 
-    /// Types a line at the bare machine of a user, in the world of all users, and returns its
-    /// outcome.
+    /// Types a line at the bare machine of a user, among all users, and returns its outcome.
     fn type_line(
         &mut self,
         alloc: Global,
@@ -208,8 +207,8 @@ impl SideBySide {
         // The prover finds what a reply may hold only where a function names it.
         let _device: Option<DevAddr> = None;
         let _response: Option<Response> = None;
-        let answered = self.system.apply(Event::Deck(user, cards))?;
-        if self.lacks_frames(answered)? {
+        let answered = self.system.apply(&Event::Deck(user, cards))?;
+        if self.count_out_of_frames(answered)? {
             return Err(SideError::Differs(View::Answer));
         }
         if !cards.is_empty() {

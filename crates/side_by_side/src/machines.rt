@@ -157,9 +157,9 @@ impl SideBySide {
         self.system.page_ins()
     }
 
-    /// Returns whether an event was out of frames, and counts it then; drops what the last event
-    /// delivered. An error if the reply of such an event has anything else.
-    pub(crate) fn lacks_frames(&mut self, answered: Reply) -> Result<bool, SideError> {
+    /// Returns whether an event was out of frames, counts it then, and drops what the last event
+    /// delivered; an error if the reply of such an event has anything else.
+    pub(crate) fn count_out_of_frames(&mut self, answered: Reply) -> Result<bool, SideError> {
         self.delivered = None;
         // The prover finds what a reply may hold only where a function names it.
         let _delivered: Option<Delivered> = answered.delivered;
@@ -175,8 +175,8 @@ impl SideBySide {
     /// Lets a user's machine in the system and his bare one run for so many units, compares the
     /// replies, and returns how many were done and why it ended.
     pub fn run(&mut self, user: UserNo, units: u32) -> Result<Ran, SideError> {
-        let answered = self.system.apply(Event::Run(user, units))?;
-        let _is_out = self.lacks_frames(answered)?;
+        let answered = self.system.apply(&Event::Run(user, units))?;
+        let _is_out = self.count_out_of_frames(answered)?;
         let asked = units_of(units, answered.ended);
         let bare = self.bare_mut(user)?;
         let before = bare.printed();
@@ -204,8 +204,8 @@ impl SideBySide {
     /// Steps the timers of a user's machine in the system and of his bare one, and compares the
     /// replies.
     pub fn tick(&mut self, user: UserNo) -> Result<(), SideError> {
-        let answered = self.system.apply(Event::Tick(user))?;
-        if self.lacks_frames(answered)? {
+        let answered = self.system.apply(&Event::Tick(user))?;
+        if self.count_out_of_frames(answered)? {
             return Ok(());
         }
         self.bare_mut(user)?.tick();
@@ -220,8 +220,8 @@ impl SideBySide {
     ///
     /// If the system is out of frames, only the system is asked, and false is returned.
     pub fn serve(&mut self, user: UserNo, device: DevAddr) -> Result<bool, SideError> {
-        let answered = self.system.apply(Event::Serve(user, device))?;
-        if self.lacks_frames(answered)? {
+        let answered = self.system.apply(&Event::Serve(user, device))?;
+        if self.count_out_of_frames(answered)? {
             return Ok(false);
         }
         let bare = self.bare_mut(user)?;

@@ -142,8 +142,8 @@ impl LineDecoder {
         }
     }
 
-    /// Takes a byte of text: it is added to the line, removes a character, ends the line, or begins
-    /// a telnet command; returns the line if it ends one.
+    /// Takes a byte of text, which is added to the line if there is room, erases a character, ends
+    /// the line and returns it, begins a telnet command, or, as LF or NUL after CR, does nothing.
     fn take_text(&mut self, alloc: Global, byte: u8) -> Result<Decoded, AllocError>
         ensures { IfOk result (λ decoded. after_text self.old byte
             ≡ record { typed = self.new; decoded = decoded }) }
@@ -169,8 +169,9 @@ impl LineDecoder {
         }
     }
 
-    /// Takes the byte after IAC: it erases a character or the line, begins an option or parameters,
-    /// or asks for somebody; a break drops the line and returns `#CP`.
+    /// Takes the byte after IAC: another IAC adds a blank, others erase a character or the line,
+    /// begin an option or parameters, or ask for somebody; a break or interrupt drops the line and
+    /// returns `#CP`.
     fn take_command(&mut self, alloc: Global, byte: u8) -> Result<Decoded, AllocError>
         ensures { IfOk result (λ decoded. after_command self.old byte
             ≡ record { typed = self.new; decoded = decoded }) }

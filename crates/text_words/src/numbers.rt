@@ -43,8 +43,8 @@ pub fn digit_value(c: u8) -> Option<u8>
     }
 }
 
-/// Returns the number that `least` to `most` hexadecimal digits spell, or `None` if `digits` is
-/// anything else.
+/// Returns the number that `least` to `most` hexadecimal digits, with letters in upper case, spell,
+/// or `None` if `digits` is anything else.
 ///
 /// Leading zeros are allowed.
 pub fn hexadecimal_of(least: usize, most: usize, digits: &[u8]) -> Option<u32>

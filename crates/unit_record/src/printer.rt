@@ -74,7 +74,7 @@ impl Device for Printer {
         false
     }
 
-    /// Returns the greatest number: the count alone ends a command.
+    /// Returns the greatest number: only the count ends a command.
     fn ready(&self) -> u32 {
         u32::MAX
     }
@@ -159,14 +159,15 @@ impl Printer {
     }
 }
 
-/// Returns whether the command code is that of a write, which prints a line.
+/// Returns whether the command code prints a line, and then spaces 0 to 3 lines or skips to channel
+/// 1.
 fn is_write(code: u8) -> bool
     ensures { result ≡ is_write code }
 {
     matches!(code, 0x01 | 0x09 | 0x11 | 0x19 | 0x89)
 }
 
-/// Returns whether the command code is that of a space or skip, which only moves the paper.
+/// Returns whether the command code spaces 1 to 3 lines or skips to channel 1, without printing.
 fn is_space(code: u8) -> bool
     ensures { result ≡ is_space code }
 {

@@ -74,7 +74,7 @@ impl Device for Punch {
         false
     }
 
-    /// Returns the greatest number: the count alone ends a command.
+    /// Returns the greatest number: only the count ends a command.
     fn ready(&self) -> u32 {
         u32::MAX
     }

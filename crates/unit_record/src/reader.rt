@@ -136,12 +136,13 @@ impl Device for Reader {
         false
     }
 
-    /// Returns the greatest number: the count alone ends a command.
+    /// Returns the greatest number: only the count ends a command.
     fn ready(&self) -> u32 {
         u32::MAX
     }
 
-    /// Returns the next byte of the card or sense that is read, or zero if none is left.
+    /// Returns the next byte of the card or sense that is read and moves on past it, or returns
+    /// zero if none is left.
     fn give(&mut self) -> u8 {
         self.giving.give()
     }

@@ -37,7 +37,7 @@ pub fn put_target(out: &mut Vec<u8>, target: Target) -> Result<(), AllocError>
 /// Takes from `input` whom a file is for and returns it, or `None` if that is not there or bad.
 pub fn target_of(input: &mut Input<'_>) -> Option<Target> {
     if input.flag()? {
-        Some(Target::User(input.small()?))
+        Some(Target::User(input.next_u8()?))
     } else {
         Some(Target::System)
     }
@@ -64,7 +64,7 @@ pub fn put_sender(out: &mut Vec<u8>, sender: Sender) -> Result<(), AllocError>
 /// Takes from `input` whom a deck is from and returns it, or `None` if that is not there or bad.
 pub fn sender_of(input: &mut Input<'_>) -> Option<Sender> {
     if input.flag()? {
-        Some(Sender::User(input.small()?))
+        Some(Sender::User(input.next_u8()?))
     } else {
         Some(Sender::System)
     }
@@ -123,7 +123,7 @@ pub fn entries_of(alloc: Global, input: &mut Input<'_>) -> Option<Vec<Entry>> {
         if !input.flag()? {
             break;
         }
-        let code = input.small()?;
+        let code = input.next_u8()?;
         let bytes = record_of(input)?;
         entries.push(Entry::new(code, bytes)).ok()?;
     }
@@ -183,7 +183,7 @@ fn put_command(out: &mut Vec<u8>, command: Option<u8>) -> Result<(), AllocError>
 /// if the input is bad.
 fn command_of(input: &mut Input<'_>) -> Option<Option<u8>> {
     if input.flag()? {
-        Some(Some(input.small()?))
+        Some(Some(input.next_u8()?))
     } else {
         Some(None)
     }
@@ -257,8 +257,8 @@ impl Console {
         take_lines(&mut self.lines, input)?;
         self.unfinished = record_of(input)?;
         take_waiting(&mut self.waiting, input)?;
-        self.sense = input.small()?;
-        let wanted = input.place()?;
+        self.sense = input.next_u8()?;
+        let wanted = input.next_usize()?;
         if wanted > RECORD_LENGTH {
             return None;
         }
@@ -300,7 +300,7 @@ impl Punch {
         // No card is being punched until there is room for it.
         self.is_punching = false;
         self.output = Output::of(entries_of(alloc, input)?);
-        self.sense = input.small()?;
+        self.sense = input.next_u8()?;
         let is_punching = input.flag()?;
         self.card = record_of(input)?;
         self.output.reserve().ok()?;
@@ -338,7 +338,7 @@ impl Printer {
         // No line is being printed until there is room for it.
         self.printing = None;
         self.output = Output::of(entries_of(alloc, input)?);
-        self.sense = input.small()?;
+        self.sense = input.next_u8()?;
         let printing = command_of(input)?;
         self.line = record_of(input)?;
         self.output.reserve().ok()?;

@@ -1,3 +1,4 @@
 pub mod Stated
 mod Refused
+mod Noted
 mod Restored

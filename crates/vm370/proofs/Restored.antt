@@ -1,27 +1,27 @@
--- A system that was restored, or has forgotten printed lines, goes on as the one that was.
+-- A system that was restored, or has forgotten printed lines and entries of closed files, goes on as the one that was.
 use Rattle.std.specs.Prelude.{◌-◌}
 use Rattle.std.proofs.Common.{◌≡◌, ◌≤◌, ℕ, suc, List, [], ◌∷◌, ◌++◌, refl, ap, sym, ◌∙◌, subst, arith, drop, get_or}
 use Rattle.std.proofs.Common.{length, length-append, map}
 use Rattle.cp_core.proofs.Forgotten.{same_but_kept, user_with}
 use Rattle.cp_core.specs.Boot.{IsBooted}
-use Rattle.cp_core.specs.Events.{user_of}
-use Rattle.cp_core.specs.Forgotten.{GoesOnAs, StepsGoOn, users_having_printed}
+use Rattle.machine_devices.specs.Events.{user_of}
+use Rattle.cp_core.specs.Forgotten.{GoesOnAs, Gone, StepsGoOn, equipped_with, users_with}
 use Rattle.cp_core.specs.Local.{Step as SystemStep}
 use Rattle.cp_core.specs.Saved.{IsOneBySaved as IsOneSystem}
 use Rattle.cp_core.specs.System.{SystemView, machine_at}
-use Rattle.cp_core.specs.declared.events.Event.{Event}
-use Rattle.cp_core.specs.declared.events.Event.TheVariants as events
 use Rattle.cp_directory.specs.Users.{DirectoryUser}
 use Rattle.ckd_volume.specs.Volume.{VolumeFormat}
 use Rattle.machine_devices.specs.Equipped.{Equipped, nobody}
-use Rattle.machine_devices.specs.Forgotten.{unprinted}
-use Rattle.session_script.specs.Script.{EventValue}
-use Rattle.sessions.specs.Continuing.{HappensToo, IsToGoOn, but_printed}
+use Rattle.machine_devices.specs.Written.{left_of, with_entries, without_entries}
+use Rattle.unit_record.specs.Output.{EntryValue, FileValue}
+use Rattle.sessions.specs.Continuing.{HappensToo, IsToGoOn, but_written, unwritten}
 use Rattle.sessions.specs.Installed.{Installed, Step}
 use Rattle.sessions.specs.Saved.{IsOneBySaved, KeepsBase}
 use Rattle.sessions.specs.Schedule.{user_said}
 use Rattle.sessions.specs.Transcript.{last_lines}
-use Rattle.vm370.specs.Goes.{HasHappened, as_said, seen_in, system_goes}
+use Rattle.sessions.proofs.Told.{user_same}
+use Rattle.vm370.proofs.Noted.{has_full, notes_files}
+use Rattle.vm370.specs.Goes.{HasHappened, seen_in, system_goes}
 
 -- A system keeps the base of its sessions.
 pub base : KeepsBase system_goes
@@ -36,13 +36,32 @@ base = record {
 pub one_system : IsOneSystem → IsOneBySaved system_goes
 one_system law one other bytes directory is are = same_but_kept one other (law one other bytes directory is are)
 
--- ---- lines that were printed before
+-- ---- lines that were printed before, and files that have lost entries
 
-unprinted_again : (gone : List (List (List ℕ))) (users : List Equipped)
-    → map unprinted (users_having_printed gone users) ≡ map unprinted users
-unprinted_again [] users = refl
-unprinted_again (lines ∷ gone) [] = refl
-unprinted_again (lines ∷ gone) (e ∷ users) = ap (λ (us : List Equipped). unprinted e ∷ us) (unprinted_again gone users)
+lost_again : (lost : List (List EntryValue)) (files : List FileValue)
+    → map without_entries (with_entries lost files) ≡ map without_entries files
+lost_again lost [] = refl
+lost_again lost (file ∷ files) =
+    ap (λ (more : List FileValue). without_entries file ∷ more) (lost_again (left_of file.entries lost) files)
+
+unwritten_one : (gone : Gone) (e : Equipped) → unwritten (equipped_with gone e) ≡ unwritten e
+unwritten_one gone e =
+    let d = e.devices in
+    let at = λ (punched printed : List FileValue). let x : Equipped = record (unwritten e) {
+      devices = record d { punched = punched; printed = printed };
+    } in x in
+    ap (λ (files : List FileValue). at files (map without_entries (with_entries gone.files.printed d.printed)))
+    (lost_again gone.files.punched d.punched)
+    ∙ ap (λ (files : List FileValue). at (map without_entries d.punched) files)
+    (lost_again gone.files.printed d.printed)
+
+unwritten_again : (gone : List Gone) (users : List Equipped)
+    → map unwritten (users_with gone users) ≡ map unwritten users
+unwritten_again [] users = refl
+unwritten_again (g ∷ gone) [] = refl
+unwritten_again (g ∷ gone) (e ∷ users) =
+    ap (λ (x : Equipped). x ∷ map unwritten (users_with gone users)) (unwritten_one g e)
+    ∙ ap (λ (us : List Equipped). unwritten e ∷ us) (unwritten_again gone users)
 
 -- the lines that have joined a console are the same, whatever was printed before
 last_same : (gone lines : List (List ℕ)) (count : ℕ) → count ≤ length lines
@@ -53,34 +72,26 @@ last_same (line ∷ gone) lines count few =
     (arith, few, length-append gone lines) in
     ap (λ (n : ℕ). drop n (line ∷ (gone ++ lines))) more ∙ last_same gone lines count few
 
--- an event names the user of what was said
-user_same : (event : Event) → user_said (as_said event) ≡ user_of event
-user_same (events.Run user units) = refl
-user_same (events.Line user text) = refl
-user_same (events.Tick user) = refl
-user_same (events.Serve user device) = refl
-user_same (events.Deck user cards) = refl
-
-seen_same : (one other : SystemView) → GoesOnAs one other → but_printed (seen_in one) ≡ but_printed (seen_in other)
+seen_same : (one other : SystemView) → GoesOnAs one other → but_written (seen_in one) ≡ but_written (seen_in other)
 seen_same one other g =
     let seen = λ (us : List Equipped). let s : Installed = record (seen_in other) { machines = us } in s in
-    ap (λ (s : SystemView). but_printed (seen_in s)) g.same ∙ ap seen (unprinted_again g.lines other.users)
+    ap (λ (s : SystemView). but_written (seen_in s)) g.same ∙ ap seen (unwritten_again g.gone other.users)
 
 module _ (law : StepsGoOn) where
   happens_too : (one other : SystemView) (step : Step SystemView) → GoesOnAs one other
       → HasHappened other step.said step.reply step.left → HappensToo system_goes one step
   happens_too one other step g h =
       let applied : SystemStep = record { event = h.event; reply = step.reply; seen = step.left } in
-      let left : SystemView = record step.left { users = users_having_printed g.lines step.left.users } in
+      let left : SystemView = record step.left { users = users_with g.gone step.left.users } in
       let happened : HasHappened one step.said step.reply left =
       record { event = h.event; named = h.named; step = law.steps one other applied g h.step } in
-      let on : GoesOnAs left step.left = record { lines = g.lines; same = refl } in
+      let on : GoesOnAs left step.left = record { gone = g.gone; same = refl } in
       let user = user_said step.said in
       let users = step.left.users in
-      let named : user_of h.event ≡ user = sym (user_same h.event) ∙ ap user_said h.named in
+      let named : user_of h.event ≡ user = user_same h.event ∙ ap user_said h.named in
       let reported = subst (λ (u : ℕ). step.reply.lines ≡ length (machine_at step.left u).output - length
       (machine_at other u).output) named h.step.replied.reported.lines in
-      let mine = user_with g.lines users user in
+      let mine = user_with g.gone users user in
       let output = ap (λ (e : Equipped). last_lines step.reply.lines e.machine.output) mine in
       let few : step.reply.lines ≤ length (machine_at step.left user).output = omega (arith, reported) in
       record {
@@ -100,8 +111,10 @@ module _ (law : StepsGoOn) where
     reflexive = law.reflexive;
     transitive = law.transitive;
     seen = seen_same;
+    full = has_full;
     base = λ one other g. sym (ap (λ (s : SystemView). s.directory) g.same);
     happens = happens_too;
+    notes = notes_files;
   }
 
 -- ---- boots

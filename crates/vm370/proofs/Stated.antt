@@ -1,20 +1,18 @@
 -- Users and devices of a directory, as scripts know them.
 use Rattle.std.proofs.Common.{◌≡◌, ◌<◌, ℕ, arith, get_or, zero, suc, Bool, true, false, List, [], ◌∷◌, refl, ap, sym}
-use Rattle.std.proofs.Common.{◌∙◌, subst, length, map}
+use Rattle.std.proofs.Common.{◌∙◌, length, map}
 use Rattle.std.specs.Prelude.{slice_get, slice_index_or}
 use Rattle.cp_core.specs.Histories.{IsHistory as IsSystemHistory}
 use Rattle.cp_core.specs.Local.{Step as SystemStep}
 use Rattle.cp_core.specs.Stated.{LacksDevice, states_device}
 use Rattle.cp_core.specs.System.{SystemView, names_of as names_in}
-use Rattle.cp_core.specs.declared.events.Event.{Event}
-use Rattle.cp_core.specs.declared.events.Event.TheVariants as events
+use Rattle.machine_devices.specs.declared.event.Event.{Event}
+use Rattle.machine_devices.specs.declared.event.Event.TheVariants as events
 use Rattle.cp_directory.specs.Users.{DirectoryUser, addresses_of}
-use Rattle.session_script.specs.Users.{KnownUser, devices_of, has_device}
-use Rattle.session_script.specs.Script.{EventValue, Run, Line, Tick, Serve, Auto, Deck, IsOfDevice, said}
-use Rattle.session_script.specs.declared.event.ScriptEvent.{ScriptEvent}
-use Rattle.session_script.specs.declared.event.ScriptEvent.TheVariants as scripts
-use Rattle.sessions.specs.Installed.{IsHistory, Step, names_of}
-use Rattle.vm370.specs.Goes.{IsStated, as_said, known_users, seen_in, system_goes}
+use Rattle.session_script.specs.Users.{devices_of, has_device}
+use Rattle.session_script.specs.Script.{EventValue, IsOfDevice}
+use Rattle.sessions.specs.Installed.{IsHistory, Step, as_said, names_of}
+use Rattle.vm370.specs.Goes.{known_users, seen_in, system_goes}
 use Rattle.vm370.specs.Histories.{AreHistories, of_system}
 
 -- as many as the directory has
@@ -35,40 +33,18 @@ had [] user device = refl
 had (one ∷ directory) zero device = refl
 had (one ∷ directory) (suc user) device = had directory user device
 
-abbrev IsOfDeviceSaid : List KnownUser → EventValue → Type 0
-IsOfDeviceSaid users (Run user units) = Unit {0}
-IsOfDeviceSaid users (Line user text) = Unit {0}
-IsOfDeviceSaid users (Tick user) = Unit {0}
-IsOfDeviceSaid users (Serve user device) = has_device users user device ≡ true
-IsOfDeviceSaid users (Auto turns) = Unit {0}
-IsOfDeviceSaid users (Deck user cards) = Unit {0}
-
-of_said : (users : List KnownUser) (event : ScriptEvent) → IsOfDevice users event → IsOfDeviceSaid users (said event)
-of_said users (scripts.Run user units) h = tt
-of_said users (scripts.Line user text) h = tt
-of_said users (scripts.Tick user) h = tt
-of_said users (scripts.Serve user device) h = h
-of_said users (scripts.Auto turns) h = tt
-of_said users (scripts.Deck user cards) h = tt
-
 not_both : (b : Bool) → b ≡ true → b ≡ false → ⊥
 not_both b h k = cc
 
-of_event : (s : SystemView) (event : Event) → IsOfDeviceSaid (known_users s.directory) (as_said event)
+-- an event whose device its user has is for a device that the directory gives him
+pub stated : (s : SystemView) (event : Event) → IsOfDevice (known_users s.directory) (as_said event)
     → LacksDevice s event → ⊥
-of_event s (events.Run user units) h lacks = lacks
-of_event s (events.Line user text) h lacks = lacks
-of_event s (events.Tick user) h lacks = lacks
-of_event s (events.Serve user device) h lacks =
+stated s (events.Run user units) h lacks = lacks
+stated s (events.Line user text) h lacks = lacks
+stated s (events.Tick user) h lacks = lacks
+stated s (events.Serve user device) h lacks =
     not_both (states_device device (slice_get s.directory user)) (sym (had s.directory user device) ∙ h) lacks
-of_event s (events.Deck user cards) h lacks = lacks
-
--- an event that an accepted script says is for a device of its user
-pub stated : (s : SystemView) (script : ScriptEvent) (event : Event) → as_said event ≡ said script
-    → IsOfDevice (known_users s.directory) script → IsStated s event
-stated s script event same h =
-    of_event s event (subst (λ (x : EventValue). IsOfDeviceSaid (known_users s.directory) x) (sym same)
-    (of_said (known_users s.directory) script h))
+stated s (events.Deck user cards) h lacks = lacks
 
 -- ---- histories
 

@@ -1,5 +1,5 @@
 -- How a system goes on, as sessions see it.
-use Rattle.std.specs.Prelude.{◌≡◌, ℕ, true, false, IsSome, List, map}
+use Rattle.std.specs.Prelude.{◌≡◌, ℕ, ◌<◌, true, false, IsSome, List, length, map}
 use Rattle.cp_core.specs.Forgotten.{GoesOnAs}
 use Rattle.cp_core.specs.Histories.{IsStep}
 use Rattle.cp_core.specs.Memory.{MayTakeMemory, is_cut_short}
@@ -7,18 +7,13 @@ use Rattle.cp_core.specs.Saved.{IsSaved}
 use Rattle.cp_core.specs.Supply.{IsSuppliedInPart}
 use Rattle.machine_devices.specs.Comes.{LineMay}
 use Rattle.s370_subchannels.specs.Programs.{program_of}
-use Rattle.cp_core.specs.Stated.{LacksDevice}
 use Rattle.cp_core.specs.System.{SystemView, machine_at, user_at, world_of}
-use Rattle.cp_core.specs.declared.events.Event.{Event}
-use Rattle.cp_core.specs.declared.events.Event.TheVariants as events
+use Rattle.machine_devices.specs.declared.event.Event.{Event}
 use Rattle.machine_devices.specs.declared.reply.Reply.{Reply}
 use Rattle.cp_directory.specs.Users.{DirectoryUser, addresses_of}
-use Rattle.session_script.specs.Cards.{cards_of}
 use Rattle.session_script.specs.Script.{EventValue, Run, Line, Tick, Serve, Auto, Deck}
 use Rattle.session_script.specs.Users.{KnownUser}
-use Rattle.session_script.specs.declared.event.ScriptEvent.{ScriptEvent}
-use Rattle.session_script.specs.declared.event.ScriptEvent.TheVariants as scripts
-use Rattle.sessions.specs.Installed.{Installation, Installed}
+use Rattle.sessions.specs.Installed.{Installation, Installed, as_said}
 
 -- scripts know a user of a directory by his name, and the addresses of his devices
 abbrev pub known_user : DirectoryUser → KnownUser
@@ -31,14 +26,6 @@ known_users users = map known_user users
 -- what a session sees of a system
 abbrev pub seen_in : SystemView → Installed
 seen_in s = record { users = known_users s.directory; machines = s.users; files = s.files }
-
--- an event as a script names it
-abbrev pub as_said : Event → EventValue
-as_said (events.Run user units) = Run user units
-as_said (events.Line user text) = Line user text.now
-as_said (events.Tick user) = Tick user
-as_said (events.Serve user device) = Serve user device
-as_said (events.Deck user cards) = Deck user cards.now
 
 -- the event that was said was applied, and was answered so
 pub record HasHappened (old : SystemView) (said : EventValue) (reply : Reply)
@@ -60,14 +47,14 @@ pub record IsSpent (old : SystemView) (said : EventValue) (new : SystemView) : T
       → user_at new user ≡ user_at old user
 
 -- what was said may want memory: such lines, a device that is served and works on a program, and a
--- deck, whose cards are made
+-- deck that has cards
 abbrev pub MayRefuse : SystemView → EventValue → Type 0
 MayRefuse old (Run user units) = ⊥
 MayRefuse old (Line user text) = LineMay (world_of old user) text (user_at old user)
 MayRefuse old (Tick user) = ⊥
 MayRefuse old (Serve user device) =
     IsSome (program_of device (machine_at old user).core.subchannels)
-MayRefuse old (Deck user cards) = Unit {0}
+MayRefuse old (Deck user cards) = 0 < length cards
 MayRefuse old (Auto turns) = ⊥
 
 -- two systems have one directory
@@ -86,25 +73,3 @@ system_goes = record {
   HasSameBase = HasSameDirectory;
   GoesOnAs = GoesOnAs;
 }
-
--- the cards that an event gives: those of a deck
-abbrev pub HasCards : ScriptEvent → List (List ℕ) → Type 0
-HasCards (scripts.Run user units) cards = Unit {0}
-HasCards (scripts.Line user text) cards = Unit {0}
-HasCards (scripts.Tick user) cards = Unit {0}
-HasCards (scripts.Serve user device) cards = Unit {0}
-HasCards (scripts.Deck user deck) cards = cards ≡ cards_of deck
-HasCards (scripts.Auto turns) cards = Unit {0}
-
--- an event is a deck
-abbrev pub GivesCards : ScriptEvent → Type 0
-GivesCards (scripts.Run user units) = ⊥
-GivesCards (scripts.Line user text) = ⊥
-GivesCards (scripts.Tick user) = ⊥
-GivesCards (scripts.Serve user device) = ⊥
-GivesCards (scripts.Deck user deck) = Unit {0}
-GivesCards (scripts.Auto turns) = ⊥
-
--- a device that an event of the control program names is one that the directory gives the user
-abbrev pub IsStated : SystemView → Event → Type 0
-IsStated s event = LacksDevice s event → ⊥

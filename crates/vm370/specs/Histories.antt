@@ -6,8 +6,8 @@ use Rattle.cp_core.specs.Histories.{IsHistory as IsSystemHistory}
 use Rattle.cp_core.specs.Local.{Step as SystemStep}
 use Rattle.cp_core.specs.System.{SystemView}
 use Rattle.cp_directory.specs.Users.{DirectoryUser}
-use Rattle.sessions.specs.Installed.{IsHistory, Step}
-use Rattle.vm370.specs.Goes.{as_said, system_goes}
+use Rattle.sessions.specs.Installed.{IsHistory, Step, as_said}
+use Rattle.vm370.specs.Goes.{system_goes}
 
 -- a step of a session as one of the system
 abbrev pub of_system : SystemStep → Step SystemView

@@ -114,7 +114,7 @@ pub(crate) fn sizes_in(matches: &ArgMatches<'_>) -> Option<Sizes>
 }
 
 /// Returns the decimal number that was given for an option, or `default` if none was; None if
-/// malformed.
+/// malformed or of too many digits.
 fn number_in(matches: &ArgMatches<'_>, id: &str, default: u32) -> Option<u32>
     ensures { result ≡ number_or default (first_of id.now (rows_of (found_of matches.now))) }
 {

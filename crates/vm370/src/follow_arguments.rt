@@ -31,8 +31,8 @@ pub struct SystemFollowOptions<'a> {
     pub volumes: Vec<&'a str>,
 }
 
-/// Returns the options of a run that follows parts of a script, as
-/// [`arguments`](crate::arguments::arguments) does those of one that plays a script.
+/// Returns the options that the words of a command line with `--follow` name, of which the first is
+/// the name that the program was started by; `program` is its name in a usage text.
 ///
 /// # Errors
 ///

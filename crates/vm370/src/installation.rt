@@ -1,30 +1,24 @@
 //! The system as sessions know it.
-ghost use Rattle.std.specs.Prelude.{◌≡◌, ◌++◌, ◌<◌, ◌≤◌, ◌⊎◌, Err, IfErr, IfOk, OnErr, OnOk, false};
-ghost use Rattle.std.specs.Prelude.{length, map, slice_get, true};
+ghost use Rattle.std.specs.Prelude.{◌≡◌, ◌++◌, ◌<◌, ◌≤◌, IfOk, OnOk, length, map, slice_get};
 ghost use Rattle.std.specs.Option.{option_to_list};
 ghost use Rattle.cp_directory.specs.Devices.{places_of};
 ghost use Rattle.cp_directory.specs.Users.{addresses_of};
 ghost use Rattle.cp_core.specs.Stated.{states_device};
-ghost use Rattle.session_script.specs.Script.{IsOfDevice, IsOfUser, said};
 ghost use Rattle.session_script.specs.Users.{devices_of};
 ghost use Rattle.user_names.specs.Users.{name_of};
 ghost use Rattle.sessions.specs.Installed.{names_of};
-ghost use Rattle.sessions.specs.Schedule.{IsEvent};
-ghost use Rattle.vm370.specs.Goes.{GivesCards, HasCards, HasHappened, IsSpent, MayRefuse, as_said};
 ghost use Rattle.vm370.specs.Goes.{known_users, seen_in, system_goes};
 
-use cp_core::{CpError, Event, System, one_by_saved, printed_lines_do_not_matter};
+use cp_core::{CpError, System, one_by_saved, printed_lines_do_not_matter};
 use cp_directory::{MinidiskStatement, User, UserDevices};
-use machine_devices::{FileNote, Reply, SeenDevices};
+use machine_devices::{Event, FileNote, Reply, SeenDevices};
 use machine_panel::Mode;
 use s370_num::DevAddr;
 use s370_subchannels::Subchannel;
 use saved_bytes::Input;
-use session_script::ScriptEvent;
 use sessions::{Installation, Refused};
 use std::alloc::{AllocError, Global};
 use std::marker::Model;
-use unit_record::Card;
 use user_names::{UserNo, name_of};
 
 /// The machines of many users, on one system.
@@ -115,7 +109,7 @@ impl Installation for SharedMachines {
 
     /// Returns a user's console, reader, punch and printer, with their files.
     fn devices(&self, user: UserNo) -> SeenDevices<'_> {
-        match self.system.spool(self.place(user)) {
+        match self.system.unit_record_devices(self.place(user)) {
             Some(devices) => devices,
             None => unreachable!(),
         }
@@ -144,17 +138,30 @@ impl Installation for SharedMachines {
         self.system.files().get(place).copied()
     }
 
-    /// Applies an event of a script to the system, and returns the reply.
-    fn apply_event(&mut self, alloc: Global, event: &ScriptEvent<'_>) -> Result<Reply, Refused> {
-        let Ok(cards) = cards_in(alloc, event) else {
-            return Err(Refused::Memory);
-        };
-        ask(&mut self.system, event, &cards)
+    /// Applies an event to the system, and returns the reply.
+    fn apply_event(&mut self, _alloc: Global, event: &Event<'_>) -> Result<Reply, Refused> {
+        // There are as many machines as users of the directory, before it and after it.
+        let _users = self.system.users();
+        match self.system.apply(event) {
+            Ok(reply) => {
+                let _users = self.system.users();
+                Ok(reply)
+            }
+            Err(CpError::Memory) => Err(Refused::Memory),
+            Err(CpError::Spent) => Err(Refused::Spent),
+            Err(CpError::NoSuchUser) => unreachable!(),
+            Err(CpError::NoSuchDevice) => unreachable!(),
+        }
     }
 
     /// Drops the lines that the consoles of all users have printed.
     fn forget_printed(&mut self) {
         self.system.forget_printed();
+    }
+
+    /// Drops the entries of the closed files that have a number but of the first `since`.
+    fn forget_files(&mut self, since: usize) {
+        self.system.forget_files(since);
     }
 
     /// Appends the state of the system, and returns true.
@@ -263,64 +270,5 @@ fn add_place(list: &mut Vec<u16>, place: Option<DevAddr>) -> Result<(), AllocErr
             Ok(())
         }
         None => Ok(()),
-    }
-}
-
-/// Returns a new list of the cards of a deck; empty for any other event.
-fn cards_in(alloc: Global, event: &ScriptEvent<'_>) -> Result<Vec<Card>, AllocError>
-    ensures cards { IfOk result (λ cards. HasCards event.now cards.items) }
-    ensures refused { IfErr result (λ _. GivesCards event.now) }
-{
-    match event {
-        ScriptEvent::Deck(_, cards) => cards.to_vec(alloc),
-        _ => Ok(Vec::new(alloc)),
-    }
-}
-
-/// Applies an event of a script, with these cards, to a system and returns the reply; the directory
-/// has to have its user and device.
-fn ask(system: &mut System, event: &ScriptEvent<'_>, cards: &[Card]) -> Result<Reply, Refused>
-    requires user { IsOfUser (known_users system.old.directory) event.now }
-    requires device { IsOfDevice (known_users system.old.directory) event.now }
-    requires event { IsEvent event.now }
-    requires cards { HasCards event.now cards.now }
-    ensures ok { IfOk result (λ reply. HasHappened system.old (said event.now) reply system.new) }
-    ensures err { OnErr result
-        ((system.new ≡ system.old) ⊎ IsSpent system.old (said event.now) system.new) }
-    ensures memory { result ≡ Err Refused.Memory → MayRefuse system.old (said event.now) }
-    ensures directory { system.new.directory ≡ system.old.directory }
-    ensures alive { OnOk result (system.new.is_spent ≡ false) }
-    ensures spent { result ≡ Err Refused.Spent → system.old.is_spent ≡ true }
-{
-    let _device = DevAddr::new(0);
-    // There are as many machines as users of the directory.
-    let _users = system.users();
-    match system.apply(event_of(event, cards)) {
-        Ok(reply) => {
-            // There still are.
-            let _users = system.users();
-            Ok(reply)
-        }
-        Err(CpError::Memory) => Err(Refused::Memory),
-        Err(CpError::Spent) => Err(Refused::Spent),
-        Err(CpError::NoSuchUser) => unreachable!(),
-        Err(CpError::NoSuchDevice) => unreachable!(),
-    }
-}
-
-/// Returns the system's event for an event of a script, with these cards; it must not be one of
-/// turns.
-fn event_of<'a>(event: &ScriptEvent<'a>, cards: &'a [Card]) -> Event<'a>
-    requires event { IsEvent event.now }
-    requires cards { HasCards event.now cards.now }
-    ensures event { as_said result ≡ said event.now }
-{
-    match *event {
-        ScriptEvent::Run(user, units) => Event::Run(user, units),
-        ScriptEvent::Line(user, typed) => Event::Line(user, typed),
-        ScriptEvent::Tick(user) => Event::Tick(user),
-        ScriptEvent::Serve(user, device) => Event::Serve(user, DevAddr::new(device)),
-        ScriptEvent::Deck(user, _) => Event::Deck(user, cards),
-        ScriptEvent::Auto(_) => unreachable!(),
     }
 }

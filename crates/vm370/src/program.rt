@@ -30,8 +30,9 @@ The transcript goes to standard output, a fault as one line to standard error. E
   4  there was not memory enough
 ";
 
-/// Runs the whole program: reads the arguments, the directory, the volumes and the script, and
-/// writes the transcript, to a terminal as its lines come. A failure is reported on standard error.
+/// Runs the whole program: plays a script or, with `--follow`, follows one, writes the transcript,
+/// as its lines come if `is_watched` is true, and saves the volumes if `--save` is given. A failure
+/// is reported on standard error.
 pub fn program<R: AllocGlobal + Files + Env + Input + Print + Eprint>(
     rt: &R,
     is_watched: bool,
@@ -62,7 +63,7 @@ fn run<R: AllocGlobal + Files + Env + Input + Print + Eprint>(
 }
 
 /// Follows a script whose parts are read from standard input, writes its transcript to standard
-/// output, and at its end saves the volumes if `--save` is given. A wrong use is reported here.
+/// output, and at its end saves the volumes if `--save` is given; a usage error is printed here.
 fn follow<R: AllocGlobal + Files + Input + Print + Eprint>(
     rt: &R,
     words: &[String],

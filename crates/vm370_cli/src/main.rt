@@ -6,6 +6,7 @@ use programs::ProgramEnd;
 use std::io::IsTerminal;
 use vm370::program::program;
 
+/// Runs `vm370`, which writes its transcript as the lines come if standard output is a terminal.
 fn main(rt: HostRuntime) -> ProgramEnd {
     let is_watched = rt.stdout().is_terminal();
     program(&rt, is_watched)

@@ -4,6 +4,7 @@
 
 use ckd_text::{ToolEnd, program};
 
+/// Runs `mkvol` or `trackmap`, whichever the first argument names, with the arguments after it.
 fn main(rt: HostRuntime) -> ToolEnd {
     program(&rt)
 }

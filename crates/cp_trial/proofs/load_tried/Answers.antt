@@ -14,34 +14,34 @@ pub returns-in-Err-clause-paged_in : goal.returns-in-Err-clause-paged_in
 returns-in-Err-clause-paged_in g c =
     let old = c.args.storage.now in
     let Flagged : ℕ → Type 0 = is_wanted (trial_flags c.args.tried.now) in
-    came_fewer old c.place.new.self (is_wanted c.touched.result.now) Flagged 1 2
+    came_fewer old c.page_in_wanted.new.self (is_wanted c.touched.result.now) Flagged 1 2
     (λ page it. ap (λ flags. slice_index_or flags page false) (sym c.touched.ensures.flags) ∙ it) (omega arith)
-    c.place.ensures.paged_in
+    c.page_in_wanted.ensures.paged_in
 
 pub returns-in_default-clause-paged_in : goal.returns-in_default-clause-paged_in
 returns-in_default-clause-paged_in g c =
     let old = c.args.storage.now in
     let Flagged : ℕ → Type 0 = is_wanted (trial_flags c.args.tried.now) in
-    came_fewer old c.place.new.self (is_wanted c.touched.result.now) Flagged 1 2
+    came_fewer old c.page_in_wanted.new.self (is_wanted c.touched.result.now) Flagged 1 2
     (λ page it. ap (λ flags. slice_index_or flags page false) (sym c.touched.ensures.flags) ∙ it) (omega arith)
-    c.place.ensures.paged_in
+    c.page_in_wanted.ensures.paged_in
 
 pub returns-clause-paged_in : goal.returns-clause-paged_in
 returns-clause-paged_in g c =
     let old = c.args.storage.now in
     let Flagged : ℕ → Type 0 = is_wanted (trial_flags c.args.tried.now) in
-    let placed = came_fewer old c.place.new.self (is_wanted c.touched.result.now) Flagged 1 1
+    let placed = came_fewer old c.page_in_wanted.new.self (is_wanted c.touched.result.now) Flagged 1 1
     (λ page it. ap (λ flags. slice_index_or flags page false) (sym c.touched.ensures.flags) ∙ it) (omega arith)
-    c.place.ensures.paged_in in
-    came_more old c.place.new.self c.put_back.new.self (is_wanted c.touched-2.result.now) Flagged 1 1
+    c.page_in_wanted.ensures.paged_in in
+    came_more old c.page_in_wanted.new.self c.put_back.new.self (is_wanted c.touched-2.result.now) Flagged 1 1
     (λ page it. ap (λ flags. slice_index_or flags page false) (sym c.touched-2.ensures.flags) ∙ it) placed
     c.put_back.ensures.paged_in
 
 pub returns-clause-walk : goal.returns-clause-walk
 returns-clause-walk g c =
     walk_for (setting g.D.Device.machine loading_limits) (λ m. loading g.D.Device.machine m c.args.device.now)
-    c.load_apart-ran.new.device (lent_memory c.args.storage.now) (lent_memory c.place.new.self)
+    c.load_apart-ran.new.device (lent_memory c.args.storage.now) (lent_memory c.page_in_wanted.new.self)
     (lent_memory c.put_back.new.self) (trial_bytes c.args.tried.now) (trial_flags c.args.tried.now)
-    c.in-Ok-ran.ending c.requires.tried c.place.ensures.memory c.in-Ok-ran.ensures.ends
+    c.in-Ok-ran.ending c.requires.tried c.page_in_wanted.ensures.memory c.in-Ok-ran.ensures.ends
     (ap₂ memory_of (c.put_back.ensures.bytes ∙ c.bytes.ensures)
-    (c.put_back.ensures.paged_in.keys ∙ ap (λ (m : Memory). m.keys) c.place.ensures.memory))
+    (c.put_back.ensures.paged_in.keys ∙ ap (λ (m : Memory). m.keys) c.page_in_wanted.ensures.memory))

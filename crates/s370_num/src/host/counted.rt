@@ -76,7 +76,7 @@ impl<W: Write + Drop, A: Allocator> HostWriter for Counted<BufWriter<W, A>> {
     ghost held = { λ s. writer_buffer s.file };
 
     /// Writes a front part of `bytes` to the host's file and returns how many; an interrupted write
-    /// is tried again, and any other failure is counted.
+    /// is tried again, and any other failure, or a write of no byte, is counted.
     fn write(&mut self, bytes: &[u8]) -> Result<usize, HostFault> {
         'tries: for _ in 0..u64::MAX {
             match self.file.write(bytes) {

@@ -31,9 +31,8 @@ impl<F> Failing<F> {
         }
     }
 
-    /// Counts `left` down by one, and returns whether it was zero: this call is then the one to
-    /// fail.
-    fn is_due(&mut self) -> bool
+    /// Counts this call, and returns whether it is the one to fail: whether `left` was zero.
+    fn count_call(&mut self) -> bool
         ensures due { result ≡ (self.old.left == 0) }
         ensures file { self.new.file ≡ self.old.file }
         ensures failures { self.new.failures ≡ self.old.failures }
@@ -69,7 +68,7 @@ impl<R: HostReader> HostReader for Failing<R> {
     /// Reads from the inner file, or fails if this is the call to fail; each `Device` failure is
     /// counted.
     fn read(&mut self, buf: &mut [u8]) -> Result<usize, HostFault> {
-        if self.is_due() {
+        if self.count_call() {
             return Err(self.fail());
         }
         match self.file.read(buf) {
@@ -87,7 +86,7 @@ impl<W: HostWriter> HostWriter for Failing<W> {
     /// Writes to the inner file, or fails if this is the call to fail; each `Device` failure is
     /// counted.
     fn write(&mut self, bytes: &[u8]) -> Result<usize, HostFault> {
-        if self.is_due() {
+        if self.count_call() {
             return Err(self.fail());
         }
         match self.file.write(bytes) {
@@ -99,7 +98,7 @@ impl<W: HostWriter> HostWriter for Failing<W> {
     /// Flushes the inner file, or fails if this is the call to fail; each `Device` failure is
     /// counted.
     fn flush(&mut self) -> Result<(), HostFault> {
-        if self.is_due() {
+        if self.count_call() {
             return Err(self.fail());
         }
         match self.file.flush() {

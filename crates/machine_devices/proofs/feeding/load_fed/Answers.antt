@@ -13,16 +13,16 @@ returns-in-Ok-clause-loads g c =
     let memory = g.S.Storage.memory c.args.storage.now in
     let is : c.new-fed.result ≡ fed_by files part_new =
     c.new-fed.ensures ∙ ap (λ (p : ReaderPart). fed_by files p) c.new.ensures in
-    let read : files_of c.take_back.new.self.users c.args.user
+    let read : files_of c.remove_read.new.self.users c.args.user
     ≡ read_on c.into_parts-left.result.1.ended c.into_parts-left.result.1.place files =
-    files_now c.args.queues.now.users c.take_back.new.self.users c.args.user _ c.requires.user c.take_back.ensures
+    files_now c.args.queues.now.users c.remove_read.new.self.users c.args.user _ c.requires.user c.remove_read.ensures
     in
-    let now : files_of c.take_back.new.self.users c.args.user
+    let now : files_of c.remove_read.new.self.users c.args.user
     ≡ read_on c.load-ended.new.device.ended c.load-ended.new.device.place files =
     read_is files _ _ _ _ _ c.into_parts-left.ensures.ended c.into_parts-left.ensures.place read in
     record {
       walk = loaded_fed files part_new c.new-fed.result c.load-ended.new.device
-          (files_of c.take_back.new.self.users c.args.user) c.into_parts-left.result.0 is
+          (files_of c.remove_read.new.self.users c.args.user) c.into_parts-left.result.0 is
           c.into_parts-left.ensures.reader now memory c.in-Ok.ending (g.S.Storage.memory c.load-ended.new.storage)
           c.in-Ok.ensures.walk;
       lacks = search rules;

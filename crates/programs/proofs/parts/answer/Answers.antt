@@ -20,8 +20,8 @@ returns-in-State-clause-err g c =
     let i = g.I.Installation.goes in
     let old = c.args.follower in
     let a = g.W.HostWriter.contents c.args.writer.now in
-    let b = g.W.HostWriter.contents c.go_on.new.writer in
-    err_then c.go_on.result
+    let b = g.W.HostWriter.contents c.restore_state.new.writer in
+    err_then c.restore_state.result
     (λ partly. subst (λ (r : FollowRequest). IsAnsweredPartly i old r a b) (sym c.in-State.is)
     (subst (λ (state : List ℕ). IsRestoredPartly i old state a b) c.deref-in-State.ensures.value partly))
-    c.go_on.ensures.err
+    c.restore_state.ensures.err

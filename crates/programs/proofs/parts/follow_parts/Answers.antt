@@ -58,7 +58,7 @@ returns-in_err-close-in-End-clause-err g c =
     let read = is_next c.in_ok-request.field-0 nexts.End s t c.in-End.is c.in_ok-request.ensures.ok in
     on_err c.from_residual-in_err-close-in-End.result
     (broken_off i c.args.detail c.args.installation c.loop.follower end_line (left c.args.reader.now) s t w x y
-    c.loop.invariant.so_far read (inr (inr (inl refl, c.in_err-close-in-End.ensures.err))))
+    c.loop.invariant.so_far read (inr (inr (inl refl, c.in_err-close-in-End.ensures.unwritten))))
 
 pub returns-in_err-close-in-End-clause-why : goal.returns-in_err-close-in-End-clause-why
 returns-in_err-close-in-End-clause-why g c =
@@ -80,7 +80,7 @@ returns-in-End-clause-ok g c =
     let read = is_next c.in_ok-request.field-0 nexts.End s t c.in-End.is c.in_ok-request.ensures.ok in
     followed_to i c.args.detail c.args.installation c.in_ok-close-in-End.field-0 c.loop.follower end_line
     (left c.args.reader.now) s t w x y c.loop.invariant.so_far c.in_ok-close-in-End.ensures.installation read
-    c.in_ok-close-in-End.ensures.ok
+    c.in_ok-close-in-End.ensures.unwritten
 
 pub returns-in-End-clause-why : goal.returns-in-End-clause-why
 returns-in-End-clause-why g c = (
@@ -100,7 +100,7 @@ returns-in_err-close-in-Nothing-clause-err g c =
     let read = is_next c.in_ok-request.field-0 nexts.Nothing s t c.in-Nothing.is c.in_ok-request.ensures.ok in
     on_err c.from_residual-in_err-close-in-Nothing.result
     (broken_off i c.args.detail c.args.installation c.loop.follower [] (left c.args.reader.now) s t w x y
-    c.loop.invariant.so_far read.0 (inr (inr (inr refl, c.in_err-close-in-Nothing.ensures.err))))
+    c.loop.invariant.so_far read.0 (inr (inr (inr refl, c.in_err-close-in-Nothing.ensures.unwritten))))
 
 pub returns-in_err-close-in-Nothing-clause-why : goal.returns-in_err-close-in-Nothing-clause-why
 returns-in_err-close-in-Nothing-clause-why g c =
@@ -123,7 +123,7 @@ returns-in-Nothing-clause-ok g c =
       followed_to i c.args.detail c.args.installation c.in_ok-close-in-Nothing.field-0 c.loop.follower []
           (left c.args.reader.now) s t w x y c.loop.invariant.so_far c.in_ok-close-in-Nothing.ensures.installation
           read.0
-          c.in_ok-close-in-Nothing.ensures.ok,
+          c.in_ok-close-in-Nothing.ensures.unwritten,
       read.1,
     )
 

@@ -24,8 +24,8 @@ returns-clause-parts g c i e f =
     ∙ ap (λ (o : Operand). past o n) c.of-first.ensures.value in
     let second : c.past-2.result ≡ past (operand_of cpu r2) n = c.past-2.ensures.value
     ∙ ap (λ (o : Operand). past o n) c.of-second.ensures.value in
-    let left : c.set_left-2.new.cpu ≡ left_of cpu r1 r2 n =
-    c.set_left-2.ensures ∙ (ap (λ (x : Cpu). with_operand x r2 c.past-2.result) c.set_left.ensures
+    let left : c.advance_pair-2.new.cpu ≡ left_of cpu r1 r2 n =
+    c.advance_pair-2.ensures ∙ (ap (λ (x : Cpu). with_operand x r2 c.past-2.result) c.advance_pair.ensures
     ∙ (ap (λ (o : Operand). with_operand (with_operand cpu r1 o) r2 c.past-2.result) first
     ∙ ap (λ (o : Operand). with_operand (with_operand cpu r1 (past (operand_of cpu r1) n)) r2 o) second)) in
     let some : 0 < n = omega (arith, c.requires.some) in
@@ -43,11 +43,11 @@ returns-clause-parts g c i e f =
     (omega (arith, c.requires.some)) e f c.requires.apart c.requires.first c.requires.second
     c.of-first.ensures.registers
     (λ more. (c.requires.block (omega arith), c.requires.block_2 (omega arith))) whole in
-    let after : moved_by m r1 r2 n ≡ state_of c.set_left-2.new.cpu (g.S.Storage.memory c.copy_granted.new.storage) =
+    let after : moved_by m r1 r2 n ≡ state_of c.advance_pair-2.new.cpu (g.S.Storage.memory c.copy_granted.new.storage) =
     ap (λ (x : Cpu). state_of x (memory_of (moved_by m r1 r2 n).bytes m.keys)) (sym left)
-    ∙ ap (state_of c.set_left-2.new.cpu) (sym (rw (to, from) at (c.copy_granted.ensures.moved is_it))) in
+    ∙ ap (state_of c.advance_pair-2.new.cpu) (sym (rw (to, from) at (c.copy_granted.ensures.moved is_it))) in
     let count : suc (c.args.parts - 1) ≡ c.args.parts = omega (arith, c.requires.some) in
     subst (λ (k : ℕ). AreParts k c.args.start (g.S.Storage.present c.args.storage.now) i m
-    (state_of c.set_left-2.new.cpu (g.S.Storage.memory c.copy_granted.new.storage))) count
+    (state_of c.advance_pair-2.new.cpu (g.S.Storage.memory c.copy_granted.new.storage))) count
     (subst (λ (x : State). AreParts (suc (c.args.parts - 1)) c.args.start
     (g.S.Storage.present c.args.storage.now) i m x) after parts)

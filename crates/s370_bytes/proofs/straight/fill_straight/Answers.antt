@@ -7,9 +7,11 @@ pub returns-clause-moved : goal.returns-clause-moved
 returns-clause-moved g c yes_it_is =
     let before = (g.S.Storage.memory c.args.storage.now).bytes in
     let n = c.args.count in
-    c.store_in.ensures.stored ∙ ap (with_stored (g.S.Storage.memory c.args.storage.now) c.args.to)
-    (filled_is before (slice_range before c.args.to (c.args.to + n))
-    (slice_range before c.args.from (c.args.from + n)) c.set_all.new.bytes c.args.to c.args.from n
+    c.store_in.ensures.stored ∙ ap (with_stored (g.S.Storage.memory c.args.storage.now) c.args.target.start)
+    (filled_is before (slice_range before c.args.target.start (c.args.target.start + n))
+    (slice_range before c.args.source.start (c.args.source.start + n)) c.set_all.new.bytes c.args.target.start
+    c.args.source.start n
     c.load_byte_in-byte.result _
-    c.requires.some (omega (arith, c.if-from-to.false, c.if-to-from-ne1.false)) c.requires.target_inside refl refl
+    c.requires.some (omega (arith, c.if-source-target.false, c.if-target-source-ne1.false)) c.requires.target.inside
+    refl refl
     c.load_byte_in-byte.ensures (search rules) c.set_all.ensures)

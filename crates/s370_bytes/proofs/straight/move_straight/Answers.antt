@@ -9,10 +9,11 @@ pub returns-clause-moved : goal.returns-clause-moved
 returns-clause-moved g c yes_it_is =
     let before = (g.S.Storage.memory c.args.storage.now).bytes in
     let n = c.args.count in
-    let source : List ℕ = slice_range before c.args.from (c.args.from + n) in
+    let source : List ℕ = slice_range before c.args.source.start (c.args.source.start + n) in
     let all : n ≡ c.lag_of.result = omega (arith, c.lag_of.ensures.within, c.if-lag_of-count.false) in
-    c.copy_in.ensures.stored ∙ ap (with_stored (g.S.Storage.memory c.args.storage.now) c.args.to)
-    (made_is Move before (slice_range before c.args.to (c.args.to + n)) source source c.args.to c.args.from n n
-    c.requires.target_inside (length-range before c.args.from n c.requires.source_inside) refl refl (all
+    c.copy_in.ensures.stored ∙ ap (with_stored (g.S.Storage.memory c.args.storage.now) c.args.target.start)
+    (made_is Move before (slice_range before c.args.target.start (c.args.target.start + n)) source source
+    c.args.target.start c.args.source.start n n
+    c.requires.target.inside (length-range before c.args.source.start n c.requires.source.inside) refl refl (all
     ∙ c.lag_of.ensures.value)
     (λ j s. sym (lagged_source source source n j s)))

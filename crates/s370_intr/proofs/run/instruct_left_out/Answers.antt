@@ -1,16 +1,20 @@
 use Rattle.std.proofs.Common.{◌≡◌, ap, subst, ◌∙◌}
 use Rattle.s370_rows.specs.State.{State, state_of}
 use Rattle.s370_intr.specs.Units.{core_of, look}
-use Rattle.s370_intr.specs.Run.{run}
-use Rattle.s370_intr.proofs.Runs.{all_done, one_unit, still_held}
+use Rattle.s370_intr.specs.Run.{RunsTo}
+use Rattle.s370_intr.proofs.Runs.{one_unit, still_held}
 use Rattle.s370_intr.proofs.run.instruct_left_out.Goals as goal
 
-pub returns-in-Some-clause-done : goal.returns-in-Some-clause-done
-returns-in-Some-clause-done g c =
+pub returns-in-Some-clause-ran : goal.returns-in-Some-clause-ran
+returns-in-Some-clause-ran g c =
     let before = state_of c.args.cpu.now (g.S.Storage.memory c.args.storage.now) in
     let after = state_of c.supervise_quickly.new.cpu (g.S.Storage.memory c.supervise_quickly.new.storage) in
-    one_unit before after c.args.pending c.args.subchannels.now
-    (c.requires.plain (g.S.Storage.memory c.args.storage.now)) c.in-Some.ensures.step.done
+    record {
+      done = one_unit before after c.args.pending c.args.subchannels.now c.requires.plain
+          c.in-Some.ensures.step.done;
+      plain = c.is_plain-plain.ensures (g.S.Storage.memory c.supervise_quickly.new.storage);
+      within = c.requires.some;
+    }
 
 pub returns-in-Some-clause-operands : goal.returns-in-Some-clause-operands
 returns-in-Some-clause-operands g c is_it =
@@ -21,18 +25,18 @@ returns-in-Some-clause-operands g c is_it =
     (g.met.S.Storage.keeps_present _ _ kept) c.supervise_quickly.ensures.operands)
 
 pub instruct_apart-went-requires-2-clause-plain : goal.instruct_apart-went-requires-2-clause-plain
-instruct_apart-went-requires-2-clause-plain g c m =
+instruct_apart-went-requires-2-clause-plain g c =
     ap (λ (x : State). look (core_of x c.args.pending c.args.subchannels.now)) c.in-None.ensures.step.still
-    ∙ c.requires.plain (g.S.Storage.memory c.args.storage.now)
+    ∙ c.requires.plain
 
-pub returns-clause-done : goal.returns-clause-done
-returns-clause-done g c =
+pub returns-clause-ran : goal.returns-clause-ran
+returns-clause-ran g c =
     let pending = c.args.pending in
-    let n = c.instruct_apart-went-2.result.units in
+    let went = c.instruct_apart-went-2.result in
     let after = state_of c.instruct_apart-went-2.new.cpu (g.S.Storage.memory c.instruct_apart-went-2.new.storage) in
-    subst (λ (x : State). run n (core_of x pending c.args.subchannels.now) ≡ all_done n
+    subst (λ (x : State). RunsTo c.args.limit went.units went.is_plain (core_of x pending c.args.subchannels.now)
     (core_of after pending c.instruct_apart-went-2.new.subchannels)) c.in-None.ensures.step.still
-    c.instruct_apart-went-2.ensures.done
+    c.instruct_apart-went-2.ensures.ran
 
 pub returns-clause-rest : goal.returns-clause-rest
 returns-clause-rest g c =

@@ -2,32 +2,43 @@ use Rattle.std.proofs.Common.{◌+◌, arith}
 use Rattle.s370_intr.proofs.Runs.{does_many, is_so}
 use Rattle.s370_intr.proofs.run.instruct_quickly.Goals as goal
 
-pub returns-in-None-block-clause-done : goal.returns-in-None-block-clause-done
-returns-in-None-block-clause-done g c =
+pub returns-in-None-block-clause-ran : goal.returns-in-None-block-clause-ran
+returns-in-None-block-clause-ran g c =
     let steady = c.instruct_steadily-steady.ensures.done c.args.pending c.loop-units.subchannels
-    (c.loop-units.invariant.plain (g.S.Storage.memory c.loop-units.storage)) in
-    does_many c.loop-units.units c.instruct_steadily-steady.result.units _ _ _ c.loop-units.invariant.done steady.0
+    c.loop-units.invariant.plain in
+    record {
+      done = does_many c.loop-units.units c.instruct_steadily-steady.result.units _ _ _ c.loop-units.invariant.done
+          steady.0;
+      plain = λ _. steady.1;
+      within = omega (arith, c.instruct_steadily-steady.ensures.within, c.loop-units-test.true);
+    }
 
-pub returns-in-None-block-clause-plain : goal.returns-in-None-block-clause-plain
-returns-in-None-block-clause-plain g c m is_it =
-    (c.instruct_steadily-steady.ensures.done c.args.pending c.loop-units.subchannels
-    (c.loop-units.invariant.plain (g.S.Storage.memory c.loop-units.storage))).1
-
-pub returns-in-None-clause-plain : goal.returns-in-None-clause-plain
-returns-in-None-clause-plain g c m is_it = c.loop-units.invariant.plain m
+pub returns-in-None-clause-ran : goal.returns-in-None-clause-ran
+returns-in-None-clause-ran g c =
+    let before = c.loop-units.invariant in
+    record { done = before.done; plain = λ _. before.plain; within = before.within }
 
 pub instruct_left_out-went-requires-clause-plain : goal.instruct_left_out-went-requires-clause-plain
-instruct_left_out-went-requires-clause-plain g c m =
-    (c.instruct_steadily-steady.ensures.done c.args.pending c.loop-units.subchannels
-    (c.loop-units.invariant.plain (g.S.Storage.memory c.loop-units.storage))).1
+instruct_left_out-went-requires-clause-plain g c =
+    (c.instruct_steadily-steady.ensures.done c.args.pending c.loop-units.subchannels c.loop-units.invariant.plain).1
 
-pub returns-then-went-eq0-clause-done : goal.returns-then-went-eq0-clause-done
-returns-then-went-eq0-clause-done g c =
+pub returns-then-went-eq0-clause-ran : goal.returns-then-went-eq0-clause-ran
+returns-then-went-eq0-clause-ran g c =
     let steady = c.instruct_steadily-steady.ensures.done c.args.pending c.loop-units.subchannels
-    (c.loop-units.invariant.plain (g.S.Storage.memory c.loop-units.storage)) in
-    does_many (c.loop-units.units + c.instruct_steadily-steady.result.units) c.instruct_left_out-went.result.units _ _ _
-    (does_many c.loop-units.units c.instruct_steadily-steady.result.units _ _ _ c.loop-units.invariant.done steady.0)
-    c.instruct_left_out-went.ensures.done
+    c.loop-units.invariant.plain in
+    record {
+      done = does_many (c.loop-units.units + c.instruct_steadily-steady.result.units)
+          c.instruct_left_out-went.result.units _ _ _ (does_many c.loop-units.units
+          c.instruct_steadily-steady.result.units _ _ _ c.loop-units.invariant.done steady.0)
+          c.instruct_left_out-went.ensures.ran.done;
+      plain = c.instruct_left_out-went.ensures.ran.plain;
+      within = omega (
+        arith,
+        c.instruct_steadily-steady.ensures.within,
+        c.instruct_left_out-went.ensures.ran.within,
+        c.loop-units-test.true,
+      );
+    }
 
 pub returns-then-went-eq0-clause-rest : goal.returns-then-went-eq0-clause-rest
 returns-then-went-eq0-clause-rest g c =
@@ -37,27 +48,27 @@ returns-then-went-eq0-clause-rest g c =
 pub loop-units-preserved : goal.loop-units-preserved
 loop-units-preserved g c =
     let steady = c.instruct_steadily-steady.ensures.done c.args.pending c.loop-units.subchannels
-    (c.loop-units.invariant.plain (g.S.Storage.memory c.loop-units.storage)) in
+    c.loop-units.invariant.plain in
     record {
       within = omega (
         arith,
         c.instruct_steadily-steady.ensures.within,
-        c.instruct_left_out-went.ensures.within,
+        c.instruct_left_out-went.ensures.ran.within,
         c.loop-units-test.true,
       );
-      plain = λ m. c.instruct_left_out-went.ensures.plain m (is_so c.instruct_left_out-went.result.is_plain
+      plain = c.instruct_left_out-went.ensures.ran.plain (is_so c.instruct_left_out-went.result.is_plain
           c.if-not-went.false);
       done = does_many (c.loop-units.units + c.instruct_steadily-steady.result.units)
           c.instruct_left_out-went.result.units _ _ _
           (does_many c.loop-units.units c.instruct_steadily-steady.result.units _ _ _ c.loop-units.invariant.done
-          steady.0) c.instruct_left_out-went.ensures.done;
-      low = λ is_it. rw c.in-Some-block.is at c.instruct_steadily-steady.ensures.low;
-      may_fetch = c.instruct_left_out-went.ensures.may_fetch;
-      placed = c.instruct_left_out-went.ensures.placed;
+          steady.0) c.instruct_left_out-went.ensures.ran.done;
+      fetched = c.instruct_left_out-went.ensures.fetched;
       operands = c.instruct_left_out-went.ensures.operands;
       rest = g.met.S.Keyed.rest_on _ _ _ (g.met.S.Keyed.rest_on _ _ _ c.loop-units.invariant.rest
           (g.met.S.Keyed.rest_kept _ _ c.instruct_steadily-steady.ensures.rest)) c.instruct_left_out-went.ensures.rest;
     }
 
-pub returns-clause-plain : goal.returns-clause-plain
-returns-clause-plain g c m is_it = c.loop-units.invariant.plain m
+pub returns-clause-ran : goal.returns-clause-ran
+returns-clause-ran g c =
+    let before = c.loop-units.invariant in
+    record { done = before.done; plain = λ _. before.plain; within = before.within }

@@ -1,10 +1,8 @@
-use Rattle.std.proofs.Common.{◌≡◌, ◌-◌, ◌<◌, ◌≤◌, length, true}
-use Rattle.s370_store.specs.Blocks.{MayFetch}
-use Rattle.s370_store.specs.Memory.{Memory}
+use Rattle.std.proofs.Common.{◌≡◌, ◌-◌, ◌≤◌, true}
 use Rattle.s370_rows.specs.State.{state_of}
 use Rattle.s370_quick.specs.Quick.{AreHeld}
 use Rattle.s370_intr.specs.Units.{core_of, look}
-use Rattle.s370_intr.specs.Run.{run}
+use Rattle.s370_intr.specs.Run.{IsFetched, run}
 use Rattle.s370_intr.specs.declared.next.Next.TheVariants.{Instructs}
 use Rattle.s370_intr.proofs.Runs.{all_done}
 use Rattle.s370_intr.proofs.run.instruct_quickly.Given as goal
@@ -14,13 +12,11 @@ invariant-loop-units g l =
     let first = core_of (state_of l.fn.cpu (g.S.Storage.memory l.fn.storage)) l.fn.pending l.fn.subchannels in
     record {
       within : l.units ≤ l.limit;
-      plain : (m : Memory) → look (core_of (state_of l.cpu m) l.fn.pending l.subchannels) ≡ Instructs;
+      plain : look (core_of (state_of l.cpu (g.S.Storage.memory l.storage)) l.fn.pending l.subchannels) ≡ Instructs;
       done : run l.units first ≡ all_done l.units (core_of (state_of l.cpu (g.S.Storage.memory l.storage)) l.fn.pending
           l.subchannels);
-      low : l.keeps_blocks ≡ true → l.block.first < 16777216;
-      may_fetch : l.keeps_blocks ≡ true → MayFetch (length (g.S.Storage.memory l.storage).bytes)
-          (g.S.Storage.memory l.storage).keys (g.S.Storage.present l.storage) l.cpu.psw.key l.block.first;
-      placed : l.keeps_blocks ≡ true → g.S.Storage.IsPlaced l.storage l.block;
+      fetched : l.keeps_blocks ≡ true → IsFetched (g.S.Storage.IsPlaced l.storage) (g.S.Storage.memory l.storage)
+          (g.S.Storage.present l.storage) l.cpu l.block;
       operands : l.keeps_blocks ≡ true → AreHeld (g.S.Storage.IsPlaced l.storage) (g.S.Storage.memory l.storage)
           (g.S.Storage.present l.storage) l.cpu.psw.key l.held;
       rest : g.S.Keyed.KeepsRest l.fn.storage l.storage;

@@ -1,4 +1,4 @@
-use Rattle.std.proofs.Common.{◌≡◌, ◌∙◌, ap, sym, subst}
+use Rattle.std.proofs.Common.{◌≡◌, ◌∙◌, ap, refl, sym, subst}
 use Rattle.s370_rows.specs.State.{State, state_of}
 use Rattle.s370_cpu.specs.Laws.{Rights}
 use Rattle.s370_intr.specs.Units.{Core, core_of, look, unit_at}
@@ -47,19 +47,26 @@ returns-in-None-step_quickly-clause-done g c pending list e =
     (λ (x : State). core_of x pending list) c.in-None-step_quickly.ensures.step.still in
     (before.0 ∙ ap (λ (x : Core). all_done c.loop-units.units x) (sym same), ap look same ∙ before.1)
 
-pub returns-in-None-step_quickly-clause-may_fetch : goal.returns-in-None-step_quickly-clause-may_fetch
-returns-in-None-step_quickly-clause-may_fetch g c =
+pub returns-in-None-step_quickly-clause-next : goal.returns-in-None-step_quickly-clause-next
+returns-in-None-step_quickly-clause-next g c =
     let rights = c.step_quickly.ensures.step.rights in
+    let rest = c.step_quickly.ensures.rest in
     let key : c.key-key.result ≡ c.step_quickly.new.cpu.psw.key = c.loop-units.invariant.key
     ∙ sym (ap (λ (r : Rights). r.key) rights) in
-    rw (sym key) (still_accesses c.key-key.result c.in-Some.found.first
-    (g.met.S.Storage.keeps_size _ _ c.step_quickly.ensures.rest) (ap (λ (r : Rights). r.keys) rights)
-    (g.met.S.Storage.keeps_present _ _ c.step_quickly.ensures.rest) c.in-Some.ensures.may_fetch)
-
-pub returns-in-None-step_quickly-clause-placed : goal.returns-in-None-step_quickly-clause-placed
-returns-in-None-step_quickly-clause-placed g c =
-    g.met.S.Storage.placed_kept _ _ c.in-Some.found c.step_quickly.ensures.rest
-    c.in-Some.ensures.placed
+    let here : c.loop-units.next ≡ c.step_quickly.new.cpu.psw.address = c.loop-units.invariant.here
+    ∙ sym (ap (λ (m : State). m.cpu.psw.address) c.in-None-step_quickly.ensures.step.still) in
+    record {
+      fetched = record {
+        low = c.in-Some.ensures.low;
+        may_fetch = rw (sym key) (still_accesses c.key-key.result c.in-Some.found.first
+            (g.met.S.Storage.keeps_size _ _ rest) (ap (λ (r : Rights). r.keys) rights)
+            (g.met.S.Storage.keeps_present _ _ rest) c.in-Some.ensures.may_fetch);
+        placed = g.met.S.Storage.placed_kept _ _ c.in-Some.found rest c.in-Some.ensures.placed;
+      };
+      begins = rw (sym here) c.in-Some.ensures.begins;
+      ends = rw (sym here) c.in-Some.ensures.ends;
+      even = rw (sym here) (c.in-Some.ensures.even refl);
+    }
 
 pub returns-in-None-step_quickly-clause-rest : goal.returns-in-None-step_quickly-clause-rest
 returns-in-None-step_quickly-clause-rest g c =

@@ -11,6 +11,19 @@ use Rattle.s370_intr.proofs.Runs.{tells_stop, Goes}
 use Rattle.s370_intr.proofs.Brings.{begun_all}
 use Rattle.s370_intr.proofs.run.run_units.Goals as goal
 
+pub go_quickly-went-requires-clause-plain : goal.go_quickly-went-requires-clause-plain
+go_quickly-went-requires-clause-plain g c = c.is_plain-plain.ensures (g.S.Storage.memory c.args.storage.now)
+
+pub go_quickly-went-requires-in-loop-units : goal.go_quickly-went-requires-in-loop-units
+go_quickly-went-requires-in-loop-units g c =
+    let s = c.loop-units.invariant.supply in
+    let t = c.in-Ok.ensures.supply in
+    let size = g.met.S.UnitSupply.came_size _ _ (t.0 ∷ []) t.1 ∙ g.met.S.UnitSupply.came_size _ _ s.0 s.1 in
+    record {
+      size = subst (λ (k : ℕ). 8192 ≤ k) (sym size) c.requires.large;
+      plain = c.is_plain-plain-in-loop-units.ensures (g.S.Storage.memory c.do_unit.new.storage);
+    }
+
 pub returns-then-units-count-clause-reported : goal.returns-then-units-count-clause-reported
 returns-then-units-count-clause-reported g c =
     let n = c.go_quickly-went.result.units in
@@ -19,7 +32,7 @@ returns-then-units-count-clause-reported g c =
     let now = core_of (state_of c.go_quickly-went.new.cpu (g.S.Storage.memory c.go_quickly-went.new.storage))
     c.args.pending.now c.go_quickly-went.new.subchannels in
     let reported : Run = record { core = now; units = n; reason = Count } in
-    subst (λ (k : ℕ). run k first ≡ reported) c.if-units-count.true c.go_quickly-went.ensures.done
+    subst (λ (k : ℕ). run k first ≡ reported) c.if-units-count.true c.go_quickly-went.ensures.ran.done
 
 pub returns-then-units-count-clause-supply : goal.returns-then-units-count-clause-supply
 returns-then-units-count-clause-supply g c =
@@ -38,8 +51,8 @@ loop-units-init g c =
     c.args.subchannels.now in
     let quickly = c.go_quickly-went.ensures.rest in
     record {
-      within = c.go_quickly-went.ensures.within;
-      ran = c.go_quickly-went.ensures.done;
+      within = c.go_quickly-went.ensures.ran.within;
+      ran = c.go_quickly-went.ensures.ran.done;
       supply = (
         replicate n [],
         g.met.S.UnitSupply.came_none _ _ n c.requires.between quickly,
@@ -47,7 +60,7 @@ loop-units-init g c =
         length-replicate n [],
       );
       between = g.met.S.UnitSupply.between_kept _ _ quickly c.requires.between;
-      plain = c.go_quickly-went.ensures.plain;
+      plain = c.go_quickly-went.ensures.ran.plain;
     }
 
 pub returns-in-Stops-clause-reported : goal.returns-in-Stops-clause-reported
@@ -98,10 +111,10 @@ loop-units-preserved g c =
     c.args.subchannels.now in
     let now = core_of (state_of c.loop-units.cpu (g.S.Storage.memory c.loop-units.storage)) c.loop-units.pending
     c.loop-units.subchannels in
-    let new = core_of (state_of c.supplied.new.cpu (g.S.Storage.memory c.supplied.new.storage)) c.supplied.new.pending
-    c.supplied.new.subchannels in
+    let new = core_of (state_of c.do_unit.new.cpu (g.S.Storage.memory c.do_unit.new.storage)) c.do_unit.new.pending
+    c.do_unit.new.subchannels in
     let end = core_of (state_of c.go_quickly-went-in-loop-units.new.cpu
-    (g.S.Storage.memory c.go_quickly-went-in-loop-units.new.storage)) c.supplied.new.pending
+    (g.S.Storage.memory c.go_quickly-went-in-loop-units.new.storage)) c.do_unit.new.pending
     c.go_quickly-went-in-loop-units.new.subchannels in
     let e : c.next_of-next.result ≡ look now = c.next_of-next.ensures (g.S.Storage.memory c.loop-units.storage) in
     let s = c.loop-units.invariant.supply in
@@ -111,7 +124,7 @@ loop-units-preserved g c =
     let needed : AllNeeded (NeedsAt (look now) now) t.0 = subst (λ (l : Next). AllNeeded (NeedsAt l now) t.0) e t.2 in
     let one : run (k + 1) first ≡ all_done (k + 1) new = does_more k first now new c.loop-units.invariant.ran goes step
     in
-    let within : n ≤ c.args.count - (k + 1) = c.go_quickly-went-in-loop-units.ensures.within in
+    let within : n ≤ c.args.count - (k + 1) = c.go_quickly-went-in-loop-units.ensures.ran.within in
     let less : k < c.args.count = c.loop-units-test.true in
     let quiet : List (List ℕ) = replicate n [] in
     let many : length quiet ≡ n = length-replicate n [] in
@@ -119,7 +132,7 @@ loop-units-preserved g c =
     let quietly = g.met.S.UnitSupply.came_none _ _ n c.in-Ok.ensures.between quickly in
     record {
       within = omega (arith, within, less);
-      ran = does_many (k + 1) n first new end one c.go_quickly-went-in-loop-units.ensures.done;
+      ran = does_many (k + 1) n first new end one c.go_quickly-went-in-loop-units.ensures.ran.done;
       supply = (
         (s.0 ++ t.0 ∷ []) ++ quiet,
         g.met.S.UnitSupply.came_on _ _ _ (s.0 ++ t.0 ∷ []) quiet
@@ -129,5 +142,5 @@ loop-units-preserved g c =
         omega (arith, s.3, length-append s.0 (t.0 ∷ []), length-append (s.0 ++ t.0 ∷ []) quiet, many),
       );
       between = g.met.S.UnitSupply.between_kept _ _ quickly c.in-Ok.ensures.between;
-      plain = c.go_quickly-went-in-loop-units.ensures.plain;
+      plain = c.go_quickly-went-in-loop-units.ensures.ran.plain;
     }

@@ -1,5 +1,4 @@
 use Rattle.std.proofs.Common.{◌≡◌, true, ◌-◌, ◌≤◌, ℕ, List, length}
-use Rattle.s370_store.specs.Memory.{Memory}
 use Rattle.s370_rows.specs.State.{state_of}
 use Rattle.s370_intr.specs.Units.{core_of, look}
 use Rattle.s370_intr.specs.Run.{EachBrings, run}
@@ -17,8 +16,8 @@ invariant-loop-units g l =
       supply : (units : List (List ℕ)) × g.S.UnitSupply.Came l.fn.storage units l.storage × EachBrings first 0 units
           × (length units ≡ l.units);
       between : g.S.UnitSupply.IsBetween l.storage;
-      plain : (m : Memory) → l.went.is_plain ≡ true → look (core_of (state_of l.cpu m) l.pending l.subchannels) ≡
-          Instructs;
+      plain : l.went.is_plain ≡ true → look (core_of (state_of l.cpu (g.S.Storage.memory l.storage)) l.pending
+          l.subchannels) ≡ Instructs;
     }
 
 abbrev pub decreases-loop-units : goal.decreases-loop-units

@@ -16,8 +16,8 @@ returns-in-Err-clause-instruction g c =
     let before = g.S.Storage.present c.args.storage.now in
     let after = g.S.Storage.present c.step-stop.new.storage in
     let stop = c.step-stop.result in
-    let spare = c.save.new.spare in
-    let same : spare ≡ c.args.cpu.now = elim c.save.ensures [
+    let spare = c.save_if_page_0_absent.new.spare in
+    let same : spare ≡ c.args.cpu.now = elim c.save_if_page_0_absent.ensures [
       | inl here ↦ saved (configuration_of m1 devices) c2 after stop c.in-Err.page c.args.cpu.now spare
           (subst (λ (p : ℕ → Bool). p 0 ≡ true) (sym (g.met.S.Storage.keeps_present _ _ c.step-stop.ensures.rest)) here)
           (not_asked before m m1 stop c.args.cpu.now spare c.in_default.not-Privileged c.step-stop.ensures.unit)

@@ -8,4 +8,4 @@ returns g c =
     let s = c.args.storage.now in
     let m = state_of c.args.cpu.now (g.S.Storage.memory s) in
     let ts = tested c.args.access c.args.range ∷ [] in
-    c.leave_of.ensures m (g.S.Storage.present s) ts (rw (← c.key.ensures) c.check.ensures)
+    c.refusal_of.ensures m (g.S.Storage.present s) ts (rw (← c.key.ensures) c.check.ensures)

@@ -7,8 +7,8 @@ abbrev pub invariant-loop-rest : goal.invariant-loop-rest
 invariant-loop-rest l = record {
   so_far : script_of l.users l.text ≡ read_on l.users l.number
       (record { events = map said l.events.items; cards = l.cards }) (lines_of l.rest);
-  users : All (IsOfUser l.users) l.events.items;
-  devices : All (IsOfDevice l.users) l.events.items;
+  users : All (λ e. IsOfUser l.users (said e)) l.events.items;
+  devices : All (λ e. IsOfDevice l.users (said e)) l.events.items;
   numbered : l.number + length l.rest ≤ length l.text + 1;
 }
 

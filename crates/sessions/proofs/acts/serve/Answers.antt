@@ -7,46 +7,46 @@ use Rattle.sessions.proofs.Histories.{served_partly}
 use Rattle.sessions.proofs.Stated.{after_event, taken_stated, turned_stated, user_stated}
 use Rattle.sessions.proofs.acts.serve.Goals as goal
 
-pub follow-requires : goal.follow-requires
-follow-requires g c =
+pub apply_and_queue-requires : goal.apply_and_queue-requires
+apply_and_queue-requires g c =
     let users = (g.I.Installation.goes.seen c.args.installation.now).users in
     let program = c.in-Some.program in
     let given = taken_stated users c.args.policy.now.programs c.serve.new.self.programs program c.in-Some.ensures.dealt
     c.requires.dealing.stated in
-    record { user = user_stated users program given; device = rw c.get.ensures given; event = tt }
+    record { user = user_stated users program given; device = given }
 
 pub returns-in-Some-clause-ok : goal.returns-in-Some-clause-ok
 returns-in-Some-clause-ok g c =
     let i = g.I.Installation.goes in
     let old = g.W.HostWriter.contents c.args.writer.now in
-    let new = g.W.HostWriter.contents c.follow.new.writer in
+    let new = g.W.HostWriter.contents c.apply_and_queue.new.writer in
     let before = i.seen c.args.installation.now in
-    let after = i.seen c.follow.new.installation in
+    let after = i.seen c.apply_and_queue.new.installation in
     let program = c.in-Some.program in
     let turned = c.serve.new.self.programs in
     let lines = c.args.policy.now in
-    let answered = rw c.get.ensures at c.follow.ensures.ok in
     let stated = turned_stated before.users lines.programs turned program c.in-Some.ensures.dealt
     c.requires.dealing.stated in
-    ok_then c.follow.result (λ h.
-    let all : c.follow.new.policy ≡ record lines { programs = line_after before after program.user turned } =
+    ok_then c.apply_and_queue.result (λ h.
+    let all : c.apply_and_queue.new.policy ≡ record lines { programs = line_after before after program.user turned } =
     h.1 ∙ ap (λ (p : Lines). record p { programs = line_after before after program.user turned }) c.serve.ensures.rest
     in
-    let dealing = after_event before after program.user lines turned c.follow.new.policy c.follow.ensures.users stated
+    let dealing = after_event before after program.user lines turned c.apply_and_queue.new.policy
+    c.apply_and_queue.ensures.users stated
     c.requires.dealing.seats (ap (λ (p : Lines). p.most_users) all) (ap (λ (p : Lines). p.programs) all) in
-    served i c.args.detail c.args.had_slice program turned c.args.installation.now c.follow.new.installation lines
-    c.follow.new.policy old new c.in-Some.ensures.dealt h.0 all c.follow.ensures.users dealing)
-    (both_ok _ _ c.follow.result answered c.follow.ensures.lined)
+    served i c.args.detail c.args.had_slice program turned c.args.installation.now c.apply_and_queue.new.installation
+    lines
+    c.apply_and_queue.new.policy old new c.in-Some.ensures.dealt h.0 all c.apply_and_queue.ensures.users dealing)
+    (both_ok _ _ c.apply_and_queue.result c.apply_and_queue.ensures.ok c.apply_and_queue.ensures.lined)
 
 pub returns-in-Some-clause-err : goal.returns-in-Some-clause-err
 returns-in-Some-clause-err g c =
     let old = g.W.HostWriter.contents c.args.writer.now in
-    let new = g.W.HostWriter.contents c.follow.new.writer in
-    let failed = rw c.get.ensures at c.follow.ensures.err in
-    err_then c.follow.result
+    let new = g.W.HostWriter.contents c.apply_and_queue.new.writer in
+    err_then c.apply_and_queue.result
     (λ h. served_partly g.I.Installation.goes c.args.detail c.args.had_slice c.in-Some.program
-    c.serve.new.self.programs c.args.installation.now c.follow.new.installation c.args.policy.now old new
-    c.in-Some.ensures.dealt h) failed
+    c.serve.new.self.programs c.args.installation.now c.apply_and_queue.new.installation c.args.policy.now old new
+    c.in-Some.ensures.dealt h) c.apply_and_queue.ensures.err
 
 pub returns-in-None-clause-ok : goal.returns-in-None-clause-ok
 returns-in-None-clause-ok g c =

@@ -1,6 +1,6 @@
 use Rattle.std.proofs.Common.{sym, subst}
 use Rattle.cp_core.specs.Histories.{IsReplied}
-use Rattle.cp_core.specs.declared.events.Event.TheVariants.{Deck}
+use Rattle.machine_devices.specs.declared.event.Event.TheVariants.{Deck}
 use Rattle.machine_devices.specs.declared.reply.Reply.{Reply}
 use Rattle.cp_core.proofs.Steps.{deck_cut, deck_given, if_err, is_nothing, is_something, no_deck}
 use Rattle.cp_core.proofs.system.System.deck.Goals as goal

@@ -5,7 +5,7 @@ use Rattle.cp_core.specs.Keeps.{HasKept, LineKeeps}
 use Rattle.cp_core.specs.System.{user_at, world_of}
 use Rattle.machine_devices.specs.Replies.{said_to_line}
 use Rattle.cp_core.specs.UserOp.{HasTyped}
-use Rattle.cp_core.specs.declared.events.Event.TheVariants.{Line}
+use Rattle.machine_devices.specs.declared.event.Event.TheVariants.{Line}
 use Rattle.machine_devices.specs.declared.reply.Reply.{Reply}
 use Rattle.cp_core.proofs.Keeping.{kept_on}
 use Rattle.cp_core.proofs.Steps.{if_err, line_cut, line_done, line_out, line_refused}

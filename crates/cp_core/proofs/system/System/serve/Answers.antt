@@ -1,7 +1,7 @@
 use Rattle.std.proofs.Common.{Bool, Err, Ok, Result, ap, arith, refl, sym, subst}
 use Rattle.machine_panel.specs.declared.line.LineError.{LineError}
 use Rattle.cp_core.specs.Histories.{IsReplied}
-use Rattle.cp_core.specs.declared.events.Event.TheVariants.{Serve}
+use Rattle.machine_devices.specs.declared.event.Event.TheVariants.{Serve}
 use Rattle.machine_devices.specs.declared.reply.Ended.{Ended}
 use Rattle.machine_devices.specs.declared.reply.Reply.{Reply}
 use Rattle.cp_core.specs.Keeps.{EventKeeps, HasKept, ServeKeeps, serve_ended}

@@ -1,6 +1,6 @@
 use Rattle.std.proofs.Common.{sym, subst}
 use Rattle.cp_core.specs.Histories.{IsReplied}
-use Rattle.cp_core.specs.declared.events.Event.TheVariants.{Tick}
+use Rattle.machine_devices.specs.declared.event.Event.TheVariants.{Tick}
 use Rattle.machine_devices.specs.declared.reply.Reply.{Reply}
 use Rattle.cp_core.proofs.Keeping.{kept_stays}
 use Rattle.cp_core.proofs.Steps.{tick_done, tick_out}

@@ -32,7 +32,7 @@ pub returns-clause-lent : goal.returns-clause-lent
 returns-clause-lent c =
     let reported = c.type_supplied-reported in
     let first : KeepsOtherDisks (disks_of c.args.lent.now) (hung_on reported.new.channels) =
-    subst (λ (d : DisksValue). KeepsOtherDisks d (hung_on reported.new.channels)) c.take-channels.ensures.hung
+    subst (λ (d : DisksValue). KeepsOtherDisks d (hung_on reported.new.channels)) c.take_from-channels.ensures.hung
     reported.ensures.others in
     record {
       same_machine = refl;
@@ -42,7 +42,7 @@ returns-clause-lent c =
       same_minidisks = refl;
       same_reuse = refl;
       other_users = reported.ensures.other_users;
-      other_disks = rw (c.give.ensures.volumes, c.give.ensures.minidisks) first;
+      other_disks = rw (c.return_to.ensures.volumes, c.return_to.ensures.minidisks) first;
     }
 
 pub returns-clause-does : goal.returns-clause-does
@@ -65,14 +65,14 @@ returns-clause-does c =
     × (r ≡ Err errors.Memory → is_ipl (requested typed (from d)) ≡ false → after ≡ from d)
     × (r ≡ Err errors.Memory → LineMay world typed (from d)) in
     let facts : Facts start =
-    subst Facts c.take-channels.ensures.hung (
+    subst Facts c.take_from-channels.ensures.hung (
       reported.ensures.lent,
       reported.ensures.ok,
       reported.ensures.unchanged_without_frames,
       reported.ensures.kept,
       reported.ensures.memory,
     ) in
-    rw (← c.users.ensures.users, ← c.as_slice.ensures.value, c.give.ensures.volumes, c.give.ensures.minidisks)
+    rw (← c.users.ensures.users, ← c.as_slice.ensures.value, c.return_to.ensures.volumes, c.return_to.ensures.minidisks)
     (typed_work world (user_of c.args.storage.now) typed (from start) after c.args.storage.now reported.new.storage r
     refl facts.0 facts.1 facts.2 facts.3 facts.4)
 
@@ -82,7 +82,7 @@ returns-clause-keeps c =
     let reported = c.type_supplied-reported in
     let r = reported.result in
     let typed = c.args.self.now.typed.now in
-    let taken = c.take-channels.result in
+    let taken = c.take_from-channels.result in
     let left = reported.new.channels in
     let new : ReuseValue = reuse_of left in
     let from : DisksValue → Equipped =
@@ -99,10 +99,10 @@ returns-clause-keeps c =
       λ out. ap reuse_of (reported.ensures.without_room out),
     ) in
     let second : Facts (disks_of lent) (reuse_of taken) =
-    subst (λ (ds : DisksValue). Facts ds (reuse_of taken)) c.take-channels.ensures.hung first in
+    subst (λ (ds : DisksValue). Facts ds (reuse_of taken)) c.take_from-channels.ensures.hung first in
     let third : Facts (disks_of lent) (kept_in lent) =
-    subst (λ (k : ReuseValue). Facts (disks_of lent) k) c.take-channels.ensures.kept second in
+    subst (λ (k : ReuseValue). Facts (disks_of lent) k) c.take_from-channels.ensures.kept second in
     let keeps : LineKeeps typed (from (disks_of lent)) r (kept_in lent) new =
     record { forgets = third.0; stays = third.1; without_room = third.2 } in
-    subst (λ (k : ReuseValue). LineKeeps typed (from (disks_of lent)) r (kept_in lent) k) (sym c.give.ensures.kept)
+    subst (λ (k : ReuseValue). LineKeeps typed (from (disks_of lent)) r (kept_in lent) k) (sym c.return_to.ensures.kept)
     keeps

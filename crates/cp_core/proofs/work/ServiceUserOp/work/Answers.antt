@@ -32,7 +32,7 @@ pub returns-clause-lent : goal.returns-clause-lent
 returns-clause-lent c =
     let served = c.serve_supplied-served in
     let first : KeepsOtherDisks (disks_of c.args.lent.now) (hung_on served.new.channels) =
-    subst (λ (d : DisksValue). KeepsOtherDisks d (hung_on served.new.channels)) c.take-channels.ensures.hung
+    subst (λ (d : DisksValue). KeepsOtherDisks d (hung_on served.new.channels)) c.take_from-channels.ensures.hung
     served.ensures.others in
     record {
       same_machine = refl;
@@ -42,7 +42,7 @@ returns-clause-lent c =
       same_minidisks = refl;
       same_reuse = refl;
       other_users = served.ensures.other_users;
-      other_disks = rw (c.give.ensures.volumes, c.give.ensures.minidisks) first;
+      other_disks = rw (c.return_to.ensures.volumes, c.return_to.ensures.minidisks) first;
     }
 
 pub returns-clause-does : goal.returns-clause-does
@@ -66,14 +66,14 @@ returns-clause-does c =
     × (r ≡ Err errors.Memory
     → ServeHadRoom as_reached HadRoom c.args.storage.now served.new.storage c.args.self.now.device (from d)) in
     let facts : Facts start =
-    subst Facts c.take-channels.ensures.hung (
+    subst Facts c.take_from-channels.ensures.hung (
       served.ensures.served,
       served.ensures.unchanged_without_frames,
       served.ensures.paged_in,
       served.ensures.frames,
       served.ensures.roomy,
     ) in
-    rw (c.give.ensures.volumes, c.give.ensures.minidisks)
+    rw (c.return_to.ensures.volumes, c.return_to.ensures.minidisks)
     (serve_work c.args.self.now.device (user_of c.args.storage.now) (from start) after c.args.storage.now
     served.new.storage r refl facts.2 facts.0 facts.1 facts.3 served.ensures.memory refl facts.4)
 
@@ -84,7 +84,7 @@ returns-clause-keeps c =
     let r = served.result in
     let d = c.args.storage.now in
     let device = c.args.self.now.device in
-    let taken = c.take-channels.result in
+    let taken = c.take_from-channels.result in
     let left = served.new.channels in
     let new : ReuseValue = reuse_of left in
     let from : DisksValue → Equipped =
@@ -101,9 +101,9 @@ returns-clause-keeps c =
       on_err r _ _ (λ ran. (ran.0, starts taken left d kind program ran.0 ran.1)) served.ensures.kept_if_refused,
     ) in
     let second : Facts (disks_of lent) (reuse_of taken) =
-    subst (λ (ds : DisksValue). Facts ds (reuse_of taken)) c.take-channels.ensures.hung first in
+    subst (λ (ds : DisksValue). Facts ds (reuse_of taken)) c.take_from-channels.ensures.hung first in
     let third : Facts (disks_of lent) (kept_in lent) =
-    subst (λ (k : ReuseValue). Facts (disks_of lent) k) c.take-channels.ensures.kept second in
+    subst (λ (k : ReuseValue). Facts (disks_of lent) k) c.take_from-channels.ensures.kept second in
     let keeps : ServeKeeps device (user_of d) (from (disks_of lent)) (lent_pool d).supply r (kept_in lent) new =
     record {
       storage = d;
@@ -113,4 +113,4 @@ returns-clause-keeps c =
     } in
     subst (λ (k : ReuseValue).
     ServeKeeps device (user_of d) (from (disks_of lent)) (lent_pool d).supply r (kept_in lent) k)
-    (sym c.give.ensures.kept) keeps
+    (sym c.return_to.ensures.kept) keeps

@@ -14,8 +14,8 @@ use Rattle.cp_frames.proofs.Exchanges.{exchange-kept, exchange-storages, note_ro
 use Rattle.cp_frames.proofs.Inside.{places_in, owners_in}
 use Rattle.cp_frames.proofs.pool.Frames.exchange.Goals as goal
 
-pub forget-requires-clause-tables : goal.forget-requires-clause-tables
-forget-requires-clause-tables c =
+pub unmap_page-requires-clause-tables : goal.unmap_page-requires-clause-tables
+unmap_page-requires-clause-tables c =
     let f = c.self.inside in
     let frame = c.args.frame in
     let slot = c.args.slot in
@@ -26,8 +26,8 @@ forget-requires-clause-tables c =
     note_room (places_in f) (owners_in f) f.owners.items f.sizes.items f.tables.items frame c.index.result.now
     kept.whole kept.mapped (get_or_append_left f.owners.items f.slot_owners.items None frame within ∙ sym given)
 
-pub forget-requires-clause-lookup : goal.forget-requires-clause-lookup
-forget-requires-clause-lookup c =
+pub unmap_page-requires-clause-lookup : goal.unmap_page-requires-clause-lookup
+unmap_page-requires-clause-lookup c =
     let f = c.self.inside in
     let frame = c.args.frame in
     let slot = c.args.slot in
@@ -39,8 +39,8 @@ forget-requires-clause-lookup c =
     c.index.result.now kept.whole kept.looked
     (get_or_append_left f.owners.items f.slot_owners.items None frame within ∙ sym given)
 
-pub note-requires-clause-tables : goal.note-requires-clause-tables
-note-requires-clause-tables c =
+pub map_page-requires-clause-tables : goal.map_page-requires-clause-tables
+map_page-requires-clause-tables c =
     let f = c.self.inside in
     let frame = c.args.frame in
     let slot = c.args.slot in
@@ -51,10 +51,10 @@ note-requires-clause-tables c =
     let room = note_room (places_in f) (owners_in f) f.owners.items f.sizes.items f.tables.items
     (length f.owners.items + slot) c.index-2.result.now kept.whole kept.mapped
     (at_right f.owners.items f.slot_owners.items slot None ∙ sym wanted) in
-    rw (c.forget.ensures.tables, length-noted) room
+    rw (c.unmap_page.ensures.tables, length-noted) room
 
-pub note-requires-clause-lookup : goal.note-requires-clause-lookup
-note-requires-clause-lookup c =
+pub map_page-requires-clause-lookup : goal.map_page-requires-clause-lookup
+map_page-requires-clause-lookup c =
     let f = c.self.inside in
     let frame = c.args.frame in
     let slot = c.args.slot in
@@ -65,10 +65,10 @@ note-requires-clause-lookup c =
     let room = entry_room frame_entry (places_in f) (owners_in f) f.owners.items f.sizes.items f.lookup.items
     (length f.owners.items + slot) c.index-2.result.now kept.whole kept.looked
     (at_right f.owners.items f.slot_owners.items slot None ∙ sym wanted) in
-    rw (c.forget.ensures.lookup, length-reported) room
+    rw (c.unmap_page.ensures.lookup, length-reported) room
 
-pub forget_slot-requires : goal.forget_slot-requires
-forget_slot-requires c =
+pub clear_slot-requires : goal.clear_slot-requires
+clear_slot-requires c =
     let f = c.self.inside in
     let frame = c.args.frame in
     let slot = c.args.slot in
@@ -92,7 +92,7 @@ set_slot-requires c =
     let room = entry_room slot_entry (places_in f) (owners_in f) f.slot_owners.items f.sizes.items f.slot_table.items
     frame c.index-4.result.now kept.whole kept.slots_tabled
     (get_or_append_left f.owners.items f.slot_owners.items None frame within ∙ sym given) in
-    rw (c.forget_slot.ensures, length-reported) room
+    rw (c.clear_slot.ensures, length-reported) room
 
 pub invariant_of-self : goal.invariant_of-self
 invariant_of-self c =
@@ -113,17 +113,17 @@ invariant_of-self c =
     let x = c.swap-2.ensures.x_after ∙ get_or_read f.slots.items _ _ bytes_in c.index_mut-4.ensures.value [] in
     let y = c.swap-2.ensures.y_after ∙ get_or_read f.frames.items _ _ frame_in c.index_mut-3.ensures.value [] in
     let unpinned : get_or f.pins.items frame false ≡ false = rw (← c.self.view_is) at c.requires.unpinned in
-    let tables : c.note.new.tables.items
+    let tables : c.map_page.new.tables.items
     ≡ noted (get_or f.slot_owners.items slot None) (frame * 16)
     (noted (get_or f.owners.items frame None) 8 f.tables.items) =
-    c.note.ensures.tables ∙ ap (noted c.index-2.result.now (frame * 16))
-    (c.forget.ensures.tables ∙ ap (λ o. noted o 8 f.tables.items) given)
+    c.map_page.ensures.tables ∙ ap (noted c.index-2.result.now (frame * 16))
+    (c.unmap_page.ensures.tables ∙ ap (λ o. noted o 8 f.tables.items) given)
     ∙ ap (λ o. noted o (frame * 16) (noted (get_or f.owners.items frame None) 8 f.tables.items)) wanted in
-    let lookup : c.note.new.lookup.items
+    let lookup : c.map_page.new.lookup.items
     ≡ reported frame_entry (get_or f.slot_owners.items slot None) (Some frame)
     (reported frame_entry (get_or f.owners.items frame None) None f.lookup.items) =
-    c.note.ensures.lookup ∙ ap (reported frame_entry c.index-2.result.now (Some frame))
-    (c.forget.ensures.lookup ∙ ap (λ o. reported frame_entry o None f.lookup.items) given)
+    c.map_page.ensures.lookup ∙ ap (reported frame_entry c.index-2.result.now (Some frame))
+    (c.unmap_page.ensures.lookup ∙ ap (λ o. reported frame_entry o None f.lookup.items) given)
     ∙ ap (λ o. reported frame_entry o (Some frame)
     (reported frame_entry (get_or f.owners.items frame None) None f.lookup.items)) wanted in
     let given_3 = get_or_read f.owners.items _ _ within c.index-5.ensures None in
@@ -135,7 +135,7 @@ invariant_of-self c =
     ≡ reported slot_entry (get_or f.owners.items frame None) (Some slot)
     (reported slot_entry (get_or f.slot_owners.items slot None) None f.slot_table.items) =
     c.set_slot.ensures ∙ ap (reported slot_entry c.index-4.result.now (Some slot))
-    (c.forget_slot.ensures ∙ ap (λ o. reported slot_entry o None f.slot_table.items) wanted_2)
+    (c.clear_slot.ensures ∙ ap (λ o. reported slot_entry o None f.slot_table.items) wanted_2)
     ∙ ap (λ o. reported slot_entry o (Some slot)
     (reported slot_entry (get_or f.slot_owners.items slot None) None f.slot_table.items)) given_2 in
     rw (o, p, x, y, tables, lookup, slot_table)

@@ -10,15 +10,15 @@ use Rattle.cp_frames.proofs.Orders.{ordered-set, free_unpinned}
 use Rattle.cp_frames.proofs.Inside.{bytes_in, look_place_of_page, places_in, owners_in}
 use Rattle.cp_frames.proofs.pool.Frames.fill.Goals as goal
 
-pub note-requires-clause-tables : goal.note-requires-clause-tables
-note-requires-clause-tables c =
+pub map_page-requires-clause-tables : goal.map_page-requires-clause-tables
+map_page-requires-clause-tables c =
     let f = c.self.inside in
     let inside : c.args.page.0 * 4096 < length (bytes_in f c.args.user) = rw (← c.self.view_is) at c.requires.inside in
     let at = look_place_of_page f c.args.user c.args.page.0 c.self.invariant inside in
     omega (arith, at.of_user, at.of_page, c.self.invariant.mapped.room)
 
-pub note-requires-clause-lookup : goal.note-requires-clause-lookup
-note-requires-clause-lookup c =
+pub map_page-requires-clause-lookup : goal.map_page-requires-clause-lookup
+map_page-requires-clause-lookup c =
     let f = c.self.inside in
     let inside : c.args.page.0 * 4096 < length (bytes_in f c.args.user) = rw (← c.self.view_is) at c.requires.inside in
     let at = look_place_of_page f c.args.user c.args.page.0 c.self.invariant inside in
@@ -51,8 +51,8 @@ invariant_of-self c =
       whole = rw (← bytes_are, ← owners_are)
           (whole-brought (places_in f) (set (places_in f) frame c.clear.new.frame) (owners_in f) f.sizes.items user page
           frame kept.whole (length-set (places_in f) frame c.clear.new.frame) nowhere all_long free_all (omega arith));
-      mapped = rw c.note.ensures.tables (tables_filled f user page frame kept at.of_page absent within free);
-      looked = rw c.note.ensures.lookup (looks_filled f user page frame kept at.of_page absent within free);
+      mapped = rw c.map_page.ensures.tables (tables_filled f user page frame kept at.of_page absent within free);
+      looked = rw c.map_page.ensures.lookup (looks_filled f user page frame kept at.of_page absent within free);
       slots_tabled = kept.slots_tabled;
       ordered = ordered-set f.owners.items f.pins.items f.order.items frame (Some (owned user page)) kept.ordered
           (free_unpinned f.owners.items f.pins.items f.order.items frame kept.ordered free);

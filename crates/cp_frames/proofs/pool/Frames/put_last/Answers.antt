@@ -9,13 +9,13 @@ pub invariant_of-self : goal.invariant_of-self
 invariant_of-self c =
     let f = c.self.inside in
     let within = rw (← c.self.view_is) at c.requires in
-    let is : c.last.new.order ≡ remove f.order.items c.args.turn
-    ++ get_or f.order.items c.args.turn 0 ∷ [] = rw c.deref_mut.ensures.value at c.last.ensures in
+    let is : c.move_to_end.new.order ≡ remove f.order.items c.args.turn
+    ++ get_or f.order.items c.args.turn 0 ∷ [] = rw c.deref_mut.ensures.value at c.move_to_end.ensures in
     let ordered = ordered-last f.owners.items f.pins.items f.order.items c.args.turn c.self.invariant.ordered within in
     let one = length_permutation _ _ ordered.each in
     let two = length_permutation _ _ c.self.invariant.ordered.each in
-    let long : length c.last.new.order ≡ length f.order.items = ap length is ∙ one ∙ sym two in
-    let back = written_back c.last.new.order f.order.items f.order.len (omega (arith, long, f.order.ok.0))
+    let long : length c.move_to_end.new.order ≡ length f.order.items = ap length is ∙ one ∙ sym two in
+    let back = written_back c.move_to_end.new.order f.order.items f.order.len (omega (arith, long, f.order.ok.0))
     (omega (arith, f.order.ok.0)) in
     let end = c.len-self-inside.ensures in
     rw (back, is) (record {

@@ -6,8 +6,8 @@ use Rattle.cp_frames.proofs.Releases.{frame_pages, released-kept, released-stora
 use Rattle.cp_frames.proofs.Inside.{places_in, owners_in}
 use Rattle.cp_frames.proofs.pool.Frames.release.Goals as goal
 
-pub leave-requires-clause-pages : goal.leave-requires-clause-pages
-leave-requires-clause-pages c = rw c.deref.ensures.value (frame_pages c.self.inside c.self.invariant)
+pub free_user_frames-requires-clause-pages : goal.free_user_frames-requires-clause-pages
+free_user_frames-requires-clause-pages c = rw c.deref.ensures.value (frame_pages c.self.inside c.self.invariant)
 
 pub invariant_of-self : goal.invariant_of-self
 invariant_of-self c =
@@ -17,15 +17,18 @@ invariant_of-self c =
     let blank : f.pins.items ≡ replicate (length f.pins.items) false =
     pins ∙ ap (λ n. replicate n false)
     (sym (ap (λ (ps : List Bool). length ps) pins ∙ length-replicate (length c.args.self.now.supply.pins) false)) in
-    let mapped : IsMapped (cleared_of c.args.user f.owners.items) f.sizes.items c.leave.new.tables.items =
-    rw (c.leave.ensures.owners, c.deref.ensures.value) at c.leave.ensures.mapped in
-    let looked : IsTabled frame_entry (cleared_of c.args.user f.owners.items) f.sizes.items c.leave.new.lookup.items =
-    rw (c.leave.ensures.owners, c.deref.ensures.value) at c.leave.ensures.looked in
+    let mapped : IsMapped (cleared_of c.args.user f.owners.items) f.sizes.items c.free_user_frames.new.tables.items =
+    rw (c.free_user_frames.ensures.owners, c.deref.ensures.value) at c.free_user_frames.ensures.mapped in
+    let looked : IsTabled frame_entry (cleared_of c.args.user f.owners.items) f.sizes.items
+    c.free_user_frames.new.lookup.items =
+    rw (c.free_user_frames.ensures.owners, c.deref.ensures.value) at c.free_user_frames.ensures.looked in
     let slots_tabled : IsTabled slot_entry (cleared_of c.args.user f.slot_owners.items) f.sizes.items
-    c.leave_slots.new.table.items =
-    rw c.leave_slots.ensures.owners at (c.leave_slots.ensures.tabled f.sizes.items c.self.invariant.slots_tabled) in
-    rw (c.leave.ensures.owners, c.leave_slots.ensures.owners)
-    (released-kept f c.args.user c.leave.new.tables.items c.leave.new.lookup.items c.leave_slots.new.table.items
+    c.free_user_slots.new.table.items =
+    rw c.free_user_slots.ensures.owners at (c.free_user_slots.ensures.tabled f.sizes.items
+    c.self.invariant.slots_tabled) in
+    rw (c.free_user_frames.ensures.owners, c.free_user_slots.ensures.owners)
+    (released-kept f c.args.user c.free_user_frames.new.tables.items c.free_user_frames.new.lookup.items
+    c.free_user_slots.new.table.items
     c.len-self-inside.result c.self.invariant blank mapped looked slots_tabled
     (omega (arith, c.len-self-inside.ensures, f.order.ok.0)))
 
@@ -33,13 +36,21 @@ pub returns-clause-storages : goal.returns-clause-storages
 returns-clause-storages c =
     let f = c.self.inside in
     let long = length-bytes_of (places_in f) (owners_in f) f.sizes.items c.args.user in
-    rw (c.leave.ensures.owners, c.leave_slots.ensures.owners, ← c.unpin_all.ensures.storages, ← c.self.view_is, long)
+    rw (
+      c.free_user_frames.ensures.owners,
+      c.free_user_slots.ensures.owners,
+      ← c.unpin_all.ensures.storages,
+      ←
+          c.self.view_is,
+      long,
+    )
     (released-storages f c.args.user ∙ storages-cleared (places_in f) (owners_in f) f.sizes.items c.args.user)
 
 pub returns-clause-unmapped : goal.returns-clause-unmapped
-returns-clause-unmapped c page = rw c.leave.ensures.owners (frame_of-cleared c.self.inside.owners.items c.args.user
+returns-clause-unmapped c page = rw c.free_user_frames.ensures.owners (frame_of-cleared c.self.inside.owners.items
+    c.args.user
     page)
 
 pub returns-clause-gone_slots : goal.returns-clause-gone_slots
 returns-clause-gone_slots c page =
-    rw c.leave_slots.ensures.owners (frame_of-cleared c.self.inside.slot_owners.items c.args.user page)
+    rw c.free_user_slots.ensures.owners (frame_of-cleared c.self.inside.slot_owners.items c.args.user page)

@@ -25,14 +25,14 @@ use Rattle.cp_resident.proofs.Roomy.{disk_held, disk_still, disk_tried, error_in
 use Rattle.cp_resident.proofs.Roomy.{refused_of, still_after}
 use Rattle.cp_resident.proofs.resident.GuestChannelsChannelsDat.run_disk.Goals as goal
 
-pub returns-then-has_disk-clause-paged_in : goal.returns-then-has_disk-clause-paged_in
-returns-then-has_disk-clause-paged_in c =
+pub returns-then-is_disk_valid-clause-paged_in : goal.returns-then-is_disk_valid-clause-paged_in
+returns-then-is_disk_valid-clause-paged_in c =
     Ran.still_came 2 c.args.storage.now c.run_held.new.storage
     (DiskNeeds HoldNeeds c.args.start (lent_memory c.args.storage.now)
     (slice_get (disks_on c.args.self.now) c.args.index)) c.requires.ready c.run_held.ensures.rest
 
-pub returns-then-has_disk-clause-ready : goal.returns-then-has_disk-clause-ready
-returns-then-has_disk-clause-ready c =
+pub returns-then-is_disk_valid-clause-ready : goal.returns-then-is_disk_valid-clause-ready
+returns-then-is_disk_valid-clause-ready c =
     between_kept c.args.storage.now c.run_held.new.storage c.run_held.ensures.rest.rest c.requires.ready
 
 pub run_known-ended-requires-clause-fixed : goal.run_known-ended-requires-clause-fixed
@@ -213,13 +213,13 @@ pub returns-in-Ok-Fixed-clause-kept : goal.returns-in-Ok-Fixed-clause-kept
 returns-in-Ok-Fixed-clause-kept c =
     known (reuse_of c.args.self.now) (reuse_of c.run_known-ended.new.channels) c.args.storage.now
     c.lock_pages.new.storage c.args.start c.args.index _
-    (λ again. not_both c.if-has_disk.false (c.has_disk.ensures.other again)) c.lock_pages.ensures.memory
+    (λ again. not_both c.if-is_disk_valid.false (c.is_disk_valid.ensures.other again)) c.lock_pages.ensures.memory
     c.run_known-ended.ensures.kept
 
 pub returns-in-Err-clause-kept : goal.returns-in-Err-clause-kept
 returns-in-Err-clause-kept c =
     refused_disk (reuse_of c.args.self.now) c.args.storage.now c.args.start c.args.index
-    (λ again. not_both c.if-has_disk.false (c.has_disk.ensures.other again))
+    (λ again. not_both c.if-is_disk_valid.false (c.is_disk_valid.ensures.other again))
 
 pub returns-in-Ok-Fixed-clause-roomy : goal.returns-in-Ok-Fixed-clause-roomy
 returns-in-Ok-Fixed-clause-roomy c = λ whole refused.

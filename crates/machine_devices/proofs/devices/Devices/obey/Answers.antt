@@ -24,8 +24,8 @@ returns-in-Spool-clause-ok g c = λ m disks.
 
 pub returns-in-Message-clause-ok : goal.returns-in-Message-clause-ok
 returns-in-Message-clause-ok g c = λ m disks.
-    let sent = rw (c.as_slice-in-Message.ensures, c.as_slice-in-Message-2.ensures) at c.send.ensures.ok in
-    rw c.in-Message.is (sent_from c.send.result (g.W.UserDirectory.known c.args.world.now) c.in-Message.name
+    let sent = rw (c.as_slice-in-Message.ensures, c.as_slice-in-Message-2.ensures) at c.message_outcome.ensures.ok in
+    rw c.in-Message.is (sent_from c.message_outcome.result (g.W.UserDirectory.known c.args.world.now) c.in-Message.name
     c.in-Message.text (record {
       machine = m;
       devices = devices_on c.args.self.now c.args.queues.now;

@@ -26,18 +26,18 @@ returns-in-Err-clause-ends g c =
     let from : DevicesParts → Equipped =
     λ d. equipped c.args.machine.now (devices_on d c.args.queues.now) (g.C.Disks.disks c.args.channels.now) old in
     let after = equipped c.args.machine.now
-    (devices_on (record parts { reader = c.feed.new.reader }) c.feed.new.queues)
-    (g.C.Disks.disks c.feed.new.channels) (g.S.Storage.memory c.feed.new.storage) in
+    (devices_on (record parts { reader = c.run_fed.new.reader }) c.run_fed.new.queues)
+    (g.C.Disks.disks c.run_fed.new.channels) (g.S.Storage.memory c.run_fed.new.storage) in
     let Needs : DevicesParts → ℕ → Type 0 = λ d. KindNeeds g.C.Channels.holds kinds.Reader c.args.start (from d) in
     let Out : DevicesParts → Type 0 → Type 0 = λ d A. WhereOut (length old.bytes) (Needs d)
-    (NoRoom g.C.Channels.IsOut g.C.Channels.IsFilled g.S.Storage.present c.feed.new.storage (Needs d)) A
+    (NoRoom g.C.Channels.IsOut g.C.Channels.IsFilled g.S.Storage.present c.run_fed.new.storage (Needs d)) A
     c.in-Err.error in
-    let Same = (g.S.Storage.memory c.feed.new.storage ≡ old) × (c.feed.new.reader ≡ c.self.inside.reader)
-    × (files_of c.feed.new.queues.users c.self.inside.user ≡ files_of c.args.queues.now.users c.self.inside.user) in
-    let same : Same → after ≡ from parts = λ h. rw (h.0, h.1, h.2, c.feed.ensures.disks) refl in
+    let Same = (g.S.Storage.memory c.run_fed.new.storage ≡ old) × (c.run_fed.new.reader ≡ c.self.inside.reader)
+    × (files_of c.run_fed.new.queues.users c.self.inside.user ≡ files_of c.args.queues.now.users c.self.inside.user) in
+    let same : Same → after ≡ from parts = λ h. rw (h.0, h.1, h.2, c.run_fed.ensures.disks) refl in
     record {
       whole = λ whole. subst (λ (d : DevicesParts). Out d (after ≡ from d)) c.self.view_is
-          (out_as g.C.Channels.IsOut g.C.Channels.IsFilled g.S.Storage.present c.feed.new.storage (Needs parts)
+          (out_as g.C.Channels.IsOut g.C.Channels.IsFilled g.S.Storage.present c.run_fed.new.storage (Needs parts)
           c.in-Err.error (length old.bytes) Same (after ≡ from parts) same (c.in-Err.ensures.whole whole));
       roomy = λ whole refused. (let is : c.in-Err.error ≡ errors.Memory = (let r = refused in cc) in
           c.in-Err.ensures.runs.roomy whole (ap Err is));
