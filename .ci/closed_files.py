@@ -15,7 +15,7 @@ sys.path[:0] = [f"{TOP}/bin/lib", f"{TOP}/.ci"]
 
 from broken import Case, Check, PROGRAM, Running, transcript_of, write
 from gathjumli.cli import last, number, read_arguments
-from typed_lines import memory_of, notify
+from typed_lines import counted, memory_of, notify
 
 DIRECTORY = b"USER A PW 8K\nSPOOL 00D PUNCH\nSPOOL 00E PRINTER\nUSER B PW 8K\nSPOOL 00C READER\n"
 ENTRIES = 40
@@ -115,16 +115,8 @@ def try_closed(check: Check, program: str, rounds: int) -> None:
 
 def main() -> int:
     found, _ = read_arguments(sys.argv[1:], OPTIONS, 0, 0)
-    counts = [0, 0]
-
-    def check(what: str, holds: bool, *findings: object) -> None:
-        counts[not holds] += 1
-        if not holds:
-            print(f"FAILED: {what}", *findings)
-
-    try_closed(check, last(found["--program"], PROGRAM), last(found["--rounds"], 3000))
-    print(f"{counts[0]} passed, {counts[1]} failed")
-    return int(counts[1] != 0)
+    program, rounds = last(found["--program"], PROGRAM), last(found["--rounds"], 3000)
+    return counted(lambda check: try_closed(check, program, rounds))
 
 
 if __name__ == "__main__":

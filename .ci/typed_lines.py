@@ -6,6 +6,7 @@ from __future__ import annotations
 import os
 import sys
 import tempfile
+from typing import Callable
 
 sys.dont_write_bytecode = True
 TOP = os.path.dirname(os.path.dirname(os.path.realpath(__file__)))
@@ -59,8 +60,8 @@ def notify(text: str) -> None:
     print(text, file=sys.stderr, flush=True)
 
 
-def main() -> int:
-    found, _ = read_arguments(sys.argv[1:], OPTIONS, 0, 0)
+def counted(tries: Callable[[Check], None]) -> int:
+    """Makes these tries and prints how many passed: the exit status."""
     counts = [0, 0]
 
     def check(what: str, holds: bool, *findings: object) -> None:
@@ -68,9 +69,15 @@ def main() -> int:
         if not holds:
             print(f"FAILED: {what}", *findings)
 
-    try_typed(check, last(found["--program"], PROGRAM), last(found["--thousands"], 1000))
+    tries(check)
     print(f"{counts[0]} passed, {counts[1]} failed")
     return int(counts[1] != 0)
+
+
+def main() -> int:
+    found, _ = read_arguments(sys.argv[1:], OPTIONS, 0, 0)
+    program, thousands = last(found["--program"], PROGRAM), last(found["--thousands"], 1000)
+    return counted(lambda check: try_typed(check, program, thousands))
 
 
 if __name__ == "__main__":

@@ -455,8 +455,7 @@ impl LogonDesk {
         Ok(())
     }
 
-    /// Ends a connection whose user has logged off, or, after a notice, one whose user is on
-    /// elsewhere; else does nothing.
+    /// Ends a connection whose user has logged off or, after a notice, is on elsewhere.
     fn leave_behind(
         &mut self,
         alloc: Global,
@@ -568,8 +567,7 @@ impl LogonDesk {
         out.push(DeskAction::Notes(JournalEntry::WrongPassword { user, connection }))
     }
 
-    /// Makes a place empty and adds that its connection ends, also if there was none; before that
-    /// adds a journal entry if it was the terminal of a user.
+    /// Makes a place empty, adds that its connection ends, and for a terminal a journal entry.
     ///
     /// # Errors
     ///
@@ -601,8 +599,7 @@ impl LogonDesk {
         out.push(DeskAction::Ends { connection })
     }
 
-    /// Adds the action that shows a user a line of the transcript, cut to 1024 characters, at his
-    /// terminal, if he is on at one.
+    /// Adds the action that shows a user a line, cut to 1024 characters, at his terminal, if any.
     ///
     /// # Errors
     ///
@@ -637,8 +634,7 @@ impl LogonDesk {
         }
     }
 
-    /// Keeps a copy of a line as it is shown, cut to 1024 characters, for when its user is back; of
-    /// more than 24 the oldest goes.
+    /// Keeps a line, cut to 1024 characters, for when its user is back: the last 24 of them.
     ///
     /// # Errors
     ///
