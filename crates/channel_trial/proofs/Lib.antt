@@ -1,3 +1,1 @@
-pub mod Puts
-pub mod Marks
 pub mod Trying

@@ -1,7 +1,7 @@
 -- What a trial reports the run.
 use Rattle.std.specs.Prelude.{ℕ, zero, suc, ◌≡◌, ◌<◌, Bool, true, false, List, [], ◌∷◌, length, slice_index_or, None}
 use Rattle.std.specs.Prelude.{OnOk, Result, Ok, Err}
-use Rattle.std.proofs.Common.{arith, subst, inl, inr}
+use Rattle.std.proofs.Common.{arith, subst, inl, inr, ◌∙◌, ◌⊎◌, ◌/◌}
 use Rattle.s370_channel.specs.declared.limits.Limits.{Limits}
 use Rattle.s370_channel.specs.declared.words.Caw.{Caw}
 use Rattle.s370_channel.specs.Guest.{guest_written}
@@ -16,8 +16,7 @@ use Rattle.s370_walk.specs.Hardware.{Machine}
 use Rattle.s370_walk.specs.Walk.{Fetching, Over, Reaches, Setting, State, live, start_spot}
 use Rattle.s370_walk.proofs.Viewing.{asked_back, ends_back, entered_viewed}
 use Rattle.s370_walk.specs.Viewed.{IsViewed, setting_for, viewed}
-use Rattle.channel_trial.specs.declared.TrialStorage.{TrialStorage}
-use Rattle.channel_trial.specs.Trial.{IsIn, TrialCame, is_touched, trial_bytes, trial_flags, trial_keys, trial_memory}
+use Rattle.channel_trial.specs.Pages.{IsIn, KeepsUntouched}
 use Rattle.channel_trial.specs.DryRun.{IsLoadingTried, IsProgramTried, IsTried}
 
 differ : {b : Bool} → b ≡ false → b ≡ true → ⊥
@@ -34,48 +33,55 @@ in_units P [] page each here = absurd here
 in_units P (pages ∷ units) page each (inl (k, low, is)) = such_in P pages page k each.0 low is
 in_units P (pages ∷ units) page each (inr there) = in_units P units page each.1 there
 
+-- from one storage for a dry run to another just pages of these units came, and the flags are of those that are present
+pub record HasTouched (old new : Memory) (before after : ℕ → Bool) (flags : List Bool) (units : List (List ℕ))
+    : Type 0 where
+  pub clear : (page : ℕ) → before page ≡ false
+  pub flagged : (page : ℕ) → after page ≡ slice_index_or flags page false
+  pub came : (page : ℕ) → after page ≡ true → (before page ≡ true) ⊎ IsIn units page
+  pub beside : KeepsUntouched after old.bytes new.bytes
+  pub size : length new.bytes ≡ length old.bytes
+  pub keys : new.keys ≡ old.keys
+
 -- A dry run that ends tells which pages its program touches.
-pub tried_for : {T : Type 0} (h : Setting T) (from : State T) (t' : T) (ending : Ending) (old new : TrialStorage)
-    (units : List (List ℕ)) → ((page : ℕ) → is_touched old page ≡ false)
-    → Reaches (live guest_written) h from (Over ending (trial_memory new) t')
-    → TrialCame old units new → EachSuch (IsTouched guest_written h from) units → trial_keys new ≡ trial_keys old
-    → IsTried h from (trial_memory old) (trial_bytes new) (trial_flags new)
-tried_for h from t' ending old new units clear reaches paged_in each keys =
+pub tried_for : {T : Type 0} (h : Setting T) (from : State T) (t' : T) (ending : Ending) (old new : Memory)
+    (before after : ℕ → Bool) (flags : List Bool) (units : List (List ℕ))
+    → HasTouched old new before after flags units
+    → Reaches (live guest_written) h from (Over ending new t')
+    → EachSuch (IsTouched guest_written h from) units → IsTried h from old new.bytes flags
+tried_for h from t' ending old new before after flags units touched reaches each =
     let P : List ℕ → Type 0 =
-    λ ks. Reaches (live guest_written) h from (Over ending (memory_of (trial_bytes new) ks) t') in
+    λ ks. Reaches (live guest_written) h from (Over ending (memory_of new.bytes ks) t') in
     record {
       ending = ending;
       device = t';
-      comes = subst P keys reaches;
-      touches = λ page flag. (elim (paged_in.paged_in page flag) [
-        | inl before ↦ absurd (differ (clear page) before)
+      comes = subst P touched.keys reaches;
+      touches = λ page flag. (elim (touched.came page (touched.flagged page ∙ flag)) [
+        | inl first ↦ absurd (differ (touched.clear page) first)
         | inr here ↦ in_units (IsTouched guest_written h from) units page each here
       ]);
-      other_users = paged_in.untouched;
-      size = paged_in.size;
+      other_users = λ address away. touched.beside address (touched.flagged (address / 4096) ∙ away);
+      size = touched.size;
     }
 
 -- of the program with a start, as it was run
-module _ {T : Type 0} (machine : Machine T) (start : Caw) (t t' : T) (ending : Ending) (old new : TrialStorage) where
-  pub tried_told : (at : ℕ) (l : Limits) (units : List (List ℕ)) → at ≡ start.address
-      → l ≡ record { key = start.key; commands = most_commands; prefix = 0 }
-      → ((page : ℕ) → is_touched old page ≡ false)
-      → Reaches (live guest_written) (setting machine l) (Fetching (start_spot at) (trial_memory old) t)
-      (Over ending (trial_memory new) t')
-      → TrialCame old units new
-      → EachSuch (IsTouched guest_written (setting machine l) (Fetching (start_spot at) (trial_memory old) t)) units
-      → trial_keys new ≡ trial_keys old
-      → IsProgramTried machine start (trial_memory old) t (trial_bytes new) (trial_flags new)
-  tried_told at l units at_is l_is clear reaches paged_in each same =
-      let from : ℕ → State T = λ a. Fetching (start_spot a) (trial_memory old) t in
-      let end : State T = Over ending (trial_memory new) t' in
+module _ {T : Type 0} (machine : Machine T) (start : Caw) (t t' : T) (ending : Ending) (old new : Memory) where
+  pub tried_told : (at : ℕ) (l : Limits) (before after : ℕ → Bool) (flags : List Bool) (units : List (List ℕ))
+      → at ≡ start.address → l ≡ record { key = start.key; commands = most_commands; prefix = 0 }
+      → HasTouched old new before after flags units
+      → Reaches (live guest_written) (setting machine l) (Fetching (start_spot at) old t) (Over ending new t')
+      → EachSuch (IsTouched guest_written (setting machine l) (Fetching (start_spot at) old t)) units
+      → IsProgramTried machine start old t new.bytes flags
+  tried_told at l before after flags units at_is l_is touched reaches each =
+      let from : ℕ → State T = λ a. Fetching (start_spot a) old t in
+      let end : State T = Over ending new t' in
       let R : ℕ → Type 0 = λ a. Reaches (live guest_written) (setting machine l) (from a) end in
       let S : Limits → Type 0 = λ x. Reaches (live guest_written) (setting machine x) (from start.address) end in
       let Q : ℕ → Type 0 = λ a. EachSuch (IsTouched guest_written (setting machine l) (from a)) units in
       let O : Limits → Type 0 =
       λ x. EachSuch (IsTouched guest_written (setting machine x) (from start.address)) units in
-      tried_for (limited machine start) (begun start (trial_memory old) t) t' ending old new units clear
-      (subst S l_is (subst R at_is reaches)) paged_in (subst O l_is (subst Q at_is each)) same
+      tried_for (limited machine start) (begun start old t) t' ending old new before after flags units touched
+      (subst S l_is (subst R at_is reaches)) (subst O l_is (subst Q at_is each))
 
 -- what was tried with what is seen of a device
 back_for : {D E : Type 0} (h : Setting D) (small : Machine E) (view : D → E) (from : State D) (m : Memory)

@@ -1,3 +1,2 @@
-pub mod Trial
-pub mod Laws
+pub mod Pages
 pub mod DryRun

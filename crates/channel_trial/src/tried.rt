@@ -5,10 +5,9 @@ ghost use Rattle.s370_channel.specs.Start.{most_commands};
 ghost use Rattle.s370_store.specs.Memory.{Memory};
 ghost use Rattle.s370_walk.specs.Hardware.{Machine};
 ghost use Rattle.s370_walk.specs.Viewed.{IsViewed};
-ghost use Rattle.channel_trial.specs.Trial.{is_touched, trial_bytes, trial_flags, trial_memory};
 ghost use Rattle.channel_trial.specs.DryRun.{IsLoadingTried, IsProgramTried};
 
-use crate::TrialStorage;
+use crate::TrialSupply;
 use s370_channel::{Caw, Limits, MOST_COMMANDS, load_supplied, run_supplied};
 use s370_walk::Device;
 use std::alloc::AllocError;
@@ -22,10 +21,12 @@ pub trait DryRun: Device {
     /// # Errors
     ///
     /// `AllocError` if memory is refused; what was passed may have changed in part.
-    fn dry_run(&self, copy: &mut TrialStorage, start: Caw) -> Result<(), AllocError>
-        requires untouched { (page : ℕ) → is_touched copy.old page ≡ false }
+    fn dry_run<S: TrialSupply>(&self, copy: &mut S, start: Caw) -> Result<(), AllocError>
+        requires between { S.IsBetween copy.old }
+        requires ample { S.IsAmple copy.old }
+        requires untouched { (page : ℕ) → S.present copy.old page ≡ false }
         ensures tried { OnOk result (IsProgramTried Self.machine start
-            (trial_memory copy.old) self.now (trial_bytes copy.new) (trial_flags copy.new)) };
+            (S.memory copy.old) self.now (S.memory copy.new).bytes (S.flags copy.new)) };
 }
 
 /// A device of which the program of an initial program loading can be tried: it stays as it is.
@@ -38,29 +39,31 @@ pub trait TriedLoading: Device {
     /// # Errors
     ///
     /// `AllocError` if memory is refused; what was passed may have changed in part.
-    fn try_load(&self, copy: &mut TrialStorage) -> Result<(), AllocError>
-        requires untouched { (page : ℕ) → is_touched copy.old page ≡ false }
+    fn try_load<S: TrialSupply>(&self, copy: &mut S) -> Result<(), AllocError>
+        requires between { S.IsBetween copy.old }
+        requires ample { S.IsAmple copy.old }
+        requires untouched { (page : ℕ) → S.present copy.old page ≡ false }
         ensures tried { OnOk result (IsLoadingTried Self.machine
-            (trial_memory copy.old) self.now (trial_bytes copy.new) (trial_flags copy.new)) };
+            (S.memory copy.old) self.now (S.memory copy.new).bytes (S.flags copy.new)) };
 }
 
 impl DryRun for Console {
     /// Runs the program on a copy of storage, with a console for a dry run.
-    fn dry_run(&self, copy: &mut TrialStorage, start: Caw) -> Result<(), AllocError> {
+    fn dry_run<S: TrialSupply>(&self, copy: &mut S, start: Caw) -> Result<(), AllocError> {
         try_program(copy, start, &mut self.trial())
     }
 }
 
 impl DryRun for Punch {
     /// Runs the program on a copy of storage, with a punch for a dry run.
-    fn dry_run(&self, copy: &mut TrialStorage, start: Caw) -> Result<(), AllocError> {
+    fn dry_run<S: TrialSupply>(&self, copy: &mut S, start: Caw) -> Result<(), AllocError> {
         try_program(copy, start, &mut self.trial())
     }
 }
 
 impl DryRun for Printer {
     /// Runs the program on a copy of storage, with a printer for a dry run.
-    fn dry_run(&self, copy: &mut TrialStorage, start: Caw) -> Result<(), AllocError> {
+    fn dry_run<S: TrialSupply>(&self, copy: &mut S, start: Caw) -> Result<(), AllocError> {
         try_program(copy, start, &mut self.trial())
     }
 }
@@ -83,14 +86,16 @@ pub fn limits_of(start: Caw) -> Limits
 /// # Errors
 ///
 /// `AllocError` if memory is refused; what was passed may have changed in part.
-pub fn try_program<T: Device>(
-    copy: &mut TrialStorage,
+pub fn try_program<S: TrialSupply, T: Device>(
+    copy: &mut S,
     start: Caw,
     trial: &mut T,
 ) -> Result<(), AllocError>
-    requires untouched { (page : ℕ) → is_touched copy.old page ≡ false }
+    requires between { S.IsBetween copy.old }
+    requires ample { S.IsAmple copy.old }
+    requires untouched { (page : ℕ) → S.present copy.old page ≡ false }
     ensures tried { OnOk result (IsProgramTried T.machine start
-        (trial_memory copy.old) trial.old (trial_bytes copy.new) (trial_flags copy.new)) }
+        (S.memory copy.old) trial.old (S.memory copy.new).bytes (S.flags copy.new)) }
 {
     match run_supplied(copy, start.address.get(), &limits_of(start), trial) {
         Ok(_) => Ok(()),
@@ -104,10 +109,15 @@ pub fn try_program<T: Device>(
 /// # Errors
 ///
 /// `AllocError` if memory is refused; what was passed may have changed in part.
-pub fn try_loading<T: Device>(copy: &mut TrialStorage, trial: &mut T) -> Result<(), AllocError>
-    requires untouched { (page : ℕ) → is_touched copy.old page ≡ false }
+pub fn try_loading<S: TrialSupply, T: Device>(
+    copy: &mut S,
+    trial: &mut T,
+) -> Result<(), AllocError>
+    requires between { S.IsBetween copy.old }
+    requires ample { S.IsAmple copy.old }
+    requires untouched { (page : ℕ) → S.present copy.old page ≡ false }
     ensures tried { OnOk result (IsLoadingTried T.machine
-        (trial_memory copy.old) trial.old (trial_bytes copy.new) (trial_flags copy.new)) }
+        (S.memory copy.old) trial.old (S.memory copy.new).bytes (S.flags copy.new)) }
 {
     match load_supplied(copy, trial) {
         Ok(_) => Ok(()),

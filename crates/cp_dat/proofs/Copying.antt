@@ -5,7 +5,6 @@ use Rattle.std.proofs.Common.{Err, OnOk, OnErr, length, get_or, take, drop, repl
 use Rattle.std.proofs.Common.{inr, arith}
 use Rattle.std.specs.Prelude.{slice_range, slice_index_or}
 use Rattle.std.specs.Bool.{⊤}
-use Rattle.std.proofs.Math.Seq.{take-add}
 use Rattle.std.proofs.lemmas.Bool.{cases_eq, cases_lt}
 use Rattle.std.proofs.lemmas.List.{ext_get_or, get_or-append_right, get_or_append_left, length-take-le}
 use Rattle.std.proofs.lemmas.List.{get_or-replicate}
@@ -17,7 +16,7 @@ use Rattle.s370_store.proofs.Puts.{length-put, put_before, put_after}
 use Rattle.cp_frames.specs.Layout.{IsZeroPage}
 use Rattle.cp_frames.specs.Paging.{IsRefused}
 use Rattle.cp_dat.specs.declared.dat.Dat.{Dat}
-use Rattle.cp_dat.specs.Copies.{AllAre, EachAre, CameOnly, StandAll, SameBeside, counted, is_wanted, times_among}
+use Rattle.cp_dat.specs.Copies.{AllAre, EachAre, CameOnly, StandAll, counted, is_wanted, times_among}
 use Rattle.cp_dat.specs.Copies.{times_in}
 use Rattle.cp_dat.specs.Lent.{KeepsStored, is_lent_page, lent_bytes, lent_keys, lent_memory, lent_pool, user_of}
 use Rattle.cp_dat.specs.Lent.{keeps_rest_present, keeps_stored_same}
@@ -26,13 +25,24 @@ use Rattle.cp_dat.specs.Letting.{between_kept, came_none, came_on, let_go_came, 
 use Rattle.cp_dat.specs.Supplied.{HasNoRoom, IsBetweenUnits, Stands, Supplied, TakesPins}
 
 -- ---- bytes
-put_within : (bytes xs : List ℕ) (start a : ℕ) → start + length xs ≤ length bytes → start ≤ a → a < start + length xs
+-- A byte among those that were put is that of them.
+pub put_within : (bytes xs : List ℕ) (start a : ℕ) → start + length xs ≤ length bytes → start ≤ a → a < start + length xs
     → get_or (put bytes start xs) a 0 ≡ get_or xs (a - start) 0
 unfolding put
 put_within bytes xs start a h low high =
     let long : length (take start bytes) ≡ start = length-take-le start bytes (omega arith) in
     get_or-append_right (take start bytes) (xs ++ drop (length xs) (drop start bytes)) start a 0 long low ∙
     get_or_append_left xs (drop (length xs) (drop start bytes)) 0 (a - start) (omega arith)
+
+-- A part has as many bytes as lie between its ends.
+pub length-part : (xs : List ℕ) (start end : ℕ) → start ≤ end → end ≤ length xs
+    → length (slice_range xs start end) ≡ end - start
+length-part xs start end ordered inside = grind (arith, common_steps)
+
+-- A byte of a part is that of the whole.
+pub part_at : (xs : List ℕ) (start end k : ℕ) → start ≤ end → end ≤ length xs → k < end - start
+    → get_or (slice_range xs start end) k 0 ≡ get_or xs (start + k) 0
+part_at xs start end k ordered inside few = grind (arith, common_steps)
 
 -- A chunk of 256 bytes has 256 bytes.
 pub length-chunk : (xs : List ℕ) (start : ℕ) → start + 256 ≤ length xs
@@ -58,11 +68,6 @@ zero_chunk xs ys start inside aligned zeros is =
     (λ k few. (let page : (start + k) / 4096
     ≡ start / 4096 = omega (arith, aligned, few) in ap (λ zs. get_or zs k 0) is ∙ get_or-replicate 256 k 0 0 few ∙
     sym (zeros (start + k) page)))
-
--- one more part is copied
-pub chunk_on : (xs : List ℕ) (start : ℕ) → take start xs ++ slice_range xs start (start + 256) ≡ take (start + 256) xs
-chunk_on xs start = let e : start + 256 - start ≡ 256 =
-    omega arith in ap (λ k. take start xs ++ take k (drop start xs)) e ∙ sym (take-add start 256 xs)
 
 -- the bytes below are those of one list, the others of another
 pub record IsPutTo (start : ℕ) (from old new : List ℕ) : Type 0 where
@@ -111,6 +116,11 @@ pub put_all : (start : ℕ) (from old new : List ℕ) → length from ≡ length
 put_all start from old new long before all =
     let size : length new ≡ length old = before.size in
     ext_get_or 0 new from (size ∙ sym long) (λ a lt. before.below a (omega (arith, lt, size, all)))
+
+-- the bytes of pages that are not wanted are the same
+abbrev pub SameBeside : List Bool → List ℕ → List ℕ → Type 0
+SameBeside wanted old new = (address : ℕ) → slice_index_or wanted (address / 4096) false ≡ false
+    → get_or new address 0 ≡ get_or old address 0
 
 pub unwanted_same : (wanted : List Bool) (start : ℕ) (old from : List ℕ) → start % 256 ≡ 0
     → slice_index_or wanted (start / 4096) false ≡ false → SameBeside wanted old from → (a : ℕ) → start ≤ a

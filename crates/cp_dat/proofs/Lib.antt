@@ -4,3 +4,4 @@ pub mod Brought
 mod Counted
 pub mod Once
 pub mod Copying
+pub mod Written

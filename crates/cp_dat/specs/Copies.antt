@@ -1,6 +1,7 @@
 -- A user's storage as bytes, of which pages are put back.
+use Rattle.std.specs.List.{range_with_len}
 use Rattle.std.specs.Prelude.{◌≡◌, ℕ, ◌+◌, ◌/◌, ◌≤◌, ◌==◌, Bool, true}
-use Rattle.std.specs.Prelude.{false, List, [], ◌∷◌, slice_index}
+use Rattle.std.specs.Prelude.{false, List, [], ◌∷◌, if◌then◌else◌, length, map, slice_index}
 use Rattle.std.specs.Prelude.{slice_index_or}
 use Rattle.cp_dat.specs.declared.dat.Dat.{Dat}
 use Rattle.cp_dat.specs.Lent.{lent_keys, lent_pool, user_of}
@@ -49,7 +50,12 @@ abbrev pub StandAll : Dat → List Bool → Type 0
 StandAll d wanted = (page : ℕ) → is_wanted wanted page
     → Stands (lent_pool d).supply (user_of d) page
 
--- the bytes of pages that are not wanted are the same
-abbrev pub SameBeside : List Bool → List ℕ → List ℕ → Type 0
-SameBeside wanted old new = (address : ℕ) → slice_index_or wanted (address / 4096) false ≡ false
-    → slice_index new address ≡ slice_index old address
+-- the byte at an address: of a wanted page that of one list, of another page that of the other
+abbrev pub byte_over : List Bool → List ℕ → List ℕ → ℕ → ℕ
+byte_over wanted old from address =
+    if (slice_index_or wanted (address / 4096) false) then (slice_index from address)
+    else (slice_index old address)
+
+-- these bytes, but of the wanted pages those of another list, which has as many
+unfoldable pub written_over : List Bool → List ℕ → List ℕ → List ℕ
+written_over wanted old from = map (byte_over wanted old from) (range_with_len 0 (length from))

@@ -1,22 +1,22 @@
-//! A user's storage as bytes: copied out, wherever its pages are, and put back page by page.
+//! A user's storage as bytes: pages are copied, wherever they are, and put back.
 //!
-//! So a program can be tried on a copy: no page is brought for that. The pages that it needs are
-//! placed then, for which there may be no room; and only once they are somewhere are the bytes put
-//! back, which nothing refuses.
+//! So a program can be tried on copies of the pages to which it comes: no page is brought for that.
+//! They are placed then, for which there may be no room; and only once they are somewhere are the
+//! bytes put back, which nothing refuses.
 ghost use Rattle.std.specs.Prelude.{◌≡◌, ◌≢◌, ℕ, ◌+◌, ◌*◌, ◌/◌, ◌%◌, ◌<◌, ◌≤◌, true, length};
-ghost use Rattle.std.specs.Prelude.{slice_range, IfOk, IfErr, OnOk, OnErr};
+ghost use Rattle.std.specs.Prelude.{slice_index, slice_range, IfOk, IfErr, OnOk, OnErr};
 ghost use Rattle.s370_store.specs.Access.{put};
 
 use crate::Dat;
 use s370_num::StorageKey;
-use s370_store::{FramesOut, PAGE_SIZE, Page, Storage, Supply, UnitSupply};
+use s370_store::{FramesOut, PAGE_SIZE, Page, Storage, Supply, UnitSupply, put_at};
 use std::alloc::{AllocError, Global};
 
 /// How many bytes are copied at once.
 const CHUNK: u32 = 256;
 
 impl<'a> Dat<'a> {
-    ghost use Rattle.cp_dat.specs.Copies.{CameOnly, SameBeside, StandAll, is_wanted};
+    ghost use Rattle.cp_dat.specs.Copies.{CameOnly, StandAll, is_wanted, written_over};
     ghost use Rattle.cp_dat.specs.Lent.{lent_bytes, lent_keys, lent_memory, lent_pool};
     ghost use Rattle.cp_dat.specs.Lent.{is_lent_page, user_of};
     ghost use Rattle.cp_dat.specs.Supplied.{HasNoRoom, IsBetweenUnits, Stands};
@@ -56,23 +56,25 @@ impl<'a> Dat<'a> {
         }
     }
 
-    /// Returns a new copy of all bytes of the storage. No page has to be in a frame for that.
-    ///
-    /// # Errors
-    ///
-    /// `AllocError` if memory is refused.
-    pub fn copy_out(&self, alloc: Global) -> Result<Vec<u8>, AllocError>
-        ensures { IfOk result (λ made. made.items ≡ lent_bytes self.now) }
+    /// Copies a page, wherever it is, to its place in `into`, which has a byte for each of the
+    /// storage.
+    pub fn copy_page(&self, page: Page, into: &mut [u8])
+        requires inside { page.0 * 4096 < length (lent_bytes self.now) }
+        requires long { length into.old ≡ length (lent_bytes self.now) }
+        ensures long { length into.new ≡ length (lent_bytes self.now) }
+        ensures copied { (address : ℕ) → address / 4096 ≡ page.0
+            → slice_index into.new address ≡ slice_index (lent_bytes self.now) address }
+        ensures others { (address : ℕ) → address / 4096 ≢ page.0
+            → slice_index into.new address ≡ slice_index into.old address }
     {
-        let mut made = Vec::with_capacity(alloc, self.size as usize)?;
+        let first = page.0 * PAGE_SIZE;
         let mut buffer = [0u8; 256];
-        let mut start = 0u32;
-        while start < self.size {
-            self.copy_chunk(start, &mut buffer);
-            made.extend_from_slice(&buffer)?;
-            start += CHUNK;
+        let mut done = 0u32;
+        while done < PAGE_SIZE {
+            self.copy_chunk(first + done, &mut buffer);
+            put_at(into, (first + done) as usize, &buffer);
+            done += CHUNK;
         }
-        Ok(made)
     }
 
     /// Returns a new list of the storage keys, one for each block of 2048 bytes.
@@ -168,17 +170,17 @@ impl<'a> Dat<'a> {
         }
     }
 
-    /// Copies the bytes of each wanted page from `from`, after paging it in if it is in no frame;
-    /// the other pages have these bytes already.
+    /// Overwrites each wanted page with its bytes in `from`, after paging it in if it is in no
+    /// frame; the other pages stay.
     ///
     /// Each wanted page is in a frame or in a slot, so none is refused.
     pub fn put_back(&mut self, from: &[u8], wanted: &[bool])
         requires long { length from.now ≡ length (lent_bytes self.old) }
         requires flags { length wanted.now * 4096 ≡ length (lent_bytes self.old) }
-        requires other_users { SameBeside wanted.now (lent_bytes self.old) from.now }
         requires stand { StandAll self.old wanted.now }
         requires between { IsBetweenUnits (lent_pool self.old).supply }
-        ensures bytes { lent_bytes self.new ≡ from.now }
+        ensures bytes { lent_bytes self.new
+            ≡ written_over wanted.now (lent_bytes self.old) from.now }
         ensures paged_in { CameOnly self.old (is_wanted wanted.now) 1 self.new }
         ensures between { IsBetweenUnits (lent_pool self.new).supply }
     {

@@ -4,27 +4,17 @@ ghost use Rattle.std.specs.Prelude.{true};
 ghost use Rattle.cp_dat.specs.Copies.{is_wanted};
 ghost use Rattle.cp_dat.specs.Lent.{lent_bytes, lent_memory};
 ghost use Rattle.cp_needs.specs.Needs.{IsClash, IsFixed, IsProgramPage};
-ghost use Rattle.channel_trial.specs.Trial.{is_touched, trial_bytes, trial_memory};
+ghost use Rattle.cp_trial.specs.Trial.{is_touched, trial_bytes, trial_memory};
 
 use crate::flags::flags_of;
-use channel_trial::TrialStorage;
 use cp_dat::Dat;
 use cp_needs::{Analysis, analyze};
+use cp_trial::TrialStorage;
 use s370_store::{FramesOut, PAGE_SIZE, Page, Storage, Supply};
 use std::alloc::{AllocError, Global};
 
-/// Returns a copy of a user's storage, to analyze a program on it. No page has to be in a frame.
-fn copy_of(alloc: Global, storage: &Dat<'_>) -> Result<TrialStorage, AllocError>
-    ensures memory { IfOk result (λ copy. trial_memory copy ≡ lent_memory storage.now) }
-    ensures untouched { IfOk result (λ copy. (page : ℕ) → is_touched copy page ≡ false) }
-{
-    let bytes = storage.copy_out(alloc)?;
-    let keys = storage.copy_keys(alloc)?;
-    TrialStorage::new(alloc, bytes, keys, storage.size() / PAGE_SIZE)
-}
-
 /// Makes each page of a copy present.
-fn touch_all_pages(copy: &mut TrialStorage)
+fn touch_all_pages(copy: &mut TrialStorage<'_>)
     requires { (page : ℕ) → is_touched copy.old page ≡ false }
     ensures memory { trial_memory copy.new ≡ trial_memory copy.old }
     ensures there { (page : ℕ) → page * 4096 < length (trial_bytes copy.old)
@@ -63,7 +53,7 @@ pub(crate) fn pages_apart(
         (λ flags. (page : ℕ) → is_wanted flags.items page
         → IsProgramPage (lent_memory storage.now) address page)) }
 {
-    let mut copy = copy_of(alloc, storage)?;
+    let mut copy = TrialStorage::new(alloc, storage)?;
     touch_all_pages(&mut copy);
     match analyze(alloc, &copy, address)? {
         Analysis::Fixed(text, pages) => {

@@ -1,2 +1,6 @@
+mod Puts
+mod Marks
+mod Brought
+mod Pages
 pub mod Trying
 mod Opening

@@ -1,1 +1,3 @@
+pub mod Trial
+pub mod Laws
 pub mod DryRun

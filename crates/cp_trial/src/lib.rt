@@ -1,9 +1,9 @@
 //! Channel programs that run as a whole or not at all, on storage that is borrowed from frames.
 //!
-//! A program is tried first, on a copy of its user's bytes and with what is seen of its device:
-//! nothing has happened then, and it is known which pages the program touches. These are placed;
-//! where there is no room for one, this is reported, and nothing has happened. Then the program
-//! runs with its device, on a copy again, and the bytes are put back.
+//! A program is tried first, on copies of the pages to which it comes and with what is seen of its
+//! device: nothing has happened then, and it is known which pages the program touches. These are
+//! placed; where there is no room for one, this is reported, and nothing has happened. Then the
+//! program runs with its device, on copies again, and the bytes are put back.
 //!
 //! Its one theorem: a program that is refused for lack of room touches a page for which there is
 //! none; what is brought are pages that the program touches; and what runs is the walk of the
@@ -34,6 +34,7 @@
 #![tactic(auto)]
 
 mod open;
+mod storage;
 
 ghost use Rattle.std.specs.Prelude.{◌≡◌, ℕ, Bool, false, Err, IfOk, OnErr};
 ghost use Rattle.s370_channel.specs.Guest.{guest_written};
@@ -46,16 +47,17 @@ ghost use Rattle.s370_walk.specs.Walk.{Over, Reaches, live};
 ghost use Rattle.cp_dat.specs.Copies.{CameOnly, StandAll, is_wanted};
 ghost use Rattle.cp_dat.specs.Lent.{lent_pool, lent_memory};
 ghost use Rattle.cp_dat.specs.Supplied.{IsBetweenUnits};
-ghost use Rattle.channel_trial.specs.Trial.{is_touched, trial_bytes, trial_flags, trial_memory};
+ghost use Rattle.cp_trial.specs.Trial.{touched_flags, tried_bytes};
 ghost use Rattle.channel_trial.specs.DryRun.{IsLoadingTried, IsProgramTried};
 ghost use Rattle.cp_trial.specs.DryRun.{EndsSomehow, LacksSuch};
 ghost use Rattle.cp_trial.specs.declared.DryRunError.TheVariants as errors;
 
-use channel_trial::{DryRun, TrialStorage, TriedLoading, limits_of};
+use channel_trial::{DryRun, TriedLoading, limits_of};
 use cp_dat::Dat;
 pub use open::{fetch_again, fetch_first, load_open, run_open};
+pub use storage::{TouchedPages, TrialStorage};
 use s370_channel::{Caw, load_supplied, run_supplied};
-use s370_store::{FramesOut, PAGE_SIZE, Storage};
+use s370_store::FramesOut;
 use s370_walk::{Device, Ending};
 use std::alloc::{AllocError, Global};
 
@@ -68,18 +70,8 @@ pub enum DryRunError {
     FramesOut,
 }
 
-/// Returns a copy of a user's storage for a dry run, no page of which was touched.
-fn copy_of(alloc: Global, storage: &Dat<'_>) -> Result<TrialStorage, AllocError>
-    ensures memory { IfOk result (λ copy. trial_memory copy ≡ lent_memory storage.now) }
-    ensures flags { IfOk result (λ copy. (page : ℕ) → is_touched copy page ≡ false) }
-{
-    let bytes = storage.copy_out(alloc)?;
-    let keys = storage.copy_keys(alloc)?;
-    TrialStorage::new(alloc, bytes, keys, storage.size() / PAGE_SIZE)
-}
-
-/// Makes a dry run of the program with this start on a copy of the storage, with the device
-/// `trial`, which changes; returns the copy. No page is paged in.
+/// Makes a dry run of the program with this start, with the device `trial`, which changes; returns
+/// the pages that it touched. The storage stays, and no page is paged in.
 ///
 /// # Errors
 ///
@@ -89,17 +81,17 @@ pub fn try_program<T: Device>(
     storage: &Dat<'_>,
     start: Caw,
     trial: &mut T,
-) -> Result<TrialStorage, AllocError>
+) -> Result<TouchedPages, AllocError>
     ensures { IfOk result (λ tried. IsProgramTried T.machine start
-        (lent_memory storage.now) trial.old (trial_bytes tried) (trial_flags tried)) }
+        (lent_memory storage.now) trial.old (tried_bytes storage.now tried) (touched_flags tried)) }
 {
-    let mut copy = copy_of(alloc, storage)?;
+    let mut copy = TrialStorage::new(alloc, storage)?;
     channel_trial::try_program(&mut copy, start, trial)?;
-    Ok(copy)
+    Ok(copy.into_pages())
 }
 
-/// Makes a dry run of the program with this start on a copy of the storage and a copy of the
-/// device, and returns the copy of the storage. No page is paged in.
+/// Makes a dry run of the program with this start, with a copy of the device, and returns the pages
+/// that it touched. The storage stays, and no page is paged in.
 ///
 /// # Errors
 ///
@@ -109,13 +101,14 @@ pub fn try_device<D: DryRun>(
     storage: &Dat<'_>,
     start: Caw,
     device: &D,
-) -> Result<TrialStorage, AllocError>
+) -> Result<TouchedPages, AllocError>
     ensures { IfOk result (λ tried. IsProgramTried D.Device.machine start
-        (lent_memory storage.now) device.now (trial_bytes tried) (trial_flags tried)) }
+        (lent_memory storage.now) device.now (tried_bytes storage.now tried)
+        (touched_flags tried)) }
 {
-    let mut copy = copy_of(alloc, storage)?;
+    let mut copy = TrialStorage::new(alloc, storage)?;
     device.dry_run(&mut copy, start)?;
-    Ok(copy)
+    Ok(copy.into_pages())
 }
 
 /// Runs the program with this start after its dry run, as a whole if there is room for the pages
@@ -129,10 +122,10 @@ pub fn run_tried<D: Device>(
     storage: &mut Dat<'_>,
     start: Caw,
     device: &mut D,
-    tried: &TrialStorage,
+    tried: &TouchedPages,
 ) -> Result<Ending, DryRunError>
     requires tried { IsProgramTried D.machine start (lent_memory storage.old)
-        device.old (trial_bytes tried.now) (trial_flags tried.now) }
+        device.old (tried_bytes storage.old tried.now) (touched_flags tried.now) }
     requires between { IsBetweenUnits (lent_pool storage.old).supply }
     ensures walk { IfOk result
         (λ ending. Walks as_reached D.machine start (lent_memory storage.old) device.old ending
@@ -143,9 +136,9 @@ pub fn run_tried<D: Device>(
     ensures spared { ((d : D) (o : Order) → D.needs_memory d o ≡ false) → result ≡ Err errors.Memory
         → device.new ≡ device.old }
     ensures lacking { result ≡ Err errors.FramesOut
-        → LacksSuch (is_wanted (trial_flags tried.now)) storage.new }
-    ensures roomy { result ≡ Err errors.Memory → StandAll storage.new (trial_flags tried.now) }
-    ensures paged_in { CameOnly storage.old (is_wanted (trial_flags tried.now)) 2 storage.new }
+        → LacksSuch (is_wanted (touched_flags tried.now)) storage.new }
+    ensures roomy { result ≡ Err errors.Memory → StandAll storage.new (touched_flags tried.now) }
+    ensures paged_in { CameOnly storage.old (is_wanted (touched_flags tried.now)) 2 storage.new }
     ensures between { IsBetweenUnits (lent_pool storage.new).supply }
 {
     match storage.page_in_wanted(tried.touched()) {
@@ -160,8 +153,8 @@ pub fn run_tried<D: Device>(
     Ok(ending)
 }
 
-/// Runs the program with this start on its device, but on a copy of the storage, which is dropped,
-/// and returns how it ended.
+/// Runs the program with this start on its device, but on copies of pages, which are dropped, and
+/// returns how it ended.
 fn run_apart<D: Device>(
     alloc: Global,
     storage: &Dat<'_>,
@@ -173,15 +166,15 @@ fn run_apart<D: Device>(
     ensures ends { IfOk result (λ ending. EndsSomehow (limited D.machine start)
         (begun start (lent_memory storage.now) device.old) ending device.new) }
 {
-    let mut copy = copy_of(alloc, storage)?;
+    let mut copy = TrialStorage::new(alloc, storage)?;
     match run_supplied(&mut copy, start.address.get(), &limits_of(start), device) {
         Ok(ending) => Ok(ending),
         Err(_) => Err(AllocError),
     }
 }
 
-/// Makes a dry run of the program of an initial program loading on a copy of the storage, with the
-/// device `trial`, which changes; returns the copy.
+/// Makes a dry run of the program of an initial program loading, with the device `trial`, which
+/// changes; returns the pages that it touched. The storage stays.
 ///
 /// # Errors
 ///
@@ -190,17 +183,17 @@ pub fn try_loading<T: Device>(
     alloc: Global,
     storage: &Dat<'_>,
     trial: &mut T,
-) -> Result<TrialStorage, AllocError>
+) -> Result<TouchedPages, AllocError>
     ensures { IfOk result (λ tried. IsLoadingTried T.machine
-        (lent_memory storage.now) trial.old (trial_bytes tried) (trial_flags tried)) }
+        (lent_memory storage.now) trial.old (tried_bytes storage.now tried) (touched_flags tried)) }
 {
-    let mut copy = copy_of(alloc, storage)?;
+    let mut copy = TrialStorage::new(alloc, storage)?;
     channel_trial::try_loading(&mut copy, trial)?;
-    Ok(copy)
+    Ok(copy.into_pages())
 }
 
-/// Makes a dry run of the program of an initial program loading on a copy of the storage and a copy
-/// of the device, and returns the copy of the storage.
+/// Makes a dry run of the program of an initial program loading, with a copy of the device, and
+/// returns the pages that it touched. The storage stays.
 ///
 /// # Errors
 ///
@@ -209,13 +202,14 @@ pub fn try_load<D: TriedLoading>(
     alloc: Global,
     storage: &Dat<'_>,
     device: &D,
-) -> Result<TrialStorage, AllocError>
+) -> Result<TouchedPages, AllocError>
     ensures { IfOk result (λ tried. IsLoadingTried D.Device.machine
-        (lent_memory storage.now) device.now (trial_bytes tried) (trial_flags tried)) }
+        (lent_memory storage.now) device.now (tried_bytes storage.now tried)
+        (touched_flags tried)) }
 {
-    let mut copy = copy_of(alloc, storage)?;
+    let mut copy = TrialStorage::new(alloc, storage)?;
     device.try_load(&mut copy)?;
-    Ok(copy)
+    Ok(copy.into_pages())
 }
 
 /// Runs the program of an initial program loading after its dry run, as a whole if there is room
@@ -228,10 +222,10 @@ pub fn load_tried<D: Device>(
     alloc: Global,
     storage: &mut Dat<'_>,
     device: &mut D,
-    tried: &TrialStorage,
+    tried: &TouchedPages,
 ) -> Result<Ending, DryRunError>
     requires tried { IsLoadingTried D.machine (lent_memory storage.old)
-        device.old (trial_bytes tried.now) (trial_flags tried.now) }
+        device.old (tried_bytes storage.old tried.now) (touched_flags tried.now) }
     requires between { IsBetweenUnits (lent_pool storage.old).supply }
     ensures walk { IfOk result
         (λ ending. Reaches (live guest_written) (setting D.machine loading_limits)
@@ -243,9 +237,9 @@ pub fn load_tried<D: Device>(
     ensures spared { ((d : D) (o : Order) → D.needs_memory d o ≡ false) → result ≡ Err errors.Memory
         → device.new ≡ device.old }
     ensures lacking { result ≡ Err errors.FramesOut
-        → LacksSuch (is_wanted (trial_flags tried.now)) storage.new }
-    ensures roomy { result ≡ Err errors.Memory → StandAll storage.new (trial_flags tried.now) }
-    ensures paged_in { CameOnly storage.old (is_wanted (trial_flags tried.now)) 2 storage.new }
+        → LacksSuch (is_wanted (touched_flags tried.now)) storage.new }
+    ensures roomy { result ≡ Err errors.Memory → StandAll storage.new (touched_flags tried.now) }
+    ensures paged_in { CameOnly storage.old (is_wanted (touched_flags tried.now)) 2 storage.new }
     ensures between { IsBetweenUnits (lent_pool storage.new).supply }
 {
     match storage.page_in_wanted(tried.touched()) {
@@ -260,8 +254,8 @@ pub fn load_tried<D: Device>(
     Ok(ending)
 }
 
-/// Runs the program of an initial program loading on its device, but on a copy of the storage,
-/// which is dropped, and returns how it ended.
+/// Runs the program of an initial program loading on its device, but on copies of pages, which are
+/// dropped, and returns how it ended.
 fn load_apart<D: Device>(
     alloc: Global,
     storage: &Dat<'_>,
@@ -272,7 +266,7 @@ fn load_apart<D: Device>(
     ensures ends { IfOk result (λ ending. EndsSomehow (setting D.machine loading_limits)
         (loading D.machine (lent_memory storage.now) device.old) ending device.new) }
 {
-    let mut copy = copy_of(alloc, storage)?;
+    let mut copy = TrialStorage::new(alloc, storage)?;
     match load_supplied(&mut copy, device) {
         Ok(ending) => Ok(ending),
         Err(_) => Err(AllocError),

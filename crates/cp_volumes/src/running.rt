@@ -8,18 +8,17 @@ ghost use Rattle.machine_channels.specs.Channels.{WalksLoading};
 ghost use Rattle.cp_dat.specs.Copies.{CameOnly, StandAll, is_wanted};
 ghost use Rattle.cp_dat.specs.Lent.{lent_pool, lent_memory};
 ghost use Rattle.cp_dat.specs.Supplied.{IsBetweenUnits};
-ghost use Rattle.channel_trial.specs.Trial.{trial_bytes, trial_flags};
+ghost use Rattle.cp_trial.specs.Trial.{touched_flags, tried_bytes};
 ghost use Rattle.channel_trial.specs.DryRun.{IsLoadingTried, IsProgramTried};
 ghost use Rattle.cp_trial.specs.DryRun.{LacksSuch};
 ghost use Rattle.cp_trial.specs.declared.DryRunError.TheVariants as errors;
 ghost use Rattle.cp_needs.specs.Words.{IsFixedStill};
 ghost use Rattle.cp_volumes.specs.Running.{KeepsVolume};
 
-use channel_trial::TrialStorage;
 use cp_dat::Dat;
 use cp_minidisk::Mounted;
 use cp_needs::run_held;
-use cp_trial::{DryRunError, load_tried, run_tried};
+use cp_trial::{DryRunError, TouchedPages, load_tried, run_tried};
 use s370_channel::{Caw, Limits, MOST_COMMANDS};
 use s370_store::Storage;
 use s370_walk::Ending;
@@ -57,10 +56,10 @@ pub(crate) fn run_mounted(
     mounted: &mut Mounted,
     storage: &mut Dat<'_>,
     start: Caw,
-    tried: &TrialStorage,
+    tried: &TouchedPages,
 ) -> Result<Ending, DryRunError>
     requires tried { IsProgramTried disk_machine start (lent_memory storage.old)
-        mounted.old.disk (trial_bytes tried.now) (trial_flags tried.now) }
+        mounted.old.disk (tried_bytes storage.old tried.now) (touched_flags tried.now) }
     requires between { IsBetweenUnits (lent_pool storage.old).supply }
     ensures walk { IfOk result (λ ending. Walks as_reached disk_machine start
         (lent_memory storage.old) mounted.old.disk ending (lent_memory storage.new)
@@ -69,10 +68,10 @@ pub(crate) fn run_mounted(
     ensures memory { result ≡ Err errors.FramesOut
         → lent_memory storage.new ≡ lent_memory storage.old }
     ensures lacking { result ≡ Err errors.FramesOut
-        → LacksSuch (is_wanted (trial_flags tried.now)) storage.new }
-    ensures roomy { result ≡ Err errors.Memory → StandAll storage.new (trial_flags tried.now) }
+        → LacksSuch (is_wanted (touched_flags tried.now)) storage.new }
+    ensures roomy { result ≡ Err errors.Memory → StandAll storage.new (touched_flags tried.now) }
     ensures volume { KeepsVolume mounted.old mounted.new }
-    ensures paged_in { CameOnly storage.old (is_wanted (trial_flags tried.now)) 2 storage.new }
+    ensures paged_in { CameOnly storage.old (is_wanted (touched_flags tried.now)) 2 storage.new }
     ensures between { IsBetweenUnits (lent_pool storage.new).supply }
 {
     run_tried(alloc, storage, start, mounted, tried)
@@ -84,10 +83,10 @@ pub(crate) fn load_mounted(
     alloc: Global,
     mounted: &mut Mounted,
     storage: &mut Dat<'_>,
-    tried: &TrialStorage,
+    tried: &TouchedPages,
 ) -> Result<Ending, DryRunError>
     requires tried { IsLoadingTried disk_machine (lent_memory storage.old)
-        mounted.old.disk (trial_bytes tried.now) (trial_flags tried.now) }
+        mounted.old.disk (tried_bytes storage.old tried.now) (touched_flags tried.now) }
     requires between { IsBetweenUnits (lent_pool storage.old).supply }
     ensures walk { IfOk result
         (λ ending. WalksLoading disk_machine (lent_memory storage.old) mounted.old.disk ending
@@ -96,10 +95,10 @@ pub(crate) fn load_mounted(
     ensures memory { result ≡ Err errors.FramesOut
         → lent_memory storage.new ≡ lent_memory storage.old }
     ensures lacking { result ≡ Err errors.FramesOut
-        → LacksSuch (is_wanted (trial_flags tried.now)) storage.new }
-    ensures roomy { result ≡ Err errors.Memory → StandAll storage.new (trial_flags tried.now) }
+        → LacksSuch (is_wanted (touched_flags tried.now)) storage.new }
+    ensures roomy { result ≡ Err errors.Memory → StandAll storage.new (touched_flags tried.now) }
     ensures volume { KeepsVolume mounted.old mounted.new }
-    ensures paged_in { CameOnly storage.old (is_wanted (trial_flags tried.now)) 2 storage.new }
+    ensures paged_in { CameOnly storage.old (is_wanted (touched_flags tried.now)) 2 storage.new }
     ensures between { IsBetweenUnits (lent_pool storage.new).supply }
 {
     load_tried(alloc, storage, mounted, tried)

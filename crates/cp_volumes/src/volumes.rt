@@ -14,7 +14,7 @@ ghost use Rattle.cp_dat.specs.Lent.{lent_pool, lent_memory};
 ghost use Rattle.cp_dat.specs.Supplied.{IsBetweenUnits};
 ghost use Rattle.cp_minidisk.specs.Minidisk.{users_disk};
 ghost use Rattle.cp_minidisk.specs.Part.{minidisk_of, part_on, unit_of};
-ghost use Rattle.channel_trial.specs.Trial.{trial_bytes, trial_flags};
+ghost use Rattle.cp_trial.specs.Trial.{touched_flags, tried_bytes};
 ghost use Rattle.channel_trial.specs.DryRun.{IsLoadingTried, IsProgramTried};
 ghost use Rattle.cp_trial.specs.DryRun.{HadRoom, HadRoomToLoad, LacksSuch};
 ghost use Rattle.cp_trial.specs.declared.DryRunError.TheVariants as errors;
@@ -24,11 +24,10 @@ ghost use Rattle.cp_volumes.specs.Shared.{placement_of, volume_at, volume_or_non
 
 use crate::running::{load_mounted, run_mounted, run_mounted_held};
 use crate::shared_disk::SharedDisk;
-use channel_trial::TrialStorage;
 use ckd_volume::{Arm, Sense, Unit, UnitTrial, Volume};
 use cp_dat::Dat;
 use cp_minidisk::Mounted;
-use cp_trial::{DryRunError, try_loading, try_program};
+use cp_trial::{DryRunError, TouchedPages, try_loading, try_program};
 use s370_channel::Caw;
 use s370_store::Storage;
 use s370_walk::Ending;
@@ -143,11 +142,11 @@ impl Volumes {
         disk: &SharedDisk,
         storage: &Dat<'_>,
         start: Caw,
-    ) -> Result<TrialStorage, AllocError>
+    ) -> Result<TouchedPages, AllocError>
         requires { IsSeated self.now (placement_of disk.now) }
         ensures { IfOk result (λ tried. IsProgramTried disk_machine start
-            (lent_memory storage.now) (disk_on self.now disk.now).unit (trial_bytes tried)
-            (trial_flags tried)) }
+            (lent_memory storage.now) (disk_on self.now disk.now).unit (tried_bytes storage.now tried)
+            (touched_flags tried)) }
     {
         let mut trial = self.trial(alloc, disk)?;
         try_program(alloc, storage, start, &mut trial)
@@ -160,11 +159,11 @@ impl Volumes {
         alloc: Global,
         disk: &SharedDisk,
         storage: &Dat<'_>,
-    ) -> Result<TrialStorage, AllocError>
+    ) -> Result<TouchedPages, AllocError>
         requires { IsSeated self.now (placement_of disk.now) }
         ensures { IfOk result (λ tried. IsLoadingTried disk_machine
-            (lent_memory storage.now) (disk_on self.now disk.now).unit (trial_bytes tried)
-            (trial_flags tried)) }
+            (lent_memory storage.now) (disk_on self.now disk.now).unit (tried_bytes storage.now tried)
+            (touched_flags tried)) }
     {
         let mut trial = self.trial(alloc, disk)?;
         try_loading(alloc, storage, &mut trial)

@@ -1,6 +1,6 @@
 use Rattle.std.proofs.Common.{◌≡◌, ◌∙◌, ◌*◌, ◌/◌, arith, length, subst, sym}
 use Rattle.s370_store.specs.Memory.{Memory}
-use Rattle.channel_trial.specs.Trial.{trial_memory}
+use Rattle.cp_trial.specs.Trial.{trial_memory}
 use Rattle.cp_dat.specs.Lent.{lent_memory}
 use Rattle.cp_needs.specs.declared.kept.Analysis.{Analysis}
 use Rattle.cp_needs.specs.Kept.{IfPages, IfText, IsPaged, IsPagedOnly, IsText, IsTextOnly}

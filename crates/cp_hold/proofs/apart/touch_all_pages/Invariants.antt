@@ -1,5 +1,5 @@
 use Rattle.std.proofs.Common.{◌≡◌, ◌<◌, ◌≤◌, ◌-◌, ℕ, true, false}
-use Rattle.channel_trial.specs.Trial.{is_touched, trial_memory}
+use Rattle.cp_trial.specs.Trial.{is_touched, trial_memory}
 use Rattle.cp_hold.proofs.apart.touch_all_pages.Given as goal
 
 abbrev pub invariant-loop-page : goal.invariant-loop-page

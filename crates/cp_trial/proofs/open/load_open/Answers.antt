@@ -1,5 +1,5 @@
 use Rattle.std.proofs.Common.{◌≡◌, ℕ, ◌<◌, ap, subst, sym, inl, inr, Err, arith}
-use Rattle.channel_trial.specs.Trial.{trial_bytes, trial_flags}
+use Rattle.cp_trial.specs.Trial.{touched_flags, tried_bytes}
 use Rattle.cp_dat.specs.Copies.{is_wanted}
 use Rattle.cp_dat.specs.Lent.{lent_memory}
 use Rattle.cp_dat.proofs.Copying.{came_fewer, came_more, stands_on}
@@ -27,7 +27,7 @@ returns-in_err-ending-clause-paged_in g c =
     let Needs : ℕ → Type 0 = LoadTouches g.D.Device.machine (lent_memory old) c.args.device.now in
     let first = came_fewer old c.fetch_first.new.storage (λ page. page ≡ 0) Needs 1 2 (λ page it. inl it) (omega arith)
     c.fetch_first.ensures.paged_in in
-    came_more old c.fetch_first.new.storage c.load_tried.new.storage (is_wanted (trial_flags c.in-Ok.tried)) Needs 2 2
+    came_more old c.fetch_first.new.storage c.load_tried.new.storage (is_wanted (touched_flags c.in-Ok.tried)) Needs 2 2
     (loads_flagged g.D.Device.machine old c.fetch_first.new.storage c.args.device.now c.in-Ok.tried
     c.fetch_first.ensures.memory c.in-Ok.ensures) first c.load_tried.ensures.paged_in
 
@@ -38,7 +38,7 @@ fetch_again-requires-clause-some g c =
 
 pub fetch_again-requires-clause-stands : goal.fetch_again-requires-clause-stands
 fetch_again-requires-clause-stands g c =
-    stands_on c.fetch_first.new.storage c.load_tried.new.storage (is_wanted (trial_flags c.in-Ok.tried)) 2 0
+    stands_on c.fetch_first.new.storage c.load_tried.new.storage (is_wanted (touched_flags c.in-Ok.tried)) 2 0
     c.load_tried.ensures.paged_in (inl c.in_ok-fetch_first.ensures.there)
 
 pub returns-clause-paged_in : goal.returns-clause-paged_in
@@ -48,7 +48,7 @@ returns-clause-paged_in g c =
     let first = came_fewer old c.fetch_first.new.storage (λ page. page ≡ 0) Needs 1 1 (λ page it. inl it) (omega arith)
     c.fetch_first.ensures.paged_in in
     let second = came_more old c.fetch_first.new.storage c.load_tried.new.storage
-    (is_wanted (trial_flags c.in-Ok.tried)) Needs 1 2
+    (is_wanted (touched_flags c.in-Ok.tried)) Needs 1 2
     (loads_flagged g.D.Device.machine old c.fetch_first.new.storage c.args.device.now c.in-Ok.tried
     c.fetch_first.ensures.memory c.in-Ok.ensures) first c.load_tried.ensures.paged_in in
     came_more old c.load_tried.new.storage c.fetch_again.new.storage (λ page. page ≡ 0) Needs 3 1 (λ page it. inl it)

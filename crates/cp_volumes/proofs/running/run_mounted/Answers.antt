@@ -2,7 +2,7 @@ use Rattle.std.proofs.Common.{refl}
 use Rattle.ckd_volume.specs.Unit.{disk_machine}
 use Rattle.cp_dat.specs.Lent.{lent_memory}
 use Rattle.cp_minidisk.specs.Part.{disk_seen, part_machine}
-use Rattle.channel_trial.specs.Trial.{trial_bytes, trial_flags}
+use Rattle.cp_trial.specs.Trial.{touched_flags, tried_bytes}
 use Rattle.channel_trial.proofs.Trying.{tried_back}
 use Rattle.cp_volumes.proofs.Parts.{keeps_ok, part_viewed, walks_ok}
 use Rattle.cp_volumes.proofs.running.run_mounted.Goals as goal
@@ -10,8 +10,8 @@ use Rattle.cp_volumes.proofs.running.run_mounted.Goals as goal
 pub run_tried-requires-clause-tried : goal.run_tried-requires-clause-tried
 run_tried-requires-clause-tried c =
     let m = lent_memory c.args.storage.now in
-    tried_back part_machine disk_machine disk_seen c.args.start m c.args.mounted.now (trial_bytes c.args.tried.now)
-    (trial_flags c.args.tried.now) part_viewed c.requires.tried
+    tried_back part_machine disk_machine disk_seen c.args.start m c.args.mounted.now (tried_bytes c.args.storage.now c.args.tried.now)
+    (touched_flags c.args.tried.now) part_viewed c.requires.tried
 
 pub returns-clause-walk : goal.returns-clause-walk
 returns-clause-walk c =

@@ -3,7 +3,7 @@ use Rattle.s370_channel.specs.Guest.{guest_written}
 use Rattle.s370_channel.specs.Loading.{loading, loading_limits}
 use Rattle.s370_channel.specs.Progress.{setting}
 use Rattle.s370_channel.specs.Supplied.{IsTouched}
-use Rattle.channel_trial.specs.Trial.{trial_bytes, trial_flags}
+use Rattle.cp_trial.specs.Trial.{touched_flags, tried_bytes}
 use Rattle.ckd_volume.specs.Unit.{disk_machine}
 use Rattle.cp_dat.specs.Copies.{is_wanted}
 use Rattle.cp_dat.specs.Lent.{keeps_stored_same, lent_memory}
@@ -29,7 +29,7 @@ returns-in-Ok-load_mounted-clause-paged_in c =
     IsTouched guest_written (setting disk_machine loading_limits)
     (loading disk_machine (lent_memory old)
     (users_disk (volume_at c.args.self.now c.args.disk.now.volume) c.args.disk.now.minidisk)) in
-    came_fewer old c.load_mounted.new.storage (is_wanted (trial_flags c.in-Ok.tried)) Touched 2 2
+    came_fewer old c.load_mounted.new.storage (is_wanted (touched_flags c.in-Ok.tried)) Touched 2 2
     (λ page it. c.in-Ok.ensures.touches page it) (omega arith) c.load_mounted.ensures.paged_in
 
 pub returns-clause-paged_in : goal.returns-clause-paged_in
@@ -39,7 +39,7 @@ returns-clause-paged_in c =
     IsTouched guest_written (setting disk_machine loading_limits)
     (loading disk_machine (lent_memory old)
     (users_disk (volume_at c.args.self.now c.args.disk.now.volume) c.args.disk.now.minidisk)) in
-    came_fewer old c.load_mounted.new.storage (is_wanted (trial_flags c.in-Ok.tried)) Touched 2 2
+    came_fewer old c.load_mounted.new.storage (is_wanted (touched_flags c.in-Ok.tried)) Touched 2 2
     (λ page it. c.in-Ok.ensures.touches page it) (omega arith) c.load_mounted.ensures.paged_in
 
 pub returns-in-Ok-load_mounted-clause-confined : goal.returns-in-Ok-load_mounted-clause-confined
@@ -76,8 +76,8 @@ returns-clause-unchanged_on_error c =
 pub returns-clause-roomy : goal.returns-clause-roomy
 returns-clause-roomy c =
     λ refused. inr (record {
-      bytes = trial_bytes c.in-Ok.tried;
-      flags = trial_flags c.in-Ok.tried;
+      bytes = tried_bytes c.args.storage.now c.in-Ok.tried;
+      flags = touched_flags c.in-Ok.tried;
       tried = c.in-Ok.ensures;
       stand = c.load_mounted.ensures.roomy (c.in-Err-load_mounted.is ∙ refused);
     })

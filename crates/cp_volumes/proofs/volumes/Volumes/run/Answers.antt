@@ -2,7 +2,7 @@ use Rattle.std.proofs.Common.{◌∙◌, ℕ, inr, arith}
 use Rattle.s370_channel.specs.Guest.{guest_written}
 use Rattle.s370_channel.specs.Runs.{begun, limited}
 use Rattle.s370_channel.specs.Supplied.{IsTouched}
-use Rattle.channel_trial.specs.Trial.{trial_bytes, trial_flags}
+use Rattle.cp_trial.specs.Trial.{touched_flags, tried_bytes}
 use Rattle.ckd_volume.specs.Unit.{disk_machine}
 use Rattle.cp_dat.specs.Copies.{is_wanted}
 use Rattle.cp_dat.specs.Lent.{keeps_stored_same, lent_memory}
@@ -28,7 +28,7 @@ returns-in-Ok-run_mounted-clause-paged_in c =
     IsTouched guest_written (limited disk_machine c.args.start)
     (begun c.args.start (lent_memory old)
     (users_disk (volume_at c.args.self.now c.args.disk.now.volume) c.args.disk.now.minidisk)) in
-    came_fewer old c.run_mounted.new.storage (is_wanted (trial_flags c.in-Ok.tried)) Touched 2 2
+    came_fewer old c.run_mounted.new.storage (is_wanted (touched_flags c.in-Ok.tried)) Touched 2 2
     (λ page it. c.in-Ok.ensures.touches page it) (omega arith) c.run_mounted.ensures.paged_in
 
 pub returns-clause-paged_in : goal.returns-clause-paged_in
@@ -38,7 +38,7 @@ returns-clause-paged_in c =
     IsTouched guest_written (limited disk_machine c.args.start)
     (begun c.args.start (lent_memory old)
     (users_disk (volume_at c.args.self.now c.args.disk.now.volume) c.args.disk.now.minidisk)) in
-    came_fewer old c.run_mounted.new.storage (is_wanted (trial_flags c.in-Ok.tried)) Touched 2 2
+    came_fewer old c.run_mounted.new.storage (is_wanted (touched_flags c.in-Ok.tried)) Touched 2 2
     (λ page it. c.in-Ok.ensures.touches page it) (omega arith) c.run_mounted.ensures.paged_in
 
 pub returns-in-Ok-run_mounted-clause-confined : goal.returns-in-Ok-run_mounted-clause-confined
@@ -75,8 +75,8 @@ returns-clause-unchanged_on_error c =
 pub returns-clause-roomy : goal.returns-clause-roomy
 returns-clause-roomy c =
     λ refused. inr (record {
-      bytes = trial_bytes c.in-Ok.tried;
-      flags = trial_flags c.in-Ok.tried;
+      bytes = tried_bytes c.args.storage.now c.in-Ok.tried;
+      flags = touched_flags c.in-Ok.tried;
       tried = c.in-Ok.ensures;
       stand = c.run_mounted.ensures.roomy (c.in-Err-run_mounted.is ∙ refused);
     })

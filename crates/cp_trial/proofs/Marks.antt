@@ -1,7 +1,7 @@
 -- One page more is marked.
 use Rattle.std.proofs.Common.{◌≡◌, ℕ, ◌<◌, List, [], ◌∷◌, Bool, true, false, zero, suc, length, slice_index_or}
 use Rattle.std.proofs.Common.{slice_set, arith}
-use Rattle.channel_trial.specs.Trial.{untouched_count}
+use Rattle.cp_trial.specs.Trial.{untouched_count}
 
 -- Marking one more page as touched leaves fewer that are not.
 pub marked_fewer : (flags : List Bool) (page : ℕ) → page < length flags → slice_index_or flags page false ≡ false

@@ -5,10 +5,11 @@ use Rattle.std.proofs.Common.{ap, sym, ◌∙◌, subst, inl, inr, arith}
 use Rattle.std.proofs.lemmas.List.Elements.{Contains-append_left, Contains-append_right}
 use Rattle.std.proofs.lemmas.List.Elements.{Contains-append_cases}
 use Rattle.s370_store.specs.declared.block.Block.{Block}
-use Rattle.channel_trial.specs.declared.TrialStorage.{TrialStorage}
-use Rattle.channel_trial.specs.Trial.{trial_flags, is_touched, TrialRest, TrialKeeps}
-use Rattle.channel_trial.specs.Trial.{IsTouchedBlock, untouched_count, IsIn, TrialTouches}
-use Rattle.channel_trial.specs.Trial.{TrialBrought, TrialCame}
+use Rattle.cp_trial.specs.declared.storage.TrialStorage.{TrialStorage}
+use Rattle.cp_trial.specs.Trial.{trial_flags, is_touched, TrialRest, TrialKeeps}
+use Rattle.channel_trial.specs.Pages.{IsIn}
+use Rattle.cp_trial.specs.Trial.{IsTouchedBlock, untouched_count, TrialTouches}
+use Rattle.cp_trial.specs.Trial.{TrialBrought, TrialCame}
 
 differ : {b : Bool} → b ≡ false → b ≡ true → ⊥
 differ away there = cc

@@ -1,13 +1,18 @@
 -- What a storage on trial shows.
 use Rattle.std.specs.Prelude.{◌≡◌, ℕ, ◌+◌, ◌/◌, ◌%◌, ◌≤◌, ◌⊎◌, List, [], ◌∷◌, Bool, true, false}
-use Rattle.std.specs.Prelude.{suc, length, slice_index, slice_index_or, Contains}
+use Rattle.std.specs.Prelude.{suc, length, slice_index_or, Contains}
 use Rattle.s370_store.specs.Memory.{Memory, memory_of}
 use Rattle.s370_store.specs.declared.block.Block.{Block}
-use Rattle.channel_trial.specs.declared.TrialStorage.{TrialStorage}
+use Rattle.channel_trial.specs.Pages.{IsIn, KeepsUntouched}
+use Rattle.cp_dat.specs.declared.dat.Dat.{Dat}
+use Rattle.cp_dat.specs.Copies.{written_over}
+use Rattle.cp_dat.specs.Lent.{lent_bytes}
+use Rattle.cp_trial.specs.declared.storage.TrialStorage.{TrialStorage}
+use Rattle.cp_trial.specs.declared.storage.TouchedPages.{TouchedPages}
 
--- its bytes, also those of pages that were not touched
+-- its bytes: of pages that were touched its own, of the others those of the storage that is tried
 abbrev pub trial_bytes : TrialStorage → List ℕ
-trial_bytes s = s.bytes.items
+trial_bytes s = written_over s.touched.items (lent_bytes s.source.now) s.bytes.items
 
 -- the key in storage of each of its blocks
 abbrev pub trial_keys : TrialStorage → List ℕ
@@ -24,11 +29,6 @@ trial_flags s = s.touched.items
 -- whether a page was touched
 abbrev pub is_touched : TrialStorage → ℕ → Bool
 is_touched s page = slice_index_or (trial_flags s) page false
-
--- the bytes of pages that were not touched are those they were
-abbrev pub KeepsUntouched : (ℕ → Bool) → List ℕ → List ℕ → Type 0
-KeepsUntouched touched old new = (address : ℕ) → touched (address / 4096) ≡ false
-    → slice_index new address ≡ slice_index old address
 
 -- as many bytes; the same pages were touched; the others are as they were
 pub record TrialRest (s t : TrialStorage) : Type 0 where
@@ -53,11 +53,6 @@ untouched_count [] = 0
 untouched_count (true ∷ flags) = untouched_count flags
 untouched_count (false ∷ flags) = suc (untouched_count flags)
 
--- one of the pages of these units
-abbrev pub IsIn : List (List ℕ) → ℕ → Type 0
-IsIn [] page = ⊥
-IsIn (pages ∷ units) page = Contains pages page ⊎ IsIn units page
-
 -- from one to the other pages were touched: such alone
 pub record TrialTouches (s : TrialStorage) (is_such : ℕ → Type 0) (t : TrialStorage) : Type 0 where
   pub size : length (trial_bytes t) ≡ length (trial_bytes s)
@@ -73,3 +68,12 @@ pub record TrialBrought (s : TrialStorage) (pages : List ℕ) (t : TrialStorage)
 -- just the pages of these units were touched
 abbrev pub TrialCame : TrialStorage → List (List ℕ) → TrialStorage → Type 0
 TrialCame s units t = TrialTouches s (IsIn units) t
+
+-- of each page whether a dry run touched it
+abbrev pub touched_flags : TouchedPages → List Bool
+touched_flags pages = pages.touched.items
+
+-- the bytes that a dry run leaves of a storage
+abbrev pub tried_bytes : Dat → TouchedPages → List ℕ
+tried_bytes storage pages =
+    written_over pages.touched.items (lent_bytes storage) pages.bytes.items

@@ -5,8 +5,9 @@ use Rattle.std.proofs.lemmas.Bool.{cases_lt}
 use Rattle.s370_store.specs.Access.{put, IsGranted}
 use Rattle.s370_store.specs.Memory.{Memory, with_stored}
 use Rattle.s370_store.proofs.Puts.{put_before, put_after}
-use Rattle.channel_trial.specs.declared.TrialStorage.{TrialStorage}
-use Rattle.channel_trial.specs.Trial.{trial_bytes, trial_flags, trial_memory, is_touched, TrialKeeps, KeepsUntouched}
+use Rattle.cp_trial.specs.declared.storage.TrialStorage.{TrialStorage}
+use Rattle.channel_trial.specs.Pages.{KeepsUntouched}
+use Rattle.cp_trial.specs.Trial.{trial_bytes, trial_flags, trial_memory, is_touched, TrialKeeps}
 
 differ : {b : Bool} → b ≡ false → b ≡ true → ⊥
 differ away there = cc

@@ -1,6 +1,6 @@
-use Rattle.channel_trial.specs.Trial.{trial_bytes, is_touched}
-use Rattle.channel_trial.proofs.Puts.{put_granted, kept_where}
-use Rattle.channel_trial.proofs.TrialStorageStorage.store.Goals as goal
+use Rattle.cp_trial.specs.Trial.{trial_bytes, is_touched}
+use Rattle.cp_trial.proofs.Puts.{put_granted, kept_where}
+use Rattle.cp_trial.proofs.storage.TrialStorageStorage.store.Goals as goal
 
 pub returns-clause-rest : goal.returns-clause-rest
 returns-clause-rest c =

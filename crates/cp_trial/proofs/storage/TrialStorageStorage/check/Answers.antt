@@ -1,7 +1,7 @@
 use Rattle.std.proofs.Common.{rules, arith, ◌+◌, ◌-◌, ◌/◌, true, ◌≡◌}
-use Rattle.channel_trial.specs.Trial.{is_touched}
+use Rattle.cp_trial.specs.Trial.{is_touched}
 use Rattle.s370_store.proofs.Verdicts.{ends_here}
-use Rattle.channel_trial.proofs.TrialStorageStorage.check.Goals as goal
+use Rattle.cp_trial.proofs.storage.TrialStorageStorage.check.Goals as goal
 
 pub flag_at-requires : goal.flag_at-requires
 flag_at-requires c = let g = c.in_ok-test_range.ensures.1.0 (omega arith) in omega arith
