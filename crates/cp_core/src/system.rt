@@ -25,7 +25,7 @@ ghost use Rattle.cp_core.specs.LineOutcome.{IsReply};
 use crate::delivery::Parcel;
 use crate::events::CpError;
 use crate::user_machine::UserMachine;
-use crate::work::{Service, Tick, Units, UserOp, with_user};
+use crate::work::{Service, Shared, Tick, Units, UserOp, with_storage};
 use ckd_volume::Volume;
 use cp_directory::Directory;
 use cp_frames::Frames;
@@ -251,6 +251,13 @@ impl System {
         ensures between { IsBetweenUnits self.new.supply }
     {
         let number = self.number_of(user);
+        let mut shared = Shared {
+            user: number,
+            directory: &self.directory,
+            queues: &mut self.queues,
+            volumes: &mut self.volumes,
+            frames: &mut self.frames,
+        };
         let seat = &mut self.users[user];
         // Exhaustive: a new field fails to compile here.
         let UserMachine {
@@ -260,19 +267,7 @@ impl System {
             keys,
             reuse,
         } = seat;
-        with_user(
-            machine,
-            devices,
-            &mut self.queues,
-            &mut self.volumes,
-            minidisks,
-            reuse,
-            &mut self.frames,
-            keys,
-            number,
-            &self.directory,
-            work,
-        )
+        with_storage(machine, devices, minidisks, keys, reuse, &mut shared, work)
     }
 
     /// Delivers a deck to the reader's queue of a user, or a message to the lines that his console
