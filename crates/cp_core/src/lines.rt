@@ -49,6 +49,7 @@ fn logged_on_among(users: &[UserMachine]) -> ArrayVec<bool, 64>
 impl System {
     /// Does what a line asks that a user typed, numbers the files that it closed, delivers what it
     /// sends to another user, and returns the reply.
+    #[inline(never)]
     pub(crate) fn line(&mut self, user: usize, typed: &[u8]) -> Result<Reply, AllocError>
         requires { user < length self.old.users }
         ensures step { IfOk result
@@ -248,6 +249,7 @@ impl System {
 
     /// Numbers a deck of these cards of the operator, delivers it to a user's reader, and returns
     /// the reply; without cards it does nothing.
+    #[inline(never)]
     pub(crate) fn deck(&mut self, user: usize, cards: &[Card]) -> Result<Reply, AllocError>
         requires { user < length self.old.users }
         ensures step { IfOk result
