@@ -10,7 +10,7 @@ ghost use Rattle.cp_core.specs.Lending.{KeepsLent, MayBeLent, MayLend, SharedLef
 ghost use Rattle.cp_core.specs.Lending.{machine_of, machine_on, seat_of};
 ghost use Rattle.cp_resident.specs.Reuse.{ReuseValue};
 
-use crate::serving::{serve_supplied, type_supplied};
+use crate::serving::serve_supplied;
 use crate::world::UserList;
 use arrayvec::ArrayVec;
 use cp_dat::Dat;
@@ -20,11 +20,11 @@ use cp_resident::{GuestChannels, Reuse};
 use cp_spool::Queues;
 use cp_trap::VirtualCpu;
 use cp_volumes::{SharedDisk, Volumes};
-use machine_devices::{Devices, LineOutcome};
+use machine_devices::{Devices, LineOutcome, TypedLine};
 use machine_panel::{LineError, Machine};
 use s370_intr::Ran;
 use s370_num::{DevAddr, StorageKey};
-use s370_store::FramesOut;
+use s370_store::{FramesOut, UnitSupply};
 use std::alloc::Global;
 use user_names::UserNo;
 
@@ -104,7 +104,8 @@ pub(crate) fn with_storage<W: UserOp>(
 ) -> W::Answer
     requires { let seat = seat_of machine.old devices.old minidisks.old.items keys.old reuse.old in
         MayLend shared.old seat }
-    ensures does { let old = seat_of machine.old devices.old minidisks.old.items keys.old reuse.old in
+    ensures does { let old = seat_of machine.old devices.old minidisks.old.items keys.old
+        reuse.old in
         let new = seat_of machine.new devices.new minidisks.new.items keys.new reuse.new in
         let user = shared.old.user in
         W.Does work.now shared.old.directory.now user (machine_on shared.old user old)
@@ -115,7 +116,8 @@ pub(crate) fn with_storage<W: UserOp>(
         let user = shared.old.user in
         W.Keeps work.now user (machine_on shared.old user old) shared.old.frames.now.supply result
         reuse.old reuse.new }
-    ensures left { let old = seat_of machine.old devices.old minidisks.old.items keys.old reuse.old in
+    ensures left { let old = seat_of machine.old devices.old minidisks.old.items keys.old
+        reuse.old in
         let new = seat_of machine.new devices.new minidisks.new.items keys.new reuse.new in
         SharedLeft shared.old shared.new old new }
 {
@@ -200,7 +202,8 @@ impl<'a> UserOp for Line<'a> {
     ghost Keeps = { λ line user e supply reported old new.
         LineKeeps line.typed.now e reported old new };
 
-    /// Does what the line asks that the user typed, and returns its outcome.
+    /// Does what the line asks that the user typed, with the pages that this needs paged in, unpins
+    /// all frames, and returns its outcome.
     fn work(
         &self,
         directory: &Directory,
@@ -218,16 +221,19 @@ impl<'a> UserOp for Line<'a> {
             lent.minidisks,
             lent.reuse,
         );
-        let reported = type_supplied(
+        let line = TypedLine {
+            typed: self.typed,
+            users: &world,
+        };
+        let reported = lent.devices.line(
             self.alloc,
-            lent.devices,
             lent.queues,
             lent.machine,
             storage,
             &mut channels,
-            &world,
-            self.typed,
+            &line,
         );
+        storage.let_go();
         channels.return_to(lent.volumes, lent.minidisks, lent.reuse);
         reported
     }
