@@ -14,8 +14,8 @@ use crate::alone::Alone;
 use crate::bare::Bare;
 use cp_console::console_line::ConsoleLine;
 use machine_devices::{
-    ClosedFiles, Delivered, Delivery, Ended, FileKind, FileNote, LineOutcome, Reply, UserDirectory,
-    is_logged_on, said_to_line,
+    ClosedFiles, Delivered, Delivery, Ended, FileKind, FileNote, LineOutcome, Reply, TypedLine,
+    UserDirectory, is_logged_on, said_to_line,
 };
 use machine_panel::LineError;
 use std::alloc::{AllocError, Global};
@@ -83,14 +83,17 @@ impl Bare {
         ensures memory { OnErr result
             (LineMay (W.known world.now) typed.now self.old.equipped) }
     {
+        let line = TypedLine {
+            typed,
+            users: world,
+        };
         let reported = self.devices.line(
             alloc,
             &mut self.queues,
             &mut self.machine,
             &mut self.storage,
             &mut self.channels,
-            world,
-            typed,
+            &line,
         );
         match reported {
             Ok(reported) => Ok(reported),

@@ -5,13 +5,12 @@ use Rattle.std.proofs.lemmas.List.{get_or-set_same, get_or_default, length-map}
 use Rattle.ckd_volume.specs.Volume.{VolumeFormat}
 use Rattle.cp_directory.specs.Users.{DirectoryUser}
 use Rattle.cp_frames.specs.Layout.{FrameSupply, Pool, bytes_of}
-use Rattle.cp_dat.specs.Supplied.{IsBetweenUnits}
 use Rattle.cp_spool.specs.Queues.{KeepsOthers, QueuesValue}
 use Rattle.cp_volumes.specs.Keeping.{there_still}
 use Rattle.cp_volumes.specs.Shared.{IsConfined, IsUsers, KeepsOtherDisks, Placement, placements_of}
 use Rattle.machine_devices.specs.Equipped.{Equipped, nobody}
-use Rattle.machine_devices.specs.Lent.{KeepsOtherUsers}
 use Rattle.machine_devices.specs.declared.files.FileNote.{FileNote}
+use Rattle.cp_core.specs.Lending.{IsLeft}
 use Rattle.cp_core.specs.Owners.{AreOwners}
 use Rattle.cp_resident.specs.Reuse.{ReuseValue, kept_none}
 use Rattle.cp_core.specs.System.{SystemView, kept_of, placements_at, user_at, users_of}
@@ -28,17 +27,6 @@ pub record IsSeat (q : QueuesValue) (seats : List SeatParts) (volumes : List Vol
   pub owners : AreOwners seats q
   pub inside : user < length (seats_on q seats)
   pub here : seat ≡ get_or seats user seat
-
--- what a work leaves of it, and of what all share
-pub record IsLeft (q q' : QueuesValue) (volumes volumes' : List VolumeFormat) (pool pool' : Pool) (user : ℕ)
-    (seat seat' : SeatParts) : Type 0 where
-  pub others : pool'.storages ≡ set pool.storages user (bytes_of pool' user)
-  pub size : length (bytes_of pool' user) ≡ length (bytes_of pool user)
-  pub keys : length seat'.keys ≡ length seat.keys
-  pub between : IsBetweenUnits pool'.supply
-  pub other_users : KeepsOtherUsers seat.devices q seat'.devices q'
-  pub other_disks : KeepsOtherDisks (record { volumes = volumes; minidisks = seat.minidisks })
-      (record { volumes = volumes'; minidisks = seat'.minidisks })
 
 -- of a system that is seen so
 abbrev pub IsSeen : QueuesValue → List SeatParts → List VolumeFormat → Pool → List DirectoryUser → List FileNote → Bool

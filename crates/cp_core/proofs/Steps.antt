@@ -19,6 +19,7 @@ use Rattle.cp_console.specs.declared.responses.Response.{Response}
 use Rattle.cp_frames.specs.Layout.{FrameSupply}
 use Rattle.cp_dat.specs.Lent.{set_own}
 use Rattle.cp_dat.specs.Supplied.{IsBetweenUnits, IsBroughtFor, IsBroughtInUnits}
+use Rattle.machine_panel.specs.declared.line.LineError.{LineError}
 use Rattle.machine_panel.specs.declared.line.LineError.TheVariants as errors
 use Rattle.machine_panel.specs.declared.machine.Mode.{Mode}
 use Rattle.machine_panel.specs.declared.machine.Mode.TheVariants as modes
@@ -30,6 +31,7 @@ use Rattle.machine_devices.specs.declared.reply.UserResponse.{UserResponse}
 use Rattle.machine_devices.specs.declared.reply.UserResponse.TheVariants.{Nothing}
 use Rattle.machine_devices.specs.declared.files.FileKind.TheVariants as kinds
 use Rattle.machine_devices.specs.Equipped.{Equipped, nobody}
+use Rattle.machine_devices.specs.UserDirectory.{UserDirectory}
 use Rattle.machine_devices.specs.Life.{Event as Local, Units, Serve as Serves, Line as Types, Tick as Ticks}
 use Rattle.machine_devices.specs.Life.{Deck as Gets, Leaves, Lives}
 use Rattle.machine_devices.specs.Lines.{files_closed, requested}
@@ -44,7 +46,7 @@ use Rattle.cp_core.specs.Memory.{IsCutShort}
 use Rattle.machine_devices.specs.declared.request.Request.{Request}
 use Rattle.machine_devices.specs.Replies.{silent}
 use Rattle.cp_core.specs.Supply.{IsGivenBack}
-use Rattle.cp_core.specs.System.{SystemView, machine_at, user_at, world_of}
+use Rattle.cp_core.specs.System.{SystemView, logged_on_of, machine_at, user_at, world_among, world_of}
 use Rattle.machine_devices.specs.Notes.{deck_noted}
 use Rattle.machine_devices.specs.Replies.{delivered_by, given, said_to_line, saying}
 use Rattle.cp_core.specs.UserOp.{HasRun, HasServed, HasTicked, HasTyped}
@@ -241,6 +243,17 @@ noted_same user old e e' r s =
     ++ note_where (nat_lt b (length e.devices.printed)) user (kinds.Printer b)) r
     ∙ ap (λ (x : List FileValue). note_where (nat_lt a (length e'.devices.punched)) user (kinds.Punch a)
     ++ note_where (nat_lt b (length x)) user (kinds.Printer b)) s
+
+-- What was typed in a world of these parts was typed in the user's world.
+pub typed_among : (old new : SystemView) (user number : ℕ) (on : List Bool) (typed : List ℕ)
+    (r : Result LineOutcome LineError) → number ≡ user → on ≡ logged_on_of old.users
+    → HasTyped (world_among old.directory number on) user typed (user_at old user) old.supply r (user_at new user)
+    new.supply
+    → HasTyped (world_of old user) user typed (user_at old user) old.supply r (user_at new user) new.supply
+typed_among old new user number on typed r same_user same_on h =
+    subst (λ (w : UserDirectory). HasTyped w user typed (user_at old user) old.supply r (user_at new user) new.supply)
+    (ap (λ (k : ℕ). world_among old.directory k on) same_user ∙ ap
+    (λ (xs : List Bool). world_among old.directory user xs) same_on) h
 
 -- A line that is done is a step of the system.
 pub line_done : (old middle new : SystemView) (user : ℕ) (typed : Bor (List ℕ)) (reported : LineOutcome)

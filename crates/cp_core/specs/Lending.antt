@@ -1,13 +1,19 @@
 -- What is lent to an operation, what has to be so of it, and what stays.
 use Rattle.s370_store.specs.Memory.{Memory}
-use Rattle.std.specs.Prelude.{◌≡◌, ℕ, ◌<◌, ◌≤◌, List, length}
-use Rattle.cp_frames.specs.Layout.{FrameSupply}
+use Rattle.std.specs.Prelude.{◌≡◌, ℕ, ◌*◌, ◌<◌, ◌≤◌, List, length, slice_set}
+use Rattle.ckd_volume.specs.Volume.{VolumeFormat}
+use Rattle.cp_frames.specs.Layout.{FrameSupply, Pool, bytes_of}
 use Rattle.cp_dat.specs.Supplied.{IsBetweenUnits}
 use Rattle.machine_devices.specs.Equipped.{Equipped, equipped}
-use Rattle.machine_devices.specs.Lent.{KeepsOtherUsers, devices_on}
-use Rattle.cp_volumes.specs.Shared.{DisksValue, IsUsers, KeepsOtherDisks, disks_on, placements_of}
+use Rattle.machine_devices.specs.Lent.{DevicesParts, KeepsOtherUsers, devices_on}
+use Rattle.machine_panel.specs.Machine.{Parts}
+use Rattle.cp_volumes.specs.Shared.{DisksValue, IsUsers, KeepsOtherDisks, SharedMinidisk, disks_on}
+use Rattle.cp_volumes.specs.Shared.{placements_of}
 use Rattle.cp_resident.specs.Reuse.{ReuseValue}
+use Rattle.cp_core.specs.UserMachines.{SeatParts, seat_on, user_with}
 use Rattle.cp_core.specs.declared.work.Lent.{Lent}
+use Rattle.cp_core.specs.declared.work.Shared.{Shared}
+use Rattle.cp_spool.specs.Queues.{QueuesValue}
 
 -- the machine with its devices, where its storage has these bytes and keys
 abbrev pub machine_of : Lent → Memory → Equipped
@@ -39,3 +45,45 @@ pub record KeepsLent (old new : Lent) : Type 0 where
   pub same_reuse : new.reuse.ghost_name ≡ old.reuse.ghost_name
   pub other_users : KeepsOtherUsers old.devices.now old.queues.now new.devices.now new.queues.now
   pub other_disks : KeepsOtherDisks (disks_of old) (disks_of new)
+
+-- a user's machine of these parts
+abbrev pub seat_of : Parts → DevicesParts → List SharedMinidisk → List ℕ → ReuseValue → SeatParts
+seat_of parts devices minidisks keys reuse = record {
+  parts = parts;
+  devices = devices;
+  minidisks = minidisks;
+  keys = keys;
+  reuse = reuse;
+}
+
+-- the machine with its devices that it is where users share this
+abbrev pub machine_on : Shared → ℕ → SeatParts → Equipped
+machine_on s user seat =
+    user_with (seat_on s.queues.now seat) s.volumes.now (bytes_of s.frames.now user)
+
+-- it may be lent to an operation
+pub record MayLend (s : Shared) (seat : SeatParts) : Type 0 where
+  pub large : 8192 ≤ length (bytes_of s.frames.now s.user)
+  pub keyed : length (bytes_of s.frames.now s.user) ≤ 2048 * length seat.keys
+  pub between : IsBetweenUnits s.frames.now.supply
+  pub users : IsUsers s.volumes.now (placements_of seat.minidisks)
+  pub owner : seat.devices.user < length s.queues.now.users
+
+-- what an operation leaves of a user's machine, and of what all users share
+pub record IsLeft (q q' : QueuesValue) (volumes volumes' : List VolumeFormat) (pool pool' : Pool)
+    (user : ℕ) (seat seat' : SeatParts) : Type 0 where
+  pub others : pool'.storages ≡ slice_set pool.storages user (bytes_of pool' user)
+  pub size : length (bytes_of pool' user) ≡ length (bytes_of pool user)
+  pub keys : length seat'.keys ≡ length seat.keys
+  pub between : IsBetweenUnits pool'.supply
+  pub other_users : KeepsOtherUsers seat.devices q seat'.devices q'
+  pub other_disks : KeepsOtherDisks (record { volumes = volumes; minidisks = seat.minidisks })
+      (record { volumes = volumes'; minidisks = seat'.minidisks })
+
+-- the same is borrowed still
+pub record SharedLeft (old new : Shared) (seat seat' : SeatParts) : Type 0 where
+  pub same_queues : new.queues.ghost_name ≡ old.queues.ghost_name
+  pub same_volumes : new.volumes.ghost_name ≡ old.volumes.ghost_name
+  pub same_frames : new.frames.ghost_name ≡ old.frames.ghost_name
+  pub left : IsLeft old.queues.now new.queues.now old.volumes.now new.volumes.now old.frames.now
+      new.frames.now old.user seat seat'

@@ -1,4 +1,3 @@
-pub mod Events
 pub mod UserMachines
 pub mod System
 pub mod Stated

@@ -1,7 +1,5 @@
--- How a serve and a line end for which a user's storage is borrowed, with the pages that they need
--- paged in.
-use Rattle.std.specs.Prelude.{◌≡◌, ℕ, Bool, true, false, List, IfOk, IsSome, OnErr, OnOk, Result}
-use Rattle.std.specs.Prelude.{Err}
+-- How a serve ends for which a user's storage is borrowed, with the pages that it needs paged in.
+use Rattle.std.specs.Prelude.{◌≡◌, ℕ, Bool, true, Err, IfOk, IsSome, OnErr, OnOk, Result}
 use Rattle.s370_store.specs.declared.Storage.{Ghosts as Storage}
 use Rattle.s370_subchannels.specs.Programs.{program_of}
 use Rattle.machine_channels.specs.declared.channels.Channels.{Ghosts as Channels}
@@ -9,22 +7,13 @@ use Rattle.machine_channels.specs.declared.channels.Disks.{Ghosts as Disks}
 use Rattle.machine_channels.specs.Channels.{Brings, serve_times}
 use Rattle.machine_panel.specs.declared.line.LineError.{LineError}
 use Rattle.machine_panel.specs.declared.line.LineError.TheVariants as errors
-use Rattle.machine_devices.specs.declared.line.LineOutcome.{LineOutcome}
 use Rattle.machine_devices.specs.Borrowed.{Borrowed, IsOut, machine_in}
-use Rattle.machine_devices.specs.Comes.{LineMay, is_ipl}
 use Rattle.machine_devices.specs.Devices.{kind_at}
-use Rattle.machine_devices.specs.Equipped.{Equipped, equipped}
-use Rattle.machine_devices.specs.Lent.{KeepsOtherUsers, devices_on}
-use Rattle.machine_devices.specs.Lines.{IsLine, requested}
-use Rattle.machine_devices.specs.Reuses.{LineForgets, StartReuses}
+use Rattle.machine_devices.specs.Equipped.{Equipped}
+use Rattle.machine_devices.specs.Lent.{KeepsOtherUsers}
+use Rattle.machine_devices.specs.Reuses.{StartReuses}
 use Rattle.machine_devices.specs.Serve.{IsServedAt, ServeNeeds}
 use Rattle.machine_devices.specs.Stopped.{ServeHadRoom}
-use Rattle.machine_devices.specs.UserDirectory.{UserDirectory}
-use Rattle.cp_dat.specs.declared.dat.Dat.{Dat}
-use Rattle.cp_dat.specs.Lent.{lent_memory}
-use Rattle.cp_resident.specs.declared.resident.GuestChannels.{GuestChannels}
-use Rattle.cp_resident.specs.GuestChannels.{Forgets, KeepsHung, disks_on}
-use Rattle.cp_core.specs.Typed.{IsLineLent}
 
 module _ {C S : Type 0} (channels : Channels C S) (disks : Disks C) (storage : Storage S) where
   -- a serve on channels that run a program as a whole, where the machine was such
@@ -54,29 +43,3 @@ module _ {C S : Type 0} (channels : Channels C S) (disks : Disks C) (storage : S
   abbrev pub ServeSupplied : ℕ → Borrowed C S → Borrowed C S → Result Bool LineError → Type 0
   ServeSupplied device old new r =
       ServeSuppliedAs device (machine_in disks storage old) (machine_in disks storage new) old new r
-
--- a user's machine with its devices and its disks
-abbrev pub machine_lent : Borrowed GuestChannels Dat → Equipped
-machine_lent b =
-    equipped b.machine (devices_on b.devices b.queues) (disks_on b.channels) (lent_memory b.storage)
-
--- a line that a user types, where the machine was such
-pub record LineSuppliedAs (w : UserDirectory) (typed : List ℕ) (before after : Equipped)
-    (old new : Borrowed GuestChannels Dat) (r : Result LineOutcome LineError) : Type 0 where
-  pub ok : IfOk r (λ reported. IsLine w typed before reported after)
-  pub unchanged_without_frames : r ≡ Err errors.FramesOut → after ≡ before
-  pub kept : r ≡ Err errors.Memory → is_ipl (requested typed before) ≡ false → after ≡ before
-  pub memory : r ≡ Err errors.Memory → LineMay w typed before
-  pub lent : IsLineLent typed before old.storage new.storage r
-  pub others : KeepsHung old.channels new.channels
-  pub other_users : KeepsOtherUsers old.devices old.queues new.devices new.queues
-  pub forgets : OnOk r (LineForgets Forgets old.channels new.channels (requested typed before)
-      before)
-  pub stays : is_ipl (requested typed before) ≡ false → OnErr r (new.channels ≡ old.channels)
-  pub without_room : r ≡ Err errors.FramesOut → new.channels ≡ old.channels
-
--- a line that a user types
-abbrev pub LineSupplied : UserDirectory → List ℕ → Borrowed GuestChannels Dat
-    → Borrowed GuestChannels Dat → Result LineOutcome LineError → Type 0
-LineSupplied w typed old new r =
-    LineSuppliedAs w typed (machine_lent old) (machine_lent new) old new r

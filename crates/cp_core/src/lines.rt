@@ -1,8 +1,7 @@
 //! Lines of users, and decks of the operator: what comes of them for the files of all, and for
 //! others.
 ghost use Rattle.std.specs.Prelude.{◌≡◌, ◌<◌, ◌≤◌, ◌++◌, [], ◌∷◌, None, Some, IfOk, IsSome, OnErr};
-ghost use Rattle.std.specs.Prelude.{OnOk, length, map, nat_lt, if◌then◌else◌, slice_get, slice_set};
-ghost use Rattle.cp_dat.specs.Supplied.{IsBetweenUnits};
+ghost use Rattle.std.specs.Prelude.{OnOk, length, map, nat_lt, if◌then◌else◌, slice_get};
 ghost use Rattle.machine_devices.specs.UserDirectory.{is_logged_on};
 ghost use Rattle.machine_devices.specs.declared.event.Event.TheVariants as happening;
 ghost use Rattle.machine_devices.specs.Comes.{HasClosed, NeedsMemory};
@@ -10,15 +9,14 @@ ghost use Rattle.cp_core.specs.Come.{HasReceived};
 ghost use Rattle.machine_devices.specs.Coming.{comes_by_line, comes_from_operator};
 ghost use Rattle.machine_devices.specs.Lines.{files_closed};
 ghost use Rattle.machine_devices.specs.Notes.{next_file, noted, stands_in};
-ghost use Rattle.cp_core.specs.Keeps.{EventKeeps, HasKept, KeepsCutShort, LineKeeps};
+ghost use Rattle.cp_core.specs.Keeps.{EventKeeps, KeepsCutShort};
 ghost use Rattle.cp_core.specs.Histories.{IsReplied};
 ghost use Rattle.cp_core.specs.Memory.{IsCutShort};
 ghost use Rattle.cp_core.specs.Parcels.{IsThere, contents, note_of};
 ghost use Rattle.cp_volumes.specs.Shared.{IsConfined};
-ghost use Rattle.cp_core.specs.System.{SystemView, logged_on_of, placements_at, user_at, world_of};
+ghost use Rattle.cp_core.specs.System.{SystemView, logged_on_of, placements_at, user_at};
 ghost use Rattle.machine_devices.specs.Replies.{receiver_of, delivered_by, delivery_to, punched};
 ghost use Rattle.machine_devices.specs.Replies.{said_to_line};
-ghost use Rattle.cp_core.specs.UserOp.{HasTyped};
 
 use crate::delivery::Parcel;
 use crate::system::System;
@@ -49,6 +47,7 @@ fn logged_on_among(users: &[UserMachine]) -> ArrayVec<bool, 64>
 impl System {
     /// Does what a line asks that a user typed, numbers the files that it closed, delivers what it
     /// sends to another user, and returns the reply.
+    #[inline(never)]
     pub(crate) fn line(&mut self, user: usize, typed: &[u8]) -> Result<Reply, AllocError>
         requires { user < length self.old.users }
         ensures step { IfOk result
@@ -68,7 +67,13 @@ impl System {
     {
         let printed = self.printed_by(user);
         let number = self.next_file();
-        match self.type_line(user, typed) {
+        let line = Line {
+            alloc: self.alloc,
+            user: self.number_of(user),
+            on: self.logged_on(),
+            typed,
+        };
+        match self.with_user(user, &line) {
             Ok(reported) => {
                 let delivered = self.follow(user, &reported)?;
                 Ok(Reply {
@@ -88,35 +93,6 @@ impl System {
         ensures { result.items ≡ logged_on_of self.now.users }
     {
         logged_on_among(&self.users)
-    }
-
-    /// Does what a line asks that a user typed, and returns its outcome; files are not numbered and
-    /// nothing is delivered yet.
-    fn type_line(&mut self, user: usize, typed: &[u8]) -> Result<LineOutcome, LineError>
-        requires { user < length self.old.users }
-        ensures typed { HasTyped (world_of self.old user) user typed.now (user_at self.old user)
-            self.old.supply result
-            (user_at self.new user) self.new.supply }
-        ensures rest { self.new ≡ record self.old {
-          users = slice_set self.old.users user (user_at self.new user);
-          supply = self.new.supply;
-          volumes = self.new.volumes;
-          kept = self.new.kept;
-        } }
-        ensures keeps { HasKept user self.old self.new
-            (LineKeeps typed.now (user_at self.old user) result) }
-        ensures confined { IsConfined (placements_at self.old user) self.old.volumes
-            self.new.volumes }
-        ensures between_before { IsBetweenUnits self.old.supply }
-        ensures between { IsBetweenUnits self.new.supply }
-    {
-        let line = Line {
-            alloc: self.alloc,
-            user: self.number_of(user),
-            on: self.logged_on(),
-            typed,
-        };
-        self.with_user(user, &line)
     }
 
     /// Numbers each file that a line closed, delivers the deck or the message that it sends to a
@@ -248,6 +224,7 @@ impl System {
 
     /// Numbers a deck of these cards of the operator, delivers it to a user's reader, and returns
     /// the reply; without cards it does nothing.
+    #[inline(never)]
     pub(crate) fn deck(&mut self, user: usize, cards: &[Card]) -> Result<Reply, AllocError>
         requires { user < length self.old.users }
         ensures step { IfOk result

@@ -7,7 +7,6 @@ ghost use Rattle.cp_dat.specs.Supplied.{IsBetweenUnits};
 ghost use Rattle.machine_devices.specs.Events.{user_of};
 ghost use Rattle.machine_devices.specs.Life.{Leaves};
 ghost use Rattle.machine_devices.specs.declared.reply.Ended.TheVariants.{Done};
-ghost use Rattle.cp_core.specs.Events.{IsNoRun};
 ghost use Rattle.machine_devices.specs.Notes.{next_file};
 ghost use Rattle.cp_core.specs.Histories.{EachIsBare, IsReplied};
 ghost use Rattle.cp_core.specs.Applied.{IsOutOfMemory, IsRefused};
@@ -25,7 +24,7 @@ ghost use Rattle.cp_core.specs.LineOutcome.{IsReply};
 use crate::delivery::Parcel;
 use crate::events::CpError;
 use crate::user_machine::UserMachine;
-use crate::work::{Service, Tick, Units, UserOp, with_user};
+use crate::work::{Service, Shared, Tick, Units, UserOp, with_storage};
 use ckd_volume::Volume;
 use cp_directory::Directory;
 use cp_frames::Frames;
@@ -251,6 +250,13 @@ impl System {
         ensures between { IsBetweenUnits self.new.supply }
     {
         let number = self.number_of(user);
+        let mut shared = Shared {
+            user: number,
+            directory: &self.directory,
+            queues: &mut self.queues,
+            volumes: &mut self.volumes,
+            frames: &mut self.frames,
+        };
         let seat = &mut self.users[user];
         // Exhaustive: a new field fails to compile here.
         let UserMachine {
@@ -260,19 +266,7 @@ impl System {
             keys,
             reuse,
         } = seat;
-        with_user(
-            machine,
-            devices,
-            &mut self.queues,
-            &mut self.volumes,
-            minidisks,
-            reuse,
-            &mut self.frames,
-            keys,
-            number,
-            &self.directory,
-            work,
-        )
+        with_storage(machine, devices, minidisks, keys, reuse, &mut shared, work)
     }
 
     /// Delivers a deck to the reader's queue of a user, or a message to the lines that his console
@@ -355,40 +349,12 @@ impl System {
         ensures refused { IsRefused self.old event.now self.new result }
         ensures out_of_memory { IsOutOfMemory self.old event.now self.new result }
     {
+        // All events but a run are out of line, so that a run need not make room for them.
         match *event {
             Event::Run(user, units) => {
                 let place = self.place_of(user)?;
                 Ok(self.run(place, units))
             }
-            Event::Line(_, _) | Event::Tick(_) | Event::Deck(_, _) | Event::Serve(_, _) => {
-                self.apply_apart(event)
-            }
-        }
-    }
-
-    /// Applies an event that is no run, and returns the reply; if memory is refused, it marks the
-    /// system as spent.
-    ///
-    /// It is out of line, so that a run need not make room for what the others say.
-    #[inline(never)]
-    fn apply_apart(&mut self, event: &Event<'_>) -> Result<Reply, CpError>
-        requires { IsNoRun event.now }
-        ensures step { IfOk result
-            (λ reply. IsReplied self.old
-            (record { event = event.now; reply = reply; seen = self.new })) }
-        ensures user { IsOk result → user_of event.now < length self.old.users }
-        ensures directory { self.new.directory ≡ self.old.directory }
-        ensures confined { IsConfined (placements_at self.old (user_of event.now))
-            self.old.volumes
-            self.new.volumes }
-        ensures placements { self.new.placements ≡ self.old.placements }
-        ensures kept { IfOk result (λ reply. EventKeeps self.old event.now reply.ended self.new) }
-        ensures alive { IsOk result → self.new.is_spent ≡ false }
-        ensures refused { IsRefused self.old event.now self.new result }
-        ensures out_of_memory { IsOutOfMemory self.old event.now self.new result }
-    {
-        match *event {
-            Event::Run(_, _) => unreachable!(),
             Event::Line(user, typed) => {
                 let place = self.place_of(user)?;
                 match self.line(place, typed) {
@@ -446,6 +412,7 @@ impl System {
 
     /// Steps the interval timer of a user's machine, if it runs, and returns the reply. This takes
     /// no memory.
+    #[inline(never)]
     fn tick(&mut self, user: usize) -> Reply
         requires { user < length self.old.users }
         ensures step { IsReplied self.old
@@ -465,6 +432,7 @@ impl System {
 
     /// Runs the channel program that was started on a device of a user, if there is one, and
     /// returns the reply.
+    #[inline(never)]
     fn serve(&mut self, user: usize, device: DevAddr) -> Result<Reply, AllocError>
         requires { user < length self.old.users }
         ensures step { IfOk result

@@ -1,18 +1,16 @@
 //! What is done with the machine of one user while its storage is borrowed from frames: a run, a
 //! tick, a line, a serve.
-ghost use Rattle.s370_store.specs.Memory.{memory_of};
-ghost use Rattle.std.specs.Prelude.{◌≡◌, ◌*◌, ℕ, ◌<◌, ◌≤◌, List, length, slice_set};
+ghost use Rattle.std.specs.Prelude.{◌≡◌, ℕ, List};
 ghost use Rattle.cp_directory.specs.Users.{DirectoryUser};
-ghost use Rattle.cp_frames.specs.Layout.{FrameSupply, bytes_of};
+ghost use Rattle.cp_frames.specs.Layout.{FrameSupply};
 ghost use Rattle.cp_dat.specs.Lent.{KeepsFrames, lent_bytes, lent_memory, lent_pool, user_of};
 ghost use Rattle.cp_dat.specs.Supplied.{IsBetweenUnits};
-ghost use Rattle.machine_devices.specs.Equipped.{Equipped, equipped};
-ghost use Rattle.machine_devices.specs.Lent.{KeepsOtherUsers, devices_on};
-ghost use Rattle.cp_core.specs.Lending.{KeepsLent, MayBeLent, kept_in, machine_of};
+ghost use Rattle.machine_devices.specs.Equipped.{Equipped};
+ghost use Rattle.cp_core.specs.Lending.{KeepsLent, MayBeLent, MayLend, SharedLeft, kept_in};
+ghost use Rattle.cp_core.specs.Lending.{machine_of, machine_on, seat_of};
 ghost use Rattle.cp_resident.specs.Reuse.{ReuseValue};
-ghost use Rattle.cp_volumes.specs.Shared.{IsUsers, KeepsOtherDisks, disks_on, placements_of};
 
-use crate::serving::{serve_supplied, type_supplied};
+use crate::serving::serve_supplied;
 use crate::world::UserList;
 use arrayvec::ArrayVec;
 use cp_dat::Dat;
@@ -22,11 +20,11 @@ use cp_resident::{GuestChannels, Reuse};
 use cp_spool::Queues;
 use cp_trap::VirtualCpu;
 use cp_volumes::{SharedDisk, Volumes};
-use machine_devices::{Devices, LineOutcome};
+use machine_devices::{Devices, LineOutcome, TypedLine};
 use machine_panel::{LineError, Machine};
 use s370_intr::Ran;
 use s370_num::{DevAddr, StorageKey};
-use s370_store::FramesOut;
+use s370_store::{FramesOut, UnitSupply};
 use std::alloc::Global;
 use user_names::UserNo;
 
@@ -81,57 +79,58 @@ pub(crate) trait UserOp {
         ensures between { IsBetweenUnits (lent_pool storage.new).supply };
 }
 
+/// What users share, as it is borrowed for an operation with the machine of one of them.
+#[derive(Drop)]
+pub(crate) struct Shared<'a> {
+    /// The user whose machine it is.
+    pub(crate) user: UserNo,
+    pub(crate) directory: &'a Directory,
+    pub(crate) queues: &'a mut Queues,
+    pub(crate) volumes: &'a mut Volumes,
+    pub(crate) frames: &'a mut Frames,
+}
+
 /// Does an operation with a user's machine, whose storage is borrowed from the frames, with these
 /// keys, and returns its answer.
 #[inline(always)]
-pub(crate) fn with_user<W: UserOp>(
+pub(crate) fn with_storage<W: UserOp>(
     machine: &mut Machine,
     devices: &mut Devices,
-    queues: &mut Queues,
-    volumes: &mut Volumes,
     minidisks: &mut Vec<SharedDisk>,
-    reuse: &mut Reuse,
-    frames: &mut Frames,
     keys: &mut [StorageKey],
-    user: UserNo,
-    directory: &Directory,
+    reuse: &mut Reuse,
+    shared: &mut Shared<'_>,
     work: &W,
 ) -> W::Answer
-    requires large { 8192 ≤ length (bytes_of frames.old user) }
-    requires keyed { length (bytes_of frames.old user) ≤ 2048 * length keys.old }
-    requires between { IsBetweenUnits frames.old.supply }
-    requires users { IsUsers volumes.old (placements_of minidisks.old.items) }
-    requires owner { devices.old.user < length queues.old.users }
-    ensures does { let before = equipped machine.old (devices_on devices.old queues.old)
-        (disks_on volumes.old minidisks.old.items)
-        (memory_of (bytes_of frames.old user) keys.old) in
-        let after = equipped machine.new (devices_on devices.new queues.new)
-        (disks_on volumes.new minidisks.new.items)
-        (memory_of (bytes_of frames.new user) keys.new) in
-        W.Does work.now directory.now user before frames.old.supply result after frames.new.supply }
-    ensures keeps { let before = equipped machine.old (devices_on devices.old queues.old)
-        (disks_on volumes.old minidisks.old.items)
-        (memory_of (bytes_of frames.old user) keys.old) in
-        W.Keeps work.now user before frames.old.supply result reuse.old reuse.new }
-    ensures others { frames.new.storages
-        ≡ slice_set frames.old.storages user (bytes_of frames.new user) }
-    ensures size { length (bytes_of frames.new user) ≡ length (bytes_of frames.old user) }
-    ensures between { IsBetweenUnits frames.new.supply }
-    ensures other_users { KeepsOtherUsers devices.old queues.old devices.new queues.new }
-    ensures other_disks { KeepsOtherDisks
-        (record { volumes = volumes.old; minidisks = minidisks.old.items })
-        (record { volumes = volumes.new; minidisks = minidisks.new.items }) }
+    requires { let seat = seat_of machine.old devices.old minidisks.old.items keys.old reuse.old in
+        MayLend shared.old seat }
+    ensures does { let old = seat_of machine.old devices.old minidisks.old.items keys.old
+        reuse.old in
+        let new = seat_of machine.new devices.new minidisks.new.items keys.new reuse.new in
+        let user = shared.old.user in
+        W.Does work.now shared.old.directory.now user (machine_on shared.old user old)
+        shared.old.frames.now.supply result (machine_on shared.new user new)
+        shared.new.frames.now.supply }
+    ensures keeps { let old = seat_of machine.old devices.old minidisks.old.items keys.old
+        reuse.old in
+        let user = shared.old.user in
+        W.Keeps work.now user (machine_on shared.old user old) shared.old.frames.now.supply result
+        reuse.old reuse.new }
+    ensures left { let old = seat_of machine.old devices.old minidisks.old.items keys.old
+        reuse.old in
+        let new = seat_of machine.new devices.new minidisks.new.items keys.new reuse.new in
+        SharedLeft shared.old shared.new old new }
 {
     let mut lent = Lent {
         machine,
         devices,
-        queues,
-        volumes,
+        queues: shared.queues,
+        volumes: shared.volumes,
         minidisks,
         reuse,
     };
-    let mut storage = Dat::new(frames, keys, user);
-    work.work(directory, &mut lent, &mut storage)
+    let mut storage = Dat::new(shared.frames, keys, shared.user);
+    work.work(shared.directory, &mut lent, &mut storage)
 }
 
 /// The machine is let run for at most so many units. This takes no memory.
@@ -203,7 +202,8 @@ impl<'a> UserOp for Line<'a> {
     ghost Keeps = { λ line user e supply reported old new.
         LineKeeps line.typed.now e reported old new };
 
-    /// Does what the line asks that the user typed, and returns its outcome.
+    /// Does what the line asks that the user typed, with the pages that this needs paged in, unpins
+    /// all frames, and returns its outcome.
     fn work(
         &self,
         directory: &Directory,
@@ -221,16 +221,19 @@ impl<'a> UserOp for Line<'a> {
             lent.minidisks,
             lent.reuse,
         );
-        let reported = type_supplied(
+        let line = TypedLine {
+            typed: self.typed,
+            users: &world,
+        };
+        let reported = lent.devices.line(
             self.alloc,
-            lent.devices,
             lent.queues,
             lent.machine,
             storage,
             &mut channels,
-            &world,
-            self.typed,
+            &line,
         );
+        storage.let_go();
         channels.return_to(lent.volumes, lent.minidisks, lent.reuse);
         reported
     }

@@ -151,16 +151,13 @@ pub fn analyze<S: Storage>(alloc: Global, storage: &S, start: u32) -> Result<Ana
         (λ found. IfText found (λ text. IsFixed (S.memory storage.now) start)) }
     ensures held { IfOk result (λ found. IfText found
         (λ text. IsHeld (S.memory storage.now) start (S.present storage.now))) }
-    ensures text { IfOk result
-        (λ found. IfText found (λ text. IsText (S.memory storage.now) start text)) }
-    ensures only { IfOk result
-        (λ found. IfText found (λ text. IsTextOnly (S.memory storage.now) start text)) }
+    ensures text { IfOk result (λ found. IfText found (IsText (S.memory storage.now) start)) }
+    ensures only { IfOk result (λ found. IfText found (IsTextOnly (S.memory storage.now) start)) }
     ensures stands { IfOk result (λ found. IfText found
-        (λ text. All (IsAsItStood (S.memory storage.now).bytes (S.present storage.now)) text)) }
-    ensures pages { IfOk result
-        (λ found. IfPages found (λ pages. IsPaged (S.memory storage.now) start pages)) }
+        (All (IsAsItStood (S.memory storage.now).bytes (S.present storage.now)))) }
+    ensures pages { IfOk result (λ found. IfPages found (IsPaged (S.memory storage.now) start)) }
     ensures pages_only { IfOk result
-        (λ found. IfPages found (λ pages. IsPagedOnly (S.memory storage.now) start pages)) }
+        (λ found. IfPages found (IsPagedOnly (S.memory storage.now) start)) }
     ensures open { IfOk result (λ found. IfOpen found (IsClash (S.memory storage.now) start)) }
 {
     let notes = match judge(alloc, storage, start)? {

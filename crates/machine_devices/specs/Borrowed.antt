@@ -29,7 +29,7 @@ use Rattle.machine_devices.specs.Comes.{LineHadRoom, LineMay, LoadWants, is_ipl}
 use Rattle.machine_devices.specs.Equipped.{Equipped, equipped}
 use Rattle.machine_devices.specs.Lent.{DevicesParts, KeepsOtherUsers, devices_on}
 use Rattle.machine_devices.specs.Lines.{IsLine, KindLoads, LoadHadRoom, LoadsKind, can_load}
-use Rattle.machine_devices.specs.Lines.{requested}
+use Rattle.machine_devices.specs.Lines.{logged_off, outcome, requested}
 use Rattle.machine_devices.specs.Requests.{needs_of, switches}
 use Rattle.machine_devices.specs.declared.request.Request.{Request}
 use Rattle.machine_devices.specs.Reuses.{LineForgets, LoadForgets, StartReuses}
@@ -182,6 +182,11 @@ module _ {C S : Type 0} (channels : Channels C S) (disks : Disks C) (storage : S
   ServeEnds kind start old new r =
       ServeEndsAs kind start (machine_in disks storage old) (machine_in disks storage new) old
       new r
+
+-- how a LOGOFF ends
+pub record LogoffEnds (old new : Equipped) (r : Result LineOutcome LineError) : Type 0 where
+  pub ok : IfOk r (λ reported. outcome new reported ≡ logged_off old)
+  pub err : OnErr r (new ≡ old)
 
 -- how a line ends, before and after which the machine is so
 pub record LineEnds (is_whole : Bool) (w : UserDirectory) (typed : List ℕ) (old new : Equipped)

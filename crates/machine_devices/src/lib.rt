@@ -46,7 +46,7 @@ pub use devices::Devices;
 pub use event::Event;
 pub use files::{ClosedFiles, FileKind, FileNote, deck_line};
 pub use laws::{attention_agrees, printed_lines_do_not_matter};
-pub use line::LineOutcome;
+pub use line::{LineOutcome, TypedLine};
 pub use places::{AttachedDevice, Places};
 pub use reply::{Delivered, Delivery, Ended, Reply, UserResponse, said_to_line};
 pub use seen::SeenDevices;

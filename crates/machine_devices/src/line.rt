@@ -8,10 +8,10 @@ ghost use Rattle.machine_devices.specs.Equipped.{equipped};
 ghost use Rattle.machine_devices.specs.Lent.{KeepsOtherUsers, devices_on, devices_with};
 ghost use Rattle.machine_devices.specs.Comes.{HasClosed};
 ghost use Rattle.machine_devices.specs.Spooling.{open_files};
-ghost use Rattle.machine_devices.specs.Lines.{files_closed, logged_off, outcome, said};
+ghost use Rattle.machine_devices.specs.Lines.{files_closed, outcome, said};
 ghost use Rattle.machine_devices.specs.Lines.{requested, typed_at, was_reset};
-ghost use Rattle.machine_devices.specs.Borrowed.{LinePagesIn, LineDrops, LineEnds, borrowed};
-ghost use Rattle.machine_devices.specs.Borrowed.{machine_in};
+ghost use Rattle.machine_devices.specs.Borrowed.{LinePagesIn, LineDrops, LineEnds, LogoffEnds};
+ghost use Rattle.machine_devices.specs.Borrowed.{borrowed, machine_in};
 
 use crate::devices::Devices;
 use crate::files::ClosedFiles;
@@ -26,6 +26,15 @@ use machine_panel::{LineError, Machine};
 use s370_store::Supply;
 use std::alloc::Global;
 use unit_record::Arrival;
+
+/// A line that a user typed, and the users whom he may name in it.
+#[derive(Drop)]
+pub struct TypedLine<'a, W> {
+    /// What he typed.
+    pub typed: &'a [u8],
+    /// The users of his installation.
+    pub users: &'a W,
+}
 
 /// What a line is answered.
 #[derive(Clone, Copy, Debug, PartialEq, Eq)]
@@ -88,8 +97,7 @@ impl Devices {
         machine: &mut Machine,
         storage: &mut S,
         channels: &mut C,
-        world: &W,
-        typed: &[u8],
+        line: &TypedLine<'_, W>,
     ) -> Result<LineOutcome, LineError>
         requires size { 8192 ≤ length (S.Storage.memory storage.old).bytes }
         requires user { self.old.user < length queues.old.users }
@@ -98,18 +106,19 @@ impl Devices {
             (borrowed self.old queues.old machine.old storage.old channels.old) in
             let after = machine_in C.Disks S.Storage
             (borrowed self.new queues.new machine.new storage.new channels.new) in
-            LineEnds C.is_whole (W.known world.now) typed.now before after result }
+            LineEnds C.is_whole (W.known line.now.users.now) line.now.typed.now before after
+            result }
         ensures drops { let before = machine_in C.Disks S.Storage
             (borrowed self.old queues.old machine.old storage.old channels.old) in
-            LineDrops C.is_whole C.Disks (requested typed.now before) before channels.old
+            LineDrops C.is_whole C.Disks (requested line.now.typed.now before) before channels.old
             channels.new result }
         ensures brings { let before = machine_in C.Disks S.Storage
             (borrowed self.old queues.old machine.old storage.old channels.old) in
-            LinePagesIn C.Channels.own S.Storage S.Supply.own (requested typed.now before) before
-            storage.old storage.new result }
+            LinePagesIn C.Channels.own S.Storage S.Supply.own
+            (requested line.now.typed.now before) before storage.old storage.new result }
         ensures other_users { KeepsOtherUsers self.old queues.old self.new queues.new }
     {
-        let text = ConsoleText::new(typed);
+        let text = ConsoleText::new(line.typed);
         let has_console = self.places().console.is_some();
         match request_of(machine.mode(), has_console, text.as_slice()) {
             Request::LogsOn => {
@@ -122,7 +131,7 @@ impl Devices {
             Request::Resets => self.reset_machine(machine, channels),
             Request::Types => self.type_line(machine, text.as_slice()),
             Request::Loads(device) => self.ipl(queues, machine, storage, channels, device),
-            Request::Asks(command) => self.obey(alloc, queues, world, &command),
+            Request::Asks(command) => self.obey(alloc, queues, line.users, &command),
             Request::Alone(asked) => match machine.answer(storage, asked) {
                 Ok(response) => Ok(LineOutcome::of(response)),
                 Err(error) => Err(error),
@@ -142,16 +151,11 @@ impl Devices {
         disks: &mut D,
     ) -> Result<LineOutcome, LineError>
         requires { self.old.user < length queues.old.users }
-        ensures ok { let before = machine_in D.Disks S.Storage
+        ensures ends { let before = machine_in D.Disks S.Storage
             (borrowed self.old queues.old machine.old storage.old disks.old) in
             let after = machine_in D.Disks S.Storage
             (borrowed self.new queues.new machine.new storage.new disks.new) in
-            IfOk result (λ reported. outcome after reported ≡ logged_off before) }
-        ensures err { let before = machine_in D.Disks S.Storage
-            (borrowed self.old queues.old machine.old storage.old disks.old) in
-            let after = machine_in D.Disks S.Storage
-            (borrowed self.new queues.new machine.new storage.new disks.new) in
-            OnErr result (after ≡ before) }
+            LogoffEnds before after result }
         ensures asked { OnErr result (HasClosed (open_files (devices_on self.old queues.old))) }
         ensures memory { result ≡ Err LineError.FramesOut → ⊥ }
         ensures cleared { OnOk result (S.Cleared storage.old storage.new) }

@@ -19,6 +19,15 @@ use s370_store::Storage;
 use std::alloc::AllocError;
 use unit_record::Console;
 
+/// A channel program that was started on a device.
+#[derive(Clone, Copy)]
+struct StartedProgram {
+    /// The address of the device.
+    device: DevAddr,
+    /// The channel address word.
+    start: Caw,
+}
+
 impl Devices {
     /// Runs the channel program that was started on the device of this address, if there is one,
     /// and makes its status pending; returns whether there was one.
@@ -56,14 +65,14 @@ impl Devices {
         let Some(start) = machine.program(device) else {
             return Ok(false);
         };
-        match self.run_kind(queues, machine, storage, channels, kind, device, start) {
+        let program = StartedProgram { device, start };
+        match self.run_kind(queues, machine, storage, channels, kind, program) {
             Ok(()) => Ok(true),
             Err(error) => Err(error),
         }
     }
 
-    /// Runs the program with this start on the device of this kind at this address, and makes its
-    /// status pending.
+    /// Runs a program on its device, which is of this kind, and makes its status pending.
     fn run_kind<S: Storage, C: Channels<S>>(
         &mut self,
         queues: &mut Queues,
@@ -71,27 +80,28 @@ impl Devices {
         storage: &mut S,
         channels: &mut C,
         kind: AttachedDevice,
-        device: DevAddr,
-        start: Caw,
+        program: StartedProgram,
     ) -> Result<(), ChannelError>
         requires attached { IsAttached (C.disks channels.old) kind }
         requires user { self.old.user < length queues.old.users }
         requires ready { C.IsReady storage.old }
-        ensures runs { OnOk result (Runs C.Channels.own C.Disks S.Storage kind device start
+        ensures runs { OnOk result (Runs C.Channels.own C.Disks S.Storage kind program.device
+            program.start
             (borrowed self.old queues.old machine.old storage.old channels.old)
             (borrowed self.new queues.new machine.new storage.new channels.new)) }
-        ensures ends { ServeEnds C.Channels.own C.Disks S.Storage (Some kind) (Some start)
+        ensures ends { ServeEnds C.Channels.own C.Disks S.Storage (Some kind) (Some program.start)
             (borrowed self.old queues.old machine.old storage.old channels.old)
             (borrowed self.new queues.new machine.new storage.new channels.new) result }
     {
+        let StartedProgram { device, start } = program;
         let key = start.key;
         let ending = match kind {
-            AttachedDevice::Console => return self.run_console(
-                queues, machine, storage, channels, device, start,
-            ),
-            AttachedDevice::Reader => return self.run_reader(
-                queues, machine, storage, channels, device, start,
-            ),
+            AttachedDevice::Console => {
+                return self.run_console(queues, machine, storage, channels, program);
+            }
+            AttachedDevice::Reader => {
+                return self.run_reader(queues, machine, storage, channels, program);
+            }
             AttachedDevice::Punch => match channels.run(
                 storage,
                 start,
@@ -119,26 +129,28 @@ impl Devices {
         Ok(())
     }
 
-    /// Runs the program with this start on the reader, removes from the queue what it has read, and
-    /// makes its status pending.
+    /// Runs a program on the reader, removes from the queue what it has read, and makes its status
+    /// pending.
     fn run_reader<S: Storage, C: Channels<S>>(
         &mut self,
         queues: &mut Queues,
         machine: &mut Machine,
         storage: &mut S,
         channels: &mut C,
-        device: DevAddr,
-        start: Caw,
+        program: StartedProgram,
     ) -> Result<(), ChannelError>
         requires user { self.old.user < length queues.old.users }
         requires ready { C.IsReady storage.old }
-        ensures runs { OnOk result (Runs C.Channels.own C.Disks S.Storage kinds.Reader device start
+        ensures runs { let kind = kinds.Reader in
+            OnOk result (Runs C.Channels.own C.Disks S.Storage kind program.device program.start
             (borrowed self.old queues.old machine.old storage.old channels.old)
             (borrowed self.new queues.new machine.new storage.new channels.new)) }
-        ensures ends { ServeEnds C.Channels.own C.Disks S.Storage (Some kinds.Reader) (Some start)
+        ensures ends { let kind = Some kinds.Reader in
+            ServeEnds C.Channels.own C.Disks S.Storage kind (Some program.start)
             (borrowed self.old queues.old machine.old storage.old channels.old)
             (borrowed self.new queues.new machine.new storage.new channels.new) result }
     {
+        let StartedProgram { device, start } = program;
         let key = start.key;
         let ending = match run_fed(
             &mut self.reader,
@@ -155,27 +167,27 @@ impl Devices {
         Ok(())
     }
 
-    /// Runs the program with this start on the console, sets its mark of attention, makes its
-    /// status pending, and moves the lines that the console has finished to those that the machine
-    /// has printed.
+    /// Runs a program on the console, sets its mark of attention, makes its status pending, and
+    /// moves the lines that the console has finished to those that the machine has printed.
     fn run_console<S: Storage, C: Channels<S>>(
         &mut self,
         queues: &Queues,
         machine: &mut Machine,
         storage: &mut S,
         channels: &mut C,
-        device: DevAddr,
-        start: Caw,
+        program: StartedProgram,
     ) -> Result<(), ChannelError>
         requires { C.IsReady storage.old }
-        ensures runs { OnOk result (Runs C.Channels.own C.Disks S.Storage kinds.Console device start
+        ensures runs { let kind = kinds.Console in
+            OnOk result (Runs C.Channels.own C.Disks S.Storage kind program.device program.start
             (borrowed self.old queues.now machine.old storage.old channels.old)
             (borrowed self.new queues.now machine.new storage.new channels.new)) }
         ensures ends { let kind = Some kinds.Console in
-            ServeEnds C.Channels.own C.Disks S.Storage kind (Some start)
+            ServeEnds C.Channels.own C.Disks S.Storage kind (Some program.start)
             (borrowed self.old queues.now machine.old storage.old channels.old)
             (borrowed self.new queues.now machine.new storage.new channels.new) result }
     {
+        let StartedProgram { device, start } = program;
         let key = start.key;
         let ending = match channels.run(storage, start, UnitRecord::Console, &mut self.console) {
             Ok(ending) => ending,

@@ -27,17 +27,17 @@ returns-in-Resets-clause-ends g c =
     let after : DevicesValue
     → Equipped = λ d. equipped c.reset_machine.new.machine d (g.C.Disks.disks c.reset_machine.new.disks) memory in
     let has = c.is_some-has_console.ensures ∙ ap (λ (p : Places). is_some p.console) c.places.ensures in
-    let judged : requested c.args.typed.now before ≡ Resets =
-    requested_is Resets before c.args.typed.now c.as_slice.result.now c.mode.result c.is_some-has_console.result
+    let judged : requested c.args.line.now.typed.now before ≡ Resets =
+    requested_is Resets before c.args.line.now.typed.now c.as_slice.result.now c.mode.result c.is_some-has_console.result
     c.in-Resets.ensures c.mode.ensures has (c.as_slice.ensures.value ∙ c.new-text.ensures) in
     record {
       ok = subst (λ (d : DevicesValue).
           IfOk c.reset_machine.result
-          (λ reported. IsAnswered (requested c.args.typed.now before) (g.W.UserDirectory.known c.args.world.now)
-          c.args.typed.now before reported (after d))) are
+          (λ reported. IsAnswered (requested c.args.line.now.typed.now before) (g.W.UserDirectory.known c.args.line.now.users.now)
+          c.args.line.now.typed.now before reported (after d))) are
           (subst (λ (q : Request).
           IfOk c.reset_machine.result
-          (λ reported. IsAnswered q (g.W.UserDirectory.known c.args.world.now) c.args.typed.now before reported
+          (λ reported. IsAnswered q (g.W.UserDirectory.known c.args.line.now.users.now) c.args.line.now.typed.now before reported
           (after (devices_with c.reset_machine.new.self files)))) (sym judged)
           (c.reset_machine.ensures.ok files memory));
       err = λ other. subst (λ (d : DevicesValue). OnErr c.reset_machine.result (after d ≡ before)) are
@@ -57,20 +57,20 @@ returns-in-Types-clause-ends g c =
     → Equipped = λ d. equipped c.type_line.new.machine d (g.C.Disks.disks c.args.channels.now) memory in
     let left = devices_with c.type_line.new.self files in
     let has = c.is_some-has_console.ensures ∙ ap (λ (p : Places). is_some p.console) c.places.ensures in
-    let judged : requested c.args.typed.now before ≡ Types =
-    requested_is Types before c.args.typed.now c.as_slice.result.now c.mode.result c.is_some-has_console.result
+    let judged : requested c.args.line.now.typed.now before ≡ Types =
+    requested_is Types before c.args.line.now.typed.now c.as_slice.result.now c.mode.result c.is_some-has_console.result
     c.in-Types.ensures c.mode.ensures has (c.as_slice.ensures.value ∙ c.new-text.ensures) in
-    let typed = typed_is c.type_line.result c.as_slice-in-Types.result.now c.args.typed.now before (after left)
+    let typed = typed_is c.type_line.result c.as_slice-in-Types.result.now c.args.line.now.typed.now before (after left)
     (c.as_slice-in-Types.ensures.value ∙ c.new-text.ensures)
     (c.type_line.ensures.ok files (g.C.Disks.disks c.args.channels.now) memory) in
     record {
       ok = subst (λ (d : DevicesValue).
           IfOk c.type_line.result (λ reported.
-          IsAnswered (requested c.args.typed.now before) (g.W.UserDirectory.known c.args.world.now) c.args.typed.now
+          IsAnswered (requested c.args.line.now.typed.now before) (g.W.UserDirectory.known c.args.line.now.users.now) c.args.line.now.typed.now
           before reported (after d))) are
           (subst (λ (q : Request).
           IfOk c.type_line.result (λ reported.
-          IsAnswered q (g.W.UserDirectory.known c.args.world.now) c.args.typed.now before reported (after left)))
+          IsAnswered q (g.W.UserDirectory.known c.args.line.now.users.now) c.args.line.now.typed.now before reported (after left)))
           (sym judged) typed);
       err = λ other. subst (λ (d : DevicesValue). OnErr c.type_line.result (after d ≡ before)) are
           (c.type_line.ensures.err files (g.C.Disks.disks c.args.channels.now) memory);
@@ -85,13 +85,13 @@ returns-in-Asks-clause-ends g c =
     let before : Equipped = equipped c.args.machine.now (devices_on c.args.self.now c.args.queues.now) disks memory in
     let after : Equipped = equipped c.args.machine.now (devices_on c.obey.new.self c.obey.new.queues) disks memory in
     let has = c.is_some-has_console.ensures ∙ ap (λ (p : Places). is_some p.console) c.places.ensures in
-    let judged : requested c.args.typed.now before ≡ Asks c.in-Asks.command =
-    requested_is (Asks c.in-Asks.command) before c.args.typed.now c.as_slice.result.now c.mode.result
+    let judged : requested c.args.line.now.typed.now before ≡ Asks c.in-Asks.command =
+    requested_is (Asks c.in-Asks.command) before c.args.line.now.typed.now c.as_slice.result.now c.mode.result
     c.is_some-has_console.result c.in-Asks.ensures c.mode.ensures has
     (c.as_slice.ensures.value ∙ c.new-text.ensures) in
     record {
       ok = subst (λ (q : Request). IfOk c.obey.result
-          (λ reported. IsAnswered q (g.W.UserDirectory.known c.args.world.now) c.args.typed.now before reported after))
+          (λ reported. IsAnswered q (g.W.UserDirectory.known c.args.line.now.users.now) c.args.line.now.typed.now before reported after))
           (sym judged) (c.obey.ensures.ok (machine_of c.args.machine.now memory) disks);
       err = search rules;
       unchanged_without_frames = search rules;
@@ -103,20 +103,20 @@ returns-in-Loads-clause-ends g c =
     let before : Equipped = equipped c.args.machine.now (devices_on c.args.self.now c.args.queues.now)
     (g.C.Disks.disks c.args.channels.now) (g.S.Storage.memory c.args.storage.now) in
     let has = c.is_some-has_console.ensures ∙ ap (λ (p : Places). is_some p.console) c.places.ensures in
-    let judged : requested c.args.typed.now before ≡ Loads c.in-Loads.device =
-    requested_is (Loads c.in-Loads.device) before c.args.typed.now c.as_slice.result.now c.mode.result
+    let judged : requested c.args.line.now.typed.now before ≡ Loads c.in-Loads.device =
+    requested_is (Loads c.in-Loads.device) before c.args.line.now.typed.now c.as_slice.result.now c.mode.result
     c.is_some-has_console.result c.in-Loads.ensures c.mode.ensures has
     (c.as_slice.ensures.value ∙ c.new-text.ensures) in
     let after : Equipped = equipped c.ipl.new.machine (devices_on c.ipl.new.self c.ipl.new.queues)
     (g.C.Disks.disks c.ipl.new.channels) (g.S.Storage.memory c.ipl.new.storage) in
     record {
       ok = subst (λ (q : Request). IfOk c.ipl.result
-          (λ reported. IsAnswered q (g.W.UserDirectory.known c.args.world.now) c.args.typed.now before reported after))
+          (λ reported. IsAnswered q (g.W.UserDirectory.known c.args.line.now.users.now) c.args.line.now.typed.now before reported after))
           (sym judged) c.ipl.ensures.ok;
       err = search rules;
       unchanged_without_frames = search rules;
       memory = subst (λ (q : Request). c.ipl.result ≡ Err errors.Memory
-          → MayTakeMemory (g.W.UserDirectory.known c.args.world.now) q before) (sym judged) c.ipl.ensures.takes;
+          → MayTakeMemory (g.W.UserDirectory.known c.args.line.now.users.now) q before) (sym judged) c.ipl.ensures.takes;
     }
 
 pub returns-in-Loads-clause-brings : goal.returns-in-Loads-clause-brings
@@ -124,8 +124,8 @@ returns-in-Loads-clause-brings g c =
     let before : Equipped = equipped c.args.machine.now (devices_on c.args.self.now c.args.queues.now)
     (g.C.Disks.disks c.args.channels.now) (g.S.Storage.memory c.args.storage.now) in
     let has = c.is_some-has_console.ensures ∙ ap (λ (p : Places). is_some p.console) c.places.ensures in
-    let judged : requested c.args.typed.now before ≡ Loads c.in-Loads.device =
-    requested_is (Loads c.in-Loads.device) before c.args.typed.now c.as_slice.result.now c.mode.result
+    let judged : requested c.args.line.now.typed.now before ≡ Loads c.in-Loads.device =
+    requested_is (Loads c.in-Loads.device) before c.args.line.now.typed.now c.as_slice.result.now c.mode.result
     c.is_some-has_console.result c.in-Loads.ensures c.mode.ensures has
     (c.as_slice.ensures.value ∙ c.new-text.ensures) in
     let size = length (g.S.Storage.memory c.args.storage.now).bytes in

@@ -39,7 +39,7 @@ returns-clause-runs g c =
     let old : DevicesValue = devices_with parts files in
     let new : DevicesValue = with_console old c.forget_lines.new.self in
     subst (λ (d : DevicesParts).
-    RunsConsole g.C.Channels.reads c.args.device c.args.start
+    RunsConsole g.C.Channels.reads c.args.program.device c.args.program.start
     (equipped c.args.machine.now (devices_on d c.args.queues.now) disks memory)
     (equipped c.print_written.new.machine new disks_left left)) c.self.view_is
     (record {
@@ -47,7 +47,7 @@ returns-clause-runs g c =
       console = c.run.new.device;
       walk = c.in-Ok.ensures.walk;
       left = console_on c.args.machine.now c.set_attention.new.self c.end_program.new.self c.print_written.new.machine
-          c.args.device _ c.in-Ok.ending c.attention.result c.run.new.device _ memory left c.attention.ensures
+          c.args.program.device _ c.in-Ok.ending c.attention.result c.run.new.device _ memory left c.attention.ensures
           c.set_attention.ensures c.end_program.ensures c.in-Ok-print_written.ensures.printed
           (g.met.C.Channels.came_keys _ _ _ _ c.run.ensures.paged_in.1);
       devices = ap (λ (console : ConsoleState). with_console old console) c.forget_lines.ensures;
@@ -71,7 +71,7 @@ returns-in-Err-clause-ends g c =
     λ d. equipped c.args.machine.now (devices_on d c.args.queues.now) (g.C.Disks.disks c.args.channels.now) old in
     let after = equipped c.args.machine.now (devices_on (record parts { console = c.run.new.device }) c.args.queues.now)
     (g.C.Disks.disks c.run.new.self) (g.S.Storage.memory c.run.new.storage) in
-    let Needs : DevicesParts → ℕ → Type 0 = λ d. KindNeeds g.C.Channels.holds kinds.Console c.args.start (from d) in
+    let Needs : DevicesParts → ℕ → Type 0 = λ d. KindNeeds g.C.Channels.holds kinds.Console c.args.program.start (from d) in
     let Out : DevicesParts → Type 0
     → Type 0 = λ d A. WhereOut (length old.bytes) (Needs d)
     (NoRoom g.C.Channels.IsOut g.C.Channels.IsFilled g.S.Storage.present c.run.new.storage (Needs d)) A
@@ -85,9 +85,9 @@ returns-in-Err-clause-ends g c =
       roomy = λ whole refused. (let refusal : c.in-Err.error ≡ errors.Memory = (let r = refused in cc) in
           subst (λ (d : DevicesParts).
           KindHadRoom g.C.Channels.reads g.C.Channels.HadRoom c.args.storage.now c.run.new.storage kinds.Console
-          c.args.start (from d)) c.self.view_is (inl (c.in-Err.ensures.roomy whole (ap Err refusal))));
+          c.args.program.start (from d)) c.self.view_is (inl (c.in-Err.ensures.roomy whole (ap Err refusal))));
       stopped = λ partly. subst (λ (d : DevicesParts).
-          StopsConsole g.C.Channels.reads (g.S.Storage.present c.args.storage.now) c.args.start (from d)
+          StopsConsole g.C.Channels.reads (g.S.Storage.present c.args.storage.now) c.args.program.start (from d)
           c.in-Err.error) c.self.view_is (inl (c.in-Err.ensures.stopped partly));
       paged_in = subst (λ (d : DevicesParts).
           Brings (g.C.Channels.Came serve_times) c.args.storage.now (Needs d) c.run.new.storage) c.self.view_is

@@ -23,7 +23,7 @@ returns-in-Err-clause-ends g c =
     λ d. equipped c.args.machine.now (devices_on d c.args.queues.now) (g.C.Disks.disks c.args.channels.now)
     (g.S.Storage.memory c.args.storage.now) in
     let Stops : AttachedDevice → DevicesParts
-    → Type 0 = λ kind d. StopsKind g.C.Channels.reads (g.S.Storage.present c.args.storage.now) kind c.args.start
+    → Type 0 = λ kind d. StopsKind g.C.Channels.reads (g.S.Storage.present c.args.storage.now) kind c.args.program.start
     (from d) c.in-Err.error in
     record {
       whole = search rules;
@@ -44,10 +44,10 @@ returns-in-Err-run-clause-ends g c =
     λ d. equipped c.args.machine.now (devices_on d c.args.queues.now) (g.C.Disks.disks c.args.channels.now)
     (g.S.Storage.memory c.args.storage.now) in
     let Stops : AttachedDevice → DevicesParts
-    → Type 0 = λ kind d. StopsKind g.C.Channels.reads (g.S.Storage.present c.args.storage.now) kind c.args.start
+    → Type 0 = λ kind d. StopsKind g.C.Channels.reads (g.S.Storage.present c.args.storage.now) kind c.args.program.start
     (from d) c.in-Err-run.error in
     let Needed : AttachedDevice → DevicesParts → Type 0 = λ kind d.
-    Brings (g.C.Channels.Came serve_times) c.args.storage.now (KindNeeds g.C.Channels.holds kind c.args.start (from d))
+    Brings (g.C.Channels.Came serve_times) c.args.storage.now (KindNeeds g.C.Channels.holds kind c.args.program.start (from d))
     c.run-in-Printer.new.storage in
     record {
       whole = search rules;
@@ -72,7 +72,7 @@ returns-clause-runs g c =
     → Equipped = λ d disks left. equipped c.end_program.new.self (devices_on d c.args.queues.now) disks left in
     let over : Ending → Parts =
     λ ending. record c.args.machine.now {
-      subchannels = program_ended c.args.device c.args.start.key ending
+      subchannels = program_ended c.args.program.device c.args.program.start.key ending
           c.args.machine.now.subchannels;
     } in
     elim c.match-kind.branch [
@@ -89,13 +89,13 @@ returns-clause-runs g c =
           } in
           let same = g.met.C.Channels.came_keys _ _ _ _ w.run.ensures.paged_in.1 in
           let ended = c.end_program.ensures ∙ ap over w.ending-is in
-          let ran : RunsKind g.C.Channels.reads kinds.Punch c.args.device c.args.start (from parts)
+          let ran : RunsKind g.C.Channels.reads kinds.Punch c.args.program.device c.args.program.start (from parts)
           (to (record parts { punch = w.run.new.device }) (g.C.Disks.disks w.run.new.self)
           (g.S.Storage.memory w.run.new.storage)) = (
             record {
               ending = w.in-Ok.ending;
               walk = w.in-Ok.ensures.walk;
-              left = program_left c.args.machine.now c.end_program.new.self c.args.device c.args.start.key
+              left = program_left c.args.machine.now c.end_program.new.self c.args.program.device c.args.program.start.key
                   w.in-Ok.ending old (g.S.Storage.memory w.run.new.storage) ended same;
             },
             refl,
@@ -103,7 +103,7 @@ returns-clause-runs g c =
           ) in
           rw (w.in-Punch.is, w.self-is, w.channels-is, w.storage-is)
           (subst (λ (d : DevicesParts).
-          RunsKind g.C.Channels.reads kinds.Punch c.args.device c.args.start (from d)
+          RunsKind g.C.Channels.reads kinds.Punch c.args.program.device c.args.program.start (from d)
           (to (record parts { punch = w.run.new.device }) (g.C.Disks.disks w.run.new.self)
           (g.S.Storage.memory w.run.new.storage))) w.self.view_is ran))
       | in-Printer+in-Ok-run w ↦ (
@@ -119,13 +119,13 @@ returns-clause-runs g c =
           } in
           let same = g.met.C.Channels.came_keys _ _ _ _ w.run-in-Printer.ensures.paged_in.1 in
           let ended = c.end_program.ensures ∙ ap over w.ending-is in
-          let ran : RunsKind g.C.Channels.reads kinds.Printer c.args.device c.args.start (from parts)
+          let ran : RunsKind g.C.Channels.reads kinds.Printer c.args.program.device c.args.program.start (from parts)
           (to (record parts { printer = w.run-in-Printer.new.device }) (g.C.Disks.disks w.run-in-Printer.new.self)
           (g.S.Storage.memory w.run-in-Printer.new.storage)) = (
             record {
               ending = w.in-Ok-run.ending;
               walk = w.in-Ok-run.ensures.walk;
-              left = program_left c.args.machine.now c.end_program.new.self c.args.device c.args.start.key
+              left = program_left c.args.machine.now c.end_program.new.self c.args.program.device c.args.program.start.key
                   w.in-Ok-run.ending old (g.S.Storage.memory w.run-in-Printer.new.storage) ended same;
             },
             refl,
@@ -133,18 +133,18 @@ returns-clause-runs g c =
           ) in
           rw (w.in-Printer.is, w.self-is, w.channels-is, w.storage-is)
           (subst (λ (d : DevicesParts).
-          RunsKind g.C.Channels.reads kinds.Printer c.args.device c.args.start (from d)
+          RunsKind g.C.Channels.reads kinds.Printer c.args.program.device c.args.program.start (from d)
           (to (record parts { printer = w.run-in-Printer.new.device }) (g.C.Disks.disks w.run-in-Printer.new.self)
           (g.S.Storage.memory w.run-in-Printer.new.storage))) w.self-in-Printer.view_is ran))
       | in-Disk+in-Ok-run_disk w ↦ (
           let same = g.met.C.Channels.came_keys _ _ _ _ w.run_disk.ensures.paged_in.1 in
           let ended = c.end_program.ensures ∙ ap over w.ending-is in
-          let ran : RunsKind g.C.Channels.reads (kinds.Disk w.in-Disk.index) c.args.device c.args.start
+          let ran : RunsKind g.C.Channels.reads (kinds.Disk w.in-Disk.index) c.args.program.device c.args.program.start
           (from c.args.self.now) (to c.args.self.now (g.C.Disks.disks w.run_disk.new.self)
           (g.S.Storage.memory w.run_disk.new.storage)) = record {
             ending = w.in-Ok-run_disk.ending;
             walk = w.in-Ok-run_disk.ensures.walk;
-            left = program_left c.args.machine.now c.end_program.new.self c.args.device c.args.start.key
+            left = program_left c.args.machine.now c.end_program.new.self c.args.program.device c.args.program.start.key
                 w.in-Ok-run_disk.ending old (g.S.Storage.memory w.run_disk.new.storage) ended same;
             devices = refl;
           } in
