@@ -1,5 +1,5 @@
 -- The count of a file's failures after an image was read.
-use Rattle.std.specs.Prelude.{◌≡◌, ℕ, Result, Ok, Err}
+use Rattle.std.specs.Prelude.{◌≡◌, ℕ, Result, Err}
 use Rattle.s370_num.specs.Host.{IsCounted}
 use Rattle.ckd_image.specs.declared.faults.ImageError.{ImageError}
 use Rattle.ckd_image.specs.declared.faults.ImageError.TheVariants.{Host}

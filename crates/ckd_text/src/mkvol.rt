@@ -39,7 +39,7 @@ pub(crate) fn run<R: AllocGlobal + Files + Env + Eprint>(rt: &R) -> Result<(), T
     let words = words(rt, PROGRAM)?;
     let paths = match volume_paths(alloc, words.as_slice()) {
         Ok(paths) => paths,
-        Err(ToolUsageError::Memory) => return Err(ToolFailure::Memory),
+        Err(ToolUsageError::Memory) => return Err(ToolFailure::Host(HostFault::Memory)),
         Err(ToolUsageError::Usage(text)) => return Err(wrong_use(rt, &text, USAGE_NOTE)),
     };
     let text = read_all(alloc, &mut open(rt, paths.text)?)?;

@@ -9,7 +9,7 @@ use crate::host::{open, words, wrong_use};
 use crate::map::track_map;
 use ckd_image::read_image;
 use ckd_volume::Volume;
-use s370_num::host::{Counted, HostWriter, write_all};
+use s370_num::host::{Counted, HostFault, HostWriter, write_all};
 use std::alloc::Global;
 use std::io;
 use std::rt::{Env, Files};
@@ -41,12 +41,12 @@ pub(crate) fn run<R: AllocGlobal + Files + Env + Print + Eprint>(
     let words = words(rt, PROGRAM)?;
     let path = match image_path(alloc, words.as_slice()) {
         Ok(path) => path,
-        Err(ToolUsageError::Memory) => return Err(ToolFailure::Memory),
+        Err(ToolUsageError::Memory) => return Err(ToolFailure::Host(HostFault::Memory)),
         Err(ToolUsageError::Usage(text)) => return Err(wrong_use(rt, &text, USAGE_NOTE)),
     };
     let volume = read_image(alloc, &mut open(rt, path)?)?;
     let Ok(output) = io::BufWriter::new(alloc, io::writer(rt)) else {
-        return Err(ToolFailure::Memory);
+        return Err(ToolFailure::Host(HostFault::Memory));
     };
     print_map(alloc, &volume, &mut Counted::new(output))
 }

@@ -113,9 +113,7 @@ fn follow<F: FileStore>(
     let mut file = files.open(script)?;
     let mut text = read_all(alloc, &mut file)?;
     if !text.is_empty() && text.last() != Some(&b'\n') {
-        let Ok(()) = text.push(b'\n') else {
-            return Err(Failure::Memory);
-        };
+        text.push(b'\n')?;
     }
     match follower.part(alloc, &text, &mut Nowhere)? {
         Part::Done(follower) => Ok(follower.close(&mut Nowhere)?),
