@@ -29,6 +29,7 @@ mod programs;
 mod reader;
 mod statement;
 pub mod trackmap;
+pub mod words;
 
 pub use host::ToolEnd;
 pub use map::track_map;
