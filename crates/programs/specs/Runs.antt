@@ -43,7 +43,8 @@ pub record IsUnsavedAt (paths : List (List ℕ)) (volumes : List VolumeFormat)
 abbrev pub IsUnsaved : List (List ℕ) → List VolumeFormat → Option (List Deed) → Option (List Deed)
     → Failure → Type 0
 IsUnsaved paths volumes old new failure =
-    ((failure ≡ failures.Host hosts.Memory) × Adds old new []) ⊎ IsUnsavedAt paths volumes old new failure
+    ((failure ≡ failures.Host hosts.Memory) × Adds old new [])
+    ⊎ IsUnsavedAt paths volumes old new failure
 
 -- ---- a script that is played
 
