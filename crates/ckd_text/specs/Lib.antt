@@ -6,3 +6,4 @@ pub mod Faults
 pub mod Map
 pub mod Grammar
 pub mod Made
+pub mod Words

@@ -1,7 +1,8 @@
 //! Why a session does not reach its end.
 ghost use Rattle.std.specs.Prelude.{◌≡◌};
-ghost use Rattle.sessions.specs.Session.{fault_error, play_error, refusal_error, refused_error};
-ghost use Rattle.sessions.specs.declared.faults.PlayError.TheVariants.{Memory};
+ghost use Rattle.s370_num.specs.declared.host.HostFault.TheVariants.{Memory};
+ghost use Rattle.sessions.specs.Session.{refusal_error, refused_error};
+ghost use Rattle.sessions.specs.declared.faults.PlayError.TheVariants as errors;
 ghost use Rattle.sessions.specs.declared.faults.SessionError.TheVariants as ends;
 
 use crate::installation::Refused;
@@ -13,12 +14,9 @@ use thiserror::Error;
 /// Why something that a script asks for was not done, or its lines were not written.
 #[derive(Clone, Copy, Debug, PartialEq, Eq, Drop, Error)]
 pub enum PlayError {
-    /// A growth was refused.
-    #[error("no memory is left")]
-    Memory,
-    /// A host file failed, and the number says for which time.
-    #[error("failure {0} of a host file")]
-    Device(u64),
+    /// A host file failed, or a growth was refused.
+    #[error(transparent)]
+    Host(HostFault),
     /// The installation is spent.
     #[error("the installation is spent")]
     Spent,
@@ -27,29 +25,20 @@ pub enum PlayError {
 /// Why a session did not go to its end.
 #[derive(Clone, Copy, Debug, PartialEq, Eq, Drop, Error)]
 pub enum SessionError {
-    /// A growth was refused.
-    #[error("no memory is left")]
-    Memory,
     /// The first line of the script, counted from 1, that is no line of a script.
     #[error("line {0} of the script names an unknown user or is misspelled")]
     Line(u64),
-    /// A host file failed, and the number says for which time.
-    #[error("failure {0} of a host file")]
-    Device(u64),
-    /// The system is spent.
-    #[error("the system is spent")]
-    Spent,
+    /// A host file failed, memory was refused, or the installation is spent.
+    #[error(transparent)]
+    Play(PlayError),
 }
 
 impl From<HostFault> for PlayError {
-    ghost from_gives = { λ fault error. error ≡ fault_error fault };
+    ghost from_gives = { λ fault error. error ≡ errors.Host fault };
 
     /// Returns the error of a script's event for a fault of the host.
     fn from(fault: HostFault) -> PlayError {
-        match fault {
-            HostFault::Memory => PlayError::Memory,
-            HostFault::Device(count) => PlayError::Device(count),
-        }
+        PlayError::Host(fault)
     }
 }
 
@@ -59,43 +48,36 @@ impl From<Refused> for PlayError {
     /// Returns the error of a script's event for why an installation refused it.
     fn from(refused: Refused) -> PlayError {
         match refused {
-            Refused::Memory => PlayError::Memory,
+            Refused::Memory => PlayError::Host(HostFault::Memory),
             Refused::Spent => PlayError::Spent,
         }
     }
 }
 
 impl From<AllocError> for PlayError {
-    ghost from_gives = { λ _ error. error ≡ Memory };
+    ghost from_gives = { λ _ error. error ≡ errors.Host Memory };
 
     /// Returns the error that memory was refused.
     fn from(_error: AllocError) -> PlayError {
-        PlayError::Memory
+        PlayError::Host(HostFault::Memory)
     }
 }
 
 impl From<PlayError> for SessionError {
-    ghost from_gives = { λ error end. end ≡ play_error error };
+    ghost from_gives = { λ error end. end ≡ ends.Play error };
 
     /// Returns the error of a session for that of one of its events.
     fn from(error: PlayError) -> SessionError {
-        match error {
-            PlayError::Memory => SessionError::Memory,
-            PlayError::Device(count) => SessionError::Device(count),
-            PlayError::Spent => SessionError::Spent,
-        }
+        SessionError::Play(error)
     }
 }
 
 impl From<HostFault> for SessionError {
-    ghost from_gives = { λ fault end. end ≡ play_error (fault_error fault) };
+    ghost from_gives = { λ fault end. end ≡ ends.Play (errors.Host fault) };
 
     /// Returns the error of a session for a fault of the host.
     fn from(fault: HostFault) -> SessionError {
-        match fault {
-            HostFault::Memory => SessionError::Memory,
-            HostFault::Device(count) => SessionError::Device(count),
-        }
+        SessionError::Play(PlayError::Host(fault))
     }
 }
 
@@ -105,17 +87,17 @@ impl From<ScriptError> for SessionError {
     /// Returns the error of a session for why its script was refused.
     fn from(refusal: ScriptError) -> SessionError {
         match refusal {
-            ScriptError::Memory => SessionError::Memory,
+            ScriptError::Memory => SessionError::Play(PlayError::Host(HostFault::Memory)),
             ScriptError::Line(number) => SessionError::Line(number),
         }
     }
 }
 
 impl From<AllocError> for SessionError {
-    ghost from_gives = { λ _ end. end ≡ ends.Memory };
+    ghost from_gives = { λ _ end. end ≡ ends.Play (errors.Host Memory) };
 
     /// Returns the error that memory was refused.
     fn from(_error: AllocError) -> SessionError {
-        SessionError::Memory
+        SessionError::Play(PlayError::Host(HostFault::Memory))
     }
 }
