@@ -109,10 +109,7 @@ pub fn try_program<S: TrialSupply, T: Device>(
 /// # Errors
 ///
 /// `AllocError` if memory is refused; what was passed may have changed in part.
-pub fn try_loading<S: TrialSupply, T: Device>(
-    copy: &mut S,
-    trial: &mut T,
-) -> Result<(), AllocError>
+pub fn try_loading<S: TrialSupply, T: Device>(copy: &mut S, trial: &mut T) -> Result<(), AllocError>
     requires between { S.IsBetween copy.old }
     requires ample { S.IsAmple copy.old }
     requires untouched { (page : ℕ) → S.present copy.old page ≡ false }

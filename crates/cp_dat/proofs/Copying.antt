@@ -26,7 +26,8 @@ use Rattle.cp_dat.specs.Supplied.{HasNoRoom, IsBetweenUnits, Stands, Supplied, T
 
 -- ---- bytes
 -- A byte among those that were put is that of them.
-pub put_within : (bytes xs : List ℕ) (start a : ℕ) → start + length xs ≤ length bytes → start ≤ a → a < start + length xs
+pub put_within : (bytes xs : List ℕ) (start a : ℕ) → start + length xs ≤ length bytes → start ≤ a
+    → a < start + length xs
     → get_or (put bytes start xs) a 0 ≡ get_or xs (a - start) 0
 unfolding put
 put_within bytes xs start a h low high =
@@ -49,6 +50,7 @@ pub length-chunk : (xs : List ℕ) (start : ℕ) → start + 256 ≤ length xs
     → length (slice_range xs start (start + 256)) ≡ 256
 length-chunk xs start inside = grind (arith, common_steps)
 
+-- A byte of a chunk is that of the whole.
 pub chunk_at : (xs : List ℕ) (start k : ℕ) → start + 256 ≤ length xs → k < 256
     → get_or (slice_range xs start (start + 256)) k 0 ≡ get_or xs (start + k) 0
 chunk_at xs start k inside few = grind (arith, common_steps)

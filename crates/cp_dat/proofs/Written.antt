@@ -1,6 +1,7 @@
 -- Bytes that stand over those of wanted pages.
 use Rattle.std.specs.List.{range_with_len}
-use Rattle.std.proofs.Common.{ℕ, zero, suc, ◌+◌, ◌-◌, ◌*◌, ◌/◌, ◌<◌, ◌≤◌, ◌≡◌, ◌≢◌, List, Bool, true, false, length, get_or, refl}
+use Rattle.std.proofs.Common.{ℕ, zero, suc, ◌+◌, ◌-◌, ◌*◌, ◌/◌, ◌<◌, ◌≤◌, ◌≡◌, ◌≢◌, List, Bool, true, false, length}
+use Rattle.std.proofs.Common.{get_or, refl}
 use Rattle.std.proofs.Common.{replicate, sym, ap, ◌∙◌, inl, inr, arith}
 use Rattle.std.specs.Prelude.{slice_range, slice_index_or, slice_set, if◌then◌else◌}
 use Rattle.std.proofs.lemmas.Bool.{cases_eq, cases_lt}
@@ -99,7 +100,8 @@ put_over wanted old from xs start long inside there =
     over_is wanted old (put from start xs) (put over start xs) (kept ∙ long)
     (length-put over xs start fits ∙ size ∙ sym kept)
     (λ a low it. (elim (cases_lt a start) [
-      | inl before ↦ put_before over xs start a fits before ∙ over_wanted wanted old from a (omega (arith, low, kept)) it ∙
+      | inl before ↦ put_before over xs start a fits before ∙ over_wanted wanted old from a (omega (arith, low, kept))
+          it ∙
           sym (put_before from xs start a fits_from before)
       | inr after ↦ (elim (cases_lt a (start + length xs)) [
         | inl within ↦ put_within over xs start a fits after within ∙
@@ -154,7 +156,8 @@ over_copied wanted old from new page long size inside away copied others =
     (λ a low it. (elim (cases_eq (a / 4096) page) [
       | inl same ↦ over_beside wanted old from long a (ap (λ k. slice_index_or wanted k false) same ∙ away) ∙
           sym (copied a same)
-      | inr other ↦ over_wanted wanted old from a (omega (arith, low, long, size)) (sym (apart (a / 4096) other) ∙ it) ∙ sym (others a other)
+      | inr other ↦ over_wanted wanted old from a (omega (arith, low, long, size)) (sym (apart (a / 4096) other) ∙ it)
+          ∙ sym (others a other)
     ]))
     (λ a gone. (elim (cases_eq (a / 4096) page) [
       | inl same ↦ absurd (differ gone (ap (λ k. slice_index_or more k false) same ∙ here))

@@ -55,11 +55,11 @@ ghost use Rattle.cp_trial.specs.declared.DryRunError.TheVariants as errors;
 use channel_trial::{DryRun, TriedLoading, limits_of};
 use cp_dat::Dat;
 pub use open::{fetch_again, fetch_first, load_open, run_open};
-pub use storage::{TouchedPages, TrialStorage};
 use s370_channel::{Caw, load_supplied, run_supplied};
 use s370_store::FramesOut;
 use s370_walk::{Device, Ending};
 use std::alloc::{AllocError, Global};
+pub use storage::{TouchedPages, TrialStorage};
 
 /// Why a program that was tried does not run.
 #[derive(Clone, Copy, Debug, PartialEq, Eq)]

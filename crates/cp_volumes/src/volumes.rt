@@ -145,8 +145,8 @@ impl Volumes {
     ) -> Result<TouchedPages, AllocError>
         requires { IsSeated self.now (placement_of disk.now) }
         ensures { IfOk result (λ tried. IsProgramTried disk_machine start
-            (lent_memory storage.now) (disk_on self.now disk.now).unit (tried_bytes storage.now tried)
-            (touched_flags tried)) }
+            (lent_memory storage.now) (disk_on self.now disk.now).unit
+            (tried_bytes storage.now tried) (touched_flags tried)) }
     {
         let mut trial = self.trial(alloc, disk)?;
         try_program(alloc, storage, start, &mut trial)
@@ -162,8 +162,8 @@ impl Volumes {
     ) -> Result<TouchedPages, AllocError>
         requires { IsSeated self.now (placement_of disk.now) }
         ensures { IfOk result (λ tried. IsLoadingTried disk_machine
-            (lent_memory storage.now) (disk_on self.now disk.now).unit (tried_bytes storage.now tried)
-            (touched_flags tried)) }
+            (lent_memory storage.now) (disk_on self.now disk.now).unit
+            (tried_bytes storage.now tried) (touched_flags tried)) }
     {
         let mut trial = self.trial(alloc, disk)?;
         try_loading(alloc, storage, &mut trial)

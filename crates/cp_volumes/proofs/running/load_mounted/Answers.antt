@@ -10,7 +10,8 @@ use Rattle.cp_volumes.proofs.running.load_mounted.Goals as goal
 pub load_tried-requires-clause-tried : goal.load_tried-requires-clause-tried
 load_tried-requires-clause-tried c =
     let m = lent_memory c.args.storage.now in
-    loaded_back part_machine disk_machine disk_seen m c.args.mounted.now (tried_bytes c.args.storage.now c.args.tried.now)
+    loaded_back part_machine disk_machine disk_seen m c.args.mounted.now (tried_bytes c.args.storage.now
+    c.args.tried.now)
     (touched_flags c.args.tried.now) part_viewed c.requires.tried
 
 pub returns-clause-walk : goal.returns-clause-walk

@@ -10,7 +10,8 @@ use Rattle.cp_volumes.proofs.running.run_mounted.Goals as goal
 pub run_tried-requires-clause-tried : goal.run_tried-requires-clause-tried
 run_tried-requires-clause-tried c =
     let m = lent_memory c.args.storage.now in
-    tried_back part_machine disk_machine disk_seen c.args.start m c.args.mounted.now (tried_bytes c.args.storage.now c.args.tried.now)
+    tried_back part_machine disk_machine disk_seen c.args.start m c.args.mounted.now (tried_bytes c.args.storage.now
+    c.args.tried.now)
     (touched_flags c.args.tried.now) part_viewed c.requires.tried
 
 pub returns-clause-walk : goal.returns-clause-walk

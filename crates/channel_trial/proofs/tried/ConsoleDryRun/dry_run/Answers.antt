@@ -10,6 +10,7 @@ returns g c =
     let new = c.try_program.new.copy in
     record {
       tried = view_tried console_machine console_trial console_seen c.args.start (g.S.Storage.memory old)
-          c.args.self.now c.trial.result c.try_program.result (g.S.Storage.memory new).bytes (g.S.TrialSupply.flags new) views_console
+          c.args.self.now c.trial.result c.try_program.result (g.S.Storage.memory new).bytes (g.S.TrialSupply.flags
+          new) views_console
           c.trial.ensures c.try_program.ensures.tried;
     }

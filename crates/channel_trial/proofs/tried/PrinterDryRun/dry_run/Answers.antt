@@ -10,6 +10,7 @@ returns g c =
     let new = c.try_program.new.copy in
     record {
       tried = view_tried printer_machine printer_trial printer_seen c.args.start (g.S.Storage.memory old)
-          c.args.self.now c.trial.result c.try_program.result (g.S.Storage.memory new).bytes (g.S.TrialSupply.flags new) views_printer
+          c.args.self.now c.trial.result c.try_program.result (g.S.Storage.memory new).bytes (g.S.TrialSupply.flags
+          new) views_printer
           c.trial.ensures c.try_program.ensures.tried;
     }

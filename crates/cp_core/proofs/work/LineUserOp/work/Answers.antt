@@ -91,7 +91,8 @@ returns c =
         c.return_to.ensures.volumes,
         c.return_to.ensures.minidisks,
       )
-          (typed_work world (user_of storage) typed (from (disks_of lent)) (ended (lent_memory left)) storage left r refl
+          (typed_work world (user_of storage) typed (from (disks_of lent)) (ended (lent_memory left)) storage left r
+          refl
           facts.0 facts.1 facts.2 facts.3 facts.4);
       keeps = subst (λ (k : ReuseValue). LineKeeps typed (from (disks_of lent)) r (kept_in lent) k)
           (sym c.return_to.ensures.kept) keeps;

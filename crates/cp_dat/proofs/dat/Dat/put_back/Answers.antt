@@ -53,11 +53,13 @@ loop-start-preserved c =
     let aligned = before.aligned in
     elim c.if-wanted-start.branch [
       | then-wanted-start w ↦ rw w.self-is
-          (let there : (a : ℕ) → start ≤ a → a < start + 256 → slice_index_or c.args.wanted.now (a / 4096) false ≡ true =
+          (let there : (a : ℕ) → start ≤ a → a < start + 256
+          → slice_index_or c.args.wanted.now (a / 4096) false ≡ true =
           λ a below above. (let page : a / 4096 ≡ start / 4096 = omega (arith, aligned, below, above) in
           ap (λ k. slice_index_or c.args.wanted.now k false) page ∙ w.if-wanted-start.true) in
           let part : slice_range over start (start + 256) ≡ slice_range c.args.from.now start (start + 256) =
-          part_over c.args.wanted.now bytes c.args.from.now start (start + 256) c.requires.long (omega arith) within there in
+          part_over c.args.wanted.now bytes c.args.from.now start (start + 256) c.requires.long (omega arith) within
+          there in
           back_on c.args.self.now over c.args.wanted.now start c.loop-start.self whole low
           long before w.fetch_at.new.self w.store.new.self w.if-wanted-start.true w.fetch_at.ensures.paged_in
           w.fetch_at.ensures.there
@@ -76,7 +78,8 @@ returns-clause-bytes c =
     let all : length bytes ≤ c.loop-start.start =
     search (rules, c.loop-start-test.false, c.loop-start.self.sized, size) in
     put_all c.loop-start.start (written_over c.args.wanted.now bytes c.args.from.now) bytes
-    (lent_bytes c.loop-start.self) (length-over c.args.wanted.now bytes c.args.from.now ∙ c.requires.long) before.put all
+    (lent_bytes c.loop-start.self) (length-over c.args.wanted.now bytes c.args.from.now ∙ c.requires.long) before.put
+    all
 
 pub returns-clause-paged_in : goal.returns-clause-paged_in
 returns-clause-paged_in c =

@@ -28,16 +28,19 @@ returns-in-Resets-clause-ends g c =
     → Equipped = λ d. equipped c.reset_machine.new.machine d (g.C.Disks.disks c.reset_machine.new.disks) memory in
     let has = c.is_some-has_console.ensures ∙ ap (λ (p : Places). is_some p.console) c.places.ensures in
     let judged : requested c.args.line.now.typed.now before ≡ Resets =
-    requested_is Resets before c.args.line.now.typed.now c.as_slice.result.now c.mode.result c.is_some-has_console.result
+    requested_is Resets before c.args.line.now.typed.now c.as_slice.result.now c.mode.result
+    c.is_some-has_console.result
     c.in-Resets.ensures c.mode.ensures has (c.as_slice.ensures.value ∙ c.new-text.ensures) in
     record {
       ok = subst (λ (d : DevicesValue).
           IfOk c.reset_machine.result
-          (λ reported. IsAnswered (requested c.args.line.now.typed.now before) (g.W.UserDirectory.known c.args.line.now.users.now)
+          (λ reported. IsAnswered (requested c.args.line.now.typed.now before) (g.W.UserDirectory.known
+          c.args.line.now.users.now)
           c.args.line.now.typed.now before reported (after d))) are
           (subst (λ (q : Request).
           IfOk c.reset_machine.result
-          (λ reported. IsAnswered q (g.W.UserDirectory.known c.args.line.now.users.now) c.args.line.now.typed.now before reported
+          (λ reported. IsAnswered q (g.W.UserDirectory.known c.args.line.now.users.now) c.args.line.now.typed.now
+          before reported
           (after (devices_with c.reset_machine.new.self files)))) (sym judged)
           (c.reset_machine.ensures.ok files memory));
       err = λ other. subst (λ (d : DevicesValue). OnErr c.reset_machine.result (after d ≡ before)) are
@@ -66,11 +69,13 @@ returns-in-Types-clause-ends g c =
     record {
       ok = subst (λ (d : DevicesValue).
           IfOk c.type_line.result (λ reported.
-          IsAnswered (requested c.args.line.now.typed.now before) (g.W.UserDirectory.known c.args.line.now.users.now) c.args.line.now.typed.now
+          IsAnswered (requested c.args.line.now.typed.now before) (g.W.UserDirectory.known c.args.line.now.users.now)
+          c.args.line.now.typed.now
           before reported (after d))) are
           (subst (λ (q : Request).
           IfOk c.type_line.result (λ reported.
-          IsAnswered q (g.W.UserDirectory.known c.args.line.now.users.now) c.args.line.now.typed.now before reported (after left)))
+          IsAnswered q (g.W.UserDirectory.known c.args.line.now.users.now) c.args.line.now.typed.now before reported
+          (after left)))
           (sym judged) typed);
       err = λ other. subst (λ (d : DevicesValue). OnErr c.type_line.result (after d ≡ before)) are
           (c.type_line.ensures.err files (g.C.Disks.disks c.args.channels.now) memory);
@@ -91,7 +96,8 @@ returns-in-Asks-clause-ends g c =
     (c.as_slice.ensures.value ∙ c.new-text.ensures) in
     record {
       ok = subst (λ (q : Request). IfOk c.obey.result
-          (λ reported. IsAnswered q (g.W.UserDirectory.known c.args.line.now.users.now) c.args.line.now.typed.now before reported after))
+          (λ reported. IsAnswered q (g.W.UserDirectory.known c.args.line.now.users.now) c.args.line.now.typed.now
+          before reported after))
           (sym judged) (c.obey.ensures.ok (machine_of c.args.machine.now memory) disks);
       err = search rules;
       unchanged_without_frames = search rules;
@@ -111,12 +117,14 @@ returns-in-Loads-clause-ends g c =
     (g.C.Disks.disks c.ipl.new.channels) (g.S.Storage.memory c.ipl.new.storage) in
     record {
       ok = subst (λ (q : Request). IfOk c.ipl.result
-          (λ reported. IsAnswered q (g.W.UserDirectory.known c.args.line.now.users.now) c.args.line.now.typed.now before reported after))
+          (λ reported. IsAnswered q (g.W.UserDirectory.known c.args.line.now.users.now) c.args.line.now.typed.now
+          before reported after))
           (sym judged) c.ipl.ensures.ok;
       err = search rules;
       unchanged_without_frames = search rules;
       memory = subst (λ (q : Request). c.ipl.result ≡ Err errors.Memory
-          → MayTakeMemory (g.W.UserDirectory.known c.args.line.now.users.now) q before) (sym judged) c.ipl.ensures.takes;
+          → MayTakeMemory (g.W.UserDirectory.known c.args.line.now.users.now) q before) (sym judged)
+          c.ipl.ensures.takes;
     }
 
 pub returns-in-Loads-clause-brings : goal.returns-in-Loads-clause-brings

@@ -47,7 +47,8 @@ returns-in-Err-run-clause-ends g c =
     → Type 0 = λ kind d. StopsKind g.C.Channels.reads (g.S.Storage.present c.args.storage.now) kind c.args.program.start
     (from d) c.in-Err-run.error in
     let Needed : AttachedDevice → DevicesParts → Type 0 = λ kind d.
-    Brings (g.C.Channels.Came serve_times) c.args.storage.now (KindNeeds g.C.Channels.holds kind c.args.program.start (from d))
+    Brings (g.C.Channels.Came serve_times) c.args.storage.now (KindNeeds g.C.Channels.holds kind c.args.program.start
+    (from d))
     c.run-in-Printer.new.storage in
     record {
       whole = search rules;
@@ -95,7 +96,8 @@ returns-clause-runs g c =
             record {
               ending = w.in-Ok.ending;
               walk = w.in-Ok.ensures.walk;
-              left = program_left c.args.machine.now c.end_program.new.self c.args.program.device c.args.program.start.key
+              left = program_left c.args.machine.now c.end_program.new.self c.args.program.device
+                  c.args.program.start.key
                   w.in-Ok.ending old (g.S.Storage.memory w.run.new.storage) ended same;
             },
             refl,
@@ -125,7 +127,8 @@ returns-clause-runs g c =
             record {
               ending = w.in-Ok-run.ending;
               walk = w.in-Ok-run.ensures.walk;
-              left = program_left c.args.machine.now c.end_program.new.self c.args.program.device c.args.program.start.key
+              left = program_left c.args.machine.now c.end_program.new.self c.args.program.device
+                  c.args.program.start.key
                   w.in-Ok-run.ending old (g.S.Storage.memory w.run-in-Printer.new.storage) ended same;
             },
             refl,
