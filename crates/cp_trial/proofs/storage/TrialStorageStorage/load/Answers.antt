@@ -16,5 +16,8 @@ returns c =
     sym (part_over (trial_flags s) (lent_bytes s.source.now) s.bytes.items c.args.start end long (omega arith)
     (omega (arith, low, size, long))
     (λ a from to. (let place : c.args.start + (a - c.args.start) ≡ a = omega (arith, from) in
-    ap (λ k. is_touched s (k / 4096)) (sym place) ∙ c.requires.granted.here (a - c.args.start) (omega (arith, from,
-    to)))))
+    ap (λ k. is_touched s (k / 4096)) (sym place) ∙ c.requires.granted.here (a - c.args.start) (omega (
+      arith,
+      from,
+      to,
+    )))))

@@ -19,7 +19,7 @@ returns-clause-memory c =
     let keys : c.fill-2.new.self.items ≡ replicate (length (trial_keys s)) 0 = search rules in
     let flags : c.fill-3.new.self.items ≡ replicate n true = search rules in
     let zeros : length c.fill.new.self.items ≡ length old = ap length bytes ∙ length-replicate (length s.bytes.items) 0
-        ∙ long in
+    ∙ long in
     ap₂ memory_of (ap (λ fs. written_over fs old c.fill.new.self.items) flags ∙
     over_all n old c.fill.new.self.items zeros (omega (arith, pages, long)) ∙ bytes ∙
     ap (λ k. replicate k 0) (sym size)) keys

@@ -72,7 +72,7 @@ returns-in-Err-clause-ends g c =
     let after = equipped c.args.machine.now (devices_on (record parts { console = c.run.new.device }) c.args.queues.now)
     (g.C.Disks.disks c.run.new.self) (g.S.Storage.memory c.run.new.storage) in
     let Needs : DevicesParts → ℕ → Type 0 = λ d. KindNeeds g.C.Channels.holds kinds.Console c.args.program.start (from
-        d) in
+    d) in
     let Out : DevicesParts → Type 0
     → Type 0 = λ d A. WhereOut (length old.bytes) (Needs d)
     (NoRoom g.C.Channels.IsOut g.C.Channels.IsFilled g.S.Storage.present c.run.new.storage (Needs d)) A

@@ -29,7 +29,7 @@ returns-in-Err-clause-ends g c =
     (devices_on (record parts { reader = c.run_fed.new.reader }) c.run_fed.new.queues)
     (g.C.Disks.disks c.run_fed.new.channels) (g.S.Storage.memory c.run_fed.new.storage) in
     let Needs : DevicesParts → ℕ → Type 0 = λ d. KindNeeds g.C.Channels.holds kinds.Reader c.args.program.start (from
-        d) in
+    d) in
     let Out : DevicesParts → Type 0 → Type 0 = λ d A. WhereOut (length old.bytes) (Needs d)
     (NoRoom g.C.Channels.IsOut g.C.Channels.IsFilled g.S.Storage.present c.run_fed.new.storage (Needs d)) A
     c.in-Err.error in
