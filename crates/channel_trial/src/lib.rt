@@ -1,13 +1,13 @@
 //! Dry runs of channel programs, which tell the pages that a program touches and the bytes that it
-//! leaves there, before anything happens.
+//! leaves there. A page is absent until the program comes to it, and present from then on. Pages
+//! that were not touched keep their bytes, and a dry run leaves what the program's walk will leave.
 //!
-//! A page of a storage for a dry run is absent until the program comes to it, and is present from
-//! then on: so a run that brings absent pages touches just the pages that it needs, whatever room
-//! there is for them elsewhere. Its one theorem: pages that were not touched have the bytes that
-//! they had; and what a dry run leaves, of a device that stays as it is, is what the walk of the
-//! program will leave.
-//!
-//! `cp_trial` has the storage for it and an example.
+//! ```
+//! use channel_trial::limits_of; // `cp_trial` has the storage, and an example of a dry run
+//! use s370_channel::{Caw, MOST_COMMANDS};
+//! let start = Caw::from_word(0x1000_0800).ok_or("no address")?;
+//! assert_eq!(rt; limits_of(start).commands, MOST_COMMANDS);
+//! ```
 #![tactic(auto)]
 
 mod tried;
