@@ -5,7 +5,8 @@
 ghost use Rattle.cp_dat.specs.Copies.{written_over};
 ghost use Rattle.cp_dat.specs.Lent.{lent_bytes, lent_memory};
 ghost use Rattle.s370_store.specs.Memory.{with_stored};
-ghost use Rattle.std.specs.Prelude.{◌≡◌, ℕ, ◌+◌, ◌*◌, ◌/◌, ◌<◌, ◌≤◌, Bool, true, false, length};
+ghost use Rattle.std.specs.Prelude.{◌≡◌, ℕ, ◌+◌, ◌*◌, ◌/◌, ◌%◌, ◌<◌, ◌≤◌, Bool, true, false};
+ghost use Rattle.std.specs.Prelude.{length};
 ghost use Rattle.std.specs.Prelude.{slice_index_or, slice_range, slice_set, Ok, IfOk};
 
 use channel_trial::TrialSupply;
@@ -74,7 +75,7 @@ impl<'a> TrialStorage<'a> {
         ensures untouched { IfOk result (λ s. (page : ℕ) → is_touched s page ≡ false) }
     {
         let size = source.size();
-        let bytes = vec![in alloc; 0u8; size as usize]?;
+        let bytes = blank_room(alloc, size)?;
         let keys = source.copy_keys(alloc)?;
         let touched = vec![in alloc; false; (size / PAGE_SIZE) as usize]?;
         Ok(TrialStorage {
@@ -329,4 +330,22 @@ fn flag_at(flags: &[bool], place: u32) -> bool
     ensures { result ≡ slice_index_or flags.now place false }
 {
     flags[place as usize]
+}
+
+/// Returns so many bytes, all zero, for pages that are copied later.
+///
+/// # Errors
+///
+/// `AllocError` if memory is refused.
+fn blank_room(alloc: Global, size: u32) -> Result<Vec<u8>, AllocError>
+    requires { size % 4096 ≡ 0 }
+    ensures { IfOk result (λ made. length made.items ≡ size) }
+{
+    let size = size as usize;
+    let mut made = Vec::with_capacity(alloc, size)?;
+    let blank = [0u8; 1024];
+    while made.len() < size {
+        made.extend_from_slice(&blank)?;
+    }
+    Ok(made)
 }
