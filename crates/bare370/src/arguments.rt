@@ -2,8 +2,8 @@
 ghost use Rattle.std.specs.Prelude.{◌≡◌, ◌≤◌, ℕ, IfErr, IfOk, OnOk, Some, codes, false, length};
 ghost use Rattle.std.specs.Prelude.{map, true};
 ghost use Rattle.clap.specs.Words.{all_of, app_of, found_of, rows_of, rule_of};
-ghost use Rattle.ckd_text.specs.Words.{HasNoFault, is_taken, rows_named};
-ghost use Rattle.programs.specs.Arguments.{script_rule, texts_of, volume_rule};
+ghost use Rattle.programs.specs.Arguments.{HasNoFault, is_taken, rows_named, script_rule};
+ghost use Rattle.programs.specs.Arguments.{texts_of, volume_rule};
 ghost use Rattle.bare370.specs.Options.{IsNamed, command_of, gives_script};
 ghost use Rattle.bare370.specs.Options.{storage_named, storage_rule};
 

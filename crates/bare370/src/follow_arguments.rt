@@ -1,8 +1,7 @@
 //! The words of the program where it follows a script that it is given part by part.
 ghost use Rattle.std.specs.Prelude.{◌≡◌, ◌≤◌, ℕ, IfErr, IfOk, OnOk, Some, codes, length, map, true};
 ghost use Rattle.clap.specs.Words.{all_of, app_of, found_of, rows_of};
-ghost use Rattle.ckd_text.specs.Words.{HasNoFault, is_taken, rows_named};
-ghost use Rattle.programs.specs.Arguments.{texts_of};
+ghost use Rattle.programs.specs.Arguments.{HasNoFault, is_taken, rows_named, texts_of};
 ghost use Rattle.bare370.specs.FollowOptions.{IsNamed, command_of};
 ghost use Rattle.bare370.specs.Options.{storage_named};
 

@@ -15,7 +15,7 @@ use machine_devices::AttachError;
 use programs::{
     Failure, FileStore, HasVolumes, follow_files, read_images, run_script, saved_paths,
 };
-use s370_num::host::{HostFault, HostReader, HostWriter};
+use s370_num::host::{HostReader, HostWriter};
 use sessions::Detail;
 use std::alloc::Global;
 
@@ -141,7 +141,7 @@ fn made(alloc: Global, blocks: u32, volumes: Vec<Volume>) -> Result<OneMachine, 
 /// error.
 fn unattached(error: AttachError) -> Failure {
     match error {
-        AttachError::Memory => Failure::Host(HostFault::Memory),
+        AttachError::Memory => Failure::Memory,
         // More volumes than a machine has disks, which are words that are not the program's.
         AttachError::Address => Failure::Usage,
     }

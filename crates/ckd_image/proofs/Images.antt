@@ -9,17 +9,18 @@ use Rattle.ckd_image.specs.Parts.{ReadTracks, IsTracksFault, IsEndFault}
 use Rattle.ckd_image.specs.declared.header.Version.{Version}
 use Rattle.ckd_image.specs.declared.header.Version.TheVariants.{One, Two}
 use Rattle.ckd_image.specs.declared.faults.ImageError.{ImageError}
-use Rattle.ckd_image.specs.declared.faults.ImageError.TheVariants.{Host, BadMagic, Truncated, BadTrack, Trailing}
-use Rattle.ckd_image.specs.declared.faults.ImageError.TheVariants.{BadTotal}
+use Rattle.ckd_image.specs.declared.faults.ImageError.TheVariants.{Memory, BadMagic, Truncated, BadTrack, Trailing}
+use Rattle.ckd_image.specs.declared.faults.ImageError.TheVariants.{Device, BadTotal}
 use Rattle.ckd_image.proofs.Volumes.{all_length, all_total}
 
 -- A fault of an image is what reading it returns.
 pub fault_read : (bytes : List ℕ) (f : ImageError) → IsFault bytes f → IsReadingOrMemory bytes (Err f)
-fault_read bytes (Host fault) h = absurd h
+fault_read bytes Memory h = absurd h
 fault_read bytes BadMagic h = h
 fault_read bytes Truncated h = h
 fault_read bytes (BadTrack c i) h = h
 fault_read bytes Trailing h = h
+fault_read bytes (Device k) h = h
 fault_read bytes BadTotal h = h
 
 -- a header, and good tracks after it
@@ -39,7 +40,7 @@ begun bytes version volser n tracks rest h good e =
 pub tracks_fault : (bytes : List ℕ) (version : Version) (volser : List ℕ) (n : ℕ)
     → IsHeader (take 12 bytes) version volser n
     → (f : ImageError) → IsTracksFault n (drop 12 bytes) f → IsFault bytes f
-tracks_fault bytes version volser n h (Host fault) t = t.fault_is
+tracks_fault bytes version volser n h Memory t = t.fault_is
 tracks_fault bytes version volser n h BadMagic t = absurd t.fault_is
 tracks_fault bytes version volser n h Truncated t =
     inr (inl (record {
@@ -70,6 +71,7 @@ tracks_fault bytes version volser n h (BadTrack c i) t =
       full = full.full;
     }
 tracks_fault bytes version volser n h Trailing t = absurd t.fault_is
+tracks_fault bytes version volser n h (Device k) t = t.fault_is
 tracks_fault bytes version volser n h BadTotal t = absurd t.fault_is
 
 -- all tracks are read
@@ -148,11 +150,13 @@ end_fault bytes Two v rest total r e BadTotal (other, behind, small, differs, wh
       small = small;
       other = λ same. differs (same ∙ sym (e ∙ all_total v.cylinders));
     }
-end_fault bytes Two v rest total r e (Host fault) h = h
+end_fault bytes Two v rest total r e Memory h = h
 end_fault bytes Two v rest total r e BadMagic h = absurd h
 end_fault bytes Two v rest total r e (BadTrack c i) h = absurd h
+end_fault bytes Two v rest total r e (Device k) h = h
 end_fault bytes One v rest total r e Truncated h = absurd h
 end_fault bytes One v rest total r e BadTotal h = absurd h
-end_fault bytes One v rest total r e (Host fault) h = h
+end_fault bytes One v rest total r e Memory h = h
 end_fault bytes One v rest total r e BadMagic h = absurd h
 end_fault bytes One v rest total r e (BadTrack c i) h = absurd h
+end_fault bytes One v rest total r e (Device k) h = h

@@ -14,8 +14,8 @@ use Rattle.ckd_image.specs.Parts.{IsFullTrack}
 use Rattle.ckd_image.specs.declared.header.Version.{Version}
 use Rattle.ckd_image.specs.declared.header.Version.TheVariants.{One, Two}
 use Rattle.ckd_image.specs.declared.faults.ImageError.{ImageError}
-use Rattle.ckd_image.specs.declared.faults.ImageError.TheVariants.{Host, BadMagic, Truncated, BadTrack, Trailing}
-use Rattle.ckd_image.specs.declared.faults.ImageError.TheVariants.{BadTotal}
+use Rattle.ckd_image.specs.declared.faults.ImageError.TheVariants.{Memory, BadMagic, Truncated, BadTrack, Trailing}
+use Rattle.ckd_image.specs.declared.faults.ImageError.TheVariants.{Device, BadTotal}
 use Rattle.ckd_image.proofs.Volumes.{HaveHeads, all_length, all_total}
 use Rattle.ckd_image.proofs.Unique.{one_track}
 use Rattle.ckd_image.proofs.Readings.{Found, Stops, alike, header_long}
@@ -148,7 +148,7 @@ number_of None = 0
 number_of (Some f) = 1
 
 fault_in : Option ImageError → ImageError
-fault_in None = BadTotal
+fault_in None = Memory
 fault_in (Some f) = f
 
 some_once : (f g : ImageError) → Some f ≡ Some g → f ≡ g
@@ -261,7 +261,8 @@ faulty bytes Trailing h =
       all = h.all;
       ended = inl (Trailing, refl, judged_right h.version (tracks_total h.tracks) h.rest ∙ judged_more h.rest h.some);
     }))
-faulty bytes (Host fault) h = absurd h
+faulty bytes Memory h = absurd h
+faulty bytes (Device k) h = absurd h
 
 judged_so : (bytes : List ℕ) (a : Answer) → IsReading bytes a → Judged bytes a
 judged_so bytes (Err f) h = faulty bytes f h

@@ -8,7 +8,6 @@ use Rattle.std.specs.Prelude.{All, Result, Ok, Err, Option}
 use Rattle.std.specs.List.{list_all}
 use Rattle.std.specs.Io.KnownBytes.{Consumes, IsAtEnd}
 use Rattle.s370_num.specs.Host.{ReadsFront}
-use Rattle.s370_num.specs.declared.host.HostFault.TheVariants.{Memory}
 use Rattle.ckd_track.specs.Track.{Record, TrackFormat, cost, capacity}
 use Rattle.ckd_volume.specs.Front.{Cylinder}
 use Rattle.ckd_volume.specs.Volume.{VolumeFormat}
@@ -17,8 +16,8 @@ use Rattle.ckd_image.specs.Image.{two_bytes, four_bytes, image_of}
 use Rattle.ckd_image.specs.declared.header.Version.{Version}
 use Rattle.ckd_image.specs.declared.header.Version.TheVariants.{One, Two}
 use Rattle.ckd_image.specs.declared.faults.ImageError.{ImageError}
-use Rattle.ckd_image.specs.declared.faults.ImageError.TheVariants.{Host, BadMagic, Truncated}
-use Rattle.ckd_image.specs.declared.faults.ImageError.TheVariants.{BadTrack, Trailing}
+use Rattle.ckd_image.specs.declared.faults.ImageError.TheVariants.{Memory, BadMagic, Truncated}
+use Rattle.ckd_image.specs.declared.faults.ImageError.TheVariants.{BadTrack, Trailing, Device}
 use Rattle.ckd_image.specs.declared.faults.ImageError.TheVariants.{BadTotal}
 
 -- What the versions differ in: the first four bytes, how many cylinders there may be, and what is
@@ -179,7 +178,8 @@ IsFault bytes Truncated = (length bytes < 12) ⊎ (EndsInTrack bytes ⊎ EndsInT
 IsFault bytes (BadTrack cylinder head) = HasBadTrack bytes cylinder head
 IsFault bytes BadTotal = HasBadTotal bytes
 IsFault bytes Trailing = HasMore bytes
-IsFault bytes (Host fault) = ⊥
+IsFault bytes Memory = ⊥
+IsFault bytes (Device k) = ⊥
 
 -- the volume, or the fault, that the bytes are read as; there is one (`one_reading`)
 abbrev pub IsReading : List ℕ → Result VolumeFormat ImageError → Type 0
@@ -195,13 +195,14 @@ pub record HasHeader (bytes : List ℕ) : Type 0 where
 
 -- the same, unless memory runs out, which only a volume needs whose header is good
 abbrev pub IsReadingOrMemory : List ℕ → Result VolumeFormat ImageError → Type 0
-IsReadingOrMemory bytes (Err (Host Memory)) = HasHeader bytes
+IsReadingOrMemory bytes (Err Memory) = HasHeader bytes
 IsReadingOrMemory bytes answer = IsReading bytes answer
 
 -- What is answered of a file that is read to its end: the reading of its bytes, unless memory runs
 -- out or the file fails.
 abbrev pub ReadsImage : Option (List ℕ) → Option (List ℕ) → Result VolumeFormat ImageError → Type 0
-ReadsImage old new (Err (Host fault)) = ReadsFront old new
+ReadsImage old new (Err Memory) = ReadsFront old new
+ReadsImage old new (Err (Device k)) = ReadsFront old new
 ReadsImage old new answer = (bytes : List ℕ) × Consumes old new bytes × IsAtEnd new
     × IsReading bytes answer
 

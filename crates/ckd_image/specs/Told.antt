@@ -1,24 +1,13 @@
 -- What a program says of an image that is not read or written, and its exit status.
 use Rattle.std.specs.Prelude.{◌≡◌, ◌⊎◌, ℕ, List, ◌++◌, codes, Result, Ok, Err}
 use Rattle.std.specs.Fmt.{decimal}
-use Rattle.s370_num.specs.declared.host.HostFault.{HostFault}
-use Rattle.s370_num.specs.declared.host.HostFault.TheVariants as hosts
 use Rattle.ckd_image.specs.declared.faults.ImageError.{ImageError}
 use Rattle.ckd_image.specs.declared.faults.ImageError.TheVariants as images
 
--- the line of a fault of the host
-abbrev pub host_text : HostFault → List ℕ
-host_text hosts.Memory = codes "fault: memory Memory"
-host_text (hosts.Device count) = codes "fault: file Device " ++ decimal count
-
--- a file that failed is 3, memory 4
-abbrev pub host_status : HostFault → ℕ
-host_status hosts.Memory = 4
-host_status (hosts.Device count) = 3
-
 -- the line of an image's fault
 abbrev pub image_text : ImageError → List ℕ
-image_text (images.Host fault) = host_text fault
+image_text images.Memory = codes "fault: memory Memory"
+image_text (images.Device count) = codes "fault: file Device " ++ decimal count
 image_text images.BadMagic = codes "fault: image BadMagic"
 image_text images.Truncated = codes "fault: image Truncated"
 image_text (images.BadTrack cylinder head) = codes "fault: image BadTrack " ++ (decimal cylinder ++ (codes " " ++ decimal head))
@@ -27,7 +16,8 @@ image_text images.BadTotal = codes "fault: image BadTotal"
 
 -- an image that is refused is refused input, unless its file or memory failed
 abbrev pub image_status : ImageError → ℕ
-image_status (images.Host fault) = host_status fault
+image_status images.Memory = 4
+image_status (images.Device count) = 3
 image_status _ = 1
 
 -- what is reported of how a program has ended, whose failures have these among them: its failure,

@@ -1,19 +1,16 @@
 //! Why an image is not read or written, and what a program says of it.
 ghost use Rattle.std.specs.Prelude.{◌≡◌, IfOk, string_bytes};
-ghost use Rattle.ckd_image.specs.Told.{host_text, image_status, image_text};
-ghost use Rattle.ckd_image.specs.Told as told;
-ghost use Rattle.ckd_image.specs.declared.faults.ImageError.TheVariants.{Host};
+ghost use Rattle.ckd_image.specs.Told.{image_status, image_text};
 
-use s370_num::host::HostFault;
 use std::alloc::{AllocError, Global};
 use thiserror::Error;
 
 /// Why an image is not read or written.
 #[derive(Clone, Copy, Debug, PartialEq, Eq, Drop, Error)]
 pub enum ImageError {
-    /// The file failed, or the allocator refused a growth.
-    #[error(transparent)]
-    Host(HostFault),
+    /// The allocator refused a growth.
+    #[error("no memory is left for the image")]
+    Memory,
     /// The header is not that of an image.
     #[error("the header is not that of an image")]
     BadMagic,
@@ -26,18 +23,12 @@ pub enum ImageError {
     /// Bytes are after the image.
     #[error("bytes stand behind the image")]
     Trailing,
+    /// The file failed, and the number says for which time.
+    #[error("failure {0} of the file")]
+    Device(u64),
     /// The number of all records is wrong.
     #[error("the number of all records is wrong")]
     BadTotal,
-}
-
-impl From<HostFault> for ImageError {
-    ghost from_gives = { λ fault error. error ≡ Host fault };
-
-    /// Returns the error of an image for a failure of its file.
-    fn from(fault: HostFault) -> ImageError {
-        ImageError::Host(fault)
-    }
 }
 
 /// Returns, in a new string without a line end, the line that a program prints for this error.
@@ -51,13 +42,14 @@ pub fn fault_line(alloc: Global, error: ImageError) -> Result<String, AllocError
     ensures { IfOk result (λ line. string_bytes line ≡ image_text error) }
 {
     match error {
-        ImageError::Host(fault) => host_line(alloc, fault),
+        ImageError::Memory => String::from_str(alloc, "fault: memory Memory"),
         ImageError::BadMagic => String::from_str(alloc, "fault: image BadMagic"),
         ImageError::Truncated => String::from_str(alloc, "fault: image Truncated"),
         ImageError::BadTrack(cylinder, head) => {
             format!(in alloc; "fault: image BadTrack {cylinder} {head}")
         }
         ImageError::Trailing => String::from_str(alloc, "fault: image Trailing"),
+        ImageError::Device(count) => format!(in alloc; "fault: file Device {count}"),
         ImageError::BadTotal => String::from_str(alloc, "fault: image BadTotal"),
     }
 }
@@ -68,33 +60,8 @@ pub fn status(error: ImageError) -> u8
     ensures { result ≡ image_status error }
 {
     match error {
-        ImageError::Host(fault) => host_status(fault),
+        ImageError::Memory => 4,
+        ImageError::Device(_) => 3,
         _ => 1,
-    }
-}
-
-/// Returns, in a new string without a line end, the line that a program prints for a fault of the
-/// host.
-///
-/// # Errors
-///
-/// `AllocError` if memory is refused.
-pub fn host_line(alloc: Global, fault: HostFault) -> Result<String, AllocError>
-    ensures { IfOk result (λ line. string_bytes line ≡ host_text fault) }
-{
-    match fault {
-        HostFault::Memory => String::from_str(alloc, "fault: memory Memory"),
-        HostFault::Device(count) => format!(in alloc; "fault: file Device {count}"),
-    }
-}
-
-/// Returns the exit status of a program for a fault of the host: 3 for a failure of a file, 4 for
-/// memory.
-pub fn host_status(fault: HostFault) -> u8
-    ensures { result ≡ told.host_status fault }
-{
-    match fault {
-        HostFault::Memory => 4,
-        HostFault::Device(_) => 3,
     }
 }

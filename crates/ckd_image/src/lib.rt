@@ -28,7 +28,7 @@ mod laws;
 mod reader;
 mod writer;
 
-pub use faults::{ImageError, fault_line, host_line, host_status, status};
+pub use faults::{ImageError, fault_line, status};
 pub use laws::{one_reading, reads_back};
 pub use reader::{read_image, volume_of};
 pub use writer::{image, write_image};

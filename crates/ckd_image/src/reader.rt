@@ -182,7 +182,7 @@ pub fn volume_of(alloc: Global, bytes: &[u8]) -> Result<Volume, ImageError>
     let header = read_header(bytes)?;
     let mut volume = match Volume::blank(alloc, header.volser, header.cylinders) {
         Ok(volume) => volume,
-        Err(_) => return Err(ImageError::Host(HostFault::Memory)),
+        Err(_) => return Err(ImageError::Memory),
     };
     let rest = read_tracks(&mut volume, &bytes[HEADER_LENGTH..])?;
     check_end(header.version, total_of(&volume), rest)?;
@@ -194,7 +194,7 @@ pub fn volume_of(alloc: Global, bytes: &[u8]) -> Result<Volume, ImageError>
 ///
 /// # Errors
 ///
-/// `Host` if the file fails or a growth is refused, else what is wrong with the bytes.
+/// `Device` if the file fails, `Memory` if a growth is refused, else what is wrong with the bytes.
 ///
 /// # Examples
 ///
@@ -213,6 +213,9 @@ pub fn read_image<R: HostReader>(alloc: Global, reader: &mut R) -> Result<Volume
     ensures counts { CountsImage (R.HostFile.failures reader.old) (R.HostFile.failures reader.new)
         result }
 {
-    let bytes = read_all(alloc, reader)?;
-    volume_of(alloc, &bytes)
+    match read_all(alloc, reader) {
+        Ok(bytes) => volume_of(alloc, &bytes),
+        Err(HostFault::Memory) => Err(ImageError::Memory),
+        Err(HostFault::Device(number)) => Err(ImageError::Device(number)),
+    }
 }

@@ -3,10 +3,12 @@ ghost use Rattle.std.specs.Prelude.{◌≡◌, ◌<◌, ◌≤◌, ◌+◌, ◌*
 ghost use Rattle.std.specs.Prelude.{IfOk};
 ghost use Rattle.std.specs.Io.KnownBytes.{Appends};
 ghost use Rattle.s370_num.specs.Host.{AppendsFront, Counts};
+ghost use Rattle.ckd_image.specs.Faults.{CountsWriting};
 ghost use Rattle.ckd_track.specs.Track.{record_in};
 ghost use Rattle.ckd_image.specs.Image.{record_bytes, track_bytes, tracks_bytes, tracks_total};
 ghost use Rattle.ckd_image.specs.Image.{cylinders_bytes, cylinders_total, image_of};
 
+use crate::faults::ImageError;
 use ckd_track::Track;
 use ckd_volume::{Cylinder, Volume};
 use s370_num::host::{HostFault, HostWriter, write_all};
@@ -127,24 +129,44 @@ pub fn image(alloc: Global, volume: &Volume) -> Result<Vec<u8>, AllocError>
 ///
 /// # Errors
 ///
-/// `Device` with the number of the failure, or `Memory`. The file may have a beginning of the
+/// An `ImageError`: a failure of the file, or refused memory. The file may have a beginning of the
 /// image.
-#[tactic(auto, using(crate::proofs::Parts::appended_kept, crate::proofs::Parts::whole_front, crate::proofs::Parts::nothing_appended))]
+#[tactic(auto, using(crate::proofs::Parts::nothing_appended))]
 pub fn write_image<W: HostWriter>(
     alloc: Global,
     volume: &Volume,
     writer: &mut W,
-) -> Result<(), HostFault>
+) -> Result<(), ImageError>
     ensures ok { OnOk result
         (Appends (W.contents writer.old) (W.contents writer.new) (image_of volume.now)) }
     ensures flushed { OnOk result (W.held writer.new ≡ []) }
     ensures err { OnErr result
         (AppendsFront (W.contents writer.old) (W.contents writer.new) (image_of volume.now)) }
+    ensures counts { CountsWriting (W.HostFile.failures writer.old) (W.HostFile.failures writer.new)
+        result }
+{
+    let Ok(bytes) = image(alloc, volume) else {
+        return Err(ImageError::Memory);
+    };
+    match write_and_flush(writer, &bytes) {
+        Ok(()) => Ok(()),
+        Err(HostFault::Memory) => Err(ImageError::Memory),
+        Err(HostFault::Device(number)) => Err(ImageError::Device(number)),
+    }
+}
+
+/// Appends all the bytes to a file and flushes it; if that fails, the file may have a front part of
+/// them.
+#[tactic(auto, using(crate::proofs::Parts::appended_kept, crate::proofs::Parts::whole_front))]
+fn write_and_flush<W: HostWriter>(writer: &mut W, bytes: &[u8]) -> Result<(), HostFault>
+    ensures ok { OnOk result (Appends (W.contents writer.old) (W.contents writer.new) bytes.now) }
+    ensures flushed { OnOk result (W.held writer.new ≡ []) }
+    ensures err { OnErr result
+        (AppendsFront (W.contents writer.old) (W.contents writer.new) bytes.now) }
     ensures counts { Counts (W.HostFile.failures writer.old) (W.HostFile.failures writer.new)
         result }
 {
-    let bytes = image(alloc, volume)?;
-    write_all(writer, &bytes)?;
+    write_all(writer, bytes)?;
     writer.flush()?;
     Ok(())
 }

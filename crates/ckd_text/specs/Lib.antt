@@ -6,4 +6,3 @@ pub mod Faults
 pub mod Map
 pub mod Grammar
 pub mod Made
-pub mod Words

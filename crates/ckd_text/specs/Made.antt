@@ -34,9 +34,9 @@ HasFailed {W} Makes failures_of Fails count =
 -- states a volume, a failure of the output
 abbrev pub IsUnmade : {W : Type 0} → (W → Type 0) → (W → ℕ) → (HostFault → Type 0)
     → Result VolumeFormat ℕ → ToolFailure → Type 0
-IsUnmade Makes failures_of Fails stated (failures.Host hosts.Memory) = Unit {0}
+IsUnmade Makes failures_of Fails stated failures.Memory = Unit {0}
 IsUnmade Makes failures_of Fails stated (failures.Text line) = stated ≡ Err line
-IsUnmade Makes failures_of Fails stated (failures.Host (hosts.Device count)) =
+IsUnmade Makes failures_of Fails stated (failures.File count) =
     ((volume : VolumeFormat) × (stated ≡ Ok volume)) × HasFailed Makes failures_of Fails count
 IsUnmade Makes failures_of Fails stated (failures.Image error) = ⊥
 IsUnmade Makes failures_of Fails stated failures.Usage = ⊥

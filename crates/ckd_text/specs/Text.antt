@@ -11,9 +11,8 @@ use Rattle.ckd_volume.specs.Front.{track_at}
 use Rattle.ckd_volume.specs.Volume.{VolumeFormat, blank_cylinders}
 use Rattle.ckd_volume.specs.LendingVolume.{with_track}
 use Rattle.ckd_text.specs.Fields.{bytes_of, five_of, serial_of}
-use Rattle.s370_num.specs.declared.host.HostFault.TheVariants.{Memory}
-use Rattle.ckd_text.specs.declared.faults.ToolFailure.{ToolFailure}
-use Rattle.ckd_text.specs.declared.faults.ToolFailure.TheVariants.{Text, Host}
+use Rattle.ckd_text.specs.declared.reader.TextError.{TextError}
+use Rattle.ckd_text.specs.declared.reader.TextError.TheVariants as errors
 
 -- what a line after the first states
 pub data Stated : Type 0 where
@@ -122,7 +121,6 @@ abbrev pub volume_of : List ℕ → Result VolumeFormat ℕ
 volume_of text = stated_volume (lines_of text)
 
 -- why no volume is made of a text: memory, or its first wrong line
-abbrev pub IsRefusal : Result VolumeFormat ℕ → ToolFailure → Type 0
-IsRefusal volume (Host Memory) = Unit {0}
-IsRefusal volume (Text number) = volume ≡ Err number
-IsRefusal volume _ = ⊥
+abbrev pub IsRefusal : Result VolumeFormat ℕ → TextError → Type 0
+IsRefusal volume errors.Memory = Unit {0}
+IsRefusal volume (errors.Line number) = volume ≡ Err number

@@ -1,55 +1,72 @@
 //! What the programs say of a failure, and their exit status.
 ghost use Rattle.std.specs.Prelude.{◌≡◌, IfOk, string_bytes};
-ghost use Rattle.ckd_text.specs.declared.faults.ToolFailure.TheVariants.{Host, Image};
-ghost use Rattle.ckd_text.specs.Faults.{fault_text, outcome_of, status_of};
-ghost use Rattle.s370_num.specs.declared.host.HostFault.TheVariants.{Memory};
+ghost use Rattle.ckd_text.specs.declared.faults.ToolFailure.TheVariants.{Memory};
+ghost use Rattle.ckd_text.specs.Faults.{fault_text, file_failure, image_failure, outcome_of};
+ghost use Rattle.ckd_text.specs.Faults.{status_of, text_failure};
 
+use crate::reader::TextError;
 use ckd_image::ImageError;
 use s370_num::host::HostFault;
 use std::alloc::{AllocError, Global};
-use thiserror::Error;
 
-/// Why a program ends before its end, or no volume is made of a text.
-#[derive(Debug, Drop, PartialEq, Eq, Error)]
+/// Why a program ends before its end.
+#[derive(Drop, PartialEq, Eq)]
 pub enum ToolFailure {
     /// This line of the text, counted from 1, is the first that is refused.
-    #[error("line {0} of the text is misspelled, or the volume has no place for what it states")]
     Text(u64),
     /// The image is none.
-    #[error(transparent)]
     Image(ImageError),
-    /// A file of the host failed, or a growth was refused.
-    #[error(transparent)]
-    Host(HostFault),
+    /// A file of the host failed, for this time in number.
+    File(u64),
+    /// A growth was refused.
+    Memory,
     /// The words are not those of the program.
-    #[error("the words are not those of the program")]
     Usage,
 }
 
+impl From<TextError> for ToolFailure {
+    ghost from_gives = { λ error failure. failure ≡ text_failure error };
+
+    /// Returns the failure of a program for an error of a text.
+    fn from(error: TextError) -> ToolFailure {
+        match error {
+            TextError::Memory => ToolFailure::Memory,
+            TextError::Line(line) => ToolFailure::Text(line),
+        }
+    }
+}
+
 impl From<ImageError> for ToolFailure {
-    ghost from_gives = { λ error failure. failure ≡ Image error };
+    ghost from_gives = { λ error failure. failure ≡ image_failure error };
 
     /// Returns the failure of a program for an error of an image.
     fn from(error: ImageError) -> ToolFailure {
-        ToolFailure::Image(error)
+        match error {
+            ImageError::Memory => ToolFailure::Memory,
+            ImageError::Device(count) => ToolFailure::File(count),
+            refusal => ToolFailure::Image(refusal),
+        }
     }
 }
 
 impl From<HostFault> for ToolFailure {
-    ghost from_gives = { λ fault failure. failure ≡ Host fault };
+    ghost from_gives = { λ fault failure. failure ≡ file_failure fault };
 
-    /// Returns the failure of a program for a fault of the host.
+    /// Returns the failure of a program for a failure of a host file.
     fn from(fault: HostFault) -> ToolFailure {
-        ToolFailure::Host(fault)
+        match fault {
+            HostFault::Memory => ToolFailure::Memory,
+            HostFault::Device(count) => ToolFailure::File(count),
+        }
     }
 }
 
 impl From<AllocError> for ToolFailure {
-    ghost from_gives = { λ _ failure. failure ≡ Host Memory };
+    ghost from_gives = { λ _ failure. failure ≡ Memory };
 
-    /// Returns the failure that memory was refused, whatever the allocation was for.
+    /// Returns `ToolFailure::Memory`, whatever the allocation was for.
     fn from(_error: AllocError) -> ToolFailure {
-        ToolFailure::Host(HostFault::Memory)
+        ToolFailure::Memory
     }
 }
 
@@ -67,7 +84,8 @@ pub fn fault_line(alloc: Global, failure: &ToolFailure) -> Result<String, AllocE
     match failure {
         ToolFailure::Text(line) => format!(in alloc; "fault: text Line {line}"),
         ToolFailure::Image(error) => ckd_image::fault_line(alloc, *error),
-        ToolFailure::Host(fault) => ckd_image::host_line(alloc, *fault),
+        ToolFailure::File(count) => format!(in alloc; "fault: file Device {count}"),
+        ToolFailure::Memory => String::from_str(alloc, "fault: memory Memory"),
         ToolFailure::Usage => String::from_str(alloc, "wrong words"),
     }
 }
@@ -80,7 +98,8 @@ pub fn status(failure: &ToolFailure) -> u8
     match failure {
         ToolFailure::Text(_) => 1,
         ToolFailure::Image(error) => ckd_image::status(*error),
-        ToolFailure::Host(fault) => ckd_image::host_status(*fault),
+        ToolFailure::File(_) => 3,
+        ToolFailure::Memory => 4,
         ToolFailure::Usage => 2,
     }
 }

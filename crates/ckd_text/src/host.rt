@@ -1,18 +1,17 @@
 //! What the programs share: their words, the files that they read, and what they say of a failure.
 ghost use Rattle.std.specs.Prelude.{◌≡◌, ◌⊎◌};
 ghost use Rattle.std.specs.Process.{exit_status};
-ghost use Rattle.s370_num.specs.declared.host.HostFault.TheVariants.{Memory};
 ghost use Rattle.ckd_image.specs.Told.{IsReported};
 ghost use Rattle.ckd_text.specs.Faults.{outcome_of};
 
 use crate::faults::{ToolFailure, fault_line, outcome};
-use s370_num::host::{Counted, HostFault};
+use s370_num::host::Counted;
 use std::process::{ExitCode, Termination};
 use std::rt::{Env, Files};
 use std::{env, fs, io};
 
 /// What is reported where there is no memory for the line of a failure: that of
-/// [`HostFault::Memory`].
+/// [`ToolFailure::Memory`].
 const NO_MEMORY: &str = "fault: memory Memory";
 
 /// How a program ended. Only a program of this crate makes one, so that a `main` which returns it
@@ -34,9 +33,9 @@ impl Termination for ToolEnd {
 /// Returns the end of a program, and prints the line of its failure on standard error, if it has
 /// one other than a usage error.
 ///
-/// If there is no memory for that line, the failure is that.
+/// If there is no memory for that line, the failure is `Memory`.
 pub(crate) fn ended_of<R: AllocGlobal + Eprint>(rt: &R, ended: Result<(), ToolFailure>) -> ToolEnd
-    ensures { IsReported (ToolFailure.Host Memory) ToolFailure.Usage ended result.ended }
+    ensures { IsReported ToolFailure.Memory ToolFailure.Usage ended result.ended }
 {
     match ended {
         Ok(()) => ToolEnd { ended: Ok(()) },
@@ -47,12 +46,12 @@ pub(crate) fn ended_of<R: AllocGlobal + Eprint>(rt: &R, ended: Result<(), ToolFa
 }
 
 /// Prints the line of a failure on standard error, but none for a usage error, and returns the
-/// failure, or that memory was refused if there is none for the line.
+/// failure, or `Memory` if there is no memory for the line.
 ///
 /// A usage error prints nothing here: a longer text has been printed for it.
 fn tell<R: AllocGlobal + Eprint>(rt: &R, failure: ToolFailure) -> ToolFailure
     ensures { (result ≡ failure)
-        ⊎ ((result ≡ ToolFailure.Host Memory) × (failure ≡ ToolFailure.Usage → ⊥)) }
+        ⊎ ((result ≡ ToolFailure.Memory) × (failure ≡ ToolFailure.Usage → ⊥)) }
 {
     if failure == ToolFailure::Usage {
         return failure;
@@ -64,7 +63,7 @@ fn tell<R: AllocGlobal + Eprint>(rt: &R, failure: ToolFailure) -> ToolFailure
         }
         Err(_) => {
             let _ = rt.eprintln(NO_MEMORY);
-            ToolFailure::Host(HostFault::Memory)
+            ToolFailure::Memory
         }
     }
 }
@@ -92,15 +91,15 @@ pub(crate) fn words<R: AllocGlobal + Env + Eprint>(
             program,
             ": a word of the command line is no UTF-8 text, and so names no file here\n",
         )),
-        Err(_) => Err(ToolFailure::Host(HostFault::Memory)),
+        Err(_) => Err(ToolFailure::Memory),
     }
 }
 
 /// Opens the file at a path for reading and returns it with no failure counted, or returns failure
 /// 1 of a file.
-pub(crate) fn open<R: Files>(rt: &R, path: &str) -> Result<Counted<R::File>, HostFault> {
+pub(crate) fn open<R: Files>(rt: &R, path: &str) -> Result<Counted<R::File>, ToolFailure> {
     match fs::open(rt, path) {
         Ok(file) => Ok(Counted::new(file)),
-        Err(_) => Err(HostFault::Device(1)),
+        Err(_) => Err(ToolFailure::File(1)),
     }
 }

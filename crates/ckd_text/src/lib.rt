@@ -7,15 +7,14 @@
 //! [`program`] is started with names one of the two.
 //!
 //! ```
-//! use ckd_text::faults::ToolFailure;
-//! use ckd_text::{make_volume, track_map};
+//! use ckd_text::{TextError, make_volume, track_map};
 //!
 //! let volume = make_volume(alloc, b"VOLUME WORK01 10\nREC 0 0 0000000001 - C1C2\n")?;
 //! assert_eq!(rt; volume.count(), 10);
 //! assert_eq!(rt; volume.cylinder(0).track(0).record(0).content, [0xC1, 0xC2].as_slice());
 //! let map = track_map(alloc, &volume)?;
 //! assert!(rt; map.as_slice().starts_with(b"VOLUME WORK01 CYLINDERS 10\n"));
-//! assert!(rt; make_volume(alloc, b"VOLUME WORK01 10\nREC\n").err() == Some(ToolFailure::Text(2)));
+//! assert!(rt; make_volume(alloc, b"VOLUME WORK01 10\nREC\n").err() == Some(TextError::Line(2)));
 //! ```
 #![tactic(auto)]
 
@@ -29,9 +28,8 @@ mod programs;
 mod reader;
 mod statement;
 pub mod trackmap;
-pub mod words;
 
 pub use host::ToolEnd;
 pub use map::track_map;
 pub use programs::program;
-pub use reader::{make_volume, reads_grammar};
+pub use reader::{TextError, make_volume, reads_grammar};

@@ -5,11 +5,10 @@ ghost use Rattle.s370_num.specs.declared.host.HostFault.{HostFault};
 ghost use Rattle.ckd_text.specs.Made.{IsFirst, IsMade, IsUnmade};
 ghost use Rattle.ckd_text.specs.Text.{volume_of};
 
-use crate::arguments::volume_paths;
+use crate::arguments::{ToolUsageError, volume_paths};
 use crate::faults::ToolFailure;
 use crate::host::{open, words, wrong_use};
 use crate::reader::make_volume;
-use crate::words::UsageError;
 use ckd_image::write_image;
 use s370_num::host::{Counted, HostFault, HostWriter, read_all};
 use std::alloc::Global;
@@ -40,8 +39,8 @@ pub(crate) fn run<R: AllocGlobal + Files + Env + Eprint>(rt: &R) -> Result<(), T
     let words = words(rt, PROGRAM)?;
     let paths = match volume_paths(alloc, words.as_slice()) {
         Ok(paths) => paths,
-        Err(UsageError::Memory) => return Err(ToolFailure::Host(HostFault::Memory)),
-        Err(UsageError::Usage(text)) => return Err(wrong_use(rt, &text, USAGE_NOTE)),
+        Err(ToolUsageError::Memory) => return Err(ToolFailure::Memory),
+        Err(ToolUsageError::Usage(text)) => return Err(wrong_use(rt, &text, USAGE_NOTE)),
     };
     let text = read_all(alloc, &mut open(rt, paths.text)?)?;
     let mut output = OutputFile {

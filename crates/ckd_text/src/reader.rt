@@ -8,12 +8,22 @@ ghost use Rattle.ckd_text.specs.Text as said;
 ghost use Rattle.ckd_text.specs.Text.{first_of, line_step, reported, volume_of, with_stated};
 ghost use Rattle.ckd_text.specs.Text.{IsRefusal};
 
-use crate::faults::ToolFailure;
 use crate::statement::{StatedRecord, VolumeStatement, read_header, read_statement};
 use ckd_volume::Volume;
-use s370_num::host::HostFault;
 use std::alloc::Global;
 use text_words::lines::cut_line;
+use thiserror::Error;
+
+/// Why no volume is made of a text.
+#[derive(Clone, Copy, Debug, PartialEq, Eq, Drop, Error)]
+pub enum TextError {
+    /// A growth was refused.
+    #[error("no memory for the volume")]
+    Memory,
+    /// The first line, counted from 1, that is refused.
+    #[error("line {0} of the text is misspelled, or the volume has no place for what it states")]
+    Line(u64),
+}
 
 /// The volume has no such track, or the track no room for the record.
 #[derive(Clone, Copy, Drop)]
@@ -26,27 +36,29 @@ struct NoPlace;
 ///
 /// # Errors
 ///
-/// `Text` with the number of the first bad line, or `Host` if memory is refused.
+/// A `TextError`: the number of the first bad line, or refused memory.
 ///
 /// # Examples
 ///
 /// ```
-/// use ckd_text::faults::ToolFailure;
-/// use ckd_text::make_volume;
+/// use ckd_text::{TextError, make_volume};
 ///
 /// let volume = make_volume(alloc, b"VOLUME WORK01 10\nREC 0 0 0000000001 - C1C2\n")?;
 /// assert_eq!(rt; volume.count(), 10);
-/// assert!(rt; make_volume(alloc, b"VOLUME WORK01 10\nREC\n").err() == Some(ToolFailure::Text(2)));
+/// assert!(rt; make_volume(alloc, b"VOLUME WORK01 10\nREC\n").err() == Some(TextError::Line(2)));
 /// ```
-pub fn make_volume(alloc: Global, text: &[u8]) -> Result<Volume, ToolFailure>
+pub fn make_volume(alloc: Global, text: &[u8]) -> Result<Volume, TextError>
     ensures ok { IfOk result (λ volume. volume_of text.now ≡ Ok volume) }
     ensures err { IfErr result (IsRefusal (volume_of text.now)) }
 {
     if text.is_empty() {
-        return Err(ToolFailure::Text(1));
+        return Err(TextError::Line(1));
     }
     let (first, lines) = cut_line(text);
-    let volume = blank_volume(alloc, first)?;
+    let volume = match blank_volume(alloc, first) {
+        Ok(volume) => volume,
+        Err(error) => return Err(error),
+    };
     filled(alloc, volume, lines)
 }
 
@@ -58,23 +70,23 @@ pub fn reads_grammar()
 
 /// Returns a new volume without records, as the first line of a text states it, or the error of
 /// line 1.
-fn blank_volume(alloc: Global, line: &[u8]) -> Result<Volume, ToolFailure>
+fn blank_volume(alloc: Global, line: &[u8]) -> Result<Volume, TextError>
     ensures ok { IfOk result (λ volume. first_of line.now ≡ Some volume) }
     ensures err { IfErr result (IsRefusal (reported 1 (first_of line.now))) }
 {
     let Some(header) = read_header(line) else {
-        return Err(ToolFailure::Text(1));
+        return Err(TextError::Line(1));
     };
     // its number of cylinders is one that a volume may have, so that no other error is left
     match Volume::blank(alloc, header.serial, header.cylinders) {
         Ok(volume) => Ok(volume),
-        Err(_) => Err(ToolFailure::Host(HostFault::Memory)),
+        Err(_) => Err(TextError::Memory),
     }
 }
 
 /// Returns the volume with the home addresses and records that the lines from the second on state,
 /// or the error of the first bad line.
-fn filled(alloc: Global, blank: Volume, lines: &[u8]) -> Result<Volume, ToolFailure>
+fn filled(alloc: Global, blank: Volume, lines: &[u8]) -> Result<Volume, TextError>
     ensures ok { IfOk result
         (λ volume. read_lines line_step 2 blank (lines_of lines.now) ≡ Ok volume) }
     ensures err { IfErr result (IsRefusal (read_lines line_step 2 blank (lines_of lines.now))) }
@@ -84,13 +96,14 @@ fn filled(alloc: Global, blank: Volume, lines: &[u8]) -> Result<Volume, ToolFail
     let mut number = 2;
     while !rest.is_empty() {
         let (line, after) = cut_line(rest);
-        match read_statement(alloc, line)? {
-            Some(statement) => {
+        match read_statement(alloc, line) {
+            Ok(Some(statement)) => {
                 if fill(&mut volume, &statement).is_err() {
-                    return Err(ToolFailure::Text(number));
+                    return Err(TextError::Line(number));
                 }
             }
-            None => return Err(ToolFailure::Text(number)),
+            Ok(None) => return Err(TextError::Line(number)),
+            Err(_) => return Err(TextError::Memory),
         }
         rest = after;
         number += 1;

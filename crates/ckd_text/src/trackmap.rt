@@ -3,14 +3,13 @@ ghost use Rattle.std.specs.Prelude.{◌≡◌, [], OnOk};
 ghost use Rattle.std.specs.Io.KnownBytes.{Appends};
 ghost use Rattle.ckd_text.specs.Map.{map_of};
 
-use crate::arguments::image_path;
+use crate::arguments::{ToolUsageError, image_path};
 use crate::faults::ToolFailure;
 use crate::host::{open, words, wrong_use};
 use crate::map::track_map;
-use crate::words::UsageError;
 use ckd_image::read_image;
 use ckd_volume::Volume;
-use s370_num::host::{Counted, HostFault, HostWriter, write_all};
+use s370_num::host::{Counted, HostWriter, write_all};
 use std::alloc::Global;
 use std::io;
 use std::rt::{Env, Files};
@@ -42,12 +41,12 @@ pub(crate) fn run<R: AllocGlobal + Files + Env + Print + Eprint>(
     let words = words(rt, PROGRAM)?;
     let path = match image_path(alloc, words.as_slice()) {
         Ok(path) => path,
-        Err(UsageError::Memory) => return Err(ToolFailure::Host(HostFault::Memory)),
-        Err(UsageError::Usage(text)) => return Err(wrong_use(rt, &text, USAGE_NOTE)),
+        Err(ToolUsageError::Memory) => return Err(ToolFailure::Memory),
+        Err(ToolUsageError::Usage(text)) => return Err(wrong_use(rt, &text, USAGE_NOTE)),
     };
     let volume = read_image(alloc, &mut open(rt, path)?)?;
     let Ok(output) = io::BufWriter::new(alloc, io::writer(rt)) else {
-        return Err(ToolFailure::Host(HostFault::Memory));
+        return Err(ToolFailure::Memory);
     };
     print_map(alloc, &volume, &mut Counted::new(output))
 }

@@ -7,7 +7,7 @@ use Rattle.std.proofs.lemmas.List.{get_or_default}
 use Rattle.std.proofs.lemmas.List.Quantifiers.{all_pairs_push}
 use Rattle.cp_directory.specs.Extents.{conflicts}
 use Rattle.cp_directory.specs.Users.{AreApart, DirectoryUser, first_conflict, last_user, minidisks_of, new_user}
-use Rattle.cp_directory.specs.Users.{with_device, with_minidisk}
+use Rattle.cp_directory.specs.Users.{with_device, with_last, with_minidisk}
 use Rattle.cp_directory.specs.declared.devices.DeviceKind.{DeviceKind}
 use Rattle.cp_directory.specs.declared.minidisk.MinidiskStatement.{MinidiskStatement}
 use Rattle.cp_directory.proofs.Attached.{disk_last, kept_disks}

@@ -9,7 +9,7 @@
 //! are read-only.
 //!
 //! ```
-//! use cp_directory::{DirError, LineFault, read_directory};
+//! use cp_directory::{DirError, read_directory};
 //! use user_names::{UserNo, user_of};
 //! use s370_num::DevAddr;
 //!
@@ -17,7 +17,7 @@
 //! assert_eq!(rt; user_of(directory.users(), b"B2"), Some(UserNo::new(1)));
 //! assert_eq!(rt; directory.users()[1].storage().pages(), 3);
 //! let fault = read_directory(alloc, b"USER ALPHA SECRET 5M\n").err();
-//! assert_eq!(rt; fault, Some(DirError::Line(1, LineFault::BadStorage)));
+//! assert_eq!(rt; fault, Some(DirError::BadStorage(1)));
 //! let directory = read_directory(alloc, b"USER A P 8K\nCONSOLE 009 3215\nMDISK 191 3330 5 10 VOL1 W\n")?;
 //! let user = &directory.users()[0];
 //! assert_eq!(rt; user.devices().console, Some(DevAddr::new(0x009)));
@@ -44,7 +44,7 @@ mod storage;
 pub use devices::{DeviceKind, UserDevices};
 pub use directory::{Directory, MOST_DEVICES, User};
 pub use extent::{DiskExtent, DiskMode, MOST_CYLINDERS, SpelledExtent, Volser};
-pub use faults::{DirError, LineFault};
+pub use faults::DirError;
 pub use minidisk::MinidiskStatement;
 pub use name::UserName;
 pub use reader::{read_directory, reads_grammar};

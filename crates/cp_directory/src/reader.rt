@@ -1,16 +1,15 @@
 //! The reader of directories: line by line, and each statement after those before it.
-ghost use Rattle.std.specs.Prelude.{◌≡◌, IfOk, IfErr, Ok};
-ghost use Rattle.cp_directory.specs.Directories.{IsRefusal, Places, at_line, directory_of};
-ghost use Rattle.cp_directory.specs.Directories.{directory_step};
+ghost use Rattle.std.specs.Prelude.{◌≡◌, ℕ, IfOk, IfErr, Ok};
+ghost use Rattle.cp_directory.specs.Directories.{IsRefusal, Places, directory_of};
 ghost use Rattle.cp_directory.specs.Grammar.{IsLawful, ReadsGrammar};
 ghost use Rattle.cp_directory.specs.Spelled.{kilobytes, stated};
 ghost use Rattle.cp_directory.specs.Statements as said;
-ghost use Rattle.cp_directory.specs.Statements.{placed};
+ghost use Rattle.cp_directory.specs.Statements.{line_placed, placed};
 
 use crate::devices::DeviceKind;
 use crate::directory::{Directory, User};
 use crate::extent::{DiskExtent, SpelledExtent};
-use crate::faults::{DirError, LineFault};
+use crate::faults::{DirError, LineFault, StatementError};
 use crate::minidisk::MinidiskStatement;
 use crate::name::UserName;
 use crate::spelling::{SpelledSize, Statement, read_statement, size_of};
@@ -34,14 +33,14 @@ use user_names::MOST_USERS;
 /// # Examples
 ///
 /// ```
-/// use cp_directory::{DirError, LineFault, read_directory};
+/// use cp_directory::{DirError, read_directory};
 /// use user_names::{UserNo, user_of};
 ///
 /// let directory = read_directory(alloc, b"USER ALPHA SECRET 4M\n")?;
 /// assert_eq!(rt; user_of(directory.users(), b"ALPHA"), Some(UserNo::new(0)));
 /// assert_eq!(rt; directory.users()[0].storage().pages(), 1024);
 /// let fault = read_directory(alloc, b"USER ALPHA SECRET 5M\n").err();
-/// assert_eq!(rt; fault, Some(DirError::Line(1, LineFault::BadStorage)));
+/// assert_eq!(rt; fault, Some(DirError::BadStorage(1)));
 /// ```
 pub fn read_directory(alloc: Global, text: &[u8]) -> Result<Directory, DirError>
     ensures ok { IfOk result (λ users. directory_of text.now ≡ Ok users) }
@@ -50,7 +49,11 @@ pub fn read_directory(alloc: Global, text: &[u8]) -> Result<Directory, DirError>
 {
     let mut directory = Directory::new(alloc);
     for line in numbered_lines(text) {
-        read_line(alloc, &mut directory, line.number, line.text)?;
+        match read_line(alloc, &mut directory, line.number, line.text) {
+            Ok(()) => {}
+            Err(StatementError::Memory) => return Err(DirError::Memory),
+            Err(StatementError::Fault(fault)) => return Err(fault.at(line.number)),
+        }
     }
     Ok(directory)
 }
@@ -62,18 +65,21 @@ fn read_line(
     directory: &mut Directory,
     number: usize,
     line: &[u8],
-) -> Result<(), DirError>
-    ensures { Places (directory_step number directory.old line.now) directory.new result }
+) -> Result<(), StatementError>
+    ensures { Places (line_placed number directory.old line.now) directory.new result }
 {
     if is_comment(line) {
         return Ok(());
     }
-    let words = words_of(alloc, line)?;
+    let words = match words_of(alloc, line) {
+        Ok(words) => words,
+        Err(_) => return Err(StatementError::Memory),
+    };
     match words.as_slice() {
         [] => Ok(()),
         [verb, operands @ ..] => match read_statement(verb, operands) {
             Ok(statement) => place(alloc, directory, number, statement),
-            Err(fault) => Err(DirError::Line(number, fault)),
+            Err(fault) => Err(StatementError::Fault(fault)),
         },
     }
 }
@@ -85,13 +91,12 @@ fn place(
     directory: &mut Directory,
     line: usize,
     statement: Statement<'_>,
-) -> Result<(), DirError>
-    ensures { Places (at_line line (placed line directory.old (stated statement.entry)))
-        directory.new result }
+) -> Result<(), StatementError>
+    ensures { Places (placed line directory.old (stated statement.entry)) directory.new result }
 {
     match statement {
-        Statement::User(name, size) => place_user(alloc, directory, line, name, size),
-        Statement::Device(kind, address) => place_device(directory, line, kind, address),
+        Statement::User(name, size) => place_user(alloc, directory, name, size),
+        Statement::Device(kind, address) => place_device(directory, kind, address),
         Statement::Minidisk(address, extent) => place_minidisk(directory, line, address, extent),
     }
 }
@@ -101,46 +106,46 @@ fn place(
 fn place_user(
     alloc: Global,
     directory: &mut Directory,
-    line: usize,
     name: UserName,
     spelled: SpelledSize<'_>,
-) -> Result<(), DirError>
-    ensures { let user = said.User name (kilobytes spelled.entry) in
-        Places (at_line line (placed line directory.old user)) directory.new result }
+) -> Result<(), StatementError>
+    ensures { (line : ℕ) → let user = said.User name (kilobytes spelled.entry) in
+        Places (placed line directory.old user) directory.new result }
 {
     if directory.contains(name.as_bytes()) {
-        return Err(DirError::Line(line, LineFault::DuplicateUser));
+        return Err(StatementError::Fault(LineFault::DuplicateUser));
     }
     let size = match size_of(spelled) {
         Some(size) => size,
-        None => return Err(DirError::Line(line, LineFault::BadStorage)),
+        None => return Err(StatementError::Fault(LineFault::BadStorage)),
     };
     if directory.len() >= MOST_USERS {
-        return Err(DirError::Line(line, LineFault::TooMany));
+        return Err(StatementError::Fault(LineFault::TooMany));
     }
-    directory.push(User::new(alloc, name, size))?;
-    Ok(())
+    match directory.push(User::new(alloc, name, size)) {
+        Ok(()) => Ok(()),
+        Err(_) => Err(StatementError::Memory),
+    }
 }
 
 /// Adds a device to the last user, or returns the fault: no user, an address that is taken, or too
 /// many devices, or two of one kind.
 fn place_device(
     directory: &mut Directory,
-    line: usize,
     kind: DeviceKind,
     address: DevAddr,
-) -> Result<(), DirError>
-    ensures { Places (at_line line (placed line directory.old (said.Device kind address)))
+) -> Result<(), StatementError>
+    ensures { (line : ℕ) → Places (placed line directory.old (said.Device kind address))
         directory.new result }
 {
     let Some(user) = directory.last() else {
-        return Err(DirError::Line(line, LineFault::Syntax));
+        return Err(StatementError::Fault(LineFault::Syntax));
     };
     if user.has_device(address) {
-        return Err(DirError::Line(line, LineFault::DuplicateDevice));
+        return Err(StatementError::Fault(LineFault::DuplicateDevice));
     }
     if user.is_full() || user.devices().place_of(kind).is_some() {
-        return Err(DirError::Line(line, LineFault::TooMany));
+        return Err(StatementError::Fault(LineFault::TooMany));
     }
     directory.put_device(kind, address);
     Ok(())
@@ -153,34 +158,35 @@ fn place_minidisk(
     line: usize,
     address: DevAddr,
     spelled: SpelledExtent,
-) -> Result<(), DirError>
-    ensures { Places (at_line line (placed line directory.old (said.Disk address spelled)))
-        directory.new result }
+) -> Result<(), StatementError>
+    ensures { Places (placed line directory.old (said.Disk address spelled)) directory.new result }
 {
     let Some(user) = directory.last() else {
-        return Err(DirError::Line(line, LineFault::Syntax));
+        return Err(StatementError::Fault(LineFault::Syntax));
     };
     if user.has_device(address) {
-        return Err(DirError::Line(line, LineFault::DuplicateDevice));
+        return Err(StatementError::Fault(LineFault::DuplicateDevice));
     }
     let is_full = user.is_full();
     let extent = match DiskExtent::new(spelled) {
         Some(extent) => extent,
-        None => return Err(DirError::Line(line, LineFault::BadExtent)),
+        None => return Err(StatementError::Fault(LineFault::BadExtent)),
     };
     if let Some(first) = directory.first_conflict(&extent) {
-        return Err(DirError::Line(line, LineFault::Overlap(first)));
+        return Err(StatementError::Fault(LineFault::Overlap(first)));
     }
     if is_full {
-        return Err(DirError::Line(line, LineFault::TooMany));
+        return Err(StatementError::Fault(LineFault::TooMany));
     }
     let disk = MinidiskStatement {
         line,
         address,
         extent,
     };
-    directory.add_minidisk(disk)?;
-    Ok(())
+    match directory.add_minidisk(disk) {
+        Ok(()) => Ok(()),
+        Err(_) => Err(StatementError::Memory),
+    }
 }
 
 /// States that [`read_directory`] reads exactly the texts of the grammar, and always reports the

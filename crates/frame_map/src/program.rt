@@ -8,7 +8,7 @@ use crate::map::frame_map;
 use crate::nowhere::Nowhere;
 use programs::program::{output, words, wrong_use};
 use programs::{Failure, FileStore, HostFiles, ProgramEnd, finish, save_images, saved_paths};
-use s370_num::host::{HostFault, HostWriter, read_all, write_all};
+use s370_num::host::{HostWriter, read_all, write_all};
 use sessions::session::session;
 use sessions::{Detail, Follower, Part};
 use std::alloc::Global;
@@ -114,7 +114,7 @@ fn follow<F: FileStore>(
     let mut text = read_all(alloc, &mut file)?;
     if !text.is_empty() && text.last() != Some(&b'\n') {
         let Ok(()) = text.push(b'\n') else {
-            return Err(Failure::Host(HostFault::Memory));
+            return Err(Failure::Memory);
         };
     }
     match follower.part(alloc, &text, &mut Nowhere)? {

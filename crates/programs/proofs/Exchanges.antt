@@ -5,6 +5,7 @@ use Rattle.std.specs.Prelude.{IsErrAnd}
 use Rattle.std.specs.Io.KnownBytes.{Appends, Consumes, Keeps}
 use Rattle.std.proofs.KnownBytes.{Appends-kept, Appends-nil, Appends-trans, Consumes-nil, Consumes-trans}
 use Rattle.s370_num.specs.Host.{AppendsFront, IsCounted}
+use Rattle.s370_num.specs.declared.host.HostFault.TheVariants as hosts
 use Rattle.sessions.specs.Continuing.{ContinuesAs, but_printed}
 use Rattle.sessions.specs.Follow.{HasWholeLines, Became, IsFollowed, part_of}
 use Rattle.sessions.specs.Installed.{Installation, names_of}
@@ -231,7 +232,8 @@ broken_off i detail old last more r s t w x y h read begun = record {
 -- An input that is accounted for stays so when the output failed.
 pub closed_why : (A : Type 0) (e : PlayError) (r s w x y : ℕ) → s ≡ r → x ≡ w → Accounts {A = A} (Err e) true true x y
     → InputAccounts {A = Unit {0}} (Err (play_failure e)) r s w y
-closed_why A (plays.Host fault) r s w x y a b h = inr (inl (a, subst (λ (n : ℕ). IsCounted n y fault) b h))
+closed_why A plays.Memory r s w x y a b h = (a, h ∙ b)
+closed_why A (plays.Device k) r s w x y a b h = inr (inl (a, subst (λ (n : ℕ). IsCounted n y (hosts.Device k)) b h))
 closed_why A plays.Spent r s w x y a b h = (a, h.0 ∙ b)
 
 -- A failure accounts for what was read and written.

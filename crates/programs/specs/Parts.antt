@@ -197,7 +197,8 @@ IsAnsweredPartly i old (requests.State state) before after =
 -- why a part was not answered: a failure of the writer is counted and reports its count
 abbrev pub PartAccounts : {A : Type 0} → Result A Failure → ℕ → ℕ → Type 0
 PartAccounts (Ok value) old new = new ≡ old
-PartAccounts (Err (failures.Host fault)) old new = IsCounted old new fault
+PartAccounts (Err (failures.File k)) old new = IsCounted old new (hosts.Device k)
+PartAccounts (Err failures.Memory) old new = new ≡ old
 PartAccounts (Err failures.Spent) old new = new ≡ old
 PartAccounts (Err failures.State) old new = new ≡ old
 PartAccounts (Err other) old new = ⊥
@@ -227,9 +228,10 @@ pub record IsBrokenOff {W : Type 0} (i : Installation W) (detail : Detail) (old 
 -- why an input was not followed to its end
 abbrev pub InputAccounts : {A : Type 0} → Result A Failure → ℕ → ℕ → ℕ → ℕ → Type 0
 InputAccounts (Ok value) r s w x = (s ≡ r) × (x ≡ w)
-InputAccounts (Err (failures.Host fault)) r s w x =
-    (IsCounted r s fault × (x ≡ w)) ⊎ ((s ≡ r) × IsCounted w x fault)
-    ⊎ ((s ≡ r) × (x ≡ w) × (fault ≡ hosts.Device 1))
+InputAccounts (Err (failures.File k)) r s w x =
+    (IsCounted r s (hosts.Device k) × (x ≡ w)) ⊎ ((s ≡ r) × IsCounted w x (hosts.Device k))
+    ⊎ ((s ≡ r) × (x ≡ w) × (k ≡ 1))
+InputAccounts (Err failures.Memory) r s w x = (s ≡ r) × (x ≡ w)
 InputAccounts (Err failures.Spent) r s w x = (s ≡ r) × (x ≡ w)
 InputAccounts (Err failures.State) r s w x = (s ≡ r) × (x ≡ w)
 InputAccounts (Err other) r s w x = ⊥

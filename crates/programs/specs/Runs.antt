@@ -2,7 +2,6 @@
 -- saves images.
 use Rattle.std.specs.Prelude.{◌≡◌, ◌⊎◌, ℕ, ◌+◌, ◌≤◌, Bool, if◌then◌else◌, List, [], ◌∷◌, length}
 use Rattle.std.specs.Prelude.{slice_get, string_bytes, Option, Some, None}
-use Rattle.s370_num.specs.declared.host.HostFault.TheVariants as hosts
 use Rattle.ckd_volume.specs.Volume.{VolumeFormat}
 use Rattle.sessions.specs.Installed.{Installation}
 use Rattle.sessions.specs.Session.{IsCut, IsRefused, IsSession}
@@ -43,8 +42,7 @@ pub record IsUnsavedAt (paths : List (List ℕ)) (volumes : List VolumeFormat)
 abbrev pub IsUnsaved : List (List ℕ) → List VolumeFormat → Option (List Deed) → Option (List Deed)
     → Failure → Type 0
 IsUnsaved paths volumes old new failure =
-    ((failure ≡ failures.Host hosts.Memory) × Adds old new [])
-    ⊎ IsUnsavedAt paths volumes old new failure
+    ((failure ≡ failures.Memory) × Adds old new []) ⊎ IsUnsavedAt paths volumes old new failure
 
 -- ---- a script that is played
 
@@ -65,7 +63,7 @@ pub record IsRun {W F : Type 0} (i : Installation W) (volumes : W → List Volum
 pub record IsUnopened {W : Type 0} (script : List ℕ) (first last : W)
     (deeds_old deeds_new : Option (List Deed)) (writer_old writer_new : Option (List ℕ))
     (failure : Failure) : Type 0 where
-  pub reported : failure ≡ failures.Host (hosts.Device 1)
+  pub reported : failure ≡ failures.File 1
   pub same : last ≡ first
   pub unwritten : writer_new ≡ writer_old
   pub deeds : Adds deeds_old deeds_new (Opens script ∷ [])
@@ -73,9 +71,11 @@ pub record IsUnopened {W : Type 0} (script : List ℕ) (first last : W)
 -- a script is refused by its first wrong line
 abbrev pub IsRefusedFor : {W : Type 0} → Installation W → SessionError → W → Option (List ℕ)
     → Option (List ℕ) → Type 0
+IsRefusedFor i ends.Memory first reader_old reader_new = Unit {0}
 IsRefusedFor i (ends.Line line) first reader_old reader_new =
     IsRefused (i.seen first).users reader_old reader_new line
-IsRefusedFor i (ends.Play error) first reader_old reader_new = Unit {0}
+IsRefusedFor i (ends.Device count) first reader_old reader_new = Unit {0}
+IsRefusedFor i ends.Spent first reader_old reader_new = Unit {0}
 
 -- the session failed: nothing has happened, or a beginning of it, of which a beginning was written;
 -- and no image was saved

@@ -7,7 +7,6 @@ ghost use Rattle.std.specs.Prelude.{◌≡◌, ℕ, List, [], ◌∷◌, Option,
 ghost use Rattle.std.specs.Prelude.{OnOk, length, map, option_copied, slice_get, string_bytes, ◌<◌};
 ghost use Rattle.std.specs.Prelude.{◌≤◌};
 ghost use Rattle.s370_num.specs.Counted.{failures_of};
-ghost use Rattle.s370_num.specs.declared.host.HostFault.TheVariants.{Device};
 ghost use Rattle.ckd_image.specs.declared.faults.ImageError.{ImageError};
 ghost use Rattle.ckd_volume.specs.Volume.{VolumeFormat};
 ghost use Rattle.programs.specs.Opened.{Adds, AddsFront, AreImagesAt, Deed, Opens, Saves, opens};
@@ -21,7 +20,7 @@ use crate::parts::{Left, follow_parts};
 use crate::program::open;
 use ckd_image::read_image;
 use ckd_volume::Volume;
-use s370_num::host::{Counted, HostFault, HostReader, HostWriter};
+use s370_num::host::{Counted, HostReader, HostWriter};
 use sessions::session::session;
 use sessions::{Detail, Installation};
 use std::alloc::Global;
@@ -45,7 +44,7 @@ pub trait FileStore {
     /// A `Failure`: of a file, a text, an image or the boot, or refused memory.
     fn open(&mut self, path: &str) -> Result<Self::File, Failure>
         ensures ok { IfOk result (λ file. gives path.now file) }
-        ensures err { IfErr result (λ failure. failure ≡ Failure.Host (Device 1)) }
+        ensures err { IfErr result (λ failure. failure ≡ Failure.File 1) }
         ensures deeds { Adds (deeds self.old) (deeds self.new) (Opens path.now ∷ []) };
 
     /// Writes the image of a volume to a path, in place of the file that is there.
@@ -125,7 +124,7 @@ pub fn read_images<F: FileStore>(
         let mut file = files.open(path_at(paths, place))?;
         let volume = read_image(alloc, &mut file)?;
         let Ok(()) = volumes.push(volume) else {
-            return Err(Failure::Host(HostFault::Memory));
+            return Err(Failure::Memory);
         };
     }
     Ok(volumes)

@@ -52,7 +52,7 @@ pub enum Left<I> {
 ///
 /// # Errors
 ///
-/// A file that fails and refused memory end it, and so do an input that has no requests (`Device(1)`)
+/// A file that fails and refused memory end it, and so do an input that has no requests (`File(1)`)
 /// and a state that is not one of this installation (`State`). What was answered before is written.
 pub fn follow_parts<R: HostReader, W: HostWriter, I: Installation + Drop>(
     alloc: Global,
@@ -84,7 +84,7 @@ pub fn follow_parts<R: HostReader, W: HostWriter, I: Installation + Drop>(
         }
     }
     // No input has so many parts.
-    Err(Failure::Host(HostFault::Device(1)))
+    Err(Failure::File(1))
 }
 
 /// Does what a request asks: a part, to write the state, or to go on from a state; writes the

@@ -3,7 +3,8 @@ use Rattle.std.specs.Prelude.{◌≡◌, ◌<◌, ℕ, Bool, true, false, List, 
 use Rattle.std.specs.Prelude.{Result, Ok, Err}
 use Rattle.std.specs.Io.KnownBytes.{Appends, Consumes, IsAtEnd}
 use Rattle.s370_num.specs.Host.{AppendsFront, IsCounted}
-use Rattle.s370_num.specs.declared.host.HostFault.TheVariants.{Memory}
+use Rattle.s370_num.specs.declared.host.HostFault.{HostFault}
+use Rattle.s370_num.specs.declared.host.HostFault.TheVariants as faults
 use Rattle.machine_devices.specs.declared.reply.Reply.{Reply}
 use Rattle.session_script.specs.Users.{KnownUser}
 use Rattle.session_script.specs.Script.{EventValue, script_of}
@@ -129,28 +130,41 @@ pub record IsUnanswered {W : Type 0} (i : Installation W) (said : EventValue) (o
   pub left : (new ≡ old) ⊎ i.Lacks old said new
   pub same : after ≡ before
 
+-- how a failure of a host file is reported
+abbrev pub fault_error : HostFault → PlayError
+fault_error faults.Memory = errors.Memory
+fault_error (faults.Device k) = errors.Device k
+
 -- how an event that did not happen is reported
 abbrev pub refused_error : Refused → PlayError
-refused_error wants.Memory = errors.Host Memory
+refused_error wants.Memory = errors.Memory
 refused_error wants.Spent = errors.Spent
+
+-- how a session says it
+abbrev pub play_error : PlayError → SessionError
+play_error errors.Memory = ends.Memory
+play_error (errors.Device k) = ends.Device k
+play_error errors.Spent = ends.Spent
 
 -- how a script that is not read is reported
 abbrev pub refusal_error : ScriptError → SessionError
-refusal_error refusals.Memory = ends.Play (errors.Host Memory)
+refusal_error refusals.Memory = ends.Memory
 refusal_error (refusals.Line n) = ends.Line n
 
 -- why something was not played: a failure of the writer is counted and reports its count, and only
 -- an installation says that it is spent that was so before; what was played has not spent it
 abbrev pub Accounts : {A : Type 0} → Result A PlayError → Bool → Bool → ℕ → ℕ → Type 0
 Accounts (Ok value) was is old new = (new ≡ old) × (is ≡ true → was ≡ true)
-Accounts (Err (errors.Host fault)) was is old new = IsCounted old new fault
+Accounts (Err (errors.Device k)) was is old new = IsCounted old new (faults.Device k)
+Accounts (Err errors.Memory) was is old new = new ≡ old
 Accounts (Err errors.Spent) was is old new = (new ≡ old) × (was ≡ true)
 
 -- why a session has not reached its end: the counts of both files' failures, one more of one of
 -- them where one is reported, and only an installation says that it is spent that was so before
 abbrev pub AccountsFiles : Result (Unit {0}) SessionError → Bool → ℕ → ℕ → ℕ → ℕ → Type 0
 AccountsFiles (Ok done) was r s w x = (s ≡ r) × (x ≡ w)
+AccountsFiles (Err (ends.Device k)) was r s w x = (IsCounted r s (faults.Device k) × (x ≡ w))
+    ⊎ ((s ≡ r) × IsCounted w x (faults.Device k))
+AccountsFiles (Err ends.Memory) was r s w x = (s ≡ r) × (x ≡ w)
 AccountsFiles (Err (ends.Line n)) was r s w x = (s ≡ r) × (x ≡ w)
-AccountsFiles (Err (ends.Play (errors.Host fault))) was r s w x = (IsCounted r s fault × (x ≡ w))
-    ⊎ ((s ≡ r) × IsCounted w x fault)
-AccountsFiles (Err (ends.Play errors.Spent)) was r s w x = (s ≡ r) × (x ≡ w) × (was ≡ true)
+AccountsFiles (Err ends.Spent) was r s w x = (s ≡ r) × (x ≡ w) × (was ≡ true)

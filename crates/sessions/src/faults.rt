@@ -1,8 +1,7 @@
 //! Why a session does not reach its end.
 ghost use Rattle.std.specs.Prelude.{◌≡◌};
-ghost use Rattle.s370_num.specs.declared.host.HostFault.TheVariants.{Memory};
-ghost use Rattle.sessions.specs.Session.{refusal_error, refused_error};
-ghost use Rattle.sessions.specs.declared.faults.PlayError.TheVariants as errors;
+ghost use Rattle.sessions.specs.Session.{fault_error, play_error, refusal_error, refused_error};
+ghost use Rattle.sessions.specs.declared.faults.PlayError.TheVariants.{Memory};
 ghost use Rattle.sessions.specs.declared.faults.SessionError.TheVariants as ends;
 
 use crate::installation::Refused;
@@ -14,9 +13,12 @@ use thiserror::Error;
 /// Why something that a script asks for was not done, or its lines were not written.
 #[derive(Clone, Copy, Debug, PartialEq, Eq, Drop, Error)]
 pub enum PlayError {
-    /// A host file failed, or a growth was refused.
-    #[error(transparent)]
-    Host(HostFault),
+    /// A growth was refused.
+    #[error("no memory is left")]
+    Memory,
+    /// A host file failed, and the number says for which time.
+    #[error("failure {0} of a host file")]
+    Device(u64),
     /// The installation is spent.
     #[error("the installation is spent")]
     Spent,
@@ -25,20 +27,29 @@ pub enum PlayError {
 /// Why a session did not go to its end.
 #[derive(Clone, Copy, Debug, PartialEq, Eq, Drop, Error)]
 pub enum SessionError {
+    /// A growth was refused.
+    #[error("no memory is left")]
+    Memory,
     /// The first line of the script, counted from 1, that is no line of a script.
     #[error("line {0} of the script names an unknown user or is misspelled")]
     Line(u64),
-    /// A host file failed, memory was refused, or the installation is spent.
-    #[error(transparent)]
-    Play(PlayError),
+    /// A host file failed, and the number says for which time.
+    #[error("failure {0} of a host file")]
+    Device(u64),
+    /// The system is spent.
+    #[error("the system is spent")]
+    Spent,
 }
 
 impl From<HostFault> for PlayError {
-    ghost from_gives = { λ fault error. error ≡ errors.Host fault };
+    ghost from_gives = { λ fault error. error ≡ fault_error fault };
 
     /// Returns the error of a script's event for a fault of the host.
     fn from(fault: HostFault) -> PlayError {
-        PlayError::Host(fault)
+        match fault {
+            HostFault::Memory => PlayError::Memory,
+            HostFault::Device(count) => PlayError::Device(count),
+        }
     }
 }
 
@@ -48,36 +59,43 @@ impl From<Refused> for PlayError {
     /// Returns the error of a script's event for why an installation refused it.
     fn from(refused: Refused) -> PlayError {
         match refused {
-            Refused::Memory => PlayError::Host(HostFault::Memory),
+            Refused::Memory => PlayError::Memory,
             Refused::Spent => PlayError::Spent,
         }
     }
 }
 
 impl From<AllocError> for PlayError {
-    ghost from_gives = { λ _ error. error ≡ errors.Host Memory };
+    ghost from_gives = { λ _ error. error ≡ Memory };
 
     /// Returns the error that memory was refused.
     fn from(_error: AllocError) -> PlayError {
-        PlayError::Host(HostFault::Memory)
+        PlayError::Memory
     }
 }
 
 impl From<PlayError> for SessionError {
-    ghost from_gives = { λ error end. end ≡ ends.Play error };
+    ghost from_gives = { λ error end. end ≡ play_error error };
 
     /// Returns the error of a session for that of one of its events.
     fn from(error: PlayError) -> SessionError {
-        SessionError::Play(error)
+        match error {
+            PlayError::Memory => SessionError::Memory,
+            PlayError::Device(count) => SessionError::Device(count),
+            PlayError::Spent => SessionError::Spent,
+        }
     }
 }
 
 impl From<HostFault> for SessionError {
-    ghost from_gives = { λ fault end. end ≡ ends.Play (errors.Host fault) };
+    ghost from_gives = { λ fault end. end ≡ play_error (fault_error fault) };
 
     /// Returns the error of a session for a fault of the host.
     fn from(fault: HostFault) -> SessionError {
-        SessionError::Play(PlayError::Host(fault))
+        match fault {
+            HostFault::Memory => SessionError::Memory,
+            HostFault::Device(count) => SessionError::Device(count),
+        }
     }
 }
 
@@ -87,17 +105,17 @@ impl From<ScriptError> for SessionError {
     /// Returns the error of a session for why its script was refused.
     fn from(refusal: ScriptError) -> SessionError {
         match refusal {
-            ScriptError::Memory => SessionError::Play(PlayError::Host(HostFault::Memory)),
+            ScriptError::Memory => SessionError::Memory,
             ScriptError::Line(number) => SessionError::Line(number),
         }
     }
 }
 
 impl From<AllocError> for SessionError {
-    ghost from_gives = { λ _ end. end ≡ ends.Play (errors.Host Memory) };
+    ghost from_gives = { λ _ end. end ≡ ends.Memory };
 
     /// Returns the error that memory was refused.
     fn from(_error: AllocError) -> SessionError {
-        SessionError::Play(PlayError::Host(HostFault::Memory))
+        SessionError::Memory
     }
 }

@@ -31,7 +31,7 @@ use crate::session::play;
 use crate::transcript::names;
 use cp_dispatch::{Policy, Program, Ready};
 use machine_panel::Mode;
-use s370_num::host::{HostFault, HostWriter};
+use s370_num::host::HostWriter;
 use saved_bytes::Input;
 use session_script::{ScriptError, ScriptEvent, reads_grammar};
 use std::alloc::{AllocError, Global};
@@ -152,7 +152,7 @@ impl<I: Installation + Drop> Follower<I> {
                     line,
                 ));
             }
-            Err(ScriptError::Memory) => return Err(PlayError::Host(HostFault::Memory)),
+            Err(ScriptError::Memory) => return Err(PlayError::Memory),
         };
         play(
             alloc,

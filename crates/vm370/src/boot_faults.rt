@@ -8,7 +8,6 @@ ghost use Rattle.vm370.specs.BootFaults.{refusal_status, refusal_text};
 use cp_core::BootError;
 use cp_directory::User;
 use programs::{BootFault, Failure};
-use s370_num::host::HostFault;
 use std::alloc::{AllocError, Global};
 use user_names::UserNo;
 
@@ -43,7 +42,7 @@ pub fn boot_failure(alloc: Global, names: Vec<String>, error: BootError) -> Fail
     ensures status { status_of result ≡ refusal_status error }
 {
     match error {
-        BootError::Memory => Failure::Host(HostFault::Memory),
+        BootError::Memory => Failure::Memory,
         BootError::TooFewFrames => Failure::Boot(BootFault::TooFewFrames),
         BootError::DuplicateVolume => Failure::Boot(BootFault::DuplicateVolume),
         BootError::NoVolume(volser) => Failure::Boot(BootFault::NoVolume(volser)),

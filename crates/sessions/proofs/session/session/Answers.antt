@@ -7,7 +7,8 @@ use Rattle.session_script.specs.declared.reader.ScriptError.{ScriptError}
 use Rattle.session_script.specs.declared.reader.ScriptError.TheVariants as refusals
 use Rattle.sessions.specs.Schedule.{IsOf, first_line, first_lines, scene}
 use Rattle.s370_num.specs.Host.{IsCounted}
-use Rattle.sessions.specs.Session.{Accounts, AccountsFiles, IsRead, refusal_error}
+use Rattle.s370_num.specs.declared.host.HostFault.TheVariants as faults
+use Rattle.sessions.specs.Session.{Accounts, AccountsFiles, IsRead, play_error, refusal_error}
 use Rattle.sessions.specs.declared.faults.PlayError.{PlayError}
 use Rattle.sessions.specs.declared.faults.PlayError.TheVariants as errors
 use Rattle.sessions.specs.declared.faults.SessionError.{SessionError}
@@ -27,12 +28,13 @@ line_told script (refusals.Line k) (Err x) n f h e = let same : k ≡ n = cc in 
 
 -- what the last part of a transcript comes to is what the session comes to
 closed_why : (e : PlayError) (was : Bool) (r s w x y : ℕ) → s ≡ r → x ≡ w → Accounts {A = Unit {0}} (Err e) was was x y
-    → AccountsFiles (Err (ends.Play e)) was r s w y
-closed_why (errors.Host fault) was r s w x y a b h = inr (a, subst (λ (n : ℕ). IsCounted n y fault) b h)
+    → AccountsFiles (Err (play_error e)) was r s w y
+closed_why errors.Memory was r s w x y a b h = (a, h ∙ b)
+closed_why (errors.Device k) was r s w x y a b h = inr (a, subst (λ (n : ℕ). IsCounted n y (faults.Device k)) b h)
 closed_why errors.Spent was r s w x y a b h = (a, h.0 ∙ b, h.1)
 
 why_told : (e : PlayError) (result : Result (Unit {0}) SessionError) (was : Bool) (r s w y : ℕ)
-    → IsErrAnd result (λ x. x ≡ ends.Play e) → AccountsFiles (Err (ends.Play e)) was r s w y
+    → IsErrAnd result (λ x. x ≡ play_error e) → AccountsFiles (Err (play_error e)) was r s w y
     → AccountsFiles result was r s w y
 why_told e (Ok a) was r s w y f h = absurd f
 why_told e (Err x) was r s w y f h = subst (λ (z : SessionError). AccountsFiles (Err z) was r s w y) (sym f) h
