@@ -150,7 +150,7 @@ impl System {
     /// Returns the text of a line that a user's console has printed; None past the last line, or if
     /// there is no such user.
     ///
-    /// The line that is not finished and those that wait are in [`System::unit_record_devices`]'s console.
+    /// Unfinished and waiting lines are in the console of [`System::spool`].
     pub fn console_output(&self, user: UserNo, line: usize) -> Option<&[u8]>
         ensures { option_map (λ text. text.now) result
             ≡ slice_get (machine_at self.now user).output line }
@@ -166,7 +166,7 @@ impl System {
     ///
     /// That is the reader's decks with their numbers, the open files of punch and printer, and
     /// those that they have closed, each with its target.
-    pub fn unit_record_devices(&self, user: UserNo) -> Option<SeenDevices<'_>>
+    pub fn spool(&self, user: UserNo) -> Option<SeenDevices<'_>>
         ensures some { IsSome result ↔ (user < length self.now.users) }
         ensures value { IfSome result (λ devices. devices ≡ (user_at self.now user).devices) }
     {

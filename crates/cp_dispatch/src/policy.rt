@@ -81,7 +81,7 @@ impl Policy {
     ///
     /// `AllocError` if memory is refused; the program is then not in the serve queue, and nothing
     /// else has changed.
-    pub fn add_program(&mut self, user: UserNo, device: DevAddr) -> Result<(), AllocError>
+    pub fn started(&mut self, user: UserNo, device: DevAddr) -> Result<(), AllocError>
         ensures ok { OnOk result (self.new ≡ record self.old {
           programs = at_end (is_of user device)
               (record { user = user; device = device }) self.old.programs;
@@ -97,7 +97,7 @@ impl Policy {
 
     /// Removes the program of a user's device, which has ended or was withdrawn, from the serve
     /// queue, if it is in it.
-    pub fn remove_program(&mut self, user: UserNo, device: DevAddr)
+    pub fn ended(&mut self, user: UserNo, device: DevAddr)
         ensures { self.new ≡ record
             self.old { programs = without (is_of user device) self.old.programs } }
     {

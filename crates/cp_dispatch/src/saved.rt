@@ -95,7 +95,7 @@ impl Policy {
             }
             let user = next_user(input, users)?;
             let device = input.next_u16()?;
-            policy.add_program(user, DevAddr::new(device)).ok()?;
+            policy.started(user, DevAddr::new(device)).ok()?;
         }
         let _users = input.number()?;
         Some(policy)

@@ -54,7 +54,7 @@ impl TouchedPages {
         &self.touched
     }
 
-    /// Borrows the bytes of the pages that were touched, each at its address; the others are zero.
+    /// Borrows a byte for each of the storage, of which those of touched pages count.
     pub(crate) fn bytes(&self) -> &[u8]
         ensures { result.now ≡ self.now.bytes.items }
     {
@@ -332,7 +332,7 @@ fn flag_at(flags: &[bool], place: u32) -> bool
     flags[place as usize]
 }
 
-/// Returns so many bytes, all zero, for pages that are copied later.
+/// Returns so many bytes, over which pages are copied later.
 ///
 /// # Errors
 ///

@@ -160,7 +160,7 @@ fn withdraw_one(policy: &mut Policy, user: UserNo, d: &Subchannel)
     } }
 {
     if !works(d.state) {
-        policy.remove_program(user, d.address);
+        policy.ended(user, d.address);
     }
 }
 
@@ -176,7 +176,7 @@ fn queue_started(
     ensures rest { policy.new ≡ record policy.old { programs = policy.new.programs } }
 {
     for d in started {
-        policy.add_program(user, d.address)?;
+        policy.started(user, d.address)?;
     }
     Ok(())
 }

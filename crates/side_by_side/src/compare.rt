@@ -69,7 +69,7 @@ impl SideBySide {
             return Err(SideError::NoSuchUser);
         };
         same(subchannels == bare.subchannels(), View::Subchannels)?;
-        let Some(devices) = self.system.unit_record_devices(user) else {
+        let Some(devices) = self.system.spool(user) else {
             return Err(SideError::NoSuchUser);
         };
         compare_console_device(devices.console(), bare.devices().console())?;

@@ -109,7 +109,7 @@ impl Installation for SharedMachines {
 
     /// Returns a user's console, reader, punch and printer, with their files.
     fn devices(&self, user: UserNo) -> SeenDevices<'_> {
-        match self.system.unit_record_devices(self.place(user)) {
+        match self.system.spool(self.place(user)) {
             Some(devices) => devices,
             None => unreachable!(),
         }
