@@ -37,13 +37,13 @@ pub(crate) struct Lent<'a> {
     pub(crate) queues: &'a mut Queues,
     pub(crate) volumes: &'a mut Volumes,
     pub(crate) minidisks: &'a mut Vec<SharedDisk>,
-    /// The programs of the devices that are kept.
+    /// The cached programs of the devices.
     pub(crate) reuse: &'a mut Reuse,
 }
 
 /// What is done with the machine of one user.
 pub(crate) trait UserOp {
-    /// What it says.
+    /// What it returns.
     type Answer;
 
     /// Among these users, what it leaves of the machine with its devices and of the frames of this
@@ -185,7 +185,7 @@ pub(crate) struct Line<'a> {
     pub(crate) alloc: Global,
     /// The user.
     pub(crate) user: UserNo,
-    /// Of each user, whether he is logged on.
+    /// Whether each user is logged on.
     pub(crate) on: ArrayVec<bool, 64>,
     pub(crate) typed: &'a [u8],
 }

@@ -2,7 +2,7 @@
 //!
 //! A program is tried first, on copies of the pages to which it comes and with what is seen of its
 //! device: nothing has happened then, and it is known which pages the program touches. These are
-//! placed; where there is no room for one, this is reported, and nothing has happened. Then the
+//! placed; where there is no room for one, this is reported: only paging has happened. Then the
 //! program runs with its device, on copies again, and the bytes are put back.
 //!
 //! Its one theorem: a program that is refused for lack of room touches a page for which there is

@@ -1,7 +1,7 @@
 //! A user's storage for a dry run: pages are copied from it when the program comes to them.
 //!
 //! A page is absent until the program comes to it. Then it is copied, from wherever it is, and is
-//! present from then on; so what a dry run costs is set by the pages that the program touches.
+//! present from then on. No other page is copied; but room for each of them is filled first.
 ghost use Rattle.cp_dat.specs.Copies.{written_over};
 ghost use Rattle.cp_dat.specs.Lent.{lent_bytes, lent_memory};
 ghost use Rattle.s370_store.specs.Memory.{with_stored};
@@ -54,7 +54,7 @@ impl TouchedPages {
         &self.touched
     }
 
-    /// Borrows a byte for each of the storage, of which those of touched pages count.
+    /// Borrows as many bytes as the storage has; only those of touched pages have a meaning.
     pub(crate) fn bytes(&self) -> &[u8]
         ensures { result.now ≡ self.now.bytes.items }
     {

@@ -233,7 +233,7 @@ impl LogonDesk {
         }
     }
 
-    /// Returns how many bytes wait at a connection.
+    /// Returns how many bytes have come from a connection and were not taken yet.
     pub fn waiting(&self, connection: usize) -> usize
         requires { connection < length self.now.connections }
         ensures { result ≡ length (connection_at self.now connection).waiting }

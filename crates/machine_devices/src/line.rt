@@ -84,8 +84,8 @@ impl Devices {
     /// Does what a line asks that is typed to a machine with these devices, which changes machine,
     /// storage, devices, disks and files as the line says, and returns its outcome.
     ///
-    /// If it is not obeyed, nothing has happened; but of a machine whose loading is not obeyed
-    /// nothing is said, where the channels are not whole or memory is refused.
+    /// After an error the machine, its devices and its files are as they were; pages may have been
+    /// paged in. After an IPL this is said only of `FramesOut` on channels that are whole.
     ///
     /// # Errors
     ///

@@ -39,7 +39,8 @@ impl Devices {
     ///
     /// # Errors
     ///
-    /// A `ChannelError`: refused memory that a command or the analysis needs, or an absent page.
+    /// A `ChannelError`: refused memory that a command, a dry run, the analysis or the lines that a
+    /// console prints need, or an absent page.
     pub fn serve<S: Storage, C: Channels<S>>(
         &mut self,
         queues: &mut Queues,
