@@ -1,7 +1,8 @@
 -- Bytes that a mask chooses.
 use Rattle.std.proofs.Common.{◌≡◌, ⊎_elim, ℕ, zero, suc, ◌+◌, ◌<◌, ◌≤◌, true, List, [], ◌∷◌, length, get_or, refl, ap}
-use Rattle.std.proofs.Common.{arith}
+use Rattle.std.proofs.Common.{arith, take, Bool, false}
 use Rattle.std.proofs.lemmas.Bool.{cases_eq}
+use Rattle.std.proofs.lemmas.List.{get_or-take}
 use Rattle.s370_bytes.specs.Masks.{is_chosen, chosen_before, byte_inserted, inserted, chosen_count}
 
 -- a list of four bytes, each of which is the one that is inserted
@@ -36,3 +37,18 @@ place_inside mask k h e =
     let m : chosen_before mask (suc k) ≤ chosen_before mask 4 = before_more mask (suc k) 4 (omega arith) in
     let f : chosen_before mask (suc k) ≡ chosen_before mask k + 1 = rw e refl in
     omega (arith, m, f)
+
+-- A byte that is inserted is one of the first, as many as the mask chooses.
+byte_front : (mask : ℕ) (xs ys : List ℕ) (k : ℕ) → k < 4 → (b : Bool) → is_chosen mask k ≡ b
+    → byte_inserted mask xs (take (chosen_count mask) ys) k ≡ byte_inserted mask xs ys k
+byte_front mask xs ys k h true e =
+    rw e (get_or-take (chosen_count mask) ys (chosen_before mask k) 0 (place_inside mask k h e))
+byte_front mask xs ys k h false e = rw e refl
+
+-- Only the first bytes are inserted, as many as the mask chooses.
+pub inserted_front : (mask : ℕ) (xs ys : List ℕ)
+    → inserted mask xs (take (chosen_count mask) ys) ≡ inserted mask xs ys
+unfolding inserted
+inserted_front mask xs ys =
+    rw (byte_front mask xs ys 0 (omega arith) _ refl, byte_front mask xs ys 1 (omega arith) _ refl,
+    byte_front mask xs ys 2 (omega arith) _ refl, byte_front mask xs ys 3 (omega arith) _ refl) refl

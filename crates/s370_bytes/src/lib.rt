@@ -39,8 +39,8 @@ pub use decimal::{binary_row, decimal_of, decimal_row};
 pub use digits::{Layout, layout_row};
 pub use long::{compare_long_row, move_long_quickly, move_long_row};
 pub use masks::{
-    characters_order_in, chosen_count, compare_characters_row, insert_characters_row,
-    store_characters_in, store_characters_row,
+    characters_order_in, chosen_count, compare_characters_row, insert_characters_in,
+    insert_characters_row, store_characters_in, store_characters_row,
 };
 pub use multiple::{
     load_multiple_row, load_registers, load_registers_in, store_multiple_row, store_registers,

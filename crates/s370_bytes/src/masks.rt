@@ -64,10 +64,11 @@ fn gather(mask: u8, bytes: &[u8; 4], into: &mut [u8; 4])
     }
 }
 
-/// Overwrites the bytes that a mask selects with those of `from`, in order.
+/// Overwrites the bytes that a mask selects with the first ones of `from`, in order.
+#[inline(always)]
 #[tactic(auto, unfolding(crate::specs::Masks::chosen_count))]
 fn insert(mask: u8, bytes: &mut [u8; 4], from: &[u8])
-    requires { length from.now ≡ chosen_count mask }
+    requires { chosen_count mask ≤ length from.now }
     ensures { bytes.new ≡ inserted mask bytes.old from.now }
 {
     let mut place = 0;
@@ -118,6 +119,52 @@ fn insert_at<S: Storage>(
     insert(mask, &mut bytes, from);
     cpu.general[register.index()] = u32::from_be_bytes(bytes);
     cpu.psw.set_condition(inserted_code(from));
+}
+
+/// Returns ICM's condition code of inserting the first `count` of eight bytes: 0 if they are all
+/// zero, 1 if the first bit is one, else 2.
+#[inline(always)]
+fn front_code(bytes: [u8; 8], count: u32) -> ConditionCode
+    requires some { 0 < count }
+    requires few { count ≤ 8 }
+    ensures { result ≡ inserted_code (take count bytes) }
+{
+    if front_number(bytes, count) == 0 {
+        return ConditionCode::ZERO;
+    }
+    if bytes[0] >= 128 {
+        ConditionCode::ONE
+    } else {
+        ConditionCode::TWO
+    }
+}
+
+/// Does ICM: loads bytes of a block that `find_block` returned into the bytes of a register that
+/// the mask selects, at least one, and sets the condition code; eight bytes from `start` on lie in
+/// the block.
+#[inline(always)]
+pub fn insert_characters_in<S: Storage>(
+    cpu: &mut Cpu,
+    storage: &S,
+    block: Block,
+    start: u32,
+    i: Instruction,
+)
+    requires some { 0 < chosen_count (r2_of i) }
+    requires placed { S.IsPlaced storage.now block }
+    requires begins { block.first ≤ start }
+    requires ends { start + 8 ≤ block.first + 2048 }
+    ensures { cpu.new ≡ with_inserted cpu.old (r1_of i) (r2_of i)
+        (slice_range (S.memory storage.now).bytes start (start + chosen_count (r2_of i))) }
+{
+    let mask = i.r2().number();
+    let count = chosen_count(mask);
+    let mut from = [0u8; 8];
+    storage.load_in(block, start, &mut from);
+    let mut bytes = cpu.general[i.r1().index()].to_be_bytes();
+    insert(mask, &mut bytes, &from);
+    cpu.general[i.r1().index()] = u32::from_be_bytes(bytes);
+    cpu.psw.set_condition(front_code(from, count));
 }
 
 /// Does ICM (BF): loads bytes of storage into the bytes of a register that the mask selects, and

@@ -10,7 +10,8 @@ ghost use Rattle.s370_store.specs.declared.Access.TheVariants.{Fetch, Store};
 ghost use Rattle.s370_rows.specs.State.{state_of};
 ghost use Rattle.s370_rows.specs.Rows.{Grants, fetch_test};
 ghost use Rattle.s370_bytes.specs.Decimal.{decimal_stored};
-ghost use Rattle.s370_bytes.specs.Masks.{characters_compared, characters_stored};
+ghost use Rattle.s370_bytes.specs.Masks.{characters_compared, characters_inserted};
+ghost use Rattle.s370_bytes.specs.Masks.{characters_stored};
 ghost use Rattle.s370_bytes.specs.Multiple.{multiple_loaded, multiple_stored};
 ghost use Rattle.s370_cpu.specs.FetchRows.{MeetsOperand, byte_tested, character_inserted};
 ghost use Rattle.s370_cpu.specs.FetchRows.{fetch_row, half_of, halfword_multiplied};
@@ -25,7 +26,8 @@ use crate::held::{HeldBlock, operand_block};
 use crate::strings::{combine_quickly, compare_quickly, move_quickly, translate_quickly};
 use s370_bytes::{
     Combine, characters_order_in, chosen_count, compare_characters_row, decimal_of, holds_eight,
-    load_registers_in, store_characters_in, store_characters_row, store_registers_in, words_range,
+    insert_characters_in, insert_characters_row, load_registers_in, store_characters_in,
+    store_characters_row, store_registers_in, words_range,
 };
 use s370_cpu::{FetchRow, StoreRow, fetch_row, store_row};
 use s370_num::Addr24;
@@ -376,6 +378,39 @@ fn load_multiple_quickly<S: Storage>(
     }
 }
 
+/// Does ICM (BF), and holds the block of its bytes, unless its mask is zero; returns `None` if the
+/// bytes lie in two blocks or the access is not granted.
+#[inline(always)]
+fn insert_characters_quickly<S: Storage>(
+    cpu: &mut Cpu,
+    storage: &S,
+    i: Instruction,
+    held: &mut HeldBlock,
+) -> Option<Completion>
+    requires operands { AreHeld (S.IsPlaced storage.now) (S.memory storage.now)
+        (S.present storage.now) cpu.old.psw.key held.old }
+    ensures row { let before = state_of cpu.old (S.memory storage.now) in
+        let after = state_of cpu.new (S.memory storage.now) in
+        MeetsAtOnce (characters_inserted before i) (S.present storage.now) before result after }
+    ensures operands { AreHeld (S.IsPlaced storage.now) (S.memory storage.now)
+        (S.present storage.now) cpu.old.psw.key held.new }
+{
+    let start = cpu.based(i.second_half);
+    let count = chosen_count(i.r2().number());
+    if count == 0 {
+        return done_of(insert_characters_row(cpu, storage, i));
+    }
+    match source_block(cpu, storage, held, start, count) {
+        Some(found) => if holds_eight(found, start.get()) {
+            insert_characters_in(cpu, storage, found, start.get(), i);
+            Some(Completion::Done)
+        } else {
+            done_of(insert_characters_row(cpu, storage, i))
+        },
+        None => None,
+    }
+}
+
 /// Does CLM (BD), and holds the block of its bytes, unless its mask is zero; returns `None` if the
 /// bytes lie in two blocks or the access is not granted.
 #[inline(always)]
@@ -715,6 +750,7 @@ pub fn fetch_held<S: Storage, const CODE: u8, const WAY: u8>(
         FetchRow::LoadMultiple => load_multiple_quickly(cpu, storage, i, held),
         FetchRow::TestByte(test) => test_byte_quickly(test, cpu, storage, i, held),
         FetchRow::CompareStrings => compare_quickly(cpu, storage, i, held),
+        FetchRow::InsertCharacters => insert_characters_quickly(cpu, storage, i, held),
         FetchRow::CompareCharacters => compare_characters_quickly(cpu, storage, i, held),
         _ => done_of(fetch_row::<S, CODE>(row, cpu, storage, i)),
     }
