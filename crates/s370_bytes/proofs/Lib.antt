@@ -10,3 +10,4 @@ pub mod Stored
 pub mod Translated
 pub mod Masked
 pub mod Within
+pub mod Words

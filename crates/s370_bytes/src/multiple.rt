@@ -10,7 +10,7 @@ ghost use Rattle.s370_bytes.specs.Multiple.{register_count, words_from};
 
 use s370_num::{Addr24, Register};
 use s370_rows::{Completion, Cpu, Instruction, Refusal, grant};
-use s370_store::{Access, Block, Range, Storage, load_word, load_word_in};
+use s370_store::{Access, Block, Range, Storage, load_word, load_word_in, store_word_in};
 
 /// Returns how many registers there are from `first` to `last`, where 0 follows 15.
 #[inline(always)]
@@ -30,6 +30,20 @@ fn fill(words: &mut [u8; 64], registers: &[u32; 16], first: Register, count: u32
 {
     for k in 0..count {
         let word = registers[(first.index() + k as usize) % 16].to_be_bytes();
+        let start = 4 * k as usize;
+        words[start..start + 4].copy_from_slice(&word);
+    }
+}
+
+/// Writes four registers to `words`, four bytes each; `first` is the number of the first one, where
+/// 0 follows 15.
+#[inline(always)]
+fn fill_four(words: &mut [u8; 16], registers: &[u32; 16], first: usize)
+    requires { first < 32 }
+    ensures { words.new ≡ words_from registers.now first 4 }
+{
+    for k in 0..4u32 {
+        let word = registers[(first + k as usize) % 16].to_be_bytes();
         let start = 4 * k as usize;
         words[start..start + 4].copy_from_slice(&word);
     }
@@ -69,6 +83,35 @@ pub fn store_registers<S: Storage>(
     storage.store(address.get(), &words[..4 * count as usize]);
 }
 
+/// Stores groups of four registers in the words from an address on, in a block that `find_block`
+/// returned; `first` is the number of the first register, and 0 follows 15.
+#[inline(always)]
+fn store_groups<S: Storage>(
+    registers: &[u32; 16],
+    storage: &mut S,
+    block: Block,
+    address: Addr24,
+    first: usize,
+    groups: u32,
+)
+    requires register { first < 16 }
+    requires few { groups ≤ 4 }
+    requires placed { S.IsPlaced storage.old block }
+    requires begins { block.first ≤ address }
+    requires ends { address + 16 * groups ≤ block.first + 2048 }
+    ensures stored { S.memory storage.new
+        ≡ with_stored (S.memory storage.old) address
+        (words_from registers.now first (4 * groups)) }
+    ensures rest { S.Keeps storage.old storage.new }
+{
+    let start = address.get();
+    for k in 0..groups {
+        let mut words = [0u8; 16];
+        fill_four(&mut words, registers, first + 4 * k as usize);
+        storage.store_in(block, start + 16 * k, &words);
+    }
+}
+
 /// Stores R1 to R3 of `registers` in the words from an address on, in a block that `find_block`
 /// returned; 0 follows 15.
 #[inline(always)]
@@ -87,10 +130,14 @@ pub fn store_registers_in<S: Storage>(
         (words_from registers.now (r1_of i) (register_count (r1_of i) (r2_of i))) }
     ensures rest { S.Keeps storage.old storage.new }
 {
+    let start = address.get();
+    let first = i.r1().index();
     let count = count_of(i.r1(), i.r2());
-    let mut words = [0u8; 64];
-    fill(&mut words, registers, i.r1(), count);
-    storage.store_in(block, address.get(), &words[..4 * count as usize]);
+    store_groups(registers, storage, block, address, first, count / 4);
+    for k in count / 4 * 4..count {
+        let word = registers[(first + k as usize) % 16];
+        store_word_in(storage, block, start + 4 * k, word);
+    }
 }
 
 /// Loads R1 to R3 of `registers`, 0 after 15, from the words from `address` on, whose access has
@@ -116,6 +163,48 @@ pub fn load_registers<S: Storage>(
     }
 }
 
+/// Sets four registers to the words in `words`; `first` is the number of the first one, where 0
+/// follows 15.
+#[inline(always)]
+fn take_four(registers: &mut [u32; 16], words: &[u8; 16], first: usize)
+    requires { first < 32 }
+    ensures { registers.new ≡ loaded_from words.now registers.old 0 first 4 }
+{
+    for k in 0..4u32 {
+        let start = 4 * k as usize;
+        let mut word = [0u8; 4];
+        word.copy_from_slice(&words[start..start + 4]);
+        registers[(first + k as usize) % 16] = u32::from_be_bytes(word);
+    }
+}
+
+/// Loads groups of four registers from the words from an address on, in a block that `find_block`
+/// returned; `first` is the number of the first register, and 0 follows 15.
+#[inline(always)]
+fn load_groups<S: Storage>(
+    registers: &mut [u32; 16],
+    storage: &S,
+    block: Block,
+    address: Addr24,
+    first: usize,
+    groups: u32,
+)
+    requires register { first < 16 }
+    requires few { groups ≤ 4 }
+    requires placed { S.IsPlaced storage.now block }
+    requires begins { block.first ≤ address }
+    requires ends { address + 16 * groups ≤ block.first + 2048 }
+    ensures { registers.new ≡ loaded_from (S.memory storage.now).bytes registers.old address first
+        (4 * groups) }
+{
+    let start = address.get();
+    for k in 0..groups {
+        let mut words = [0u8; 16];
+        storage.load_in(block, start + 16 * k, &mut words);
+        take_four(registers, &words, first + 4 * k as usize);
+    }
+}
+
 /// Loads R1 to R3 of `registers` from the words from an address on, in a block that `find_block`
 /// returned; 0 follows 15.
 #[inline(always)]
@@ -134,10 +223,11 @@ pub fn load_registers_in<S: Storage>(
         (register_count (r1_of i) (r2_of i)) }
 {
     let start = address.get();
-    let first = i.r1();
-    for k in 0..count_of(first, i.r2()) {
-        let word = load_word_in(storage, block, start + 4 * k);
-        registers[(first.index() + k as usize) % 16] = word;
+    let first = i.r1().index();
+    let count = count_of(i.r1(), i.r2());
+    load_groups(registers, storage, block, address, first, count / 4);
+    for k in count / 4 * 4..count {
+        registers[(first + k as usize) % 16] = load_word_in(storage, block, start + 4 * k);
     }
 }
 
