@@ -1,5 +1,5 @@
 //! Shifts of a register and of a pair.
-ghost use Rattle.std.specs.Prelude.{◌≡◌, ℕ, ◌*◌, ◌%◌, ◌/◌, ◌^◌, ◌<◌, ◌*ℤ◌, pos};
+ghost use Rattle.std.specs.Prelude.{◌≡◌, ℕ, ◌+◌, ◌*◌, ◌%◌, ◌/◌, ◌^◌, ◌<◌, ◌≤◌, ◌*ℤ◌, pos};
 ghost use Rattle.s370_rows.specs.Shift.{right_word, right_pair, left_word, left_pair, word_shift};
 ghost use Rattle.s370_rows.specs.Shift.{word_shifted, pair_shift, pair_shifted, plain_pair};
 
@@ -28,11 +28,11 @@ pub struct ComputedPair {
 
 /// Returns a signed number times 2 to the power `count`.
 #[inline(always)]
-fn scaled(number: i64, count: u8) -> i128
-    requires { count < 64 }
+fn scaled(number: i32, count: u8) -> i64
+    requires { count < 32 }
     ensures { result ≡ number *ℤ pos (2 ^ count) }
 {
-    number as i128 * (1u64 << count) as i128
+    number as i64 * (1u32 << count) as i64
 }
 
 /// Returns a word shifted right with copies of its sign, and the condition code of the result.
@@ -45,17 +45,16 @@ fn shift_right(a: u32, count: u8) -> Computed
     kept((number as i32).cast_unsigned(), sign_of(number))
 }
 
-/// Returns a word shifted left under its sign, with its condition code, or with code 3 and overflow
-/// if a significant bit is lost.
+/// Returns a word shifted left under its sign by less than 32 bits, with its condition code, or
+/// with code 3 and overflow if a significant bit is lost.
 #[inline(always)]
-fn shift_left(a: u32, count: u8) -> Computed
-    requires { count < 64 }
+fn shift_left_near(a: u32, count: u8) -> Computed
+    requires { count < 32 }
     ensures { result ≡ left_word a count }
 {
-    let number = scaled(a.cast_signed() as i64, count);
+    let number = scaled(a.cast_signed(), count);
     if number >= -0x8000_0000 && number <= 0x7FFF_FFFF {
-        let fits = number as i64;
-        kept((fits as i32).cast_unsigned(), sign_of(fits))
+        kept((number as i32).cast_unsigned(), sign_of(number))
     } else {
         let low = (a as u64) << count;
         Computed {
@@ -63,6 +62,38 @@ fn shift_left(a: u32, count: u8) -> Computed
             condition: ConditionCode::THREE,
             overflows: true,
         }
+    }
+}
+
+/// Returns a word shifted left under its sign by 32 bits or more: all its significant bits are
+/// lost, unless it is zero.
+#[inline(always)]
+fn shift_left_far(a: u32, count: u8) -> Computed
+    requires far { 32 ≤ count }
+    requires short { count < 64 }
+    ensures { result ≡ left_word a count }
+{
+    if a == 0 {
+        return kept(0, ConditionCode::ZERO);
+    }
+    Computed {
+        value: a / 0x8000_0000 * 0x8000_0000,
+        condition: ConditionCode::THREE,
+        overflows: true,
+    }
+}
+
+/// Returns a word shifted left under its sign, with its condition code, or with code 3 and overflow
+/// if a significant bit is lost.
+#[inline(always)]
+fn shift_left(a: u32, count: u8) -> Computed
+    requires { count < 64 }
+    ensures { result ≡ left_word a count }
+{
+    if count < 32 {
+        shift_left_near(a, count)
+    } else {
+        shift_left_far(a, count)
     }
 }
 
@@ -117,6 +148,16 @@ fn shift_right_pair(a: u64, count: u8) -> ComputedPair
     kept_pair(number.cast_unsigned(), sign_of(number))
 }
 
+/// Returns the distance of a signed number of 64 bits from zero, or from -1 if it is negative: its
+/// bits, each of them changed if the sign is one.
+#[inline(always)]
+fn unsigned_bits(a: u64) -> u64
+    ensures positive { a < 2 ^ 63 → result ≡ a }
+    ensures negative { 2 ^ 63 ≤ a → result + a + 1 ≡ 2 ^ 64 }
+{
+    if a < 0x8000_0000_0000_0000 { a } else { !a }
+}
+
 /// Returns 64 bits shifted left under their sign, with their condition code, or with code 3 and
 /// overflow if a significant bit is lost.
 #[inline(always)]
@@ -124,17 +165,14 @@ fn shift_left_pair(a: u64, count: u8) -> ComputedPair
     requires { count < 64 }
     ensures { result ≡ left_pair a count }
 {
-    let number = scaled(a.cast_signed(), count);
-    if number >= -0x8000_0000_0000_0000 && number <= 0x7FFF_FFFF_FFFF_FFFF {
-        let fits = number as i64;
-        kept_pair(fits.cast_unsigned(), sign_of(fits))
-    } else {
-        let low = a << count;
-        ComputedPair {
-            value: a / 0x8000_0000_0000_0000 * 0x8000_0000_0000_0000 + low % 0x8000_0000_0000_0000,
-            condition: ConditionCode::THREE,
-            overflows: true,
-        }
+    let low = a << count;
+    if unsigned_bits(a) >> (63 - count) == 0 {
+        return kept_pair(low, sign_of(a.cast_signed()));
+    }
+    ComputedPair {
+        value: a / 0x8000_0000_0000_0000 * 0x8000_0000_0000_0000 + low % 0x8000_0000_0000_0000,
+        condition: ConditionCode::THREE,
+        overflows: true,
     }
 }
 
