@@ -1,6 +1,6 @@
 -- Lists of addresses that are given real ones, from the first entry on.
 use Rattle.std.specs.Prelude.{◌≡◌, ℕ, ◌<◌, ◌≤◌, List, length, slice_index_or, Option, None}
-use Rattle.channel_laws.specs.Mapped.{real_place}
+use Rattle.s370_walk.specs.Mapped.{real_place}
 use Rattle.cp_graph.specs.declared.program.Node.{Node}
 use Rattle.cp_graph.specs.Table.{program_of}
 

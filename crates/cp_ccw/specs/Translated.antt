@@ -3,9 +3,9 @@ use Rattle.std.specs.Prelude.{◌≡◌, ℕ, List, [], length}
 use Rattle.s370_store.specs.Memory.{Memory}
 use Rattle.s370_walk.specs.Walk.{Written, live}
 use Rattle.s370_channel.specs.Guest.{guest_written}
-use Rattle.channel_laws.specs.declared.places.CcwLocation.{CcwLocation}
-use Rattle.channel_laws.specs.Mapped.{Program, real_place}
-use Rattle.channel_laws.specs.Copy.{IsCopyOf}
+use Rattle.s370_walk.specs.declared.places.CcwLocation.{CcwLocation}
+use Rattle.s370_walk.specs.Mapped.{Program, real_place}
+use Rattle.s370_walk.specs.Copy.{IsCopyOf}
 use Rattle.cp_graph.specs.declared.program.Node.{Node}
 use Rattle.cp_graph.specs.Table.{program_of}
 use Rattle.cp_dat.specs.declared.dat.Dat.{Dat}

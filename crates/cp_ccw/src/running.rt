@@ -4,7 +4,7 @@ ghost use Rattle.cp_dat.specs.Lent.{KeepsStored};
 ghost use Rattle.s370_store.specs.Memory.{Memory};
 ghost use Rattle.s370_channel.specs.Guest.{guest_text};
 ghost use Rattle.s370_channel.specs.declared.running.ChannelError.TheVariants as errors;
-ghost use Rattle.channel_laws.specs.Copy.{guest_of, IsPlace};
+ghost use Rattle.s370_walk.specs.Copy.{guest_of, IsPlace};
 ghost use Rattle.cp_real.specs.Shown.{KeepsReal};
 ghost use Rattle.cp_ccw.specs.Translated.{IsTranslatedFor};
 ghost use Rattle.cp_ccw.specs.Runs.{dat_of, IsGuestsRun};

@@ -9,8 +9,8 @@ use Rattle.s370_store.specs.Memory.{Memory}
 use Rattle.s370_walk.specs.Hardware.{area}
 use Rattle.s370_walk.specs.Walk.{is_jump, chains_command, chains_data}
 use Rattle.s370_channel.specs.Guest.{area_block, guest_text}
-use Rattle.channel_laws.specs.declared.places.CcwLocation.{CcwLocation}
-use Rattle.channel_laws.specs.Tracks.{has_area}
+use Rattle.s370_walk.specs.declared.places.CcwLocation.{CcwLocation}
+use Rattle.s370_walk.specs.Tracks.{has_area}
 use Rattle.std.specs.Prelude.{◌≤◌, ◌-◌, ◌≢◌, ◌++◌, length, slice_index_or}
 use Rattle.std.proofs.Common.{sym, ◌∙◌, ap, arith, inl, inr, length-append}
 use Rattle.std.proofs.Math.Seq.{get_or-append_seam}

@@ -25,13 +25,13 @@ use Rattle.s370_channel.specs.Guest.{list_word, later}
 use Rattle.s370_channel.specs.declared.words.StoredCcw.{StoredCcw}
 use Rattle.s370_channel.specs.Words.{ccw_of}
 use Rattle.std.specs.List.{slice_range}
-use Rattle.channel_laws.specs.declared.places.CcwLocation.{CcwLocation}
-use Rattle.channel_laws.specs.Renaming.{renamed_found, LeadsFrom}
-use Rattle.channel_laws.specs.Mapped.{Named}
+use Rattle.s370_walk.specs.declared.places.CcwLocation.{CcwLocation}
+use Rattle.s370_walk.specs.Renaming.{renamed_found, LeadsFrom}
+use Rattle.s370_walk.specs.Mapped.{Named}
 use Rattle.s370_walk.specs.Blocks.{straight}
-use Rattle.channel_laws.specs.Tracks.{has_area, IsListOf}
-use Rattle.channel_laws.proofs.Tracked.{tracks_begin, tracks_skip, tracks_on, tracks_place}
-use Rattle.channel_laws.specs.Copy.{past, guest_of, IsPlace, IsCopyOf}
+use Rattle.s370_walk.specs.Tracks.{has_area, IsListOf}
+use Rattle.s370_walk.proofs.Tracked.{tracks_begin, tracks_skip, tracks_on, tracks_place}
+use Rattle.s370_walk.specs.Copy.{past, guest_of, IsPlace, IsCopyOf}
 use Rattle.cp_graph.specs.declared.program.Node.{Node}
 use Rattle.cp_graph.specs.Table.{word_in, entry_in, program_of, IsLink, HasLinks, IsGood, IsCopied, HasListOf, IsRow}
 use Rattle.cp_graph.specs.Table.{AreRows, Grows, IsFollowed, IsLinked, leads_next, leads_skipped, IsJumpPlain, IsPart}

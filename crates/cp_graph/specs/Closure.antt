@@ -8,8 +8,8 @@ use Rattle.s370_store.specs.Memory.{Memory}
 use Rattle.s370_walk.specs.Hardware.{area}
 use Rattle.s370_walk.specs.Walk.{is_jump, chains_data, chains_command}
 use Rattle.s370_channel.specs.Guest.{guest_text, area_block, block_asks}
-use Rattle.channel_laws.specs.declared.places.CcwLocation.{CcwLocation}
-use Rattle.channel_laws.specs.Tracks.{has_area}
+use Rattle.s370_walk.specs.declared.places.CcwLocation.{CcwLocation}
+use Rattle.s370_walk.specs.Tracks.{has_area}
 use Rattle.cp_graph.specs.declared.program.CopyError.{CopyError}
 use Rattle.cp_graph.specs.declared.program.CopyError.TheVariants as errors
 

@@ -8,11 +8,11 @@ use Rattle.s370_walk.specs.declared.parts.Ccw.{Ccw}
 use Rattle.s370_store.specs.Memory.{Memory}
 use Rattle.s370_walk.specs.Walk.{is_jump, chains_data, chains_command}
 use Rattle.s370_channel.specs.Guest.{guest_text, area_block}
-use Rattle.channel_laws.specs.declared.places.CcwLocation.{CcwLocation}
-use Rattle.channel_laws.specs.Renaming.{renamed_found, LeadsFrom}
-use Rattle.channel_laws.specs.Mapped.{Program}
-use Rattle.channel_laws.specs.Tracks.{has_area, IsListOf}
-use Rattle.channel_laws.specs.Copy.{guest_of}
+use Rattle.s370_walk.specs.declared.places.CcwLocation.{CcwLocation}
+use Rattle.s370_walk.specs.Renaming.{renamed_found, LeadsFrom}
+use Rattle.s370_walk.specs.Mapped.{Program}
+use Rattle.s370_walk.specs.Tracks.{has_area, IsListOf}
+use Rattle.s370_walk.specs.Copy.{guest_of}
 use Rattle.cp_graph.specs.declared.program.Node.{Node}
 
 -- the word of a node that may be missing

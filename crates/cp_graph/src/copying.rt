@@ -2,8 +2,8 @@
 ghost use Rattle.std.specs.List.{All};
 ghost use Rattle.std.specs.Prelude.{◌≡◌, ℕ, ◌+◌, ◌*◌, ◌/◌, ◌%◌, ◌<◌, ◌≤◌, ◌^◌, IfErr, IfOk, length};
 ghost use Rattle.std.specs.Prelude.{true, vec_len};
-ghost use Rattle.channel_laws.specs.Copy.{IsCopyOf, IsPlace, guest_of};
-ghost use Rattle.channel_laws.specs.Mapped.{Named};
+ghost use Rattle.s370_walk.specs.Copy.{IsCopyOf, IsPlace, guest_of};
+ghost use Rattle.s370_walk.specs.Mapped.{Named};
 ghost use Rattle.cp_graph.specs.Closure.{IfAbsent, IsReachedPlace, IsServed, IsWordPage};
 ghost use Rattle.cp_graph.specs.Marks.{IsIndexed, unmarked};
 ghost use Rattle.cp_graph.specs.Table.{AllPresent, Grows, IsRow, leads_next, leads_skipped};
@@ -16,10 +16,9 @@ use crate::index::link;
 use crate::lists::list_for;
 use crate::program::{Copied, CopyError, Node};
 use crate::slots::Slots;
-use channel_laws::CcwLocation;
 use s370_channel::fetch_word;
 use s370_store::Storage;
-use s370_walk::{Ccw, Flags};
+use s370_walk::{Ccw, CcwLocation, Flags};
 use std::alloc::Global;
 
 /// Returns a copy of the word at a place, if there is one, with its list and its links; places to

@@ -1,14 +1,14 @@
 //! The places of a copied program, and the index in which they are found.
 ghost use Rattle.std.specs.Prelude.{◌≡◌, ◌+◌, ◌*◌, ◌/◌, ◌%◌, ◌<◌, ◌≤◌, ◌^◌, IfOk, length};
 ghost use Rattle.std.specs.Prelude.{slice_index_or, true, vec_len};
-ghost use Rattle.channel_laws.specs.Copy.{past};
+ghost use Rattle.s370_walk.specs.Copy.{past};
 ghost use Rattle.cp_graph.specs.Marks.{IsIndexed, slot_of, unmarked};
 ghost use Rattle.cp_graph.specs.Table.{IsFollowed, IsLinked};
 ghost use Rattle.s370_channel.specs.Guest.{guest_text};
 
 use crate::slots::Slots;
-use channel_laws::CcwLocation;
 use s370_store::Storage;
+use s370_walk::CcwLocation;
 use std::alloc::AllocError;
 
 /// Links past the places: each stands for an address of the guest at which he has no word.

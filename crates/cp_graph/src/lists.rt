@@ -1,6 +1,6 @@
 //! The addresses that serve the bytes of a word (GA22-7000, "Channel Indirect Data Addressing").
 ghost use Rattle.std.specs.Prelude.{◌≡◌, ◌≤◌, IfErr, IfOk, Some, length};
-ghost use Rattle.channel_laws.specs.Tracks as tracks;
+ghost use Rattle.s370_walk.specs.Tracks as tracks;
 ghost use Rattle.cp_graph.specs.Closure.{IfAbsent, IsDataPage, IsEntryPage};
 ghost use Rattle.cp_graph.specs.Table.{AllPresent, HasListOf, IsPresent};
 ghost use Rattle.s370_channel.specs.Guest.{area_block};

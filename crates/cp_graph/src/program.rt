@@ -1,7 +1,6 @@
 //! A copied channel program.
-use channel_laws::CcwLocation;
 use s370_store::Page;
-use s370_walk::Ccw;
+use s370_walk::{Ccw, CcwLocation};
 use std::alloc::{AllocError, AllocFailed};
 
 /// A copied word, and the addresses that serve its bytes.

@@ -1,7 +1,7 @@
 //! What is noted of a program's words, to see whether an input of it could change one of them.
 ghost use Rattle.std.specs.Prelude.{[], ◌≡◌, ◌<◌, ◌≤◌, ◌%◌, IfOk, OnOk, length, slice_index, true};
 ghost use Rattle.std.specs.Prelude.{ℕ};
-ghost use Rattle.channel_laws.specs.Tracks as tracks;
+ghost use Rattle.s370_walk.specs.Tracks as tracks;
 ghost use Rattle.cp_needs.specs.Areas.{IsAreaByte, IsListByte};
 ghost use Rattle.cp_needs.specs.Needs.{IsDataByte, IsTextByte};
 ghost use Rattle.cp_needs.specs.Noted.{AreMarked, AreStored, ArePaged, IsDataOf, IsEntryByte};

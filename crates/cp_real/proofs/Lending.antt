@@ -16,8 +16,8 @@ use Rattle.cp_real.proofs.Framed.{real_is, page_at_some, get_framed, key_framed}
 use Rattle.cp_real.specs.Layout.{length-framed}
 use Rattle.s370_store.specs.Memory.{memory_of}
 use Rattle.s370_walk.specs.Hardware.{fault_of, area}
-use Rattle.channel_laws.specs.Mapped.{IsMapped, Named, Program}
-use Rattle.channel_laws.specs.Unstuck.{ArePresent}
+use Rattle.s370_walk.specs.Mapped.{IsMapped, Named, Program}
+use Rattle.s370_walk.specs.Unstuck.{ArePresent}
 use Rattle.s370_store.specs.declared.Fault.TheVariants.{Addressing}
 use Rattle.std.proofs.Math.Decide.{dec_lt}
 use Rattle.std.proofs.lemmas.Bool.{lt-ltb}

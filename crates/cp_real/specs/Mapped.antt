@@ -6,7 +6,7 @@ use Rattle.cp_frames.specs.Layout.{is_there}
 use Rattle.cp_real.specs.Layout.{real_of, real_bytes, real_keys}
 use Rattle.s370_store.specs.Memory.{memory_of}
 use Rattle.s370_walk.specs.Hardware.{fault_of, area, byte_at}
-use Rattle.channel_laws.specs.Mapped.{IsPaged, Named, Program}
+use Rattle.s370_walk.specs.Mapped.{IsPaged, Named, Program}
 
 -- a user's storage is in real storage
 pub record IsLent (storage keys own : List ℕ) (owners : List (Option UserPage))

@@ -2,8 +2,8 @@
 ghost use Rattle.std.specs.Prelude.{◌≡◌, ℕ, ◌≤◌, ◌%◌, List, Option, length};
 ghost use Rattle.cp_frames.specs.declared.numbers.UserPage.{UserPage};
 ghost use Rattle.s370_store.specs.Memory.{memory_of};
-ghost use Rattle.channel_laws.specs.Mapped.{IsMapped, Named, Program};
-ghost use Rattle.channel_laws.specs.Unstuck.{ArePresent};
+ghost use Rattle.s370_walk.specs.Mapped.{IsMapped, Named, Program};
+ghost use Rattle.s370_walk.specs.Unstuck.{ArePresent};
 ghost use Rattle.cp_real.specs.Layout.{real_bytes, real_keys, is_real_page, real_of};
 ghost use Rattle.cp_real.specs.Mapped.{IsLent, AreHeld};
 

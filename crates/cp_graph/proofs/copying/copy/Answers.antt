@@ -1,7 +1,7 @@
 use Rattle.std.proofs.Common.{◌≡◌, ◌≤◌, ◌<◌, ◌%◌, ◌∙◌, List, ap, arith, length, slice_index_or, subst, sym, ℕ}
 use Rattle.std.proofs.lemmas.List.{get_or_read, length-replicate}
-use Rattle.channel_laws.specs.declared.places.CcwLocation.{CcwLocation}
-use Rattle.channel_laws.specs.Copy.{guest_of, past}
+use Rattle.s370_walk.specs.declared.places.CcwLocation.{CcwLocation}
+use Rattle.s370_walk.specs.Copy.{guest_of, past}
 use Rattle.cp_graph.specs.Closure.{IsReachedPlace}
 use Rattle.cp_graph.proofs.Tables.{copy_of, grown_length, rows_on, rows_none, held_push, held_none, linked_grown}
 use Rattle.cp_graph.proofs.Tables.{linked_is_place}

@@ -24,10 +24,10 @@ use Rattle.s370_store.specs.Memory.{Memory}
 use Rattle.s370_walk.specs.Hardware.{fault_of, area, put_byte, byte_at}
 use Rattle.s370_walk.specs.Walk.{Setting, State, Fetching, Moving, Over, walk, Reaches, byte_moved, given_to, given_at}
 use Rattle.s370_walk.specs.Walk.{taken_from, taken_at, stepped, skips, index_of, order_of}
-use Rattle.channel_laws.specs.Pairing.{Pairing, InRole, Related, moving_on, over, fetching, Simulates, moved_to}
-use Rattle.channel_laws.proofs.Simulation.{walk_related}
-use Rattle.channel_laws.specs.Mapped.{IsMapped, IsKept, real_place, Program, copied_form, real_form, Named, IsPaged}
-use Rattle.channel_laws.specs.Mapped.{IsBefore, IsKnown, Stands, mapped_pair, MeetsEnd}
+use Rattle.s370_walk.specs.Pairing.{Pairing, InRole, Related, moving_on, over, fetching, Simulates, moved_to}
+use Rattle.s370_walk.proofs.Simulation.{walk_related}
+use Rattle.s370_walk.specs.Mapped.{IsMapped, IsKept, real_place, Program, copied_form, real_form, Named, IsPaged}
+use Rattle.s370_walk.specs.Mapped.{IsBefore, IsKnown, Stands, mapped_pair, MeetsEnd}
 
 -- Memory keeps itself.
 pub kept_same : (real : ℕ → Option ℕ) (m : Memory) → IsKept real m m

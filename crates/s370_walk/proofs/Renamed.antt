@@ -25,9 +25,9 @@ use Rattle.s370_walk.specs.Walk.{ending, is_bad_word, is_indirect, is_jump, no_c
 use Rattle.s370_walk.specs.Stuck.{is_skipped}
 use Rattle.s370_walk.specs.Bits.{has_bits}
 use Rattle.s370_walk.specs.declared.bits.UnitStatus.{UnitStatus}
-use Rattle.channel_laws.specs.Tracks.{has_area}
-use Rattle.channel_laws.specs.Renaming.{renamed, renamed_word, renamed_found, renamed_spot, renamed_position, IsCopy}
-use Rattle.channel_laws.specs.Renaming.{IsAt, IsInside, Leads, LeadsFrom}
+use Rattle.s370_walk.specs.Tracks.{has_area}
+use Rattle.s370_walk.specs.Renaming.{renamed, renamed_word, renamed_found, renamed_spot, renamed_position, IsCopy}
+use Rattle.s370_walk.specs.Renaming.{IsAt, IsInside, Leads, LeadsFrom}
 
 some_left : (count : ℕ) (x y : Bool) → nat_lt 0 count && x && y ≡ true → 0 < count
 some_left zero x y e = cc

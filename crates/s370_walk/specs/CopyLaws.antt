@@ -6,13 +6,13 @@ use Rattle.s370_walk.specs.Frozen.{IsSteady}
 use Rattle.s370_store.specs.Memory.{Memory}
 use Rattle.s370_walk.specs.Stuck.{IsStuck}
 use Rattle.s370_walk.specs.Walk.{Form, Setting, State, Fetching, Over, Reaches}
-use Rattle.channel_laws.specs.declared.places.CcwLocation.{CcwLocation}
-use Rattle.channel_laws.specs.Copy.{guest_of, IsPlace, IsCopyOf, MeetsFrozen}
-use Rattle.channel_laws.specs.Frozen.{words_frozen}
-use Rattle.channel_laws.specs.Mapped.{Program, Named, IsMapped, IsPaged, MeetsEnd, real_form}
-use Rattle.channel_laws.specs.Raised.{raised, raised_setting, IsUncounted}
-use Rattle.channel_laws.specs.Renaming.{renamed_spot, renamed_ending}
-use Rattle.channel_laws.specs.Unstuck.{real_written, ArePresent}
+use Rattle.s370_walk.specs.declared.places.CcwLocation.{CcwLocation}
+use Rattle.s370_walk.specs.Copy.{guest_of, IsPlace, IsCopyOf, MeetsFrozen}
+use Rattle.s370_walk.specs.WordsFrozen.{words_frozen}
+use Rattle.s370_walk.specs.Mapped.{Program, Named, IsMapped, IsPaged, MeetsEnd, real_form}
+use Rattle.s370_walk.specs.Raised.{raised, raised_setting, IsUncounted}
+use Rattle.s370_walk.specs.Renaming.{renamed_spot, renamed_ending}
+use Rattle.s370_walk.specs.Unstuck.{real_written, ArePresent}
 
 -- Over real addresses the copy reaches the end to which it comes over the guest's.
 abbrev pub EndsAsTheCopy : Type 0 → Type 0

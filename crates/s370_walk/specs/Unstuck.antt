@@ -1,7 +1,7 @@
 -- A program over real addresses never needs a page that is not present.
 use Rattle.std.specs.Prelude.{ℕ, ◌/◌, ◌≡◌, Bool, true, [], Option, Some}
 use Rattle.s370_walk.specs.Walk.{Written}
-use Rattle.channel_laws.specs.Mapped.{Program, real_place}
+use Rattle.s370_walk.specs.Mapped.{Program, real_place}
 
 -- a program over real addresses fetches no words from storage: they are in its own table
 abbrev pub real_written : (ℕ → Option ℕ) → Program → Written

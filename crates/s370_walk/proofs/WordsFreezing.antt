@@ -5,7 +5,7 @@ use Rattle.s370_walk.specs.Frozen.{IsSteady}
 use Rattle.s370_store.specs.Memory.{Memory}
 use Rattle.s370_walk.specs.Walk.{Form, Setting, State, Fetching, Moving, Over, next, walk, fetched, rest}
 use Rattle.s370_walk.proofs.Freezing.{moved_same}
-use Rattle.channel_laws.specs.Frozen.{words_frozen}
+use Rattle.s370_walk.specs.WordsFrozen.{words_frozen}
 
 module _ {D : Type 0} (form : Form) (h : Setting D) (m0 : Memory) where
   steady_next : (s : State D) → IsSteady form h m0 s → IsSteady form h m0 (next form h s)

@@ -1,20 +1,20 @@
 -- Runs of a copied program.
 use Rattle.std.specs.Prelude.{ℕ, List, Option}
 use Rattle.std.proofs.Common.{ap, ◌∙◌, sym}
-use Rattle.channel_laws.specs.declared.places.CcwLocation.{CcwLocation}
+use Rattle.s370_walk.specs.declared.places.CcwLocation.{CcwLocation}
 use Rattle.s370_walk.specs.declared.parts.NextCcw.{NextCcw}
 use Rattle.s370_walk.specs.declared.parts.Ending.{Ending}
-use Rattle.channel_laws.specs.Tracks.{IsTracked}
+use Rattle.s370_walk.specs.Tracks.{IsTracked}
 use Rattle.s370_store.specs.Memory.{Memory}
 use Rattle.s370_walk.specs.Walk.{Form, Setting, State, Fetching, Over, Reaches}
-use Rattle.channel_laws.specs.Renaming.{renamed, renamed_spot, renamed_ending}
-use Rattle.channel_laws.proofs.Renamed.{walk_renamed}
+use Rattle.s370_walk.specs.Renaming.{renamed, renamed_spot, renamed_ending}
+use Rattle.s370_walk.proofs.Renamed.{walk_renamed}
 use Rattle.s370_walk.specs.Frozen.{IsSteady}
-use Rattle.channel_laws.specs.Frozen.{words_frozen}
-use Rattle.channel_laws.proofs.Freezing.{words_walk}
-use Rattle.channel_laws.specs.Mapped.{Program, Named, IsPaged, IsMapped, copied_form, real_form}
-use Rattle.channel_laws.proofs.Mapping.{real_end}
-use Rattle.channel_laws.specs.Copy.{guest_of, IsPlace, IsCopyOf, MeetsFrozen}
+use Rattle.s370_walk.specs.WordsFrozen.{words_frozen}
+use Rattle.s370_walk.proofs.WordsFreezing.{words_walk}
+use Rattle.s370_walk.specs.Mapped.{Program, Named, IsPaged, IsMapped, copied_form, real_form}
+use Rattle.s370_walk.proofs.Mapping.{real_end}
+use Rattle.s370_walk.specs.Copy.{guest_of, IsPlace, IsCopyOf, MeetsFrozen}
 
 -- A frozen run that ends over a copy is a run of the guest's own program with the same end.
 pub frozen_end : {D : Type 0} (real : ℕ → Option ℕ) (c : Program) (places : List CcwLocation) (form : Form)

@@ -2,16 +2,16 @@
 -- guest's own.
 use Rattle.std.specs.Prelude.{false, ◌≤◌, ◌-◌, ◌⊎◌, slice_index_or, ℕ, ◌<◌, ◌≡◌, List, length}
 use Rattle.std.specs.Prelude.{Option, None}
-use Rattle.channel_laws.specs.declared.places.CcwLocation.{CcwLocation}
+use Rattle.s370_walk.specs.declared.places.CcwLocation.{CcwLocation}
 use Rattle.s370_walk.specs.declared.parts.NextCcw.{NextCcw}
 use Rattle.s370_walk.specs.declared.parts.Ending.{Ending}
 use Rattle.s370_walk.specs.declared.parts.Ccw.{Ccw}
-use Rattle.channel_laws.specs.Tracks.{IsTracked}
+use Rattle.s370_walk.specs.Tracks.{IsTracked}
 use Rattle.s370_store.specs.Memory.{Memory}
 use Rattle.s370_walk.specs.Walk.{Form, Setting, Fetching, Over, Reaches}
-use Rattle.channel_laws.specs.Renaming.{IsCopy}
-use Rattle.channel_laws.specs.Frozen.{words_frozen}
-use Rattle.channel_laws.specs.Mapped.{Program, Named, IsMapped, IsKept, copied_form}
+use Rattle.s370_walk.specs.Renaming.{IsCopy}
+use Rattle.s370_walk.specs.WordsFrozen.{words_frozen}
+use Rattle.s370_walk.specs.Mapped.{Program, Named, IsMapped, IsKept, copied_form}
 
 -- places past those of the copy stand for addresses at which the guest has no word
 abbrev pub past : ℕ → CcwLocation

@@ -1,7 +1,7 @@
-//! The laws: each function is one about definitions.
-ghost use Rattle.channel_laws.specs.Laws as laws;
+//! The laws of copied programs: each function is one about definitions.
+ghost use Rattle.s370_walk.specs.CopyLaws as laws;
 
-use s370_walk::Device;
+use crate::traits::Device;
 
 /// States that a copy with real addresses ends as the copy with the guest's addresses does, with
 /// the same device, and that real storage is then still the guest's.

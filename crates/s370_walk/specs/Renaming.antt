@@ -10,7 +10,7 @@ use Rattle.s370_store.specs.Memory.{Memory}
 use Rattle.s370_walk.specs.Walk.{Form, State, Fetching, Moving, Over, is_jump, chains_data}
 use Rattle.s370_walk.specs.Walk.{chains_command, moving, stepped}
 use Rattle.s370_walk.specs.Stuck.{is_skipped}
-use Rattle.channel_laws.specs.Tracks.{has_area}
+use Rattle.s370_walk.specs.Tracks.{has_area}
 
 -- a word of the copy, with the guest's addresses of the words after it
 abbrev pub renamed_word : (ℕ → ℕ) → Ccw → Ccw

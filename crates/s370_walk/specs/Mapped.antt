@@ -11,7 +11,7 @@ use Rattle.s370_walk.specs.Blocks.{served}
 use Rattle.s370_store.specs.Memory.{Memory}
 use Rattle.s370_walk.specs.Hardware.{fault_of, area, byte_at}
 use Rattle.s370_walk.specs.Walk.{Form, Setting, Fetching, Over, Reaches, index_of}
-use Rattle.channel_laws.specs.Pairing.{Pairing}
+use Rattle.s370_walk.specs.Pairing.{Pairing}
 
 -- what is at the guest's addresses is at the real ones
 pub record IsMapped (real : ℕ → Option ℕ) (named : ℕ → Type 0) (m n : Memory) : Type 0 where

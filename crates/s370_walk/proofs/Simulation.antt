@@ -15,8 +15,8 @@ use Rattle.s370_walk.specs.Walk.{entered, answered, judged, fails, closed, close
 use Rattle.s370_walk.specs.Walk.{at_command, moved, counted_out, rest, tells_length, chains_data, order_of, ending}
 use Rattle.s370_walk.specs.Walk.{no_check, no_status}
 use Rattle.s370_walk.specs.declared.bits.UnitStatus.{UnitStatus}
-use Rattle.channel_laws.specs.Pairing.{Pairing, InRole, moved_to, Related, fetching, moving_on, over, begins_transfer}
-use Rattle.channel_laws.specs.Pairing.{IsOver, Simulates}
+use Rattle.s370_walk.specs.Pairing.{Pairing, InRole, moved_to, Related, fetching, moving_on, over, begins_transfer}
+use Rattle.s370_walk.specs.Pairing.{IsOver, Simulates}
 
 module _ {D E : Type 0} (r : Pairing D E) (form : Form) (h : Setting D) (form' : Form) (h' : Setting E)
     (both : Simulates r form h form' h') where
