@@ -26,7 +26,7 @@ use Rattle.cp_dat.specs.declared.dat.Dat.{Dat}
 use Rattle.cp_dat.specs.Lent.{is_lent_page, lent_bytes, lent_frame, lent_memory}
 use Rattle.cp_graph.specs.declared.program.Node.{Node}
 use Rattle.cp_graph.specs.Table.{entry_in, program_of}
-use Rattle.cp_real.specs.Layout.{at_frame, real_in}
+use Rattle.cp_ccw.specs.Layout.{at_frame, real_in}
 use Rattle.cp_needs.specs.Kept.{IsKept}
 use Rattle.cp_needs.specs.Needs.{IsFixed}
 use Rattle.cp_needs.proofs.Standing.{kept_of}

@@ -23,16 +23,16 @@ use Rattle.s370_walk.proofs.Copies.{frozen_end, steady_end}
 use Rattle.s370_walk.proofs.NeverStuck.{never_stuck}
 use Rattle.cp_graph.specs.declared.program.Node.{Node}
 use Rattle.cp_dat.specs.Lent.{lent_bytes, lent_keys, lent_pool, user_of, lent_memory}
-use Rattle.cp_real.specs.declared.real.Real.{Real}
+use Rattle.cp_ccw.specs.declared.real.Real.{Real}
 use Rattle.std.specs.Prelude.{◌/◌}
 use Rattle.cp_frames.specs.Layout.{FrameSupply, is_there}
 use Rattle.cp_dat.specs.declared.dat.Dat.{Dat}
 use Rattle.cp_dat.specs.Lent.{KeepsRest}
 use Rattle.s370_walk.specs.Mapped.{real_place}
-use Rattle.cp_real.specs.Layout.{real_in}
-use Rattle.cp_real.specs.Shown.{real_bytes_of, real_keys_of, is_real_page_of, KeepsReal, same_real}
-use Rattle.cp_real.specs.Mapped.{IsLent}
-use Rattle.cp_real.proofs.Lending.{lent, lent_mapped, lent_present}
+use Rattle.cp_ccw.specs.Layout.{real_in}
+use Rattle.cp_ccw.specs.Shown.{real_bytes_of, real_keys_of, is_real_page_of, KeepsReal, same_real}
+use Rattle.cp_ccw.specs.Mapped.{IsLent}
+use Rattle.cp_ccw.proofs.Lending.{lent, lent_mapped, lent_present}
 use Rattle.cp_ccw.specs.Translated.{table_written, IsTranslatedFor}
 
 abbrev written_by : (ℕ → Option Ccw) → (ℕ → ℕ → Option ℕ) → Written

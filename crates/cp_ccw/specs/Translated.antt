@@ -10,8 +10,8 @@ use Rattle.cp_graph.specs.declared.program.Node.{Node}
 use Rattle.cp_graph.specs.Table.{program_of}
 use Rattle.cp_dat.specs.declared.dat.Dat.{Dat}
 use Rattle.cp_dat.specs.Lent.{lent_bytes, lent_pool, user_of}
-use Rattle.cp_real.specs.Layout.{real_in}
-use Rattle.cp_real.specs.Mapped.{AreHeld}
+use Rattle.cp_ccw.specs.Layout.{real_in}
+use Rattle.cp_ccw.specs.Mapped.{AreHeld}
 
 -- a table as a program: its words and addresses are in no storage
 abbrev pub table_written : List Node → Written

@@ -1,7 +1,7 @@
 //! A guest's channel program with real addresses.
 ghost use Rattle.std.specs.Prelude.{◌≡◌, length};
 ghost use Rattle.s370_walk.specs.Mapped.{real_place};
-ghost use Rattle.cp_real.specs.Layout.{real_in};
+ghost use Rattle.cp_ccw.specs.Layout.{real_in};
 ghost use Rattle.cp_ccw.specs.Moved.{AreReal, AreRealNodes};
 ghost use Rattle.cp_ccw.specs.Translated.{table_written};
 
