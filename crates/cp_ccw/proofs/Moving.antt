@@ -7,8 +7,8 @@ use Rattle.std.proofs.lemmas.List.{get_or-set_same, get_or-set_other, length-set
 use Rattle.std.proofs.lemmas.Option.{slice_get-get_or, slice_get_past, slice_get_within}
 use Rattle.cp_frames.proofs.Layouts.{dec_eq}
 use Rattle.s370_walk.specs.Mapped.{real_place}
-use Rattle.cp_graph.specs.declared.program.Node.{Node}
-use Rattle.cp_graph.specs.Table.{program_of, word_in, entry_in}
+use Rattle.cp_needs.specs.declared.program.Node.{Node}
+use Rattle.cp_needs.specs.Table.{program_of, word_in, entry_in}
 use Rattle.cp_ccw.specs.Moved.{AreReal, AreRealBelow, AreRealNodes}
 
 -- One more element of a list gets its real address.

@@ -21,7 +21,7 @@ use Rattle.s370_walk.specs.Copy.{guest_of, IsPlace, MeetsFrozen}
 use Rattle.s370_walk.specs.Unstuck.{real_written}
 use Rattle.s370_walk.proofs.Copies.{frozen_end, steady_end}
 use Rattle.s370_walk.proofs.NeverStuck.{never_stuck}
-use Rattle.cp_graph.specs.declared.program.Node.{Node}
+use Rattle.cp_needs.specs.declared.program.Node.{Node}
 use Rattle.cp_dat.specs.Lent.{lent_bytes, lent_keys, lent_pool, user_of, lent_memory}
 use Rattle.cp_ccw.specs.declared.real.Real.{Real}
 use Rattle.std.specs.Prelude.{◌/◌}

@@ -8,7 +8,7 @@ use Rattle.s370_walk.specs.Walk.{live}
 use Rattle.s370_walk.specs.declared.places.CcwLocation.{CcwLocation}
 use Rattle.s370_walk.specs.Copy.{guest_of, IsCopyOf, IsPlace}
 use Rattle.s370_walk.specs.Mapped.{Program}
-use Rattle.cp_graph.specs.declared.program.Node.{Node}
+use Rattle.cp_needs.specs.declared.program.Node.{Node}
 use Rattle.cp_needs.specs.declared.kept.WordAt.{WordAt}
 use Rattle.cp_needs.specs.Kept.{IsAsItStood, IsText, IsTextOnly}
 use Rattle.cp_needs.specs.Needs.{IsFixed}

@@ -6,8 +6,8 @@ use Rattle.s370_channel.specs.Guest.{guest_written}
 use Rattle.s370_walk.specs.declared.places.CcwLocation.{CcwLocation}
 use Rattle.s370_walk.specs.Mapped.{Program, real_place}
 use Rattle.s370_walk.specs.Copy.{IsCopyOf}
-use Rattle.cp_graph.specs.declared.program.Node.{Node}
-use Rattle.cp_graph.specs.Table.{program_of}
+use Rattle.cp_needs.specs.declared.program.Node.{Node}
+use Rattle.cp_needs.specs.Table.{program_of}
 use Rattle.cp_dat.specs.declared.dat.Dat.{Dat}
 use Rattle.cp_dat.specs.Lent.{lent_bytes, lent_pool, user_of}
 use Rattle.cp_ccw.specs.Layout.{real_in}

@@ -6,7 +6,7 @@ ghost use Rattle.cp_ccw.specs.Moved.{AreReal, AreRealNodes};
 ghost use Rattle.cp_ccw.specs.Translated.{table_written};
 
 use cp_dat::Dat;
-use cp_graph::Node;
+use cp_needs::Node;
 use s370_store::{Page, Storage};
 use s370_walk::{Ccw, CcwLocation, Position, WordForm};
 

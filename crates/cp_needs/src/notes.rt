@@ -9,7 +9,7 @@ ghost use Rattle.cp_needs.specs.Noted.{IsFilled, IsFilledAt, IsFilledBy, IsPiece
 ghost use Rattle.cp_needs.specs.Words.{IsAreaPage, IsPresent, IsPageAt};
 
 use crate::areas::{block_here, bytes_in_block, list_address};
-use cp_graph::has_area;
+use crate::lists::has_area;
 use s370_channel::fetch_word;
 use s370_store::{PAGE_SIZE, Page, Range, Storage};
 use s370_walk::{Ccw, Flags};
