@@ -18,8 +18,6 @@ import tempfile
 
 sys.dont_write_bytecode = True
 TOP = os.path.dirname(os.path.dirname(os.path.realpath(__file__)))
-# a library whose first page is without an example: it has nothing to call
-WITHOUT = {"channel_laws"}
 SCRATCH = "page_examples"
 HEAD = "use std::test::Fail;\n"
 BEGIN = """
@@ -224,7 +222,7 @@ def main(names: list[str]) -> int:
     faults = [
         f"crates/{path}: its first page has no example"
         for path, examples in pages.items()
-        if not examples and path.split("/")[0] not in WITHOUT
+        if not examples
     ]
     silent = {
         (module_name(path), first): (first, "it asserts nothing")

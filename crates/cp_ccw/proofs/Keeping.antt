@@ -19,14 +19,14 @@ use Rattle.s370_channel.specs.declared.running.ChannelError.TheVariants as error
 use Rattle.s370_channel.specs.declared.words.Caw.{Caw}
 use Rattle.s370_channel.specs.Guest.{guest_text, guest_written}
 use Rattle.s370_channel.specs.Progress.{setting}
-use Rattle.channel_laws.specs.declared.places.CcwLocation.{CcwLocation}
-use Rattle.channel_laws.specs.Copy.{guest_of, IsCopyOf, IsPlace}
-use Rattle.channel_laws.specs.Mapped.{Named, real_place}
+use Rattle.s370_walk.specs.declared.places.CcwLocation.{CcwLocation}
+use Rattle.s370_walk.specs.Copy.{guest_of, IsCopyOf, IsPlace}
+use Rattle.s370_walk.specs.Mapped.{Named, real_place}
 use Rattle.cp_dat.specs.declared.dat.Dat.{Dat}
 use Rattle.cp_dat.specs.Lent.{is_lent_page, lent_bytes, lent_frame, lent_memory}
-use Rattle.cp_graph.specs.declared.program.Node.{Node}
-use Rattle.cp_graph.specs.Table.{entry_in, program_of}
-use Rattle.cp_real.specs.Layout.{at_frame, real_in}
+use Rattle.cp_needs.specs.declared.program.Node.{Node}
+use Rattle.cp_needs.specs.Table.{entry_in, program_of}
+use Rattle.cp_ccw.specs.Layout.{at_frame, real_in}
 use Rattle.cp_needs.specs.Kept.{IsKept}
 use Rattle.cp_needs.specs.Needs.{IsFixed}
 use Rattle.cp_needs.proofs.Standing.{kept_of}

@@ -4,3 +4,5 @@ pub mod Steady
 pub mod Served
 pub mod Keeping
 pub mod Knowing
+pub mod Framed
+pub mod Lending

@@ -6,9 +6,9 @@ use Rattle.std.proofs.Math.Decide.{dec_lt}
 use Rattle.std.proofs.lemmas.List.{get_or-set_same, get_or-set_other, length-set, get_or_past}
 use Rattle.std.proofs.lemmas.Option.{slice_get-get_or, slice_get_past, slice_get_within}
 use Rattle.cp_frames.proofs.Layouts.{dec_eq}
-use Rattle.channel_laws.specs.Mapped.{real_place}
-use Rattle.cp_graph.specs.declared.program.Node.{Node}
-use Rattle.cp_graph.specs.Table.{program_of, word_in, entry_in}
+use Rattle.s370_walk.specs.Mapped.{real_place}
+use Rattle.cp_needs.specs.declared.program.Node.{Node}
+use Rattle.cp_needs.specs.Table.{program_of, word_in, entry_in}
 use Rattle.cp_ccw.specs.Moved.{AreReal, AreRealBelow, AreRealNodes}
 
 -- One more element of a list gets its real address.

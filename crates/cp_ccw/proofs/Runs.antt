@@ -12,27 +12,27 @@ use Rattle.s370_channel.specs.Guest.{guest_text, guest_written}
 use Rattle.s370_channel.specs.declared.running.ChannelError.{ChannelError}
 use Rattle.s370_channel.specs.declared.running.ChannelError.TheVariants as errors
 use Rattle.s370_walk.specs.Stuck.{IsStuck}
-use Rattle.channel_laws.specs.declared.places.CcwLocation.{CcwLocation}
-use Rattle.channel_laws.specs.Frozen.{words_frozen}
+use Rattle.s370_walk.specs.declared.places.CcwLocation.{CcwLocation}
+use Rattle.s370_walk.specs.WordsFrozen.{words_frozen}
 use Rattle.s370_walk.specs.Frozen.{IsSteady}
-use Rattle.channel_laws.specs.Renaming.{renamed_ending}
-use Rattle.channel_laws.specs.Mapped.{Named, IsMapped, IsKept}
-use Rattle.channel_laws.specs.Copy.{guest_of, IsPlace, MeetsFrozen}
-use Rattle.channel_laws.specs.Unstuck.{real_written}
-use Rattle.channel_laws.proofs.Copies.{frozen_end, steady_end}
-use Rattle.channel_laws.proofs.NeverStuck.{never_stuck}
-use Rattle.cp_graph.specs.declared.program.Node.{Node}
+use Rattle.s370_walk.specs.Renaming.{renamed_ending}
+use Rattle.s370_walk.specs.Mapped.{Named, IsMapped, IsKept}
+use Rattle.s370_walk.specs.Copy.{guest_of, IsPlace, MeetsFrozen}
+use Rattle.s370_walk.specs.Unstuck.{real_written}
+use Rattle.s370_walk.proofs.Copies.{frozen_end, steady_end}
+use Rattle.s370_walk.proofs.NeverStuck.{never_stuck}
+use Rattle.cp_needs.specs.declared.program.Node.{Node}
 use Rattle.cp_dat.specs.Lent.{lent_bytes, lent_keys, lent_pool, user_of, lent_memory}
-use Rattle.cp_real.specs.declared.real.Real.{Real}
+use Rattle.cp_ccw.specs.declared.real.Real.{Real}
 use Rattle.std.specs.Prelude.{◌/◌}
 use Rattle.cp_frames.specs.Layout.{FrameSupply, is_there}
 use Rattle.cp_dat.specs.declared.dat.Dat.{Dat}
 use Rattle.cp_dat.specs.Lent.{KeepsRest}
-use Rattle.channel_laws.specs.Mapped.{real_place}
-use Rattle.cp_real.specs.Layout.{real_in}
-use Rattle.cp_real.specs.Shown.{real_bytes_of, real_keys_of, is_real_page_of, KeepsReal, same_real}
-use Rattle.cp_real.specs.Mapped.{IsLent}
-use Rattle.cp_real.proofs.Lending.{lent, lent_mapped, lent_present}
+use Rattle.s370_walk.specs.Mapped.{real_place}
+use Rattle.cp_ccw.specs.Layout.{real_in}
+use Rattle.cp_ccw.specs.Shown.{real_bytes_of, real_keys_of, is_real_page_of, KeepsReal, same_real}
+use Rattle.cp_ccw.specs.Mapped.{IsLent}
+use Rattle.cp_ccw.proofs.Lending.{lent, lent_mapped, lent_present}
 use Rattle.cp_ccw.specs.Translated.{table_written, IsTranslatedFor}
 
 abbrev written_by : (ℕ → Option Ccw) → (ℕ → ℕ → Option ℕ) → Written

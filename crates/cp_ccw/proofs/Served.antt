@@ -13,8 +13,8 @@ use Rattle.s370_walk.specs.Blocks.{block_number, straight}
 use Rattle.s370_store.specs.Memory.{Memory}
 use Rattle.s370_walk.specs.Hardware.{is_in}
 use Rattle.s370_walk.specs.Walk.{is_indirect}
-use Rattle.cp_graph.specs.Closure.{IsDataPage, IsEntryPage, IsServed, IsUsed, IsWordPage}
-use Rattle.cp_graph.proofs.Tables.{area_aligned}
+use Rattle.cp_needs.specs.Closure.{IsDataPage, IsEntryPage, IsServed, IsUsed, IsWordPage}
+use Rattle.cp_needs.proofs.Tables.{area_aligned}
 use Rattle.cp_needs.specs.Areas.{IsBegun}
 use Rattle.cp_needs.specs.Needs.{IsHeld, IsProgramPage}
 use Rattle.cp_needs.specs.Words.{IsAreaPage, IsPageAt}

@@ -5,7 +5,7 @@ use Rattle.s370_store.specs.Memory.{Memory}
 use Rattle.s370_walk.specs.Walk.{Setting, State, Fetching, Moving, Over, live, next, walk, fetched, rest}
 use Rattle.s370_walk.proofs.Freezing.{moved_same}
 use Rattle.s370_channel.specs.Guest.{guest_written}
-use Rattle.channel_laws.specs.Frozen.{words_frozen}
+use Rattle.s370_walk.specs.WordsFrozen.{words_frozen}
 use Rattle.cp_needs.specs.Laws.{IsSteadyInWords}
 
 module _ {D : Type 0} (h : Setting D) (m0 : Memory) where

@@ -5,10 +5,10 @@ use Rattle.s370_channel.specs.Guest.{guest_text, guest_written}
 use Rattle.s370_channel.specs.declared.words.Caw.{Caw}
 use Rattle.s370_store.specs.Memory.{Memory}
 use Rattle.s370_walk.specs.Walk.{live}
-use Rattle.channel_laws.specs.declared.places.CcwLocation.{CcwLocation}
-use Rattle.channel_laws.specs.Copy.{guest_of, IsCopyOf, IsPlace}
-use Rattle.channel_laws.specs.Mapped.{Program}
-use Rattle.cp_graph.specs.declared.program.Node.{Node}
+use Rattle.s370_walk.specs.declared.places.CcwLocation.{CcwLocation}
+use Rattle.s370_walk.specs.Copy.{guest_of, IsCopyOf, IsPlace}
+use Rattle.s370_walk.specs.Mapped.{Program}
+use Rattle.cp_needs.specs.declared.program.Node.{Node}
 use Rattle.cp_needs.specs.declared.kept.WordAt.{WordAt}
 use Rattle.cp_needs.specs.Kept.{IsAsItStood, IsText, IsTextOnly}
 use Rattle.cp_needs.specs.Needs.{IsFixed}

@@ -4,3 +4,6 @@ pub mod Runs
 pub mod CachedProgram
 pub mod CachedPages
 pub mod Placed
+pub mod Layout
+pub mod Shown
+pub mod Mapped

@@ -1,8 +1,8 @@
 -- Lists of addresses that are given real ones, from the first entry on.
 use Rattle.std.specs.Prelude.{◌≡◌, ℕ, ◌<◌, ◌≤◌, List, length, slice_index_or, Option, None}
-use Rattle.channel_laws.specs.Mapped.{real_place}
-use Rattle.cp_graph.specs.declared.program.Node.{Node}
-use Rattle.cp_graph.specs.Table.{program_of}
+use Rattle.s370_walk.specs.Mapped.{real_place}
+use Rattle.cp_needs.specs.declared.program.Node.{Node}
+use Rattle.cp_needs.specs.Table.{program_of}
 
 -- the first entries have real addresses, the others are as they were
 pub record AreReal (real : ℕ → Option ℕ) (n : ℕ) (old new : List (Option ℕ)) : Type 0 where

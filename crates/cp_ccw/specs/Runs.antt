@@ -7,11 +7,11 @@ use Rattle.s370_walk.specs.Walk.{Form, live, Fetching, Over, Reaches, start_spot
 use Rattle.s370_channel.specs.declared.limits.Limits.{Limits}
 use Rattle.s370_channel.specs.Progress.{setting}
 use Rattle.s370_channel.specs.Guest.{guest_written}
-use Rattle.channel_laws.specs.Frozen.{words_frozen}
+use Rattle.s370_walk.specs.WordsFrozen.{words_frozen}
 use Rattle.s370_channel.specs.Reading.{IsSteadyFrom}
 use Rattle.cp_dat.specs.declared.dat.Dat.{Dat}
 use Rattle.cp_dat.specs.Lent.{lent_memory}
-use Rattle.cp_real.specs.declared.real.Real.{Real}
+use Rattle.cp_ccw.specs.declared.real.Real.{Real}
 
 -- the frames, and whose pages are seen in them
 abbrev pub dat_of : Real → Dat

@@ -3,15 +3,15 @@ use Rattle.std.specs.Prelude.{◌≡◌, ℕ, List, [], length}
 use Rattle.s370_store.specs.Memory.{Memory}
 use Rattle.s370_walk.specs.Walk.{Written, live}
 use Rattle.s370_channel.specs.Guest.{guest_written}
-use Rattle.channel_laws.specs.declared.places.CcwLocation.{CcwLocation}
-use Rattle.channel_laws.specs.Mapped.{Program, real_place}
-use Rattle.channel_laws.specs.Copy.{IsCopyOf}
-use Rattle.cp_graph.specs.declared.program.Node.{Node}
-use Rattle.cp_graph.specs.Table.{program_of}
+use Rattle.s370_walk.specs.declared.places.CcwLocation.{CcwLocation}
+use Rattle.s370_walk.specs.Mapped.{Program, real_place}
+use Rattle.s370_walk.specs.Copy.{IsCopyOf}
+use Rattle.cp_needs.specs.declared.program.Node.{Node}
+use Rattle.cp_needs.specs.Table.{program_of}
 use Rattle.cp_dat.specs.declared.dat.Dat.{Dat}
 use Rattle.cp_dat.specs.Lent.{lent_bytes, lent_pool, user_of}
-use Rattle.cp_real.specs.Layout.{real_in}
-use Rattle.cp_real.specs.Mapped.{AreHeld}
+use Rattle.cp_ccw.specs.Layout.{real_in}
+use Rattle.cp_ccw.specs.Mapped.{AreHeld}
 
 -- a table as a program: its words and addresses are in no storage
 abbrev pub table_written : List Node → Written

@@ -32,11 +32,38 @@
 //! store_doubleword(&mut storage, 0x800, 0x0900_0840_0000_0004);
 //! assert!(rt; !reusable(&kept, &storage, start));
 //! ```
+//!
+//! Real storage ([`Real`]) is what the channel sees while one user's program runs: the pool's
+//! frames from address 0, and after them the control program's own area. What is written to a
+//! frame is written to the page of the user that is in it, and to nothing of any other user;
+//! frames of others, and free ones, are never present.
+//!
+//! ```
+//! use cp_ccw::Real;
+//! use cp_dat::Dat;
+//! use cp_frames::Frames;
+//! use user_names::UserNo;
+//! use s370_num::StorageKey;
+//! use s370_store::{Page, load_word, store_word};
+//!
+//! let mut frames = Frames::new(alloc, 16, 0, vec![in alloc; 3]?)?; // one user of three pages
+//! let mut keys = [StorageKey::ZERO; 6];
+//! let mut storage = Dat::new(&mut frames, &mut keys, UserNo::new(0));
+//! let frame = storage.bring(Page(2))?;
+//! let mut area = [0; 8];
+//! let mut real = Real { dat: &mut storage, frames: 16, area: &mut area };
+//! store_word(&mut real, 4096 * u32::from(frame.0), 0x1234_5678);
+//! store_word(&mut real, 4096 * 16, 0x9ABC_DEF0); // behind the frames
+//! assert_eq!(rt; load_word(&storage, 0x2000), 0x1234_5678);
+//! assert_eq!(rt; area, [0x9A, 0xBC, 0xDE, 0xF0, 0, 0, 0, 0]);
+//! ```
 #![tactic(auto)]
 
 mod direct;
 mod kept;
 mod known;
+mod laws;
+mod real;
 mod reuse;
 mod running;
 mod table;
@@ -44,6 +71,8 @@ mod table;
 pub use direct::{is_valid, know};
 pub use kept::{CachedProgram, PageInFrame};
 pub use known::CachedPages;
+pub use laws::{held_programs_are_mapped, real_storage_is_mapped};
+pub use real::Real;
 pub use reuse::{cache_program, reusable, run_kept};
 pub use running::run_translated;
 pub use table::Table;

@@ -4,14 +4,14 @@ ghost use Rattle.cp_dat.specs.Lent.{KeepsStored};
 ghost use Rattle.s370_store.specs.Memory.{Memory};
 ghost use Rattle.s370_channel.specs.Guest.{guest_text};
 ghost use Rattle.s370_channel.specs.declared.running.ChannelError.TheVariants as errors;
-ghost use Rattle.channel_laws.specs.Copy.{guest_of, IsPlace};
-ghost use Rattle.cp_real.specs.Shown.{KeepsReal};
+ghost use Rattle.s370_walk.specs.Copy.{guest_of, IsPlace};
+ghost use Rattle.cp_ccw.specs.Shown.{KeepsReal};
 ghost use Rattle.cp_ccw.specs.Translated.{IsTranslatedFor};
 ghost use Rattle.cp_ccw.specs.Runs.{dat_of, IsGuestsRun};
 
+use crate::real::Real;
 use crate::table::Table;
 use cp_dat::Dat;
-use cp_real::Real;
 use s370_channel::{ChannelError, Limits, run};
 use s370_store::Storage;
 use s370_walk::{Device, Ending};

@@ -1,15 +1,14 @@
 //! A guest's channel program with real addresses.
 ghost use Rattle.std.specs.Prelude.{◌≡◌, length};
-ghost use Rattle.channel_laws.specs.Mapped.{real_place};
-ghost use Rattle.cp_real.specs.Layout.{real_in};
+ghost use Rattle.s370_walk.specs.Mapped.{real_place};
+ghost use Rattle.cp_ccw.specs.Layout.{real_in};
 ghost use Rattle.cp_ccw.specs.Moved.{AreReal, AreRealNodes};
 ghost use Rattle.cp_ccw.specs.Translated.{table_written};
 
-use channel_laws::CcwLocation;
 use cp_dat::Dat;
-use cp_graph::Node;
+use cp_needs::Node;
 use s370_store::{Page, Storage};
-use s370_walk::{Ccw, Position, WordForm};
+use s370_walk::{Ccw, CcwLocation, Position, WordForm};
 
 /// A copied program whose lists have real addresses.
 #[derive(Drop)]

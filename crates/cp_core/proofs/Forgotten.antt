@@ -10,7 +10,7 @@ use Rattle.s370_channel.specs.declared.words.Caw.{Caw}
 use Rattle.s370_subchannels.specs.Programs.{program_of}
 use Rattle.s370_intr.specs.Run.{IsLacking}
 use Rattle.s370_intr.specs.declared.run.Ran.{Ran as RanUnits}
-use Rattle.cp_hold.specs.Holding.{HoldNeeds}
+use Rattle.cp_trial.specs.Holding.{HoldNeeds}
 use Rattle.cp_dat.specs.Supplied.{HasNoRoom}
 use Rattle.cp_resident.specs.Reuse.{ReuseValue}
 use Rattle.machine_channels.specs.Channels.{serve_times}

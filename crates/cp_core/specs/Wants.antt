@@ -2,7 +2,7 @@
 -- line that asks for it.
 use Rattle.std.specs.Prelude.{◌⊎◌, ℕ, List}
 use Rattle.s370_store.specs.Access.{Touches}
-use Rattle.cp_hold.specs.Holding.{HoldNeeds}
+use Rattle.cp_trial.specs.Holding.{HoldNeeds}
 use Rattle.machine_devices.specs.Equipped.{Equipped}
 use Rattle.machine_devices.specs.Comes.{LoadWants}
 use Rattle.machine_devices.specs.Lines.{requested}

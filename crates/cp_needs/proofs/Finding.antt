@@ -9,8 +9,8 @@ use Rattle.s370_channel.specs.Guest.{guest_text}
 use Rattle.s370_walk.specs.declared.parts.Ccw.{Ccw}
 use Rattle.s370_store.specs.Memory.{Memory}
 use Rattle.s370_walk.specs.Walk.{chains_command, chains_data, is_jump}
-use Rattle.channel_laws.specs.Renaming.{Leads}
-use Rattle.cp_graph.specs.Table.{leads_next, leads_skipped}
+use Rattle.s370_walk.specs.Renaming.{Leads}
+use Rattle.cp_needs.specs.Table.{leads_next, leads_skipped}
 use Rattle.cp_needs.specs.Needs.{IsReached}
 use Rattle.cp_needs.proofs.Walking.{leads_of}
 use Rattle.cp_needs.specs.Areas.{IsAreaByte, IsListByte}

@@ -14,8 +14,8 @@ use Rattle.s370_walk.specs.Blocks.{block_number, straight}
 use Rattle.s370_store.specs.Memory.{Memory}
 use Rattle.s370_walk.specs.Hardware.{area, fault_of, is_in, put_byte}
 use Rattle.s370_walk.specs.Walk.{is_indirect}
-use Rattle.channel_laws.proofs.Mapping.{get_other}
-use Rattle.channel_laws.specs.Tracks.{has_area}
+use Rattle.s370_walk.proofs.Mapping.{get_other}
+use Rattle.s370_walk.specs.Tracks.{has_area}
 use Rattle.cp_needs.specs.Areas.{IsBegun}
 use Rattle.s370_store.specs.Access.{is_passed, is_permitted, is_permitted_from}
 use Rattle.cp_needs.specs.Kept.{IsKept}

@@ -10,3 +10,7 @@ pub mod Sizes
 pub mod Enough
 pub mod Standing
 pub mod Paging
+pub mod Marking
+pub mod Tables
+pub mod Closures
+pub mod Slotting

@@ -12,7 +12,7 @@ use Rattle.s370_walk.specs.Blocks.{block_number}
 use Rattle.s370_store.specs.Memory.{Memory}
 use Rattle.s370_walk.specs.Walk.{is_indirect, skips}
 use Rattle.cp_needs.specs.Areas.{IsAreaByte, IsBegun, IsListByte, byte_place}
-use Rattle.channel_laws.specs.Tracks.{has_area}
+use Rattle.s370_walk.specs.Tracks.{has_area}
 use Rattle.cp_needs.specs.Needs.{IsTextByte}
 use Rattle.cp_needs.specs.Noted.{AreMarked, AreStored, IsEntryByte, IsFilled, IsFilledAt, IsFilledBy, IsInPiece}
 use Rattle.cp_needs.specs.Noted.{IsInSome, IsPieceByte, IsTextOf}

@@ -10,7 +10,7 @@ use Rattle.s370_channel.specs.Guest.{area_block, guest_text}
 use Rattle.s370_walk.specs.declared.parts.Ccw.{Ccw}
 use Rattle.s370_walk.specs.Blocks.{block_number}
 use Rattle.s370_store.specs.Memory.{Memory}
-use Rattle.channel_laws.specs.Tracks.{has_area}
+use Rattle.s370_walk.specs.Tracks.{has_area}
 use Rattle.cp_needs.specs.Areas.{IsAreaByte, IsBegun, byte_place}
 use Rattle.cp_needs.specs.declared.demand.Judged.{Judged}
 use Rattle.cp_needs.specs.declared.demand.Judged.TheVariants as judged

@@ -11,8 +11,8 @@ use Rattle.s370_channel.specs.Guest.{guest_text, word_at}
 use Rattle.s370_walk.specs.declared.parts.Ccw.{Ccw}
 use Rattle.s370_store.specs.Memory.{Memory}
 use Rattle.s370_walk.specs.Hardware.{is_in}
-use Rattle.cp_graph.specs.Closure.{InProgram, starts, jumps, continues_at, commands_at, skips_to}
-use Rattle.cp_graph.proofs.Tables.{skipped_even, text_even}
+use Rattle.cp_needs.specs.Closure.{InProgram, starts, jumps, continues_at, commands_at, skips_to}
+use Rattle.cp_needs.proofs.Tables.{skipped_even, text_even}
 use Rattle.cp_needs.specs.Needs.{IsDataByte, IsHeld, IsProgramPage, IsReached, IsTextByte}
 use Rattle.cp_needs.proofs.Keeping.{in_fits}
 use Rattle.cp_needs.specs.Words.{AreSteps, AreWords, IsAmong, IsFollowed, IsPageAt, IsStep, IsVisited}

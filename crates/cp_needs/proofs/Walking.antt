@@ -30,10 +30,10 @@ use Rattle.s370_walk.specs.Walk.{stepped, rest, moving, skips, tells_length, cha
 use Rattle.s370_walk.specs.Walk.{ending, index_of, is_bad_word, is_bad_in_role, is_indirect, is_jump, no_check}
 use Rattle.s370_walk.specs.Walk.{no_status}
 use Rattle.s370_channel.specs.Guest.{area_block, block_asks, guest_text, guest_written, later}
-use Rattle.channel_laws.specs.Renaming.{Leads}
-use Rattle.cp_graph.specs.Closure.{starts, jumps, continues_at, commands_at, skips_to}
-use Rattle.cp_graph.proofs.Tables.{text_plain}
-use Rattle.channel_laws.specs.Tracks.{has_area}
+use Rattle.s370_walk.specs.Renaming.{Leads}
+use Rattle.cp_needs.specs.Closure.{starts, jumps, continues_at, commands_at, skips_to}
+use Rattle.cp_needs.proofs.Tables.{text_plain}
+use Rattle.s370_walk.specs.Tracks.{has_area}
 use Rattle.cp_needs.specs.Areas.{byte_place, IsBefore}
 use Rattle.cp_needs.specs.Needs.{IsFixed, IsHeld, IsProgramPage, IsReached}
 use Rattle.cp_needs.specs.Laws.{IsSteadyInWords}

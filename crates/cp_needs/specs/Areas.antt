@@ -1,7 +1,7 @@
 -- Where the bytes of a word's area lie, and which words of its list say so (GA22-7000, "Channel
 -- Indirect Data Addressing").
 use Rattle.std.specs.Prelude.{ℕ, zero, suc, ◌+◌, ◌*◌, ◌<◌, ◌≡◌, true, Option, None, Some}
-use Rattle.channel_laws.specs.Tracks.{has_area}
+use Rattle.s370_walk.specs.Tracks.{has_area}
 use Rattle.s370_channel.specs.Guest.{area_block, later}
 use Rattle.s370_walk.specs.declared.parts.Ccw.{Ccw}
 use Rattle.s370_walk.specs.Blocks.{begins_block, block_number, served}

@@ -5,3 +5,7 @@ pub mod Noted
 pub mod Laws
 pub mod Kept
 pub mod Judged
+pub mod Marks
+pub mod Table
+pub mod Closure
+pub mod Slots

@@ -1,6 +1,6 @@
 -- The pages that a channel program needs, and programs that leave their own words as they are.
 use Rattle.std.specs.Prelude.{ℕ, ◌+◌, ◌*◌, ◌/◌, ◌<◌, ◌≡◌, ◌⊎◌, Bool, true, false, length, Some}
-use Rattle.cp_graph.specs.Closure.{InProgram}
+use Rattle.cp_needs.specs.Closure.{InProgram}
 use Rattle.cp_needs.specs.Areas.{IsAreaByte, IsListByte}
 use Rattle.s370_channel.specs.Guest.{guest_text}
 use Rattle.s370_walk.specs.declared.parts.Ccw.{Ccw}

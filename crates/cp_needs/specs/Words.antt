@@ -1,7 +1,7 @@
 -- The words of a program as they are found, one after the other.
 use Rattle.std.specs.Prelude.{ℕ, ◌*◌, ◌/◌, ◌%◌, ◌<◌, ◌≡◌, ◌≢◌, ◌⊎◌, Bool, true, List, [], ◌∷◌, ◌++◌}
 use Rattle.std.specs.Prelude.{length, slice_index, Some}
-use Rattle.cp_graph.specs.Table.{leads_next, leads_skipped}
+use Rattle.cp_needs.specs.Table.{leads_next, leads_skipped}
 use Rattle.cp_needs.specs.Areas.{IsAreaByte, IsListByte}
 use Rattle.cp_needs.specs.Kept.{IsKept}
 use Rattle.cp_needs.specs.Needs.{IsDataByte, IsFixed, IsHeld, IsReached, IsTextByte}

@@ -1,14 +1,14 @@
 //! The pages of a word's list and area (GA22-7000, "Channel Indirect Data Addressing").
 ghost use Rattle.std.specs.Prelude.{◌≡◌, ◌≤◌, ◌<◌, ◌+◌, ◌*◌, ◌/◌, ◌%◌, ◌^◌, IfErr, IfNone, IfOk};
 ghost use Rattle.std.specs.Prelude.{IfSome, length, true, ℕ};
-ghost use Rattle.cp_graph.specs.Closure.{IsEntryPage};
+ghost use Rattle.cp_needs.specs.Closure.{IsEntryPage};
 ghost use Rattle.cp_needs.specs.Words.{IsAreaPage, IsPresent};
 ghost use Rattle.s370_channel.specs.Guest.{area_block, later};
 ghost use Rattle.s370_store.specs.Access.{IsAbsent};
 ghost use Rattle.s370_walk.specs.Walk.{is_indirect};
 
+use crate::lists::has_area;
 use crate::pages::absent_at;
-use cp_graph::has_area;
 use s370_channel::fetch_block;
 use s370_store::{Page, Storage};
 use s370_walk::{Ccw, Flags};

@@ -1,7 +1,7 @@
 //! What is noted of a program's words, to see whether an input of it could change one of them.
 ghost use Rattle.std.specs.Prelude.{[], ◌≡◌, ◌<◌, ◌≤◌, ◌%◌, IfOk, OnOk, length, slice_index, true};
 ghost use Rattle.std.specs.Prelude.{ℕ};
-ghost use Rattle.channel_laws.specs.Tracks as tracks;
+ghost use Rattle.s370_walk.specs.Tracks as tracks;
 ghost use Rattle.cp_needs.specs.Areas.{IsAreaByte, IsListByte};
 ghost use Rattle.cp_needs.specs.Needs.{IsDataByte, IsTextByte};
 ghost use Rattle.cp_needs.specs.Noted.{AreMarked, AreStored, ArePaged, IsDataOf, IsEntryByte};
@@ -9,7 +9,7 @@ ghost use Rattle.cp_needs.specs.Noted.{IsFilled, IsFilledAt, IsFilledBy, IsPiece
 ghost use Rattle.cp_needs.specs.Words.{IsAreaPage, IsPresent, IsPageAt};
 
 use crate::areas::{block_here, bytes_in_block, list_address};
-use cp_graph::has_area;
+use crate::lists::has_area;
 use s370_channel::fetch_word;
 use s370_store::{PAGE_SIZE, Page, Range, Storage};
 use s370_walk::{Ccw, Flags};

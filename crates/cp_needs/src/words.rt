@@ -1,15 +1,16 @@
 //! The words of a program, and the first of its pages that is not present.
 ghost use Rattle.std.specs.Prelude.{◌≡◌, ◌+◌, ◌*◌, ◌/◌, ◌%◌, ◌<◌, ◌≤◌, IfErr, IfNone, IfOk, IfSome};
 ghost use Rattle.std.specs.Prelude.{OnOk, length, true, vec_len, ℕ};
-ghost use Rattle.cp_graph.specs.Marks.{unmarked};
+ghost use Rattle.cp_needs.specs.Marks.{unmarked};
 ghost use Rattle.cp_needs.specs.Needs.{IsHeld, IsProgramPage};
 ghost use Rattle.cp_needs.specs.Words.{AreSeen, AreSteps, AreWords, IsAmong, IsFollowed, IsPageAt};
 ghost use Rattle.cp_needs.specs.Words.{IsVisited};
 ghost use Rattle.s370_store.specs.Access.{IsAbsent};
 
 use crate::areas::absent_in_area;
+use crate::copying::{leads_on, may_skip};
 use crate::pages::absent_at;
-use cp_graph::{Slots, leads_on, may_skip};
+use crate::slots::Slots;
 use s370_channel::fetch_word;
 use s370_store::{Page, Storage};
 use std::alloc::{AllocError, Global};

@@ -8,7 +8,7 @@ use Rattle.s370_channel.specs.declared.words.Caw.{Caw}
 use Rattle.s370_store.specs.declared.Page.{Page}
 use Rattle.s370_store.specs.Memory.{Memory}
 use Rattle.machine_channels.specs.Disks.{DiskAt}
-use Rattle.cp_hold.specs.Holding.{HoldNeeds, IsFixedProgram}
+use Rattle.cp_trial.specs.Holding.{HoldNeeds, IsFixedProgram}
 use Rattle.cp_needs.specs.declared.kept.WordAt.{WordAt}
 use Rattle.cp_volumes.specs.Running.{DiskLoadTouches, DiskTouches}
 use Rattle.s370_channel.specs.declared.running.ChannelError.{ChannelError}

@@ -19,7 +19,7 @@ use Rattle.cp_dat.specs.declared.dat.Dat.{Dat}
 use Rattle.cp_dat.specs.Copies.{CameOnly}
 use Rattle.cp_dat.specs.Lent.{KeepsStored, is_lent_page, keeps_rest_present, lent_memory, lent_pool}
 use Rattle.cp_dat.specs.Supplied.{IsBetweenUnits, TakesPins, unpinned}
-use Rattle.cp_hold.specs.Holding.{ArePagesHeld, IsFixedProgram}
+use Rattle.cp_trial.specs.Holding.{ArePagesHeld, IsFixedProgram}
 use Rattle.cp_needs.specs.declared.kept.WordAt.{WordAt}
 use Rattle.s370_store.specs.declared.Page.{Page}
 use Rattle.cp_trial.specs.declared.DryRunError.{DryRunError}

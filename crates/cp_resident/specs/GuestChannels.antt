@@ -14,7 +14,7 @@ use Rattle.cp_dat.specs.Lent.{KeepsStored, keeps_frames, keeps_frames_on, keeps_
 use Rattle.cp_dat.specs.Lent.{lent_keys, lent_memory, lent_pool, user_of}
 use Rattle.cp_dat.specs.Letting.{came_none}
 use Rattle.cp_dat.specs.Supplied.{HasSuch, IsBetweenUnits, IsBroughtInUnits, SuppliedUnits}
-use Rattle.cp_hold.specs.Holding.{ArePagesHeld}
+use Rattle.cp_trial.specs.Holding.{ArePagesHeld}
 use Rattle.cp_trial.specs.DryRun.{IsPlaced}
 use Rattle.cp_trial.specs.declared.DryRunError.{DryRunError}
 use Rattle.cp_trial.specs.declared.DryRunError.TheVariants as tries

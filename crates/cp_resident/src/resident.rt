@@ -5,7 +5,7 @@ ghost use Rattle.s370_channel.specs.Runs.{Walks};
 ghost use Rattle.s370_channel.specs.declared.running.ChannelError.TheVariants as errors;
 ghost use Rattle.machine_channels.specs.Channels.{WalksDisk};
 ghost use Rattle.cp_dat.specs.Lent.{KeepsStored, is_lent_page, lent_memory};
-ghost use Rattle.cp_hold.specs.Holding.{IsFixedProgram};
+ghost use Rattle.cp_trial.specs.Holding.{IsFixedProgram};
 ghost use Rattle.s370_store.specs.declared.Page.{Page};
 ghost use Rattle.cp_ccw.specs.CachedProgram.{IsAtBase};
 ghost use Rattle.cp_resident.specs.GuestChannels.{KeepsHung, disks_on, reuse_of, told_by, error_of};
@@ -15,9 +15,10 @@ use crate::reuse::Reuse;
 use channel_trial::{DryRun, TriedLoading};
 use cp_ccw::{CachedProgram, cache_program, know, run_kept};
 use cp_dat::Dat;
-use cp_hold::{LockedProgram, lock_pages};
 use cp_needs::WordAt;
-use cp_trial::{DryRunError, fetch_again, fetch_first, load_open, run_open};
+use cp_trial::{
+    DryRunError, LockedProgram, fetch_again, fetch_first, load_open, lock_pages, run_open,
+};
 use cp_volumes::{SharedDisk, UserDisks, Volumes};
 use machine_channels::{Channels, Disks, UnitRecord};
 use s370_channel::{Caw, ChannelError, Limits, MOST_COMMANDS};
@@ -132,7 +133,7 @@ impl<'a> Channels<Dat<'a>> for GuestChannels {
     ghost use Rattle.cp_resident.specs.GuestChannels.{PagedIn, HadRoom, IsFilled, came_further};
     ghost use Rattle.cp_resident.specs.GuestChannels.{came_nowhere, reuse_of};
     ghost use Rattle.cp_resident.specs.Reuse.{HasReused, HasReusedDisk};
-    ghost use Rattle.cp_hold.specs.Holding.{HoldNeeds};
+    ghost use Rattle.cp_trial.specs.Holding.{HoldNeeds};
     ghost use Rattle.cp_trial.specs.DryRun.{HadRoomAfterFirst};
 
     ghost reads = { as_reached };

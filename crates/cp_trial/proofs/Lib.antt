@@ -4,3 +4,5 @@ mod Brought
 mod Pages
 pub mod Trying
 mod Opening
+pub mod Flagging
+pub mod Holds

@@ -1,4 +1,5 @@
-//! Channel programs that run as a whole or not at all, on storage that is borrowed from frames.
+//! Channel programs that run as a whole or not at all, on storage that is borrowed from frames, and
+//! the pages of one that no input can change.
 //!
 //! A program is tried first, on copies of the pages to which it comes and with what is seen of its
 //! device: nothing has happened then, and it is known which pages the program touches. These are
@@ -31,8 +32,36 @@
 //! run_tried(alloc, &mut storage, start, &mut printer, &tried)?;
 //! assert!(rt; printer.entries().len() == 1 && storage.frame_of(Page(2)).is_some());
 //! ```
+//!
+//! A program that no input can change needs no dry run: its pages are held in frames until it has
+//! run ([`lock_pages`]). It is looked at where it is; where a page of it is absent, it is looked at
+//! on a copy of its user's bytes, for which nothing is brought. So one walk says all its pages, or
+//! that an input could change it. What is reported to be fixed is in frames whole; pages are
+//! brought of a fixed program alone, and only those that it needs; and one that is refused has no
+//! room next to the program's own pages.
+//!
+//! ```
+//! use cp_dat::Dat;
+//! use cp_frames::Frames;
+//! use cp_trial::{LockedProgram, lock_pages};
+//! use user_names::UserNo;
+//! use s370_num::StorageKey;
+//! use s370_store::{Page, store_doubleword};
+//!
+//! let mut frames = Frames::new(alloc, 16, 0, vec![in alloc; 3]?)?; // one user of three pages
+//! let mut keys = [StorageKey::ZERO; 6];
+//! let mut storage = Dat::new(&mut frames, &mut keys, UserNo::new(0));
+//! storage.bring(Page(0))?;
+//! store_doubleword(&mut storage, 0x800, 0x0900_2000_0000_0005); // write five bytes of page 2
+//! let LockedProgram::Fixed(_, pages) = lock_pages(alloc, &mut storage, 0x800)? else { return Err("it is fixed")? };
+//! assert_eq!(rt; pages.as_slice(), [Page(2)].as_slice());
+//! assert!(rt; storage.frame_of(Page(1)).is_none() && storage.frame_of(Page(2)).is_some());
+//! ```
 #![tactic(auto)]
 
+mod apart;
+mod flags;
+mod held;
 mod open;
 mod storage;
 
@@ -54,12 +83,14 @@ ghost use Rattle.cp_trial.specs.declared.DryRunError.TheVariants as errors;
 
 use channel_trial::{DryRun, TriedLoading, limits_of};
 use cp_dat::Dat;
+pub use held::{LockedProgram, lock_pages};
 pub use open::{fetch_again, fetch_first, load_open, run_open};
 use s370_channel::{Caw, load_supplied, run_supplied};
 use s370_store::FramesOut;
 use s370_walk::{Device, Ending};
 use std::alloc::{AllocError, Global};
-pub use storage::{TouchedPages, TrialStorage};
+pub use storage::TouchedPages;
+use storage::TrialStorage;
 
 /// Why a program that was tried does not run.
 #[derive(Clone, Copy, Debug, PartialEq, Eq)]

@@ -2,3 +2,11 @@ pub mod Moved
 pub mod Reaching
 pub mod Freezing
 pub mod Viewing
+pub mod WordsFreezing
+pub mod Renamed
+pub mod Tracked
+pub mod Simulation
+pub mod Mapping
+pub mod Copies
+pub mod Raising
+pub mod NeverStuck

@@ -6,3 +6,12 @@ pub mod Stuck
 pub mod Short
 pub mod Frozen
 pub mod Viewed
+pub mod WordsFrozen
+pub mod Renaming
+pub mod Tracks
+pub mod Pairing
+pub mod Mapped
+pub mod Copy
+pub mod Raised
+pub mod Unstuck
+pub mod CopyLaws

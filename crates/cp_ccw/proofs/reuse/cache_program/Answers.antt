@@ -1,5 +1,5 @@
 use Rattle.std.proofs.Common.{◌≡◌, ◌%◌, arith, length, refl, sym, ◌∙◌}
-use Rattle.cp_graph.specs.Table.{program_of}
+use Rattle.cp_needs.specs.Table.{program_of}
 use Rattle.cp_dat.specs.Lent.{is_lent_page, lent_bytes, lent_memory}
 use Rattle.cp_ccw.proofs.Keeping.{translated_for}
 use Rattle.cp_ccw.proofs.Served.{none_is_served}

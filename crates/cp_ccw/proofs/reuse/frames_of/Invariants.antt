@@ -1,7 +1,7 @@
 use Rattle.std.proofs.Common.{◌≡◌, ◌<◌, All, Some, ℕ}
 use Rattle.std.specs.List.{slice_get}
-use Rattle.cp_graph.specs.Table.{program_of}
-use Rattle.cp_graph.specs.declared.program.Node.{Node}
+use Rattle.cp_needs.specs.Table.{program_of}
+use Rattle.cp_needs.specs.declared.program.Node.{Node}
 use Rattle.cp_ccw.specs.CachedProgram.{AreNotedOnly, IsFrame, IsNoted}
 use Rattle.cp_ccw.proofs.reuse.frames_of.Given as goal
 

@@ -2,7 +2,7 @@ use Rattle.std.proofs.Common.{rules, subst, sym}
 use Rattle.std.specs.Prelude.{IfOk}
 use Rattle.s370_store.specs.Memory.{Memory}
 use Rattle.s370_channel.specs.Guest.{guest_text}
-use Rattle.channel_laws.specs.Copy.{guest_of, IsPlace}
+use Rattle.s370_walk.specs.Copy.{guest_of, IsPlace}
 use Rattle.cp_dat.specs.declared.dat.Dat.{Dat}
 use Rattle.cp_dat.specs.Lent.{KeepsStored}
 use Rattle.cp_ccw.specs.Runs.{IsGuestsRun}

@@ -1,7 +1,7 @@
 use Rattle.std.proofs.Common.{refl, None, ◌<◌, length, arith, ap, sym, ◌∙◌}
 use Rattle.std.proofs.lemmas.Option.{get_or_from_slice_get, slice_get_read}
-use Rattle.channel_laws.specs.Mapped.{real_place}
-use Rattle.cp_real.specs.Layout.{real_in}
+use Rattle.s370_walk.specs.Mapped.{real_place}
+use Rattle.cp_ccw.specs.Layout.{real_in}
 use Rattle.cp_ccw.proofs.Moving.{entry_on}
 use Rattle.cp_ccw.proofs.table.list_to_real.Goals as goal
 

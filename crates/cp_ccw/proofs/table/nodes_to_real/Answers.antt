@@ -1,6 +1,6 @@
 use Rattle.std.proofs.Common.{length, arith, refl}
 use Rattle.std.proofs.lemmas.Option.{slice_get_read}
-use Rattle.cp_real.specs.Layout.{real_in}
+use Rattle.cp_ccw.specs.Layout.{real_in}
 use Rattle.cp_ccw.proofs.Moving.{node_on, all_nodes}
 use Rattle.cp_ccw.proofs.table.nodes_to_real.Goals as goal
 

@@ -1,5 +1,5 @@
 use Rattle.std.proofs.Common.{◌-◌, vec_len}
-use Rattle.cp_real.specs.Layout.{real_in}
+use Rattle.cp_ccw.specs.Layout.{real_in}
 use Rattle.cp_ccw.specs.Moved.{AreRealBelow}
 use Rattle.cp_ccw.proofs.table.nodes_to_real.Given as goal
 

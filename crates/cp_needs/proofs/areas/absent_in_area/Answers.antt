@@ -1,6 +1,6 @@
 use Rattle.std.proofs.Common.{◌≡◌, ◌∙◌, sym, arith, true}
 use Rattle.s370_channel.specs.Guest.{area_block}
-use Rattle.channel_laws.specs.Tracks as tracks
+use Rattle.s370_walk.specs.Tracks as tracks
 use Rattle.cp_needs.proofs.Blocks.{asked_of, begun_on, done_on, done_past, pages_done}
 use Rattle.cp_needs.proofs.areas.absent_in_area.Goals as goal
 

@@ -1,5 +1,5 @@
 use Rattle.std.proofs.Common.{length, refl}
-use Rattle.cp_graph.proofs.Tables.{fault_verdict}
+use Rattle.cp_needs.proofs.Tables.{fault_verdict}
 use Rattle.cp_needs.proofs.Standing.{not_refused}
 use Rattle.cp_needs.proofs.kept.is_as_it_stood.Goals as goal
 

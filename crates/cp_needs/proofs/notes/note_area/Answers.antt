@@ -1,6 +1,6 @@
 use Rattle.std.proofs.Common.{◌≡◌, ◌∙◌, refl, sym, arith, true}
 use Rattle.s370_channel.specs.Guest.{area_block}
-use Rattle.channel_laws.specs.Tracks as tracks
+use Rattle.s370_walk.specs.Tracks as tracks
 use Rattle.cp_needs.proofs.Blocks.{asked_of, begun_on}
 use Rattle.cp_needs.proofs.Noting.{filled_done, filled_on, filled_past, list_done, list_on, list_past, not_away}
 use Rattle.cp_needs.proofs.Paging.{area_done, area_on, area_past}

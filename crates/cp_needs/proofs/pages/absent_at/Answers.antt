@@ -1,4 +1,4 @@
-use Rattle.cp_graph.proofs.Tables.{zero_passes, in_storage, fault_verdict}
+use Rattle.cp_needs.proofs.Tables.{zero_passes, in_storage, fault_verdict}
 use Rattle.cp_needs.proofs.pages.absent_at.Goals as goal
 
 pub returns-in-Err-Addressing-clause-present : goal.returns-in-Err-Addressing-clause-present

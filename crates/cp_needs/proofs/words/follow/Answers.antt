@@ -1,7 +1,7 @@
 use Rattle.std.proofs.Common.{◌≡◌, ◌≢◌, ◌/◌, ◌<◌, ◌∙◌, ap, sym, arith, length, slice_index}
 use Rattle.std.specs.Prelude.{slice_set}
-use Rattle.cp_graph.specs.Marks.{unmarked}
-use Rattle.cp_graph.proofs.Marking.{marked}
+use Rattle.cp_needs.specs.Marks.{unmarked}
+use Rattle.cp_needs.proofs.Marking.{marked}
 use Rattle.cp_needs.proofs.words.follow.Goals as goal
 
 pub returns-clause-count : goal.returns-clause-count

@@ -1,5 +1,5 @@
 use Rattle.std.proofs.Common.{◌≡◌, ◌+◌, ◌-◌, ◌*◌, ◌/◌, ◌<◌, ◌≤◌, length, vec_len}
-use Rattle.cp_graph.specs.Marks.{unmarked}
+use Rattle.cp_needs.specs.Marks.{unmarked}
 use Rattle.cp_needs.specs.Words.{AreSeen, IsAmong}
 use Rattle.cp_needs.proofs.Programs.{AreReached, AreVisited}
 use Rattle.cp_needs.proofs.words.words_of.Given as goal

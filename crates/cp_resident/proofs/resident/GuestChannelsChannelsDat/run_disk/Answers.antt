@@ -10,8 +10,8 @@ use Rattle.cp_dat.specs.Copies.{CameOnly}
 use Rattle.cp_dat.specs.Lent.{is_lent_page, keeps_stored_same, lent_bytes, lent_pool, lent_memory}
 use Rattle.cp_dat.specs.Letting.{between_kept}
 use Rattle.cp_dat.specs.Supplied.{IsBetweenUnits}
-use Rattle.cp_hold.specs.declared.held.LockedProgram.{LockedProgram}
-use Rattle.cp_hold.specs.Holding.{HoldNeeds, IfFixed, IfSelfModifying, IsFixedProgram}
+use Rattle.cp_trial.specs.declared.held.LockedProgram.{LockedProgram}
+use Rattle.cp_trial.specs.Holding.{HoldNeeds, IfFixed, IfSelfModifying, IsFixedProgram}
 use Rattle.cp_trial.specs.declared.DryRunError.{DryRunError}
 use Rattle.cp_trial.specs.declared.DryRunError.TheVariants as tries
 use Rattle.cp_trial.specs.DryRun.{LacksSuch}

@@ -1,9 +1,0 @@
-pub mod Frozen
-pub mod Renaming
-pub mod Tracks
-pub mod Pairing
-pub mod Mapped
-pub mod Copy
-pub mod Raised
-pub mod Unstuck
-pub mod Laws

@@ -1,4 +1,0 @@
-pub mod Marking
-pub mod Tables
-pub mod Closures
-pub mod Slotting

@@ -1,2 +1,0 @@
-pub mod Flagging
-pub mod Holds

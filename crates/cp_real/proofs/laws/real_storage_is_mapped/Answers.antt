@@ -1,5 +1,0 @@
-use Rattle.cp_real.proofs.Lending.{lent}
-use Rattle.cp_real.proofs.laws.real_storage_is_mapped.Goals as goal
-
-pub returns : goal.returns
-returns c = λ storage keys area owners user small few. lent storage keys area owners user small few
