@@ -1,7 +1,8 @@
 -- Bytes that a mask chooses.
 use Rattle.std.proofs.Common.{◌≡◌, ⊎_elim, ℕ, zero, suc, ◌+◌, ◌<◌, ◌≤◌, true, List, [], ◌∷◌, length, get_or, refl, ap}
-use Rattle.std.proofs.Common.{arith, take, Bool, false}
+use Rattle.std.proofs.Common.{arith, take, Bool, false, ◌*◌, ◌/◌, ◌%◌, ◌^◌, ◌∙◌}
 use Rattle.std.proofs.lemmas.Bool.{cases_eq}
+use Rattle.std.proofs.lemmas.Bool.Decides.{nat_tests}
 use Rattle.std.proofs.lemmas.List.{get_or-take}
 use Rattle.s370_bytes.specs.Masks.{is_chosen, chosen_before, byte_inserted, inserted, chosen_count}
 
@@ -50,5 +51,97 @@ pub inserted_front : (mask : ℕ) (xs ys : List ℕ)
     → inserted mask xs (take (chosen_count mask) ys) ≡ inserted mask xs ys
 unfolding inserted
 inserted_front mask xs ys =
-    rw (byte_front mask xs ys 0 (omega arith) _ refl, byte_front mask xs ys 1 (omega arith) _ refl,
-    byte_front mask xs ys 2 (omega arith) _ refl, byte_front mask xs ys 3 (omega arith) _ refl) refl
+    rw (
+      byte_front mask xs ys 0 (omega arith) _ refl,
+      byte_front mask xs ys 1 (omega arith) _ refl,
+      byte_front mask xs ys 2 (omega arith) _ refl,
+      byte_front mask xs ys 3 (omega arith) _ refl,
+    ) refl
+
+-- ---- how many bytes a mask chooses, in a table
+
+-- four bits of the table for each mask
+abbrev table_at : ℕ → ℕ
+table_at m = 0x4332322132212110 / 2 ^ (4 * m) % 16
+
+-- the table is right for each mask below n
+Agree : ℕ → Type 0
+Agree zero = Unit {0}
+Agree (suc m) = (table_at m ≡ chosen_before m 4) × Agree m
+
+agree_at : (n m : ℕ) → m < n → Agree n → table_at m ≡ chosen_before m 4
+unfolding Agree
+agree_at zero m h e = absurd (omega arith)
+agree_at (suc n) m h e =
+    ⊎_elim
+    (λ (same : m ≡ n). rw same e.0)
+    (λ (other : m ≡ n → ⊥). agree_at n m (omega (arith, other)) e.1)
+    (cases_eq m n)
+
+all_agree : Agree 16
+unfolding Agree
+all_agree = (
+  refl,
+  (
+    refl,
+    (
+      refl,
+      (
+        refl,
+        (
+          refl,
+          (
+            refl,
+            (
+              refl,
+              (
+                refl,
+                (
+                  refl,
+                  (
+                    refl,
+                    (
+                      refl,
+                      (
+                        refl,
+                        (
+                          refl,
+                          (
+                            refl,
+                            (
+                              refl,
+                              (refl, tt),
+                            ),
+                          ),
+                        ),
+                      ),
+                    ),
+                  ),
+                ),
+              ),
+            ),
+          ),
+        ),
+      ),
+    ),
+  ),
+)
+
+-- only the last four bits of a mask choose bytes
+last_bits : (mask : ℕ) → chosen_before (mask % 16) 4 ≡ chosen_before mask 4
+last_bits mask =
+    let a : mask % 16 / 2 ^ 3 % 2 ≡ mask / 2 ^ 3 % 2 = omega arith in
+    let b : mask % 16 / 2 ^ 2 % 2 ≡ mask / 2 ^ 2 % 2 = omega arith in
+    let d : mask % 16 / 2 ^ 1 % 2 ≡ mask / 2 ^ 1 % 2 = omega arith in
+    let e : mask % 16 / 2 ^ 0 % 2 ≡ mask / 2 ^ 0 % 2 = omega arith in
+    rw (a, b, d, e) refl
+
+-- The table holds how many bytes each mask chooses.
+pub table_is : (mask : ℕ) → 0x4332322132212110 / 2 ^ (4 * (mask % 16)) % 16 ≡ chosen_count mask
+unfolding chosen_count
+table_is mask = agree_at 16 (mask % 16) (omega arith) all_agree ∙ last_bits mask
+
+-- A mask chooses at most four bytes.
+pub at_most_four : (mask : ℕ) → chosen_count mask ≤ 4
+unfolding chosen_count
+at_most_four mask = grind (arith, nat_tests)

@@ -120,7 +120,7 @@ word_of_range bytes b k small =
     ∙ take-take 4 (16 - 4 * k) (drop (4 * k) (drop b bytes)) (omega arith)
     ∙ ap (take 4) (drop-drop (4 * k) b bytes) in
     let f : slice_range (slice_range bytes b (b + 16)) (0 + 4 * k) (0 + 4 * k + 4)
-        ≡ slice_range bytes (b + 4 * k) (b + 4 * k + 4) =
+    ≡ slice_range bytes (b + 4 * k) (b + 4 * k + 4) =
     rw (whole, one, other, place) e in
     ap (from_be_bytes w32) f
 

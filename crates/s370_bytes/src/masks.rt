@@ -28,18 +28,14 @@ fn is_chosen(mask: u8, place: u32) -> bool
 }
 
 /// Returns how many bytes of a register a four-bit mask selects.
-#[tactic(auto, unfolding(crate::specs::Masks::chosen_count))]
+#[inline(always)]
 pub fn chosen_count(mask: u8) -> u32
     ensures value { result ≡ chosen_count mask }
     ensures few { result ≤ 4 }
 {
-    let mut count = 0;
-    for k in 0..4u32 {
-        if is_chosen(mask, k) {
-            count += 1;
-        }
-    }
-    count
+    // four bits for each mask, the lowest for mask 0
+    let counts = 0x4332_3221_3221_2110u64;
+    ((counts >> (4 * (mask % 16))) % 16) as u32
 }
 
 /// Returns how many bytes are tested for access: as many as a mask selects, but at least one.
