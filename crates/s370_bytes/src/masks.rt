@@ -199,6 +199,27 @@ pub fn insert_characters_row<S: Storage>(
     Ok(Completion::Done)
 }
 
+/// Stores the first one to four bytes of a list in a block that `find_block` returned; each number
+/// of bytes has a store of its own, which copies a fixed number of them.
+#[inline(always)]
+fn store_front<S: Storage>(storage: &mut S, block: Block, start: u32, bytes: &[u8; 4], count: u32)
+    requires some { 0 < count }
+    requires few { count ≤ 4 }
+    requires placed { S.IsPlaced storage.old block }
+    requires begins { block.first ≤ start }
+    requires ends { start + count ≤ block.first + 2048 }
+    ensures stored { S.memory storage.new
+        ≡ with_stored (S.memory storage.old) start (take count bytes.now) }
+    ensures rest { S.Keeps storage.old storage.new }
+{
+    match count {
+        1 => storage.store_in(block, start, &bytes[..1]),
+        2 => storage.store_in(block, start, &bytes[..2]),
+        3 => storage.store_in(block, start, &bytes[..3]),
+        _ => storage.store_in(block, start, &bytes[..4]),
+    }
+}
+
 /// Does STCM: stores the bytes of a register that the mask selects, at least one, in a block that
 /// `find_block` returned.
 #[inline(always)]
@@ -222,7 +243,7 @@ pub fn store_characters_in<S: Storage>(
     let count = chosen_count(mask);
     let mut made = [0u8; 4];
     gather(mask, &cpu.general[i.r1().index()].to_be_bytes(), &mut made);
-    storage.store_in(block, start, &made[..count as usize]);
+    store_front(storage, block, start, &made, count);
 }
 
 /// Does STCM (BE): stores the bytes of a register that the mask selects, one after another.
