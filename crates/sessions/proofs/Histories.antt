@@ -197,6 +197,20 @@ partly_rest i xs ys old new a b p = record {
   written = p.written;
 }
 
+-- nothing was done yet
+pub partly_start : {W : Type 0} (i : Installation W) (all : List Act) (old : Scene W) (a : Option (List ℕ))
+    → IsPartly i all old old.world a a
+partly_start i all old a = record {
+  front = [];
+  rest = all;
+  split = refl;
+  entries = [];
+  last = old;
+  done = refl;
+  left = inl refl;
+  written = (0, omega arith, Appends-nil a);
+}
+
 -- nothing was done, or the first act was refused memory
 pub partly_none : {W : Type 0} (i : Installation W) (act : Act) (what : EventValue) (old : Scene W) (new : W)
     (a b : Option (List ℕ)) → MayAsk act what → IsUnanswered i what old.world new a b

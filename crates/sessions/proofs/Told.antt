@@ -1,5 +1,5 @@
 -- Whose event was said, and what is reported of one that was answered.
-use Rattle.std.proofs.Common.{◌≡◌, ℕ, List, ap, refl, ◌∙◌}
+use Rattle.std.proofs.Common.{◌≡◌, ℕ, List, [], ◌∷◌, ap, refl, ◌∙◌}
 use Rattle.machine_devices.specs.Events.{user_of}
 use Rattle.machine_devices.specs.declared.event.Event.{Event}
 use Rattle.machine_devices.specs.declared.event.Event.TheVariants as events
@@ -7,7 +7,7 @@ use Rattle.machine_devices.specs.declared.reply.Reply.{Reply}
 use Rattle.session_script.specs.Script.{EventValue}
 use Rattle.session_script.specs.Users.{KnownUser, names_of as names_in}
 use Rattle.sessions.specs.Installed.{Installation, as_said, names_of, user_at}
-use Rattle.sessions.specs.Schedule.{user_said}
+use Rattle.sessions.specs.Schedule.{Applies, acts_of, user_said}
 use Rattle.sessions.specs.Transcript.{ended, reply_lines, step_lines}
 use Rattle.sessions.specs.declared.schedule.Detail.{Detail}
 
@@ -18,6 +18,14 @@ user_same (events.Line user text) = refl
 user_same (events.Tick user) = refl
 user_same (events.Serve user device) = refl
 user_same (events.Deck user cards) = refl
+
+-- an event that happens is the one act of what was said
+pub acts_same : (event : Event) → acts_of (as_said event) ≡ Applies (as_said event) ∷ []
+acts_same (events.Run user units) = refl
+acts_same (events.Line user text) = refl
+acts_same (events.Tick user) = refl
+acts_same (events.Serve user device) = refl
+acts_same (events.Deck user cards) = refl
 
 -- the lines of a reply to an event that was said are those of the step
 pub told_alike : {W : Type 0} (i : Installation W) (detail : Detail) (what : EventValue) (old new : W) (reply : Reply)

@@ -13,8 +13,10 @@ use Rattle.machine_panel.specs.declared.machine.Mode.TheVariants.{Off, Stopped, 
 use Rattle.machine_panel.specs.Ready.{is_ready}
 use Rattle.session_script.specs.Script.{EventValue, Run, Line, Tick, Serve, Deck, Auto}
 use Rattle.session_script.specs.Users.{has_device}
-use Rattle.sessions.specs.Installed.{Installation, Installed, IsLineStated, Step, machine_at}
-use Rattle.sessions.specs.Installed.{subchannels_at}
+use Rattle.sessions.specs.Installed.{Installation, Installed, IsLineStated, Step, as_said}
+use Rattle.sessions.specs.Installed.{machine_at, subchannels_at}
+use Rattle.sessions.specs.declared.acts.Asked.{Asked}
+use Rattle.sessions.specs.declared.acts.Asked.TheVariants as asks
 use Rattle.sessions.specs.declared.schedule.Detail.{Detail}
 
 -- ---- what a script asks for, one after another
@@ -45,6 +47,20 @@ acts_of (Tick user) = Applies (Tick user) ∷ []
 acts_of (Serve user device) = Applies (Serve user device) ∷ []
 acts_of (Deck user cards) = Applies (Deck user cards) ∷ []
 acts_of (Auto count) = turns count
+
+-- the cards of an event that is a deck; of another none
+abbrev pub cards_said : EventValue → List (List ℕ)
+cards_said (Run user units) = []
+cards_said (Line user text) = []
+cards_said (Tick user) = []
+cards_said (Serve user device) = []
+cards_said (Deck user cards) = cards
+cards_said (Auto count) = []
+
+-- the event of a script that asks for this
+abbrev pub asked_said : Asked → EventValue
+asked_said (asks.Event event) = as_said event
+asked_said (asks.Turns count) = Auto count
 
 -- what the lines of a script ask for, in order
 abbrev pub acts : List EventValue → List Act

@@ -1,11 +1,10 @@
 //! What a script asks for, one after another: events that happen, and turns that are dealt.
-ghost use Rattle.std.specs.Prelude.{[], ◌∷◌, Bool, IfOk, OnErr, OnOk};
+ghost use Rattle.std.specs.Prelude.{◌≡◌, [], ◌∷◌, Bool, IfOk, OnErr, OnOk};
 ghost use Rattle.std.specs.Io.KnownBytes.{Appends};
 ghost use Rattle.s370_num.specs.Host.{AppendsFront};
 ghost use Rattle.session_script.specs.Script.{IsOfDevice, IsOfUser, said};
-ghost use Rattle.sessions.specs.Installed.{as_said};
-ghost use Rattle.sessions.specs.Schedule.{Applies, IsOf, Serves, Slices, acts_of, passed};
-ghost use Rattle.sessions.specs.Schedule.{scene, turn, turns, within};
+ghost use Rattle.sessions.specs.Schedule.{IsOf, Serves, Slices, acts_of, asked_said, cards_said};
+ghost use Rattle.sessions.specs.Schedule.{passed, scene, turn, turns, within};
 ghost use Rattle.sessions.specs.Session.{Accounts, IsPartly, IsPlayed};
 ghost use Rattle.sessions.specs.Transcript.{ended, passed_lines};
 
@@ -19,10 +18,21 @@ use machine_devices::Event;
 use s370_num::DevAddr;
 use s370_num::host::{HostWriter, write_all};
 use session_script::ScriptEvent;
-use std::alloc::Global;
+use std::alloc::{AllocError, Global};
+use unit_record::Card;
+
+/// What an event of the script asks for.
+#[derive(Clone, Copy)]
+pub(crate) enum Asked<'a> {
+    /// That this happens to a machine.
+    Event(Event<'a>),
+    /// That so many turns are dealt.
+    Turns(u32),
+}
 
 /// Applies an event of the script or deals its turns, writes the transcript lines of that, and
-/// updates the queue of users and the serve queue.
+/// updates the serve queue; puts a user who logs on at the end of the queue of users, or removes
+/// one who logs off. The lines of an event are written in full, whatever `detail` is.
 pub(crate) fn act<I: Installation, W: HostWriter>(
     alloc: Global,
     installation: &mut I,
@@ -45,65 +55,45 @@ pub(crate) fn act<I: Installation, W: HostWriter>(
         (I.goes.is_spent installation.new)
         (W.HostFile.failures writer.old) (W.HostFile.failures writer.new) }
 {
-    match *event {
-        ScriptEvent::Run(user, units) => {
-            let event = Event::Run(user, units);
-            apply(alloc, installation, policy, detail, &event, writer)
+    let cards = cards_of(alloc, event)?;
+    match asked_by(event, &cards) {
+        Asked::Event(event) => {
+            let user = event.user();
+            let was_on = is_on(installation, user);
+            apply_and_queue(alloc, installation, policy, Detail::Whole, &event, writer)?;
+            let is_on = is_on(installation, user);
+            update_ready_queue(policy, user, was_on, is_on);
+            Ok(())
         }
-        ScriptEvent::Line(user, typed) => {
-            let event = Event::Line(user, typed);
-            apply(alloc, installation, policy, detail, &event, writer)
-        }
-        ScriptEvent::Tick(user) => {
-            let event = Event::Tick(user);
-            apply(alloc, installation, policy, detail, &event, writer)
-        }
-        ScriptEvent::Serve(user, device) => {
-            let event = Event::Serve(user, DevAddr::new(device));
-            apply(alloc, installation, policy, detail, &event, writer)
-        }
-        ScriptEvent::Deck(user, cards) => {
-            let cards = cards.to_vec(alloc)?;
-            let event = Event::Deck(user, &cards);
-            apply(alloc, installation, policy, detail, &event, writer)
-        }
-        ScriptEvent::Auto(turns) => deal(alloc, installation, policy, detail, turns, writer),
+        Asked::Turns(turns) => deal(alloc, installation, policy, detail, turns, writer),
     }
 }
 
-/// Applies an event, writes its lines in full, whatever `detail` is, updates the
-/// serve queue, and puts a user who logs on at the end of the queue of users or removes one who
-/// logs off.
-fn apply<I: Installation, W: HostWriter>(
-    alloc: Global,
-    installation: &mut I,
-    policy: &mut Policy,
-    detail: Detail,
-    event: &Event<'_>,
-    writer: &mut W,
-) -> Result<(), PlayError>
-    requires user { IsOfUser (I.goes.seen installation.old).users (as_said event.now) }
-    requires device { IsOfDevice (I.goes.seen installation.old).users (as_said event.now) }
-    requires dealing { IsOf (I.goes.seen installation.old) policy.old }
-    ensures ok { OnOk result
-        (IsPlayed I.goes (Applies (as_said event.now) ∷ [])
-        (scene installation.old policy.old detail)
-        (scene installation.new policy.new detail) (W.contents writer.old)
-        (W.contents writer.new)) }
-    ensures err { OnErr result
-        (IsPartly I.goes (Applies (as_said event.now) ∷ [])
-        (scene installation.old policy.old detail)
-        installation.new (W.contents writer.old) (W.contents writer.new)) }
-    ensures why { Accounts result (I.goes.is_spent installation.old)
-        (I.goes.is_spent installation.new)
-        (W.HostFile.failures writer.old) (W.HostFile.failures writer.new) }
+/// Returns the cards of an event that is a deck; of another event none.
+fn cards_of(alloc: Global, event: &ScriptEvent<'_>) -> Result<Vec<Card>, AllocError>
+    ensures { IfOk result (λ cards. cards.items ≡ cards_said (said event.now)) }
 {
-    let user = event.user();
-    let was_on = is_on(installation, user);
-    apply_and_queue(alloc, installation, policy, Detail::Whole, event, writer)?;
-    let is_on = is_on(installation, user);
-    update_ready_queue(policy, user, was_on, is_on);
-    Ok(())
+    match event {
+        ScriptEvent::Deck(_, cards) => cards.to_vec(alloc),
+        _ => Ok(Vec::new(alloc)),
+    }
+}
+
+/// Returns what an event of the script asks for, where these are its cards.
+fn asked_by<'b, 'c: 'b>(event: &ScriptEvent<'c>, cards: &'b [Card]) -> Asked<'b>
+    requires { cards.now ≡ cards_said (said event.now) }
+    ensures { asked_said result ≡ said event.now }
+{
+    match *event {
+        ScriptEvent::Run(user, units) => Asked::Event(Event::Run(user, units)),
+        ScriptEvent::Line(user, typed) => Asked::Event(Event::Line(user, typed)),
+        ScriptEvent::Tick(user) => Asked::Event(Event::Tick(user)),
+        ScriptEvent::Serve(user, device) => {
+            Asked::Event(Event::Serve(user, DevAddr::new(device)))
+        }
+        ScriptEvent::Deck(user, _) => Asked::Event(Event::Deck(user, cards)),
+        ScriptEvent::Auto(turns) => Asked::Turns(turns),
+    }
 }
 
 /// Deals this many turns, one after another, which moves users and programs to the ends of their

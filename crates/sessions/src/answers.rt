@@ -47,36 +47,9 @@ pub(crate) fn apply_and_queue<I: Installation, W: HostWriter>(
 {
     let user = event.user();
     let number = next_start(installation, user);
-    apply_and_write(alloc, installation, detail, event, writer)?;
-    update_serve_queue(alloc, installation, policy, user, number)?;
-    Ok(())
-}
-
-/// Applies an event, and writes the lines of its reply.
-fn apply_and_write<I: Installation, W: HostWriter>(
-    alloc: Global,
-    installation: &mut I,
-    detail: Detail,
-    event: &Event<'_>,
-    writer: &mut W,
-) -> Result<(), PlayError>
-    requires user { IsOfUser (I.goes.seen installation.old).users (as_said event.now) }
-    requires device { IsOfDevice (I.goes.seen installation.old).users (as_said event.now) }
-    ensures ok { OnOk result
-        (IsAnswered I.goes detail (as_said event.now) installation.old installation.new
-        (W.contents writer.old) (W.contents writer.new)) }
-    ensures err { OnErr result
-        (IsUnanswered I.goes (as_said event.now) installation.old installation.new
-        (W.contents writer.old) (W.contents writer.new)
-        ⊎ IsAnsweredPartly I.goes detail (as_said event.now) installation.old installation.new
-        (W.contents writer.old) (W.contents writer.new)) }
-    ensures users { (I.goes.seen installation.new).users ≡ (I.goes.seen installation.old).users }
-    ensures why { Accounts result (I.goes.is_spent installation.old)
-        (I.goes.is_spent installation.new)
-        (W.HostFile.failures writer.old) (W.HostFile.failures writer.new) }
-{
     let reply = installation.apply_event(alloc, event)?;
-    let lines = print_reply(alloc, installation, detail, event.user(), event, &reply)?;
+    let lines = print_reply(alloc, installation, detail, user, event, &reply)?;
     write_all(writer, &lines)?;
+    update_serve_queue(alloc, installation, policy, user, number)?;
     Ok(())
 }
