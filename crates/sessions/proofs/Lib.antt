@@ -7,6 +7,7 @@ pub mod Lined
 pub mod FileLines
 pub mod Stated
 pub mod Histories
+pub mod Played
 pub mod Queues
 pub mod Sessions
 pub mod Continuing

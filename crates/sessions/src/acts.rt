@@ -1,9 +1,9 @@
 //! What a script asks for, one after another: events that happen, and turns that are dealt.
-ghost use Rattle.std.specs.Prelude.{◌≡◌, [], ◌∷◌, Bool, IfOk, OnErr, OnOk};
+ghost use Rattle.std.specs.Prelude.{◌≡◌, [], ◌∷◌, All, Bool, IfOk, OnErr, OnOk, map};
 ghost use Rattle.std.specs.Io.KnownBytes.{Appends};
 ghost use Rattle.s370_num.specs.Host.{AppendsFront};
 ghost use Rattle.session_script.specs.Script.{IsOfDevice, IsOfUser, said};
-ghost use Rattle.sessions.specs.Schedule.{IsOf, Serves, Slices, acts_of, asked_said, cards_said};
+ghost use Rattle.sessions.specs.Schedule.{IsOf, Serves, Slices, acts, asked_said, cards_said};
 ghost use Rattle.sessions.specs.Schedule.{passed, scene, turn, turns, within};
 ghost use Rattle.sessions.specs.Session.{Accounts, IsPartly, IsPlayed};
 ghost use Rattle.sessions.specs.Transcript.{ended, passed_lines};
@@ -30,43 +30,46 @@ pub(crate) enum Asked<'a> {
     Turns(u32),
 }
 
-/// Applies an event of the script or deals its turns, writes the transcript lines of that, and
-/// updates the serve queue; puts a user who logs on at the end of the queue of users, or removes
-/// one who logs off. The lines of an event are written in full, whatever `detail` is.
-pub(crate) fn act<I: Installation, W: HostWriter>(
+/// Applies the events and deals the turns of a script one after another, writes the lines of each
+/// as soon as it is done, updates the serve queue, and puts who logs on at the end of the queue of
+/// users, or removes who logs off. An event's lines are written in full, whatever `detail` is.
+pub(crate) fn play<I: Installation, W: HostWriter>(
     alloc: Global,
     installation: &mut I,
     policy: &mut Policy,
     detail: Detail,
-    event: &ScriptEvent<'_>,
+    events: &[ScriptEvent<'_>],
     writer: &mut W,
 ) -> Result<(), PlayError>
-    requires user { IsOfUser (I.goes.seen installation.old).users (said event.now) }
-    requires device { IsOfDevice (I.goes.seen installation.old).users (said event.now) }
+    requires users { All (λ e. IsOfUser (I.goes.seen installation.old).users (said e)) events.now }
+    requires devices { All (λ e. IsOfDevice (I.goes.seen installation.old).users (said e))
+        events.now }
     requires dealing { IsOf (I.goes.seen installation.old) policy.old }
     ensures ok { OnOk result
-        (IsPlayed I.goes (acts_of (said event.now)) (scene installation.old policy.old detail)
+        (IsPlayed I.goes (acts (map said events.now)) (scene installation.old policy.old detail)
         (scene installation.new policy.new detail) (W.contents writer.old)
         (W.contents writer.new)) }
     ensures err { OnErr result
-        (IsPartly I.goes (acts_of (said event.now)) (scene installation.old policy.old detail)
+        (IsPartly I.goes (acts (map said events.now)) (scene installation.old policy.old detail)
         installation.new (W.contents writer.old) (W.contents writer.new)) }
     ensures why { Accounts result (I.goes.is_spent installation.old)
         (I.goes.is_spent installation.new)
         (W.HostFile.failures writer.old) (W.HostFile.failures writer.new) }
 {
-    let cards = cards_of(alloc, event)?;
-    match asked_by(event, &cards) {
-        Asked::Event(event) => {
-            let user = event.user();
-            let was_on = is_on(installation, user);
-            apply_and_queue(alloc, installation, policy, Detail::Whole, &event, writer)?;
-            let is_on = is_on(installation, user);
-            update_ready_queue(policy, user, was_on, is_on);
-            Ok(())
+    for event in events {
+        let cards = cards_of(alloc, event)?;
+        match asked_by(event, &cards) {
+            Asked::Event(event) => {
+                let user = event.user();
+                let was_on = is_on(installation, user);
+                apply_and_queue(alloc, installation, policy, Detail::Whole, &event, writer)?;
+                let is_on = is_on(installation, user);
+                update_ready_queue(policy, user, was_on, is_on);
+            }
+            Asked::Turns(turns) => deal(alloc, installation, policy, detail, turns, writer)?,
         }
-        Asked::Turns(turns) => deal(alloc, installation, policy, detail, turns, writer),
     }
+    Ok(())
 }
 
 /// Returns the cards of an event that is a deck; of another event none.

@@ -21,13 +21,13 @@ ghost use Rattle.sessions.specs.Session.{Accounts, at_first};
 ghost use Rattle.sessions.specs.Transcript.{ended};
 ghost use Rattle.sessions.specs.declared.files.Telling.TheVariants.{Answer};
 
+use crate::acts::play;
 use crate::faults::PlayError;
 use crate::files::{Telling, operator_file_lines};
 use crate::installation::Installation;
 use crate::known::read_events;
 use crate::news::{mode_change_lines, modes};
 use crate::schedule::{Detail, first_policy, ready_users};
-use crate::session::play;
 use crate::transcript::names;
 use cp_dispatch::{Policy, Program, Ready};
 use machine_panel::Mode;

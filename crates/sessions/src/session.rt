@@ -1,24 +1,19 @@
 //! A session: from a script's bytes to a transcript's bytes.
-ghost use Rattle.std.specs.Prelude.{◌≡◌, ◌⊎◌, ℕ, Bool, [], All, Err, OnErr, OnOk, map};
+ghost use Rattle.std.specs.Prelude.{◌≡◌, ◌⊎◌, ℕ, Bool, [], Err, OnErr, OnOk};
 ghost use Rattle.std.specs.Io.KnownBytes.{Appends};
 ghost use Rattle.s370_num.specs.Host.{AppendsFront};
-ghost use Rattle.session_script.specs.Script.{IsOfDevice, IsOfUser, said};
 ghost use Rattle.sessions.specs.Files.{closing_lines};
-ghost use Rattle.sessions.specs.Schedule.{IsOf, acts, scene};
-ghost use Rattle.sessions.specs.Session.{Accounts, AccountsFiles, IsCut, IsPartly, IsPlayed};
-ghost use Rattle.sessions.specs.Session.{IsRefused, IsSession};
+ghost use Rattle.sessions.specs.Session.{Accounts, AccountsFiles, IsCut, IsRefused, IsSession};
 ghost use Rattle.sessions.specs.Transcript.{ended};
 ghost use Rattle.sessions.specs.declared.schedule.Detail.TheVariants.{Whole};
 
-use crate::acts::act;
+use crate::acts::play;
 use crate::faults::{PlayError, SessionError};
 use crate::files::{Telling, operator_file_lines};
 use crate::installation::Installation;
 use crate::known::read_events;
 use crate::schedule::{Detail, first_policy};
-use cp_dispatch::Policy;
 use s370_num::host::{HostReader, HostWriter, read_all, write_all};
-use session_script::ScriptEvent;
 use std::alloc::Global;
 
 /// Reads a whole script, applies its events and deals its turns, writes the lines of each and at
@@ -86,37 +81,6 @@ pub fn session<I: Installation, R: HostReader, W: HostWriter>(
         writer,
     )?;
     close(alloc, installation, writer)?;
-    Ok(())
-}
-
-/// Applies the events and deals the turns of a script one after another, updates both queues, and
-/// writes the lines of each as soon as it is done.
-pub(crate) fn play<I: Installation, W: HostWriter>(
-    alloc: Global,
-    installation: &mut I,
-    policy: &mut Policy,
-    detail: Detail,
-    events: &[ScriptEvent<'_>],
-    writer: &mut W,
-) -> Result<(), PlayError>
-    requires users { All (λ e. IsOfUser (I.goes.seen installation.old).users (said e)) events.now }
-    requires devices { All (λ e. IsOfDevice (I.goes.seen installation.old).users (said e))
-        events.now }
-    requires dealing { IsOf (I.goes.seen installation.old) policy.old }
-    ensures ok { OnOk result
-        (IsPlayed I.goes (acts (map said events.now)) (scene installation.old policy.old detail)
-        (scene installation.new policy.new detail) (W.contents writer.old)
-        (W.contents writer.new)) }
-    ensures err { OnErr result
-        (IsPartly I.goes (acts (map said events.now)) (scene installation.old policy.old detail)
-        installation.new (W.contents writer.old) (W.contents writer.new)) }
-    ensures why { Accounts result (I.goes.is_spent installation.old)
-        (I.goes.is_spent installation.new)
-        (W.HostFile.failures writer.old) (W.HostFile.failures writer.new) }
-{
-    for event in events {
-        act(alloc, installation, policy, detail, event, writer)?;
-    }
     Ok(())
 }
 

@@ -2,7 +2,7 @@ use Rattle.std.proofs.Common.{◌≡◌, true, map, take}
 use Rattle.session_script.specs.Script.{said}
 use Rattle.sessions.specs.Schedule.{acts, scene}
 use Rattle.sessions.specs.Session.{IsPlayed}
-use Rattle.sessions.proofs.session.play.Given as goal
+use Rattle.sessions.proofs.acts.play.Given as goal
 
 abbrev pub invariant-loop-event : goal.invariant-loop-event
 invariant-loop-event g l =
