@@ -391,11 +391,15 @@ def main() -> None:
         emulator = Emulator(room)
         for kind in kinds or [*KINDS, *DRAWN]:
             loop = loop_of(kind)
-            theirs = max(emulator.rate(loop, seconds) for _ in range(rounds))
-            bare, user = (
-                max(our_rate(bench, place, loop, seconds) for _ in range(rounds))
-                for place in ("bare", "user")
-            )
+            # They take turns, so that a slow minute of the host is one for all.
+            rates = [
+                (
+                    emulator.rate(loop, seconds),
+                    *(our_rate(bench, place, loop, seconds) for place in ("bare", "user")),
+                )
+                for _ in range(rounds)
+            ]
+            theirs, bare, user = (max(side) for side in zip(*rates))
             count = (
                 f"{host_instructions(bench, 'user', loop):.0f}" if shutil.which("valgrind") else "-"
             )

@@ -27,7 +27,8 @@ use Rattle.s370_quick.specs.Quick.{DoesUnits}
 use Rattle.s370_intr.specs.InputOutput.{Configuration, configuration_of}
 use Rattle.s370_intr.specs.Units.{Core, core_of, followed, instructed, look, offered, unit_at, with_configuration}
 use Rattle.s370_intr.specs.Units.{enabled_of, is_any, Needs, NeedsAt}
-use Rattle.s370_intr.specs.Run.{Run, run, looked, one_more, AllNeeded, EachBrings, IsLacking, IsCut, TellsRun}
+use Rattle.s370_intr.specs.Run.{Run, run, looked, one_more, AllNeeded, EachBrings, IsFetched, IsLacking, IsCut}
+use Rattle.s370_intr.specs.Run.{TellsRun}
 
 abbrev pub all_done : ℕ → Core → Run
 all_done k c = record { core = c; units = k; reason = Count }
@@ -326,4 +327,15 @@ pub still_held : {is_placed is_placed' : Block → Type 0} {m m' : Memory} {pres
 still_held key held moves s k p h = record {
   fetched = held_still key held.fetched moves s k p h.fetched;
   stored = held_still key held.stored moves s k p h.stored;
+}
+
+-- a block from which instructions are fetched still is one where the key of the PSW is the same
+pub still_fetched : {is_placed is_placed' : Block → Type 0} {m m' : Memory} {present present' : ℕ → Bool}
+    (cpu cpu' : Cpu) (block : Block) → (is_placed block → is_placed' block) → length m'.bytes ≡ length m.bytes
+    → m'.keys ≡ m.keys → present' ≡ present → cpu'.psw.key ≡ cpu.psw.key → IsFetched is_placed m present cpu block
+    → IsFetched is_placed' m' present' cpu' block
+still_fetched cpu cpu' block moves s k p e h = record {
+  low = h.low;
+  may_fetch = rw e (still_accesses cpu.psw.key block.first s k p h.may_fetch);
+  placed = moves h.placed;
 }

@@ -10,7 +10,7 @@ ghost use Rattle.s370_intr.specs.declared.next.Next.TheVariants as next;
 ghost use Rattle.s370_intr.specs.Run.{AllNeeded, DoesInstructions, EachBrings, HasNext, IsFetched};
 ghost use Rattle.s370_intr.specs.Run.{RunsTo, SuppliesUnit, TellsRun};
 
-use crate::apart::instruct_in;
+use crate::apart::{SUPERVISOR_CALL, call_supervisor_in, instruct_in};
 use crate::next::{Next, Reason, is_plain, next_of};
 use crate::pending::Pending;
 use crate::unit::{Processor, accept, accept_status, instruct_saving};
@@ -426,8 +426,8 @@ fn instruct_apart<P: Processor, S: Keyed>(
 /// Does the instruction that the quick loop left out, or for MVCL whole parts of it, at most
 /// `limit`, and returns what it did and whether the blocks are still what they were.
 ///
-/// A privileged instruction that sets no storage key and asks no device leaves them, unless the PSW
-/// has another key after it. None is done if a page is absent.
+/// SVC, and a privileged instruction that sets no storage key and asks no device, leave them, unless
+/// the PSW has another key after it. None is done if a page is absent.
 #[inline(always)]
 fn instruct_left_out<P: Processor, S: Keyed>(
     cpu: &mut Cpu,
@@ -460,6 +460,22 @@ fn instruct_left_out<P: Processor, S: Keyed>(
     let start = cpu.psw.address();
     let key = cpu.psw.key();
     match load_byte_in(storage, block, start.get()) {
+        SUPERVISOR_CALL => {
+            if !call_supervisor_in::<P, S>(cpu, subchannels, storage, start, block) {
+                return LeftOut {
+                    units: 0,
+                    is_plain: true,
+                    keeps_blocks: false,
+                };
+            }
+            let is_next = is_plain(cpu, pending, subchannels);
+            let same_key = has_key(cpu, key);
+            return LeftOut {
+                units: 1,
+                is_plain: is_next,
+                keeps_blocks: same_key,
+            };
+        }
         // ISK, SSM, LPSW, STNSM, STOSM, STCTL and LCTL
         0x09 | 0x80 | 0x82 | 0xAC | 0xAD | 0xB6 | 0xB7 => {}
         _ => {

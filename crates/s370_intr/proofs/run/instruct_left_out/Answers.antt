@@ -2,7 +2,7 @@ use Rattle.std.proofs.Common.{◌≡◌, ap, subst, ◌∙◌}
 use Rattle.s370_rows.specs.State.{State, state_of}
 use Rattle.s370_intr.specs.Units.{core_of, look}
 use Rattle.s370_intr.specs.Run.{RunsTo}
-use Rattle.s370_intr.proofs.Runs.{one_unit, still_held}
+use Rattle.s370_intr.proofs.Runs.{instructed_core, one_instruction, one_unit, still_fetched, still_held}
 use Rattle.s370_intr.proofs.run.instruct_left_out.Goals as goal
 
 pub returns-in-Some-clause-ran : goal.returns-in-Some-clause-ran
@@ -15,6 +15,27 @@ returns-in-Some-clause-ran g c =
       plain = c.is_plain-plain.ensures (g.S.Storage.memory c.supervise_quickly.new.storage);
       within = c.requires.some;
     }
+
+pub returns-in-10-clause-ran : goal.returns-in-10-clause-ran
+returns-in-10-clause-ran g c =
+    let pending = c.args.pending in
+    let list = c.args.subchannels.now in
+    let before = state_of c.args.cpu.now (g.S.Storage.memory c.args.storage.now) in
+    let after = state_of c.call_supervisor_in.new.cpu (g.S.Storage.memory c.call_supervisor_in.new.storage) in
+    record {
+      done = one_instruction (core_of before pending list) (core_of after pending list) c.requires.plain
+          (instructed_core before after pending list list c.if-not-call_supervisor_in.ensures.instruction);
+      plain = c.is_plain-is_next.ensures (g.S.Storage.memory c.call_supervisor_in.new.storage);
+      within = c.requires.some;
+    }
+
+pub returns-in-Some-clause-fetched : goal.returns-in-Some-clause-fetched
+returns-in-Some-clause-fetched g c is_it =
+    let kept = c.supervise_quickly.ensures.rest in
+    still_fetched c.args.cpu.now c.supervise_quickly.new.cpu c.args.block
+    (g.met.S.Storage.placed_kept _ _ c.args.block kept) (g.met.S.Storage.keeps_size _ _ kept)
+    c.supervise_quickly.ensures.step.keys (g.met.S.Storage.keeps_present _ _ kept)
+    (c.has_key.ensures is_it ∙ c.key-key.ensures) c.requires.next.fetched
 
 pub returns-in-Some-clause-operands : goal.returns-in-Some-clause-operands
 returns-in-Some-clause-operands g c is_it =
