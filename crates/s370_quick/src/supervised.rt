@@ -342,7 +342,9 @@ fn store_mask_quickly<S: Storage>(
 
 /// Does STCTL (B6), and holds the block of its words for stores; returns `None` if they are not on
 /// a word boundary, lie in two blocks or may not be stored.
-#[inline(always)]
+///
+/// It is not inlined, so that what moves sixteen registers makes no other instruction's code long.
+#[inline(never)]
 fn store_control_quickly<S: Storage>(
     cpu: &Cpu,
     storage: &mut S,
@@ -374,7 +376,9 @@ fn store_control_quickly<S: Storage>(
 
 /// Does LCTL (B7), and holds the block of its words; returns `None` if they are not on a word
 /// boundary, lie in two blocks or may not be fetched.
-#[inline(always)]
+///
+/// It is not inlined, as [`store_control_quickly`] is not.
+#[inline(never)]
 fn load_control_quickly<S: Storage>(
     cpu: &mut Cpu,
     storage: &S,
