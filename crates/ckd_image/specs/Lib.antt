@@ -3,11 +3,3 @@ pub mod Faults
 pub mod Reading
 pub mod Parts
 pub mod Told
-pub mod Fields
-pub mod Text
-pub mod Stated
-pub mod Options
-pub mod ToolFailures
-pub mod Map
-pub mod Grammar
-pub mod Made
