@@ -18,7 +18,7 @@ use Rattle.s370_store.specs.Memory.{Memory}
 use Rattle.s370_store.specs.declared.Access.{Access}
 use Rattle.s370_store.specs.declared.block.Block.{Block}
 use Rattle.s370_quick.specs.declared.held.HeldBlock.{HeldBlock}
-use Rattle.s370_quick.specs.Quick.{AreHeld, IsHeld}
+use Rattle.s370_quick.specs.Quick.{AreHeld, IsHeld, StepsQuickly}
 use Rattle.s370_cpu.specs.declared.conclude.Stop.TheVariants.{Done}
 use Rattle.s370_cpu.specs.Laws.{Rights, rights_of}
 use Rattle.s370_cpu.specs.Table.{unit}
@@ -28,7 +28,7 @@ use Rattle.s370_intr.specs.InputOutput.{Configuration, configuration_of}
 use Rattle.s370_intr.specs.Units.{Core, core_of, followed, instructed, look, offered, unit_at, with_configuration}
 use Rattle.s370_intr.specs.Units.{enabled_of, is_any, Needs, NeedsAt}
 use Rattle.s370_intr.specs.Run.{Run, run, looked, one_more, AllNeeded, EachBrings, IsFetched, IsLacking, IsCut}
-use Rattle.s370_intr.specs.Run.{TellsRun}
+use Rattle.s370_intr.specs.Run.{DoesInstructions, TellsRun}
 
 abbrev pub all_done : ℕ → Core → Run
 all_done k c = record { core = c; units = k; reason = Count }
@@ -329,13 +329,39 @@ still_held key held moves s k p h = record {
   stored = held_still key held.stored moves s k p h.stored;
 }
 
--- a block from which instructions are fetched still is one where the key of the PSW is the same
+-- a block from which instructions are fetched still is one, where no block moves and no key changes
 pub still_fetched : {is_placed is_placed' : Block → Type 0} {m m' : Memory} {present present' : ℕ → Bool}
-    (cpu cpu' : Cpu) (block : Block) → (is_placed block → is_placed' block) → length m'.bytes ≡ length m.bytes
-    → m'.keys ≡ m.keys → present' ≡ present → cpu'.psw.key ≡ cpu.psw.key → IsFetched is_placed m present cpu block
-    → IsFetched is_placed' m' present' cpu' block
-still_fetched cpu cpu' block moves s k p e h = record {
+    (key : ℕ) (block : Block) → (is_placed block → is_placed' block) → length m'.bytes ≡ length m.bytes
+    → m'.keys ≡ m.keys → present' ≡ present → IsFetched is_placed m present key block
+    → IsFetched is_placed' m' present' key block
+still_fetched key block moves s k p h = record {
   low = h.low;
-  may_fetch = rw e (still_accesses cpu.psw.key block.first s k p h.may_fetch);
+  may_fetch = still_accesses key block.first s k p h.may_fetch;
   placed = moves h.placed;
 }
+
+-- A step that says where the next instruction is, was done.
+pub stepped_to : (present : ℕ → Bool) (m m' : State) (went : Option ℕ) (next : ℕ) → went ≡ Some next
+    → StepsQuickly present m went m' → StepsQuickly present m (Some next) m'
+stepped_to present m m' went next e h = subst (λ (o : Option ℕ). StepsQuickly present m o m') e h
+
+-- A step that does not say it, changed nothing.
+pub left_out : (present : ℕ → Bool) (m m' : State) (went : Option ℕ) → went ≡ None → StepsQuickly present m went m'
+    → m' ≡ m
+left_out present m m' went e h = (subst (λ (o : Option ℕ). StepsQuickly present m o m') e h).still
+
+-- Instructions, and one more.
+pub and_one_more : (n : ℕ) (first m m' : State) (present : ℕ → Bool) (next : ℕ) → DoesInstructions n first m
+    → StepsQuickly present m (Some next) m' → DoesInstructions (n + 1) first m'
+and_one_more n first m m' present next before h pending list e =
+    let b = before pending list e in
+    let step : core_of m' pending list ≡ unit_at (look (core_of m pending list)) (core_of m pending list) =
+    rw b.1 (done_unit m m' pending list h.done) in (
+      does_more n (core_of first pending list) (core_of m pending list) (core_of m' pending list) b.0
+          (subst Goes (sym b.1) tt) step,
+      looks_same m m' pending list h.rights ∙ b.1,
+    )
+
+-- Instructions, after which nothing changed.
+pub and_no_more : (n : ℕ) (first m m' : State) → DoesInstructions n first m → m' ≡ m → DoesInstructions n first m'
+and_no_more n first m m' before same = subst (λ (x : State). DoesInstructions n first x) (sym same) before

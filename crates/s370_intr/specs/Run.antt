@@ -56,17 +56,17 @@ pub record RunsTo (limit n : ℕ) (is_plain : Bool) (before after : Core) : Type
 
 -- ---- the block from which instructions are fetched
 
--- instructions may be fetched from it with the key of the PSW
-pub record IsFetched (is_placed : Block → Type 0) (m : Memory) (present : ℕ → Bool) (cpu : Cpu)
+-- instructions may be fetched from it with this key, and their ends are below 16 MiB
+pub record IsFetched (is_placed : Block → Type 0) (m : Memory) (present : ℕ → Bool) (key : ℕ)
     (block : Block) : Type 0 where
-  pub low : block.first < 16777216
-  pub may_fetch : MayFetch (length m.bytes) m.keys present cpu.psw.key block.first
+  pub low : block.first + 2048 < 16777216
+  pub may_fetch : MayFetch (length m.bytes) m.keys present key block.first
   pub placed : is_placed block
 
 -- and it has the next one, however long that is
 pub record HasNext (is_placed : Block → Type 0) (m : Memory) (present : ℕ → Bool) (cpu : Cpu)
     (block : Block) : Type 0 where
-  pub fetched : IsFetched is_placed m present cpu block
+  pub fetched : IsFetched is_placed m present cpu.psw.key block
   pub begins : block.first ≤ cpu.psw.address
   pub ends : cpu.psw.address ≤ block.first + 2042
   pub even : cpu.psw.address % 2 ≡ 0

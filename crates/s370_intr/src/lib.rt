@@ -31,6 +31,7 @@
 
 mod apart;
 mod class;
+mod code_blocks;
 mod input_output;
 mod laws;
 mod next;

@@ -1,7 +1,6 @@
 //! Units, one after another.
-ghost use Rattle.std.specs.Prelude.{◌≡◌, ℕ, ◌+◌, ◌*◌, ◌/◌, ◌%◌, ◌<◌, ◌≤◌, List, [], ◌∷◌, IfSome};
-ghost use Rattle.std.specs.Prelude.{IsSome, length, Result, true};
-ghost use Rattle.s370_store.specs.Blocks.{MayFetch};
+ghost use Rattle.std.specs.Prelude.{◌≡◌, ℕ, ◌<◌, ◌≤◌, List, [], ◌∷◌, IfSome, length, Result};
+ghost use Rattle.std.specs.Prelude.{true};
 ghost use Rattle.s370_rows.specs.State.{state_of};
 ghost use Rattle.s370_quick.specs.Quick.{AreHeld, IsLongMoveAt};
 ghost use Rattle.s370_intr.specs.Laws.{begun};
@@ -11,14 +10,15 @@ ghost use Rattle.s370_intr.specs.Run.{AllNeeded, DoesInstructions, EachBrings, H
 ghost use Rattle.s370_intr.specs.Run.{RunsTo, SuppliesUnit, TellsRun};
 
 use crate::apart::{SUPERVISOR_CALL, call_supervisor_in, instruct_in};
+use crate::code_blocks::{CodeBlocks, blocks_at, find_again, other_blocks, stays_in};
 use crate::next::{Next, Reason, is_plain, next_of};
 use crate::pending::Pending;
 use crate::unit::{Processor, accept, accept_status, instruct_saving};
 use s370_num::{AccessKey, Addr24};
 use s370_psw::Psw;
-use s370_quick::{HeldBlock, move_parts_quickly, step_quickly, supervise_quickly};
+use s370_quick::{HeldBlock, Stepped, move_parts_quickly, step_quickly, supervise_quickly};
 use s370_rows::Cpu;
-use s370_store::{Access, Block, FramesOut, Keyed, Page, Storage, UnitSupply, load_byte_in};
+use s370_store::{Block, FramesOut, Keyed, Page, Storage, UnitSupply, load_byte_in};
 use s370_subchannels::Subchannels;
 
 /// 0E MVCL.
@@ -221,50 +221,6 @@ fn do_unit<P: Processor, S: UnitSupply>(
     }
 }
 
-/// Returns the block around an address, if it may be fetched with this key and its page is present.
-///
-/// It is not inlined, so that the loop over instructions has no more in it than a call.
-#[inline(never)]
-fn find_again<S: Storage>(storage: &S, next: Addr24, key: AccessKey) -> Option<Block>
-    ensures first { IfSome result (λ found. found.first ≡ next / 2048 * 2048) }
-    ensures may_fetch { IfSome result
-        (λ found. MayFetch (length (S.memory storage.now).bytes) (S.memory storage.now).keys
-        (S.present storage.now) key found.first) }
-    ensures placed { IfSome result (λ found. S.IsPlaced storage.now found) }
-{
-    storage.find_block(next.get(), Access::Fetch, key)
-}
-
-/// Returns the block in which the next instruction lies with room for the longest, either `block`
-/// or another, or `None` if there is none or the address is odd.
-#[inline(always)]
-fn block_of<S: Storage>(storage: &S, block: Block, next: Addr24, key: AccessKey) -> Option<Block>
-    requires low { block.first < 16777216 }
-    requires may_fetch { MayFetch (length (S.memory storage.now).bytes) (S.memory storage.now).keys
-        (S.present storage.now) key block.first }
-    requires placed { S.IsPlaced storage.now block }
-    ensures low { IfSome result (λ found. found.first < 16777216) }
-    ensures may_fetch { IfSome result
-        (λ found. MayFetch (length (S.memory storage.now).bytes) (S.memory storage.now).keys
-        (S.present storage.now) key found.first) }
-    ensures placed { IfSome result (λ found. S.IsPlaced storage.now found) }
-    ensures begins { IfSome result (λ found. found.first ≤ next) }
-    ensures ends { IfSome result (λ found. next ≤ found.first + 2042) }
-    ensures even { IsSome result → next % 2 ≡ 0 }
-{
-    if block.has_room(next.get()) {
-        return Some(block);
-    }
-    match find_again(storage, next, key) {
-        Some(found) => if found.has_room(next.get()) {
-            Some(found)
-        } else {
-            None
-        },
-        None => None,
-    }
-}
-
 /// Does parts of the MVCL at the instruction address, at most `limit`, until one cannot be done
 /// quickly, and returns how many it did.
 ///
@@ -302,8 +258,8 @@ fn move_parts<S: Storage>(
 #[derive(Clone, Copy)]
 struct Steady {
     units: u32,
-    /// The block of the next instruction, if the loop leaves that out.
-    block: Option<Block>,
+    /// The blocks of code, if the loop leaves out the next instruction.
+    blocks: Option<CodeBlocks>,
 }
 
 /// What a processor did that began with an instruction and nothing pending, and whether that is so
@@ -327,53 +283,84 @@ struct LeftOut {
 /// Does instructions, at most `limit`, until one cannot be done quickly, and returns how many it
 /// did and the block of that one, if it was found.
 ///
-/// After each of them a look would say what it said before: so the block from which they are
-/// fetched, at first `block`, is looked up once, as long as they stay in it.
+/// After each of them a look would say what it said before: so the blocks from which they are
+/// fetched, at first `blocks`, are looked up once, as long as they stay in them.
 #[inline(always)]
 fn instruct_steadily<S: Storage>(
     cpu: &mut Cpu,
     storage: &mut S,
-    block: Block,
+    blocks: CodeBlocks,
     held: &mut HeldBlock,
     limit: u32,
 ) -> Steady
-    requires fetched { IsFetched (S.IsPlaced storage.old) (S.memory storage.old)
-        (S.present storage.old) cpu.old block }
+    requires current { IsFetched (S.IsPlaced storage.old) (S.memory storage.old)
+        (S.present storage.old) cpu.old.psw.key blocks.current }
+    requires previous { IsFetched (S.IsPlaced storage.old) (S.memory storage.old)
+        (S.present storage.old) cpu.old.psw.key blocks.previous }
     requires operands { AreHeld (S.IsPlaced storage.old) (S.memory storage.old)
         (S.present storage.old) cpu.old.psw.key held.old }
     ensures done { let before = state_of cpu.old (S.memory storage.old) in
         let after = state_of cpu.new (S.memory storage.new) in
         DoesInstructions result.units before after }
     ensures within { result.units ≤ limit }
-    ensures left { IfSome result.block (λ block. result.units < limit) }
-    ensures next { IfSome result.block (λ block. HasNext (S.IsPlaced storage.new)
-        (S.memory storage.new) (S.present storage.new) cpu.new block) }
-    ensures operands { IfSome result.block
+    ensures left { IfSome result.blocks (λ _. result.units < limit) }
+    ensures next { IfSome result.blocks (λ blocks. HasNext (S.IsPlaced storage.new)
+        (S.memory storage.new) (S.present storage.new) cpu.new blocks.current) }
+    ensures previous { IfSome result.blocks (λ blocks. IsFetched (S.IsPlaced storage.new)
+        (S.memory storage.new) (S.present storage.new) cpu.new.psw.key blocks.previous) }
+    ensures operands { IfSome result.blocks
         (λ _. AreHeld (S.IsPlaced storage.new) (S.memory storage.new)
         (S.present storage.new) cpu.new.psw.key held.new) }
     ensures rest { S.Keeps storage.old storage.new }
 {
     let mut next = cpu.psw.address();
     let key = cpu.psw.key();
-    let mut block = block;
+    let mut blocks = match blocks_at(storage, blocks, next, key) {
+        Some(found) => found,
+        None => {
+            return Steady {
+                units: 0,
+                blocks: None,
+            };
+        }
+    };
     for units in 0..limit {
-        block = match block_of(storage, block, next, key) {
-            Some(found) => found,
-            None => return Steady { units, block: None },
-        };
-        match step_quickly(cpu, storage, next, block, held) {
-            Some(address) => next = address,
+        let start = next;
+        let went = step_quickly(cpu, storage, start, blocks.current, held);
+        match went {
+            Stepped::Unassigned => {
+                return Steady {
+                    units,
+                    blocks: None,
+                };
+            }
+            _ => {}
+        }
+        next = match went.next() {
+            Some(address) => address,
             None => {
                 return Steady {
                     units,
-                    block: Some(block),
+                    blocks: Some(blocks),
                 };
             }
+        };
+        if stays_in(blocks.current, start, &went, next) {
+            continue;
         }
+        blocks = match other_blocks(storage, blocks, next, key) {
+            Some(found) => found,
+            None => {
+                return Steady {
+                    units: units + 1,
+                    blocks: None,
+                };
+            }
+        };
     }
     Steady {
         units: limit,
-        block: None,
+        blocks: None,
     }
 }
 
@@ -434,7 +421,7 @@ fn instruct_left_out<P: Processor, S: Keyed>(
     pending: Pending,
     subchannels: &mut Subchannels,
     storage: &mut S,
-    block: Block,
+    blocks: CodeBlocks,
     held: &mut HeldBlock,
     limit: u32,
 ) -> LeftOut
@@ -443,20 +430,27 @@ fn instruct_left_out<P: Processor, S: Keyed>(
         look (core_of m pending subchannels.old) ≡ next.Instructs }
     requires some { 0 < limit }
     requires next { HasNext (S.Storage.IsPlaced storage.old) (S.Storage.memory storage.old)
-        (S.Storage.present storage.old) cpu.old block }
+        (S.Storage.present storage.old) cpu.old blocks.current }
+    requires previous { IsFetched (S.Storage.IsPlaced storage.old) (S.Storage.memory storage.old)
+        (S.Storage.present storage.old) cpu.old.psw.key blocks.previous }
     requires operands { AreHeld (S.Storage.IsPlaced storage.old) (S.Storage.memory storage.old)
         (S.Storage.present storage.old) cpu.old.psw.key held.old }
     ensures ran { let before = state_of cpu.old (S.Storage.memory storage.old) in
         let after = state_of cpu.new (S.Storage.memory storage.new) in
         RunsTo limit result.units result.is_plain (core_of before pending subchannels.old)
         (core_of after pending subchannels.new) }
-    ensures fetched { result.keeps_blocks ≡ true → IsFetched (S.Storage.IsPlaced storage.new)
-        (S.Storage.memory storage.new) (S.Storage.present storage.new) cpu.new block }
+    ensures current { result.keeps_blocks ≡ true → IsFetched (S.Storage.IsPlaced storage.new)
+        (S.Storage.memory storage.new) (S.Storage.present storage.new) cpu.new.psw.key
+        blocks.current }
+    ensures previous { result.keeps_blocks ≡ true → IsFetched (S.Storage.IsPlaced storage.new)
+        (S.Storage.memory storage.new) (S.Storage.present storage.new) cpu.new.psw.key
+        blocks.previous }
     ensures operands { result.keeps_blocks ≡ true
         → AreHeld (S.Storage.IsPlaced storage.new) (S.Storage.memory storage.new)
         (S.Storage.present storage.new) cpu.new.psw.key held.new }
     ensures rest { S.KeepsRest storage.old storage.new }
 {
+    let block = blocks.current;
     let start = cpu.psw.address();
     let key = cpu.psw.key();
     match load_byte_in(storage, block, start.get()) {
@@ -514,39 +508,46 @@ fn has_key(cpu: &Cpu, key: AccessKey) -> bool
     cpu.psw.key().get() == key.get()
 }
 
-/// Returns the block of the next instruction: `block` if `keeps_blocks` is true, else the one that
-/// is found, to which `held` is then reset; or `None` if there is none.
+/// Returns the blocks of code: `blocks` if `keeps_blocks` is true, else twice the one of the next
+/// instruction, to which `held` is then reset; or `None` if there is none.
 ///
 /// With a block that is found operands are fetched from it at first, and none is held for stores.
 #[inline(always)]
-fn block_at<S: Storage>(
+fn blocks_for<S: Storage>(
     keeps_blocks: bool,
     cpu: &Cpu,
     storage: &S,
-    block: Block,
+    blocks: CodeBlocks,
     held: &mut HeldBlock,
-) -> Option<Block>
-    requires fetched { keeps_blocks ≡ true → IsFetched (S.IsPlaced storage.now)
-        (S.memory storage.now) (S.present storage.now) cpu.now block }
+) -> Option<CodeBlocks>
+    requires current { keeps_blocks ≡ true → IsFetched (S.IsPlaced storage.now)
+        (S.memory storage.now) (S.present storage.now) cpu.now.psw.key blocks.current }
+    requires previous { keeps_blocks ≡ true → IsFetched (S.IsPlaced storage.now)
+        (S.memory storage.now) (S.present storage.now) cpu.now.psw.key blocks.previous }
     requires operands { keeps_blocks ≡ true
         → AreHeld (S.IsPlaced storage.now) (S.memory storage.now)
         (S.present storage.now) cpu.now.psw.key held.old }
-    ensures fetched { IfSome result (λ found. IsFetched (S.IsPlaced storage.now)
-        (S.memory storage.now) (S.present storage.now) cpu.now found) }
+    ensures current { IfSome result (λ found. IsFetched (S.IsPlaced storage.now)
+        (S.memory storage.now) (S.present storage.now) cpu.now.psw.key found.current) }
+    ensures previous { IfSome result (λ found. IsFetched (S.IsPlaced storage.now)
+        (S.memory storage.now) (S.present storage.now) cpu.now.psw.key found.previous) }
     ensures operands { IfSome result
         (λ _. AreHeld (S.IsPlaced storage.now) (S.memory storage.now)
         (S.present storage.now) cpu.now.psw.key held.new) }
 {
     if keeps_blocks {
-        return Some(block);
+        return Some(blocks);
     }
-    match storage.find_block(cpu.psw.address().get(), Access::Fetch, cpu.psw.key()) {
+    match find_again(storage, cpu.psw.address(), cpu.psw.key()) {
         Some(found) => {
             *held = HeldBlock {
                 fetched: found,
                 stored: Block::NOWHERE,
             };
-            Some(found)
+            Some(CodeBlocks {
+                current: found,
+                previous: found,
+            })
         }
         None => None,
     }
@@ -575,13 +576,16 @@ fn instruct_quickly<P: Processor, S: Keyed>(
 {
     let mut units = 0;
     let mut keeps_blocks = false;
-    let mut block = Block::NOWHERE;
+    let mut blocks = CodeBlocks {
+        current: Block::NOWHERE,
+        previous: Block::NOWHERE,
+    };
     let mut held = HeldBlock {
-        fetched: block,
-        stored: block,
+        fetched: Block::NOWHERE,
+        stored: Block::NOWHERE,
     };
     while units < limit {
-        let first = match block_at(keeps_blocks, cpu, storage, block, &mut held) {
+        let first = match blocks_for(keeps_blocks, cpu, storage, blocks, &mut held) {
             Some(found) => found,
             None => {
                 return UnitsDone {
@@ -592,7 +596,7 @@ fn instruct_quickly<P: Processor, S: Keyed>(
         };
         let steady = instruct_steadily(cpu, storage, first, &mut held, limit - units);
         units += steady.units;
-        block = match steady.block {
+        blocks = match steady.blocks {
             Some(last) => last,
             None => {
                 return UnitsDone {
@@ -606,7 +610,7 @@ fn instruct_quickly<P: Processor, S: Keyed>(
             pending,
             subchannels,
             storage,
-            block,
+            blocks,
             &mut held,
             limit - units,
         );

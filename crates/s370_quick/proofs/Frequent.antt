@@ -16,7 +16,7 @@ use Rattle.s370_rows.specs.Rows.{Left, MeetsRow, Outcome, Row, Stored, after, fa
 use Rattle.s370_cpu.specs.declared.conclude.Stop.TheVariants.{Done as DoneStop}
 use Rattle.s370_bytes.specs.Long.{long_moved}
 use Rattle.s370_cpu.specs.Laws.{rights_of}
-use Rattle.s370_quick.specs.Quick.{GoesOn, MeetsAtOnce, MeetsQuick}
+use Rattle.s370_quick.specs.Quick.{GoesOn, MeetsAtOnce, MeetsQuick, StepsQuickly}
 use Rattle.s370_cpu.specs.Table.{row_of, unit}
 use Rattle.s370_cpu.specs.Unit.{Carries, MeetsUnit, Stopped, place_at, stopped}
 use Rattle.s370_cpu.proofs.Units.{carried_meets, whole_meets}
@@ -119,3 +119,22 @@ quick_unit m ilc i ending cpu' present m' c h e =
     subst (λ (t : Stopped). MeetsUnit (unit m) present m t.stop (record m' { cpu = t.cpu })) e
     (whole_meets row_of m ilc i s.stop (record m' { cpu = s.cpu }) present c
     (carried_meets row_of present m (place_at m ilc) i (Ok ending) m' h))
+
+-- A quick row is a step that says where the next instruction is.
+pub quick_step : (m : State) (place : Place) (i : Instruction) (ending : Completion) (cpu' : Cpu) (present : ℕ → Bool)
+    (m' : State) (went : Option ℕ) → Carries m place.ilc i → place ≡ place_at m place.ilc
+    → MeetsQuick (row_of m place i) present m (Some ending) m'
+    → stopped (Ok ending) place m'.cpu ≡ record { stop = DoneStop; cpu = cpu' } → went ≡ Some cpu'.psw.address
+    → StepsQuickly present m went (record m' { cpu = cpu' })
+quick_step m place i ending cpu' present m' went carries here quick e address =
+    let row_here : MeetsRow (row_of m (place_at m place.ilc) i) present m (Ok ending) m' = subst
+    (λ (p : Place). MeetsRow (row_of m p i) present m (Ok ending) m') here quick.0 in
+    let stop_here : stopped (Ok ending) (place_at m place.ilc) m'.cpu ≡ record { stop = DoneStop; cpu = cpu' } = subst
+    (λ (p : Place). stopped (Ok ending) p m'.cpu ≡ record { stop = DoneStop; cpu = cpu' }) here e in
+    let step : StepsQuickly present m (Some cpu'.psw.address) (record m' { cpu = cpu' }) = record {
+      done = quick_unit m place.ilc i ending cpu' present m' carries row_here stop_here;
+      next = refl;
+      still = tt;
+      rights = quick_rights m place (row_of m place i) present ending cpu' m' quick e;
+    } in
+    subst (λ (o : Option ℕ). StepsQuickly present m o (record m' { cpu = cpu' })) (sym address) step

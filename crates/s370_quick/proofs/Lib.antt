@@ -1,3 +1,4 @@
+pub mod Following
 pub mod Frequent
 pub mod LongMoves
 pub mod Overflow

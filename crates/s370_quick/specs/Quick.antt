@@ -17,6 +17,9 @@ use Rattle.s370_cpu.specs.Table.{unit}
 use Rattle.s370_cpu.specs.Unit.{MeetsUnit}
 use Rattle.s370_cpu.specs.declared.conclude.Stop.TheVariants.{Done as DoneStop}
 use Rattle.s370_quick.specs.declared.held.HeldBlock.{HeldBlock}
+use Rattle.s370_quick.specs.declared.stepped.Stepped.{Stepped}
+use Rattle.s370_quick.specs.declared.stepped.Stepped.TheVariants.{Follows, Elsewhere, LeftOut}
+use Rattle.s370_quick.specs.declared.stepped.Stepped.TheVariants.{Unassigned}
 
 -- the processor goes on after it, and nothing else follows
 abbrev pub GoesOn : Completion → Type 0
@@ -42,6 +45,24 @@ abbrev pub MeetsQuick : Row → (ℕ → Bool) → State → Option Completion �
 MeetsQuick r present old None new = new ≡ old
 MeetsQuick r present old (Some ending) new =
     MeetsRow r present old (Ok ending) new × GoesOn ending × (rights_of new ≡ rights_of old)
+
+-- where the next instruction is, if the step was done
+abbrev pub next_after : Stepped → Option ℕ
+next_after (Follows next) = Some next
+next_after (Elsewhere next) = Some next
+next_after LeftOut = None
+next_after Unassigned = None
+
+-- an instruction that follows is at this address
+abbrev pub IsAt : ℕ → Stepped → Type 0
+IsAt next (Follows address) = address ≡ next
+IsAt next _ = Unit {0}
+
+-- an instruction that follows is at most six bytes after this even address, and at an even one
+abbrev pub FollowsIn : ℕ → Stepped → Type 0
+FollowsIn start (Follows address) = (start ≤ address) × (address ≤ start + 6)
+    × (start % 2 ≡ 0 → address % 2 ≡ 0)
+FollowsIn start _ = Unit {0}
 
 -- a step that was done is the unit, and answers where the next one begins; else nothing is changed;
 -- and nobody's rights change

@@ -1,11 +1,13 @@
 //! The blocks in which the last operands lay.
-ghost use Rattle.std.specs.Prelude.{◌≡◌, ◌+◌, ◌<◌, ◌≤◌, [], ◌∷◌, Ok, IfSome, true};
+ghost use Rattle.std.specs.Prelude.{◌≡◌, ◌+◌, ◌*◌, ◌/◌, ◌<◌, ◌≤◌, [], ◌∷◌, Ok, IfSome, length};
+ghost use Rattle.std.specs.Prelude.{true};
 ghost use Rattle.s370_store.specs.Access.{test_of};
+ghost use Rattle.s370_store.specs.Blocks.{MayAccess};
 ghost use Rattle.s370_rows.specs.State.{state_of};
 ghost use Rattle.s370_rows.specs.Rows.{Grants};
 ghost use Rattle.s370_quick.specs.Quick.{IsHeld};
 
-use s370_num::Addr24;
+use s370_num::{AccessKey, Addr24};
 use s370_rows::Cpu;
 use s370_store::{Access, Block, Storage};
 
@@ -30,6 +32,26 @@ fn holds(block: Block, start: Addr24, count: u32) -> bool
 {
     // An address below wraps round to one that is far above.
     start.get().wrapping_sub(block.first) <= 2048 - count
+}
+
+/// Returns the block around an address, if this access with this key may be made to all of it and
+/// its page is present.
+///
+/// It is not inlined, so that no operation code has more of it than a call.
+#[inline(never)]
+fn find_operand<S: Storage>(
+    access: Access,
+    storage: &S,
+    start: Addr24,
+    key: AccessKey,
+) -> Option<Block>
+    ensures first { IfSome result (λ found. found.first ≡ start / 2048 * 2048) }
+    ensures may_access { IfSome result
+        (λ found. MayAccess access (length (S.memory storage.now).bytes)
+        (S.memory storage.now).keys (S.present storage.now) key found.first) }
+    ensures placed { IfSome result (λ found. S.IsPlaced storage.now found) }
+{
+    storage.find_block(start.get(), access, key)
 }
 
 /// Returns the held block if the operand lies in it, else the block that is found for this access,
@@ -59,7 +81,7 @@ pub fn operand_block<S: Storage>(
     if holds(held, start, count) {
         return Some(held);
     }
-    match storage.find_block(start.get(), access, cpu.psw.key()) {
+    match find_operand(access, storage, start, cpu.psw.key()) {
         Some(found) => if holds(found, start, count) {
             Some(found)
         } else {

@@ -15,7 +15,7 @@
 //! ```
 //! use s370_num::{AccessKey, Addr24};
 //! use s370_psw::Psw;
-//! use s370_quick::{HeldBlock, step_quickly};
+//! use s370_quick::{HeldBlock, Stepped, step_quickly};
 //! use s370_rows::Cpu;
 //! use s370_store::{Access, PlainStorage, Storage};
 //!
@@ -25,18 +25,22 @@
 //! // a block into which may be stored may be fetched from, too
 //! let block = storage.find_block(0x1000, Access::Store, AccessKey::ZERO).ok_or("no block")?;
 //! let mut held = HeldBlock { fetched: block, stored: block };
-//! let next = step_quickly(&mut cpu, &mut storage, Addr24::wrapping(0x1000), block, &mut held);
-//! assert_eq!(rt; next, Some(Addr24::wrapping(0x1004)));
+//! let went = step_quickly(&mut cpu, &mut storage, Addr24::wrapping(0x1000), block, &mut held);
+//! assert_eq!(rt; went, Stepped::Follows(Addr24::wrapping(0x1004)));
 //! assert_eq!(rt; cpu.general[1], 42);
 //! ```
 #![tactic(auto)]
 
+mod codes;
 mod held;
+mod masks;
 mod operands;
 mod quick;
+mod stepped;
 mod strings;
 mod supervised;
 
 pub use held::HeldBlock;
 pub use quick::{move_parts_quickly, step_quickly};
+pub use stepped::Stepped;
 pub use supervised::supervise_quickly;

@@ -10,8 +10,6 @@ ghost use Rattle.s370_store.specs.declared.Access.TheVariants.{Fetch, Store};
 ghost use Rattle.s370_rows.specs.State.{state_of};
 ghost use Rattle.s370_rows.specs.Rows.{Grants, fetch_test};
 ghost use Rattle.s370_bytes.specs.Decimal.{decimal_stored};
-ghost use Rattle.s370_bytes.specs.Masks.{characters_compared, characters_inserted};
-ghost use Rattle.s370_bytes.specs.Masks.{characters_stored};
 ghost use Rattle.s370_bytes.specs.Multiple.{multiple_loaded, multiple_stored};
 ghost use Rattle.s370_cpu.specs.FetchRows.{MeetsOperand, byte_tested, character_inserted};
 ghost use Rattle.s370_cpu.specs.FetchRows.{fetch_row, half_of, halfword_multiplied};
@@ -23,12 +21,11 @@ ghost use Rattle.s370_cpu.specs.StoreRows.{store_row, word_stored, word_swapped}
 ghost use Rattle.s370_quick.specs.Quick.{AreHeld, MeetsAtOnce, done_of};
 
 use crate::held::{HeldBlock, operand_block};
-use crate::strings::{combine_quickly, compare_quickly, move_quickly, translate_quickly};
-use s370_bytes::{
-    Combine, characters_order_in, chosen_count, compare_characters_row, decimal_of, holds_eight,
-    insert_characters_in, insert_characters_row, load_registers_in, store_characters_in,
-    store_characters_row, store_registers_in, words_range,
+use crate::masks::{
+    compare_characters_quickly, insert_characters_quickly, store_characters_quickly,
 };
+use crate::strings::{combine_quickly, compare_quickly, move_quickly, translate_quickly};
+use s370_bytes::{Combine, decimal_of, load_registers_in, store_registers_in, words_range};
 use s370_cpu::{FetchRow, StoreRow, fetch_row, store_row};
 use s370_num::Addr24;
 use s370_rows::{
@@ -378,73 +375,6 @@ fn load_multiple_quickly<S: Storage>(
     }
 }
 
-/// Does ICM (BF), and holds the block of its bytes, unless its mask is zero; returns `None` if the
-/// bytes lie in two blocks or the access is not granted.
-#[inline(always)]
-fn insert_characters_quickly<S: Storage>(
-    cpu: &mut Cpu,
-    storage: &S,
-    i: Instruction,
-    held: &mut HeldBlock,
-) -> Option<Completion>
-    requires operands { AreHeld (S.IsPlaced storage.now) (S.memory storage.now)
-        (S.present storage.now) cpu.old.psw.key held.old }
-    ensures row { let before = state_of cpu.old (S.memory storage.now) in
-        let after = state_of cpu.new (S.memory storage.now) in
-        MeetsAtOnce (characters_inserted before i) (S.present storage.now) before result after }
-    ensures operands { AreHeld (S.IsPlaced storage.now) (S.memory storage.now)
-        (S.present storage.now) cpu.old.psw.key held.new }
-{
-    let start = cpu.based(i.second_half);
-    let count = chosen_count(i.r2().number());
-    if count == 0 {
-        return done_of(insert_characters_row(cpu, storage, i));
-    }
-    match source_block(cpu, storage, held, start, count) {
-        Some(found) => if holds_eight(found, start.get()) {
-            insert_characters_in(cpu, storage, found, start.get(), i);
-            Some(Completion::Done)
-        } else {
-            done_of(insert_characters_row(cpu, storage, i))
-        },
-        None => None,
-    }
-}
-
-/// Does CLM (BD), and holds the block of its bytes, unless its mask is zero; returns `None` if the
-/// bytes lie in two blocks or the access is not granted.
-#[inline(always)]
-fn compare_characters_quickly<S: Storage>(
-    cpu: &mut Cpu,
-    storage: &S,
-    i: Instruction,
-    held: &mut HeldBlock,
-) -> Option<Completion>
-    requires operands { AreHeld (S.IsPlaced storage.now) (S.memory storage.now)
-        (S.present storage.now) cpu.old.psw.key held.old }
-    ensures row { let before = state_of cpu.old (S.memory storage.now) in
-        let after = state_of cpu.new (S.memory storage.now) in
-        MeetsAtOnce (characters_compared before i) (S.present storage.now) before result after }
-    ensures operands { AreHeld (S.IsPlaced storage.now) (S.memory storage.now)
-        (S.present storage.now) cpu.old.psw.key held.new }
-{
-    let start = cpu.based(i.second_half);
-    let count = chosen_count(i.r2().number());
-    if count == 0 {
-        return done_of(compare_characters_row(cpu, storage, i));
-    }
-    match source_block(cpu, storage, held, start, count) {
-        Some(found) => if holds_eight(found, start.get()) {
-            let condition = characters_order_in(cpu, storage, found, start.get(), i);
-            cpu.psw.set_condition(condition);
-            Some(Completion::Done)
-        } else {
-            done_of(compare_characters_row(cpu, storage, i))
-        },
-        None => None,
-    }
-}
-
 /// Does ST (50), and holds the word's block for stores; returns `None` if the word lies in two
 /// blocks or may not be stored.
 #[inline(always)]
@@ -684,38 +614,6 @@ fn store_decimal_quickly<S: Storage>(
         Some(found) => {
             let decimal = decimal_of(cpu.general[i.r1().index()]);
             storage.store_in(found, start.get(), &decimal.to_be_bytes());
-            Some(Completion::Done)
-        }
-        None => None,
-    }
-}
-
-/// Does STCM (BE), and holds the block of its bytes for stores, unless its mask is zero; returns
-/// `None` if the bytes lie in two blocks or the access is not granted.
-#[inline(always)]
-fn store_characters_quickly<S: Storage>(
-    cpu: &Cpu,
-    storage: &mut S,
-    i: Instruction,
-    held: &mut HeldBlock,
-) -> Option<Completion>
-    requires operands { AreHeld (S.IsPlaced storage.old) (S.memory storage.old)
-        (S.present storage.old) cpu.now.psw.key held.old }
-    ensures row { let before = state_of cpu.now (S.memory storage.old) in
-        let after = state_of cpu.now (S.memory storage.new) in
-        MeetsAtOnce (characters_stored before i) (S.present storage.old) before result after }
-    ensures rest { S.Keeps storage.old storage.new }
-    ensures operands { AreHeld (S.IsPlaced storage.old) (S.memory storage.old)
-        (S.present storage.old) cpu.now.psw.key held.new }
-{
-    let start = cpu.based(i.second_half);
-    let count = chosen_count(i.r2().number());
-    if count == 0 {
-        return done_of(store_characters_row(cpu, storage, i));
-    }
-    match target_block(cpu, storage, held, start, count) {
-        Some(found) => {
-            store_characters_in(cpu, storage, found, start.get(), i);
             Some(Completion::Done)
         }
         None => None,

@@ -156,7 +156,7 @@ fn finish_control<S: Keyed, const CODE: u8>(
 {
     let Place { next, ilc } = place;
     match perform_supervised::<S, CODE>(cpu, storage, Place { next, ilc }, i, held) {
-        Some(ending) => Some(go_on(cpu, Place { next, ilc }, ending)),
+        Some(ending) => go_on(cpu, Place { next, ilc }, ending).next(),
         None => None,
     }
 }

@@ -29,13 +29,19 @@ returns-in-10-clause-ran g c =
       within = c.requires.some;
     }
 
-pub returns-in-Some-clause-fetched : goal.returns-in-Some-clause-fetched
-returns-in-Some-clause-fetched g c is_it =
+pub returns-in-Some-clause-current : goal.returns-in-Some-clause-current
+returns-in-Some-clause-current g c is_it =
     let kept = c.supervise_quickly.ensures.rest in
-    still_fetched c.args.cpu.now c.supervise_quickly.new.cpu c.args.block
-    (g.met.S.Storage.placed_kept _ _ c.args.block kept) (g.met.S.Storage.keeps_size _ _ kept)
-    c.supervise_quickly.ensures.step.keys (g.met.S.Storage.keeps_present _ _ kept)
-    (c.has_key.ensures is_it ∙ c.key-key.ensures) c.requires.next.fetched
+    rw (c.has_key.ensures is_it ∙ c.key-key.ensures) (still_fetched c.args.cpu.now.psw.key c.args.blocks.current
+    (g.met.S.Storage.placed_kept _ _ c.args.blocks.current kept) (g.met.S.Storage.keeps_size _ _ kept)
+    c.supervise_quickly.ensures.step.keys (g.met.S.Storage.keeps_present _ _ kept) c.requires.next.fetched)
+
+pub returns-in-Some-clause-previous : goal.returns-in-Some-clause-previous
+returns-in-Some-clause-previous g c is_it =
+    let kept = c.supervise_quickly.ensures.rest in
+    rw (c.has_key.ensures is_it ∙ c.key-key.ensures) (still_fetched c.args.cpu.now.psw.key c.args.blocks.previous
+    (g.met.S.Storage.placed_kept _ _ c.args.blocks.previous kept) (g.met.S.Storage.keeps_size _ _ kept)
+    c.supervise_quickly.ensures.step.keys (g.met.S.Storage.keeps_present _ _ kept) c.requires.previous)
 
 pub returns-in-Some-clause-operands : goal.returns-in-Some-clause-operands
 returns-in-Some-clause-operands g c is_it =

@@ -2,8 +2,8 @@ use Rattle.std.proofs.Common.{◌+◌, arith}
 use Rattle.s370_intr.proofs.Runs.{does_many, is_so}
 use Rattle.s370_intr.proofs.run.instruct_quickly.Goals as goal
 
-pub returns-in-None-block-clause-ran : goal.returns-in-None-block-clause-ran
-returns-in-None-block-clause-ran g c =
+pub returns-in-None-blocks-clause-ran : goal.returns-in-None-blocks-clause-ran
+returns-in-None-blocks-clause-ran g c =
     let steady = c.instruct_steadily-steady.ensures.done c.args.pending c.loop-units.subchannels
     c.loop-units.invariant.plain in
     record {
@@ -62,7 +62,8 @@ loop-units-preserved g c =
           c.instruct_left_out-went.result.units _ _ _
           (does_many c.loop-units.units c.instruct_steadily-steady.result.units _ _ _ c.loop-units.invariant.done
           steady.0) c.instruct_left_out-went.ensures.ran.done;
-      fetched = c.instruct_left_out-went.ensures.fetched;
+      current = c.instruct_left_out-went.ensures.current;
+      previous = c.instruct_left_out-went.ensures.previous;
       operands = c.instruct_left_out-went.ensures.operands;
       rest = g.met.S.Keyed.rest_on _ _ _ (g.met.S.Keyed.rest_on _ _ _ c.loop-units.invariant.rest
           (g.met.S.Keyed.rest_kept _ _ c.instruct_steadily-steady.ensures.rest)) c.instruct_left_out-went.ensures.rest;

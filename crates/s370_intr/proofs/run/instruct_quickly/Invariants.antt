@@ -15,8 +15,10 @@ invariant-loop-units g l =
       plain : look (core_of (state_of l.cpu (g.S.Storage.memory l.storage)) l.fn.pending l.subchannels) ≡ Instructs;
       done : run l.units first ≡ all_done l.units (core_of (state_of l.cpu (g.S.Storage.memory l.storage)) l.fn.pending
           l.subchannels);
-      fetched : l.keeps_blocks ≡ true → IsFetched (g.S.Storage.IsPlaced l.storage) (g.S.Storage.memory l.storage)
-          (g.S.Storage.present l.storage) l.cpu l.block;
+      current : l.keeps_blocks ≡ true → IsFetched (g.S.Storage.IsPlaced l.storage) (g.S.Storage.memory l.storage)
+          (g.S.Storage.present l.storage) l.cpu.psw.key l.blocks.current;
+      previous : l.keeps_blocks ≡ true → IsFetched (g.S.Storage.IsPlaced l.storage) (g.S.Storage.memory l.storage)
+          (g.S.Storage.present l.storage) l.cpu.psw.key l.blocks.previous;
       operands : l.keeps_blocks ≡ true → AreHeld (g.S.Storage.IsPlaced l.storage) (g.S.Storage.memory l.storage)
           (g.S.Storage.present l.storage) l.cpu.psw.key l.held;
       rest : g.S.Keyed.KeepsRest l.fn.storage l.storage;

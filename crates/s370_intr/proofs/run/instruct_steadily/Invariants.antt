@@ -1,8 +1,7 @@
-use Rattle.std.proofs.Common.{◌≡◌, ◌<◌, length}
-use Rattle.s370_store.specs.Blocks.{MayFetch}
+use Rattle.std.proofs.Common.{◌≡◌, ◌+◌, ◌%◌, ◌≤◌}
 use Rattle.s370_rows.specs.State.{state_of}
 use Rattle.s370_quick.specs.Quick.{AreHeld}
-use Rattle.s370_intr.specs.Run.{DoesInstructions}
+use Rattle.s370_intr.specs.Run.{DoesInstructions, IsFetched}
 use Rattle.s370_intr.proofs.run.instruct_steadily.Given as goal
 
 abbrev pub invariant-loop-units : goal.invariant-loop-units
@@ -12,10 +11,13 @@ invariant-loop-units g l =
     record {
       here : l.next ≡ m.cpu.psw.address;
       key : l.key ≡ m.cpu.psw.key;
-      low : l.block.first < 16777216;
-      may_fetch : MayFetch (length (g.S.Storage.memory l.storage).bytes) (g.S.Storage.memory l.storage).keys
-          (g.S.Storage.present l.storage) l.key l.block.first;
-      placed : g.S.Storage.IsPlaced l.storage l.block;
+      current : IsFetched (g.S.Storage.IsPlaced l.storage) (g.S.Storage.memory l.storage)
+          (g.S.Storage.present l.storage) l.key l.blocks.current;
+      previous : IsFetched (g.S.Storage.IsPlaced l.storage) (g.S.Storage.memory l.storage)
+          (g.S.Storage.present l.storage) l.key l.blocks.previous;
+      begins : l.blocks.current.first ≤ l.next;
+      ends : l.next ≤ l.blocks.current.first + 2042;
+      even : l.next % 2 ≡ 0;
       operands : AreHeld (g.S.Storage.IsPlaced l.storage) (g.S.Storage.memory l.storage)
           (g.S.Storage.present l.storage) l.key l.held;
       done : DoesInstructions l.units m0 m;
