@@ -326,6 +326,7 @@ pub still_held : {is_placed is_placed' : Block → Type 0} {m m' : Memory} {pres
     → AreHeld is_placed' m' present' key held
 still_held key held moves s k p h = record {
   fetched = held_still key held.fetched moves s k p h.fetched;
+  previous = held_still key held.previous moves s k p h.previous;
   stored = held_still key held.stored moves s k p h.stored;
 }
 

@@ -542,6 +542,7 @@ fn blocks_for<S: Storage>(
         Some(found) => {
             *held = HeldBlock {
                 fetched: found,
+                previous: found,
                 stored: Block::NOWHERE,
             };
             Some(CodeBlocks {
@@ -582,6 +583,7 @@ fn instruct_quickly<P: Processor, S: Keyed>(
     };
     let mut held = HeldBlock {
         fetched: Block::NOWHERE,
+        previous: Block::NOWHERE,
         stored: Block::NOWHERE,
     };
     while units < limit {

@@ -108,9 +108,10 @@ pub record IsHeld (access : Access) (is_placed : Block → Type 0) (m : Memory) 
       → MayAccess access (length m.bytes) m.keys present key block.first
   pub placed : block.first < 16777216 → is_placed block
 
--- the blocks that are held for operands, one for those that are fetched, and one for those that are
+-- the blocks that are held for operands, two for those that are fetched, and one for those that are
 -- stored
 pub record AreHeld (is_placed : Block → Type 0) (m : Memory) (present : ℕ → Bool) (key : ℕ)
     (held : HeldBlock) : Type 0 where
   pub fetched : IsHeld Fetch is_placed m present key held.fetched
+  pub previous : IsHeld Fetch is_placed m present key held.previous
   pub stored : IsHeld Store is_placed m present key held.stored

@@ -1,22 +1,22 @@
 //! The blocks in which the last operands lay.
-ghost use Rattle.std.specs.Prelude.{◌≡◌, ◌+◌, ◌*◌, ◌/◌, ◌<◌, ◌≤◌, [], ◌∷◌, Ok, IfSome, length};
-ghost use Rattle.std.specs.Prelude.{true};
+ghost use Rattle.std.specs.Prelude.{◌≡◌, ◌+◌, ◌<◌, ◌≤◌, [], ◌∷◌, Ok, IfSome, true};
 ghost use Rattle.s370_store.specs.Access.{test_of};
-ghost use Rattle.s370_store.specs.Blocks.{MayAccess};
 ghost use Rattle.s370_rows.specs.State.{state_of};
 ghost use Rattle.s370_rows.specs.Rows.{Grants};
 ghost use Rattle.s370_quick.specs.Quick.{IsHeld};
 
-use s370_num::{AccessKey, Addr24};
+use s370_num::Addr24;
 use s370_rows::Cpu;
 use s370_store::{Access, Block, Storage};
 
-/// The blocks in which the last operands lay, one for each kind of access: what may be fetched from
-/// may not be stored into.
+/// The blocks in which the last operands lay, by the kind of access: what may be fetched from may
+/// not be stored into.
 #[derive(Clone, Copy, PartialEq, Eq)]
 pub struct HeldBlock {
-    /// The block from which operands are fetched.
+    /// The block from which the last operand was fetched.
     pub fetched: Block,
+    /// The block from which operands were fetched before: constants and variables are mostly in two.
+    pub previous: Block,
     /// The block into which operands are stored.
     pub stored: Block,
 }
@@ -34,40 +34,40 @@ fn holds(block: Block, start: Addr24, count: u32) -> bool
     start.get().wrapping_sub(block.first) <= 2048 - count
 }
 
-/// Returns the block around an address, if this access with this key may be made to all of it and
-/// its page is present.
-///
-/// It is not inlined, so that no operation code has more of it than a call.
-#[inline(never)]
-fn find_operand<S: Storage>(
-    access: Access,
-    storage: &S,
-    start: Addr24,
-    key: AccessKey,
-) -> Option<Block>
-    ensures first { IfSome result (λ found. found.first ≡ start / 2048 * 2048) }
-    ensures may_access { IfSome result
-        (λ found. MayAccess access (length (S.memory storage.now).bytes)
-        (S.memory storage.now).keys (S.present storage.now) key found.first) }
-    ensures placed { IfSome result (λ found. S.IsPlaced storage.now found) }
-{
-    storage.find_block(start.get(), access, key)
-}
-
-/// Returns the held block if the operand lies in it, else the block that is found for this access,
-/// or `None` if the operand lies in two blocks or may not be accessed.
+/// Returns whether the operand lies in the held block, and so may be accessed there.
 #[inline(always)]
-pub fn operand_block<S: Storage>(
+pub fn is_in_held<S: Storage>(
     access: Access,
     cpu: &Cpu,
     storage: &S,
     held: Block,
     start: Addr24,
     count: u32,
-) -> Option<Block>
+) -> bool
     requires short { count ≤ 256 }
     requires operands { IsHeld access (S.IsPlaced storage.now) (S.memory storage.now)
         (S.present storage.now) cpu.now.psw.key held }
+    ensures placed { result ≡ true → S.IsPlaced storage.now held }
+    ensures granted { result ≡ true
+        → Grants (state_of cpu.now (S.memory storage.now)) (S.present storage.now)
+        (test_of access start count ∷ []) (Ok tt) }
+    ensures begins { result ≡ true → held.first ≤ start }
+    ensures ends { result ≡ true → start + count ≤ held.first + 2048 }
+{
+    holds(held, start, count)
+}
+
+/// Returns the block that is found for this access, or `None` if the operand lies in two blocks or
+/// may not be accessed.
+#[inline(always)]
+pub fn found_block<S: Storage>(
+    access: Access,
+    cpu: &Cpu,
+    storage: &S,
+    start: Addr24,
+    count: u32,
+) -> Option<Block>
+    requires short { count ≤ 256 }
     ensures operands { IfSome result
         (λ found. IsHeld access (S.IsPlaced storage.now) (S.memory storage.now)
         (S.present storage.now) cpu.now.psw.key found) }
@@ -78,10 +78,7 @@ pub fn operand_block<S: Storage>(
     ensures begins { IfSome result (λ found. found.first ≤ start) }
     ensures ends { IfSome result (λ found. start + count ≤ found.first + 2048) }
 {
-    if holds(held, start, count) {
-        return Some(held);
-    }
-    match find_operand(access, storage, start, cpu.psw.key()) {
+    match storage.find_block(start.get(), access, cpu.psw.key()) {
         Some(found) => if holds(found, start, count) {
             Some(found)
         } else {

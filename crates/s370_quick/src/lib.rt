@@ -24,7 +24,7 @@
 //! storage.store(0x1000, &[0x41, 0x10, 0, 42]); // LA 1,42
 //! // a block into which may be stored may be fetched from, too
 //! let block = storage.find_block(0x1000, Access::Store, AccessKey::ZERO).ok_or("no block")?;
-//! let mut held = HeldBlock { fetched: block, stored: block };
+//! let mut held = HeldBlock { fetched: block, previous: block, stored: block };
 //! let went = step_quickly(&mut cpu, &mut storage, Addr24::wrapping(0x1000), block, &mut held);
 //! assert_eq!(rt; went, Stepped::Follows(Addr24::wrapping(0x1004)));
 //! assert_eq!(rt; cpu.general[1], 42);

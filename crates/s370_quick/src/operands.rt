@@ -20,7 +20,7 @@ ghost use Rattle.s370_cpu.specs.StoreRows.{halfword_stored};
 ghost use Rattle.s370_cpu.specs.StoreRows.{store_row, word_stored, word_swapped};
 ghost use Rattle.s370_quick.specs.Quick.{AreHeld, MeetsAtOnce, done_of};
 
-use crate::held::{HeldBlock, operand_block};
+use crate::held::{HeldBlock, found_block, is_in_held};
 use crate::masks::{
     compare_characters_quickly, insert_characters_quickly, store_characters_quickly,
 };
@@ -57,10 +57,21 @@ pub fn source_block<S: Storage>(
     ensures begins { IfSome result (λ found. found.first ≤ start) }
     ensures ends { IfSome result (λ found. start + count ≤ found.first + 2048) }
 {
-    let found = match operand_block(Access::Fetch, cpu, storage, held.fetched, start, count) {
+    // What is held already is not written again.
+    if is_in_held(Access::Fetch, cpu, storage, held.fetched, start, count) {
+        return Some(held.fetched);
+    }
+    let left = held.fetched;
+    if is_in_held(Access::Fetch, cpu, storage, held.previous, start, count) {
+        held.fetched = held.previous;
+        held.previous = left;
+        return Some(held.fetched);
+    }
+    let found = match found_block(Access::Fetch, cpu, storage, start, count) {
         Some(found) => found,
         None => return None,
     };
+    held.previous = left;
     held.fetched = found;
     Some(found)
 }
@@ -87,7 +98,11 @@ pub fn target_block<S: Storage>(
     ensures begins { IfSome result (λ found. found.first ≤ start) }
     ensures ends { IfSome result (λ found. start + count ≤ found.first + 2048) }
 {
-    let found = match operand_block(Access::Store, cpu, storage, held.stored, start, count) {
+    // What is held already is not written again.
+    if is_in_held(Access::Store, cpu, storage, held.stored, start, count) {
+        return Some(held.stored);
+    }
+    let found = match found_block(Access::Store, cpu, storage, start, count) {
         Some(found) => found,
         None => return None,
     };

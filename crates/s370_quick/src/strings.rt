@@ -9,14 +9,14 @@ ghost use Rattle.s370_bytes.specs.Translate.{string_translated};
 ghost use Rattle.s370_bytes.specs.declared.combine.Combine.TheVariants as combines;
 ghost use Rattle.s370_quick.specs.Quick.{AreHeld, MeetsAtOnce};
 
-use crate::held::{HeldBlock, operand_block};
+use crate::held::HeldBlock;
 use crate::operands::{done_of, source_block, target_block};
 use s370_bytes::{
     Combine, StringAt, combine_row, combine_straight, compare_row, compare_straight, fill_straight,
     move_row, move_straight, translate_row, translate_straight,
 };
 use s370_rows::{Completion, Cpu, Instruction};
-use s370_store::{Access, Storage};
+use s370_store::Storage;
 
 /// Does MVC (D2) and returns true if each operand lies in one block, may be accessed there and is
 /// then held, and one copy does it or it fills the target with one byte; else returns false.
@@ -239,8 +239,7 @@ pub fn compare_quickly<S: Storage>(
         Some(found) => found,
         None => return done_of(compare_row(cpu, storage, i)),
     };
-    // The first operand's block stays held: two operands in two blocks would take turns in it.
-    let right = match operand_block(Access::Fetch, cpu, storage, held.fetched, second, count) {
+    let right = match source_block(cpu, storage, held, second, count) {
         Some(found) => found,
         None => return done_of(compare_row(cpu, storage, i)),
     };
