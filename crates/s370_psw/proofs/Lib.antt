@@ -1,1 +1,2 @@
 mod Loading
+mod Packing

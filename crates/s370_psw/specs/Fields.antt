@@ -38,6 +38,12 @@ fields_of n = record {
 abbrev pub bit : Bool → ℕ
 bit b = cond b 1 0
 
+-- bits 0 to 15 of a PSW, in which its left fields and flags stand
+abbrev pub left_of : Fields → ℕ
+left_of f =
+    f.system_mask * 2 ^ 8 + f.key * 2 ^ 4 + bit f.extended * 2 ^ 3 + bit f.machine_check * 2 ^ 2
+    + bit f.wait * 2 + bit f.problem
+
 -- the 64 bits of a PSW that is stored with an interruption code, in 16 to 31, and an instruction
 -- length code, in 32 and 33
 abbrev pub word_of : Fields → ℕ → ℕ → ℕ

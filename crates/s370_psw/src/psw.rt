@@ -14,30 +14,26 @@ use std::marker::Model;
 /// Mode").
 #[derive(Clone, Copy, PartialEq, Eq, Debug)]
 pub struct Psw {
-    system_mask: u8,
-    key: AccessKey,
-    extended: bool,
-    machine_check: bool,
-    wait: bool,
-    problem: bool,
+    // bits 0 to 15, as they are stored: the system mask, the key and the four flags
+    left: u16,
     condition: ConditionCode,
     program_mask: u8,
     address: Addr24,
 }
 
 impl Model for Psw {
-    ghost use Rattle.std.specs.Prelude.{◌≡◌, ℕ, ◌^◌, ◌<◌};
-    ghost use Rattle.s370_psw.specs.Fields.{Fields};
+    ghost use Rattle.std.specs.Prelude.{◌≡◌, ℕ, ◌/◌, ◌%◌, ◌^◌, ◌<◌, ◌==◌};
+    ghost use Rattle.s370_psw.specs.Fields.{Fields, left_of};
 
     ghost Value = { Fields };
 
     ghost view = { λ p. record {
-      system_mask = p.system_mask;
-      key = p.key;
-      extended = p.extended;
-      machine_check = p.machine_check;
-      wait = p.wait;
-      problem = p.problem;
+      system_mask = p.left / 2 ^ 8;
+      key = p.left / 2 ^ 4 % 2 ^ 4;
+      extended = p.left / 2 ^ 3 % 2 == 1;
+      machine_check = p.left / 2 ^ 2 % 2 == 1;
+      wait = p.left / 2 % 2 == 1;
+      problem = p.left % 2 == 1;
       condition = p.condition;
       program_mask = p.program_mask;
       address = p.address;
@@ -46,12 +42,7 @@ impl Model for Psw {
     ghost invariant = { λ p. p.program_mask < 16 };
 
     ghost inverse = { λ p. record {
-      system_mask = p.system_mask;
-      key = p.key;
-      extended = p.extended;
-      machine_check = p.machine_check;
-      wait = p.wait;
-      problem = p.problem;
+      left = left_of p;
       condition = p.condition;
       program_mask = p.program_mask;
       address = p.address;
@@ -89,12 +80,7 @@ impl Psw {
         ensures { result ≡ fields_of word }
     {
         Psw {
-            system_mask: (word >> 56) as u8,
-            key: AccessKey::new((word >> 52 & 0xF) as u8),
-            extended: word >> 51 & 1 == 1,
-            machine_check: word >> 50 & 1 == 1,
-            wait: word >> 49 & 1 == 1,
-            problem: word >> 48 & 1 == 1,
+            left: (word >> 48) as u16,
             condition: ConditionCode::new((word >> 28 & 3) as u8),
             program_mask: (word >> 24 & 0xF) as u8,
             address: Addr24::wrapping((word & 0xFF_FFFF) as u32),
@@ -106,16 +92,10 @@ impl Psw {
     pub fn to_word(self, code: u16, length_code: Ilc) -> u64
         ensures { result ≡ word_of self code length_code }
     {
-        let masks = self.system_mask as u64 * 0x100_0000_0000_0000
-            + self.key.get() as u64 * 0x10_0000_0000_0000;
-        let flags = self.extended as u64 * 0x8_0000_0000_0000
-            + self.machine_check as u64 * 0x4_0000_0000_0000
-            + self.wait as u64 * 0x2_0000_0000_0000
-            + self.problem as u64 * 0x1_0000_0000_0000;
         let codes = code as u64 * 0x1_0000_0000 + length_code.get() as u64 * 0x4000_0000;
         let program = self.condition.get() as u64 * 0x1000_0000
             + self.program_mask as u64 * 0x100_0000;
-        masks + flags + codes + program + self.address.get() as u64
+        self.left as u64 * 0x1_0000_0000_0000 + codes + program + self.address.get() as u64
     }
 }
 
@@ -136,7 +116,7 @@ impl Psw {
     pub fn key(&self) -> AccessKey
         ensures { result ≡ self.now.key }
     {
-        self.key
+        AccessKey::new((self.left >> 4 & 0xF) as u8)
     }
 
     /// Returns the condition code.
@@ -163,7 +143,7 @@ impl Psw {
     pub fn system_mask(&self) -> u8
         ensures { result ≡ self.now.system_mask }
     {
-        self.system_mask
+        (self.left >> 8) as u8
     }
 
     /// Returns whether bit 12 is one, which asks for extended control mode.
@@ -171,7 +151,7 @@ impl Psw {
     pub fn is_ec(&self) -> bool
         ensures { result ≡ self.now.extended }
     {
-        self.extended
+        self.left >> 3 & 1 == 1
     }
 
     /// Returns whether bit 13 is one, which lets machine checks interrupt.
@@ -179,7 +159,7 @@ impl Psw {
     pub fn machine_check(&self) -> bool
         ensures { result ≡ self.now.machine_check }
     {
-        self.machine_check
+        self.left >> 2 & 1 == 1
     }
 
     /// Returns whether bit 14 is one: the processor waits for an interruption.
@@ -187,7 +167,7 @@ impl Psw {
     pub fn waits(&self) -> bool
         ensures { result ≡ self.now.wait }
     {
-        self.wait
+        self.left >> 1 & 1 == 1
     }
 
     /// Returns whether bit 15 is one: the processor is in the problem state, without privileged
@@ -196,7 +176,7 @@ impl Psw {
     pub fn is_problem(&self) -> bool
         ensures { result ≡ self.now.problem }
     {
-        self.problem
+        self.left & 1 == 1
     }
 
     /// Returns whether the system mask lets this channel interrupt: channels 0 to 5 have a bit
@@ -206,7 +186,7 @@ impl Psw {
         ensures { result ≡ enables_channel self.now channel }
     {
         let place = if channel < 6 { channel } else { 6 };
-        self.system_mask >> (7 - place) & 1 == 1
+        self.system_mask() >> (7 - place) & 1 == 1
     }
 
     /// Returns whether the system mask lets external conditions interrupt: its rightmost bit.
@@ -214,7 +194,7 @@ impl Psw {
     pub fn enables_external(&self) -> bool
         ensures { result ≡ enables_external self.now }
     {
-        self.system_mask & 1 == 1
+        self.system_mask() & 1 == 1
     }
 
     /// Returns whether the system mask is zero: no channel and no external condition may interrupt.
@@ -222,7 +202,7 @@ impl Psw {
     pub fn is_disabled(&self) -> bool
         ensures { result ≡ (self.now.system_mask == 0) }
     {
-        self.system_mask == 0
+        self.system_mask() == 0
     }
 }
 
@@ -233,7 +213,7 @@ impl Psw {
     pub fn set_system_mask(&mut self, mask: u8)
         ensures { self.new ≡ record self.old { system_mask = mask } }
     {
-        self.system_mask = mask;
+        self.left = mask as u16 * 0x100 + (self.left & 0xFF);
     }
 
     /// Sets the address of the next instruction.
@@ -266,7 +246,7 @@ impl Psw {
     pub fn set_wait(&mut self, wait: bool)
         ensures { self.new ≡ record self.old { wait = wait } }
     {
-        self.wait = wait;
+        self.left = self.left - (self.left >> 1 & 1) * 2 + wait as u16 * 2;
     }
 
     /// Sets whether the processor is in the problem state (bit 15).
@@ -274,7 +254,8 @@ impl Psw {
     pub fn set_problem(&mut self, problem: bool)
         ensures { self.new ≡ record self.old { problem = problem } }
     {
-        self.problem = problem;
+        let even = (self.left >> 1) * 2;
+        self.left = if problem { even + 1 } else { even };
     }
 }
 
@@ -284,9 +265,9 @@ pub fn fields_in_range(psw: &Psw)
     ensures { IsInRange psw.now }
 {
     let _ = psw.address.get();
-    let _ = psw.key.get();
+    let _ = psw.key().get();
     let _ = psw.condition.get();
-    let _mask = psw.system_mask;
+    let _mask = psw.system_mask();
 }
 
 /// Proves the laws of storing and loading a PSW; it has no effect.
