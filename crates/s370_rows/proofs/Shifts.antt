@@ -5,7 +5,7 @@ use Rattle.std.proofs.lemmas.Bool.{cases_lt, le-ltb, lt-ltb}
 use Rattle.std.proofs.lemmas.Nat.{mul-le, pow-add, pow_pos}
 use Rattle.std.proofs.Math.IntN.{neg_ℤ, negsuc-*ℤ-pos, pos-*ℤ-pos}
 use Rattle.std.proofs.Math.Nat.{add-mul, div-eq_of_lt, lt-div-mul-add, mul_assoc, pow-le-pow_right}
-use Rattle.std.specs.Prelude.{ℤ, pos, negsuc, ◌*ℤ◌}
+use Rattle.std.specs.Prelude.{pos, negsuc, ◌*ℤ◌}
 use Rattle.s370_rows.specs.Arithmetic.{fits_word, sign_code, signed}
 use Rattle.s370_rows.specs.Pair.{signed_pair}
 use Rattle.s370_rows.specs.Shift.{fits_pair, left_pair, plain_pair}
