@@ -6,9 +6,10 @@ ghost use Rattle.machine_devices.specs.Loading.{LacksPsw, is_good, left_by};
 use cp_console::responses::Response;
 use machine_panel::Machine;
 use s370_channel::ChannelError;
-use s370_num::{AccessKey, DevAddr};
+use s370_num::DevAddr;
 use s370_psw::Psw;
-use s370_store::{Access, Fault, Range, Storage, load_doubleword, store_halfword};
+use s370_rows::reach;
+use s370_store::{Access, Range, Storage, load_doubleword, store_halfword};
 use s370_walk::{ChannelStatus, Ending, UnitStatus};
 
 /// Where the device's address is stored, in the PSW that is loaded.
@@ -38,12 +39,9 @@ pub(crate) fn start_loaded<S: Storage>(
         machine.print(&Response::IplFailed);
         return Ok(false);
     }
-    match storage.check(IPL_PSW, Access::Store, AccessKey::ZERO) {
+    match reach(storage, IPL_PSW, Access::Store) {
         Ok(()) => {}
-        Err(Fault::Absent(page)) => return Err(ChannelError::Absent(page)),
-        // The location lies in every storage, and key 0 passes every test.
-        Err(Fault::Addressing) => unreachable!(),
-        Err(Fault::Protection) => unreachable!(),
+        Err(page) => return Err(ChannelError::Absent(page)),
     }
     store_halfword(storage, 2, device.get());
     machine.start(Psw::from_word(load_doubleword(storage, 0)));

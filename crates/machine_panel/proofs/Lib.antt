@@ -1,4 +1,3 @@
-pub mod Reached
 pub mod Nothing
 pub mod Readies
 pub mod MachineCodes

@@ -69,12 +69,6 @@ touched (changes.Storage a bytes) =
 
 -- ---- what the code may answer
 
--- leave to access ranges that lie in storage, whatever their keys; or a page of theirs that is not
--- present
-abbrev pub Reaches : ℕ → (ℕ → Bool) → List Test → Result ⊤ Page → Type 0
-Reaches size present ts (Ok _) = AreGranted size present ts
-Reaches size present ts (Err page) = IsAbsent size present page.0 × Touches ts page.0
-
 -- the reply; or a page that is to be shown and is not present
 abbrev pub Displays : DisplayItem → (ℕ → Bool) → State → Result Response Page → Type 0
 Displays place present s (Ok reply) = reply ≡ displayed place s

@@ -2,15 +2,15 @@
 ghost use Rattle.std.specs.Prelude.{◌≡◌, ◌*◌, ◌+◌, ◌/◌, ◌≤◌, ℕ, [], ◌∷◌, length, Result};
 ghost use Rattle.s370_rows.specs.State.{state_of};
 ghost use Rattle.s370_store.specs.Access.{tested};
-ghost use Rattle.machine_panel.specs.DisplayStore.{Changes, Displays, Reaches, displayed};
+ghost use Rattle.machine_panel.specs.DisplayStore.{Changes, Displays, displayed};
 
 use cp_console::StoredBytes;
 use cp_console::commands::{Change, DisplayItem};
 use cp_console::responses::Response;
-use s370_num::{AccessKey, Addr24, Word};
+use s370_num::{Addr24, Word};
 use s370_psw::{Ilc, Psw};
-use s370_rows::Cpu;
-use s370_store::{Access, BLOCK_SIZE, Fault, Keyed, Page, Range, Storage};
+use s370_rows::{Cpu, reach};
+use s370_store::{Access, BLOCK_SIZE, Keyed, Page, Range, Storage};
 
 /// Returns the response with what an item holds, or that its address is past storage.
 ///
@@ -122,21 +122,4 @@ fn change_storage<S: Storage>(
     }
     storage.store(start, bytes);
     Ok(Response::Stored)
-}
-
-/// Returns `Ok` if the pages of a range in storage are present, whatever its keys, or else an
-/// absent page.
-fn reach<S: Storage>(storage: &S, range: Range, access: Access) -> Result<(), Page>
-    requires short { range.count ≤ 256 }
-    requires inside { range.start + range.count ≤ length (S.memory storage.now).bytes }
-    ensures { Reaches (length (S.memory storage.now).bytes) (S.present storage.now)
-        (tested access range ∷ []) result }
-{
-    match storage.check(range, access, AccessKey::ZERO) {
-        Ok(()) => Ok(()),
-        Err(Fault::Absent(page)) => Err(page),
-        // The bytes lie in storage, and key 0 passes.
-        Err(Fault::Addressing) => unreachable!(),
-        Err(Fault::Protection) => unreachable!(),
-    }
 }

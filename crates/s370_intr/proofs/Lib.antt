@@ -1,4 +1,3 @@
-pub mod Assigned
 pub mod Instructed
 pub mod Runs
 pub mod NinePages

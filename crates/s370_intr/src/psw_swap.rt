@@ -6,8 +6,8 @@ ghost use Rattle.s370_intr.specs.Swap.{MeetsSwap, swapped};
 use crate::class::Class;
 use s370_num::AccessKey;
 use s370_psw::{Ilc, Psw};
-use s370_rows::Cpu;
-use s370_store::{Access, Fault, Page, Range, Storage, load_doubleword, store_doubleword};
+use s370_rows::{Cpu, reach};
+use s370_store::{Access, Page, Range, Storage, load_doubleword, store_doubleword};
 
 /// The locations of all old and new program status words.
 const PSWS: Range = Range {
@@ -36,14 +36,19 @@ pub fn swap<S: Storage>(
         MeetsSwap (swapped before class code ilc) (S.present storage.old) before result after }
     ensures rest { S.Keeps storage.old storage.new }
 {
-    match storage.check(PSWS, Access::Store, AccessKey::ZERO) {
-        Ok(()) => {}
-        Err(Fault::Absent(page)) => return Err(page),
-        // The locations lie in every storage, and key 0 passes every test.
-        Err(Fault::Addressing) => unreachable!(),
-        Err(Fault::Protection) => unreachable!(),
+    let word = cpu.psw.to_word(code, ilc);
+    match storage.find_block(0, Access::Store, AccessKey::ZERO) {
+        Some(block) => {
+            storage.store_in(block, class.old_psw_address(), &word.to_be_bytes());
+            let mut into = [0u8; 8];
+            storage.load_in(block, class.new_psw_address(), &mut into);
+            cpu.psw = Psw::from_word(u64::from_be_bytes(into));
+            return Ok(());
+        }
+        None => {}
     }
-    store_doubleword(storage, class.old_psw_address(), cpu.psw.to_word(code, ilc));
+    reach(storage, PSWS, Access::Store)?;
+    store_doubleword(storage, class.old_psw_address(), word);
     cpu.psw = Psw::from_word(load_doubleword(storage, class.new_psw_address()));
     Ok(())
 }

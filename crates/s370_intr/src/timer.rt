@@ -3,8 +3,8 @@ ghost use Rattle.std.specs.Prelude.{◌≡◌, ◌≤◌, length};
 ghost use Rattle.s370_intr.specs.Timer.{MeetsTick, is_negative, timed};
 
 use crate::pending::Pending;
-use s370_num::AccessKey;
-use s370_store::{Access, Fault, Page, Range, Storage, load_word, store_word};
+use s370_rows::reach;
+use s370_store::{Access, Page, Range, Storage, load_word, store_word};
 
 /// The location of the interval timer.
 const TIMER: Range = Range {
@@ -30,13 +30,7 @@ pub fn tick<S: Storage>(pending: &mut Pending, storage: &mut S) -> Result<(), Pa
         (timed (S.memory storage.new).bytes pending.new) }
     ensures rest { S.Keeps storage.old storage.new }
 {
-    match storage.check(TIMER, Access::Store, AccessKey::ZERO) {
-        Ok(()) => {}
-        Err(Fault::Absent(page)) => return Err(page),
-        // The location lies in every storage, and key 0 passes every test.
-        Err(Fault::Addressing) => unreachable!(),
-        Err(Fault::Protection) => unreachable!(),
-    }
+    reach(storage, TIMER, Access::Store)?;
     let before = load_word(storage, TIMER.start);
     let after = before.wrapping_sub(STEP);
     store_word(storage, TIMER.start, after);

@@ -5,12 +5,13 @@ ghost use Rattle.s370_store.specs.Access.{IsVerdict, Test, test_of, tested};
 ghost use Rattle.s370_store.specs.declared.Access.TheVariants.{Fetch, Store};
 ghost use Rattle.s370_store.specs.Memory.{with_stored};
 ghost use Rattle.s370_rows.specs.State.{State, state_of};
-ghost use Rattle.s370_rows.specs.Rows.{Grants};
+ghost use Rattle.s370_rows.specs.Rows.{Grants, Reaches};
 
 use crate::cpu::Cpu;
 use crate::ending::Refusal;
+use s370_num::AccessKey;
 use s370_psw::ProgramCode;
-use s370_store::{Access, Fault, Range, Storage, check_two};
+use s370_store::{Access, Fault, Page, Range, Storage, check_two};
 
 /// Returns `Ok` if a range of at most 256 bytes may be accessed with the PSW's key, or else the
 /// refusal.
@@ -63,6 +64,27 @@ pub fn grant_two<S: Storage>(
         cpu.psw.key(),
     );
     refusal_of(answer)
+}
+
+/// Returns `Ok` if the pages of a range in storage are present, whatever its keys.
+///
+/// # Errors
+///
+/// A page of the range that is absent.
+#[inline(always)]
+pub fn reach<S: Storage>(storage: &S, range: Range, access: Access) -> Result<(), Page>
+    requires short { range.count ≤ 256 }
+    requires inside { range.start + range.count ≤ length (S.memory storage.now).bytes }
+    ensures { Reaches (length (S.memory storage.now).bytes) (S.present storage.now)
+        (tested access range ∷ []) result }
+{
+    match storage.check(range, access, AccessKey::ZERO) {
+        Ok(()) => Ok(()),
+        Err(Fault::Absent(page)) => Err(page),
+        // The bytes lie in storage, and key 0 passes.
+        Err(Fault::Addressing) => unreachable!(),
+        Err(Fault::Protection) => unreachable!(),
+    }
 }
 
 /// Copies bytes with the PSW's key if the storage grants it and can do it at once, and returns

@@ -40,7 +40,7 @@ mod rows;
 mod shift;
 mod swap;
 
-pub use access::{copy_granted, grant, grant_two};
+pub use access::{copy_granted, grant, grant_two, reach};
 pub use arithmetic::{Arithmetic, Computed, compute, kept, order_of, sign_of, zero_of};
 pub use branches::{
     IndexBranch, branch_and_link, branch_on_condition, branch_on_count, branch_on_index,

@@ -1,6 +1,6 @@
 -- Bytes are those of one list of subchannels.
-use Rattle.std.specs.Prelude.{ℕ, ◌≡◌, ◌==◌, refl, if◌then◌else◌, List, Bool}
-use Rattle.saved_bytes.specs.Codes.{each, flag, number, both, IsCode}
+use Rattle.std.specs.Prelude.{ℕ, ◌≡◌, ◌==◌, refl, if◌then◌else◌}
+use Rattle.saved_bytes.specs.Codes.{flag, number, both, IsCode}
 use Rattle.saved_bytes.proofs.Codes.{each_code, flag_code, number_code, both_code, of_parts}
 use Rattle.s370_subchannels.specs.declared.subchannel.DeviceState.{DeviceState}
 use Rattle.s370_subchannels.specs.declared.subchannel.DeviceState.TheVariants.{Idle, Working, Pending}

@@ -1,5 +1,5 @@
-use Rattle.machine_panel.proofs.Reached.{never_refused}
-use Rattle.machine_panel.proofs.display_store.reach.Goals as goal
+use Rattle.s370_rows.proofs.Reached.{never_refused}
+use Rattle.s370_rows.proofs.access.reach.Goals as goal
 
 pub unreachable-requires : goal.unreachable-requires
 unreachable-requires g c =
