@@ -1,16 +1,14 @@
 -- Parts of the long move, one after another, as one.
 use Rattle.std.proofs.Common.{◌≡◌, ◌≢◌, ⊎_elim, ℕ, zero, suc, ◌+◌, ◌-◌, ◌*◌, ◌/◌, ◌%◌, ◌^◌, ◌<◌, ◌≤◌, ◌⊎◌, inl, inr}
 use Rattle.std.proofs.Common.{arith, refl, sym, ◌∙◌, ap, subst, Bool, true, false, ◌&&◌, if◌then◌else◌, List, [], ◌∷◌}
-use Rattle.std.proofs.Common.{get_or, set, length, min, eqb, Ok, None, Some, Option, slice_index, slice_range}
+use Rattle.std.proofs.Common.{get_or, set, length, min, eqb, Ok, None, Some, slice_index, slice_range}
 use Rattle.std.proofs.lemmas.Grind.{common_steps, same_number_lists}
 use Rattle.std.proofs.lemmas.List.{append-nil, get_or-set_same, get_or-set_other, length-set, set-set, set_comm}
 use Rattle.std.proofs.Math.Nat.{min-eq_left}
 use Rattle.std.proofs.lemmas.Bool.{cases_lt, eq-eqb, ne_eqb}
 use Rattle.std.proofs.lemmas.Bool.Decides.{nat_tests}
-use Rattle.s370_psw.specs.declared.ProgramCode.{ProgramCode}
 use Rattle.s370_store.specs.Access.{Test, first_fault, is_addressable, is_permitted, put}
 use Rattle.s370_store.specs.declared.Access.TheVariants.{Fetch, Store}
-use Rattle.s370_store.specs.declared.Fault.{Fault}
 use Rattle.s370_store.specs.declared.Fault.TheVariants.{Addressing, Protection}
 use Rattle.s370_store.proofs.Verdicts.{part_fine}
 use Rattle.s370_store.specs.Memory.{memory_of}
@@ -19,7 +17,7 @@ use Rattle.s370_rows.specs.declared.instruction.Instruction.{Instruction}
 use Rattle.s370_rows.specs.declared.ending.Completion.TheVariants.{Again}
 use Rattle.s370_rows.specs.Formats.{r1_of, r2_of}
 use Rattle.s370_rows.specs.State.{State, state_of}
-use Rattle.s370_rows.specs.Rows.{MeetsRow, code_of, fault_of, fetch_test, judged, outcome_of, store_test}
+use Rattle.s370_rows.specs.Rows.{code_of, fault_of, fetch_test, judged, outcome_of, store_test}
 use Rattle.s370_bytes.specs.declared.long.Operand.{Operand}
 use Rattle.s370_bytes.specs.Strings.{padded}
 use Rattle.s370_bytes.specs.Long.{ArePairs, AreParts, IsPart, destroys, long_moved, operand_of, part_moved, past}

@@ -43,12 +43,9 @@ combined_condition Or cpu xs = with_condition cpu (zero_code (number xs))
 combined_condition ExclusiveOr cpu xs = with_condition cpu (zero_code (number xs))
 combined_condition _ cpu xs = cpu
 
--- MVN, MVC, MVZ, NC, OC, XC
-abbrev pub string_combined : Combine → State → Instruction → Row
-string_combined op m i =
-    let n = i.second_byte + 1 in
-    let a = based_address m.cpu i.second_half in
-    let b = based_address m.cpu i.third_half in
+-- MVN, MVC, MVZ, NC, OC, XC of n bytes at a and at b
+abbrev pub strings_combined : Combine → State → ℕ → ℕ → ℕ → Row
+strings_combined op m a b n =
     let made = made_of op m.bytes a b n in
     checked (store_test a n ∷ fetch_test b n ∷ [])
     (record {
@@ -57,6 +54,11 @@ string_combined op m i =
       stores = record { start = a; written = made } ∷ [];
       keyed = None;
     })
+
+-- of the bytes that the instruction names
+abbrev pub string_combined : Combine → State → Instruction → Row
+string_combined op m i = strings_combined op m (based_address m.cpu i.second_half)
+    (based_address m.cpu i.third_half) (i.second_byte + 1)
 
 -- how far after its source a byte is made, where that is less than n
 abbrev pub lag_of : ℕ → ℕ → ℕ → ℕ

@@ -1,6 +1,6 @@
 //! Strings that are changed from left to right.
 ghost use Rattle.std.specs.Prelude.{◌≡◌, ℕ, ◌+◌, ◌==◌, ◌<◌, ◌≤◌, length, slice_index, slice_range};
-ghost use Rattle.std.specs.Prelude.{take};
+ghost use Rattle.std.specs.Prelude.{take, true, false};
 ghost use Rattle.std.specs.Int.{to_be_bytes, w64};
 ghost use Rattle.s370_store.specs.Access.{IsGranted};
 ghost use Rattle.s370_store.specs.Memory.{with_stored};
@@ -9,12 +9,12 @@ ghost use Rattle.s370_rows.specs.State.{state_of};
 ghost use Rattle.s370_rows.specs.Rows.{MeetsRow};
 ghost use Rattle.s370_bytes.specs.declared.combine.Combine.{Combine};
 ghost use Rattle.s370_bytes.specs.Combine.{combined, combined_condition, string_combined, made_of};
-ghost use Rattle.s370_bytes.specs.Combine.{lag_of, lagged};
+ghost use Rattle.s370_bytes.specs.Combine.{lag_of, lagged, strings_combined};
 ghost use Rattle.s370_bytes.specs.Strings.{LiesIn, number};
 
 use crate::compare::{front_number, holds_eight};
 use crate::straight::StringAt;
-use s370_num::ConditionCode;
+use s370_num::{Addr24, ConditionCode};
 use s370_rows::{Completion, Cpu, Instruction, Refusal, grant_two};
 use s370_store::{Access, Range, Storage};
 
@@ -227,8 +227,7 @@ fn combine_in<S: Storage>(
 /// condition code unless it is a move.
 ///
 /// A short string goes through short buffers, which take less time to make.
-#[inline(never)]
-fn combine_long<S: Storage>(
+pub fn combine_straight<S: Storage>(
     operation: Combine,
     cpu: &mut Cpu,
     storage: &mut S,
@@ -369,39 +368,88 @@ fn combine_short<S: Storage>(
     set_front_condition(operation, cpu, made, count);
 }
 
-/// Combines two strings, each in a block that `find_block` returned, from left to right, and sets
-/// the condition code unless it is a move.
+/// Combines at most eight bytes, each operand in a block that `find_block` returned, as numbers,
+/// sets the condition code unless it is a move, and returns true; else changes nothing and returns
+/// false.
+///
+/// It returns false for a longer string, one of which a byte is read after it was written, and one
+/// from which eight bytes are not in its block.
 #[inline(always)]
-pub fn combine_straight<S: Storage>(
+pub fn combine_few<S: Storage>(
     operation: Combine,
     cpu: &mut Cpu,
     storage: &mut S,
     target: StringAt,
     source: StringAt,
     count: u32,
-)
+) -> bool
     requires some { 0 < count }
     requires short { count ≤ 256 }
     requires source { LiesIn (S.IsPlaced storage.old) (length (S.memory storage.old).bytes) source
         count }
     requires target { LiesIn (S.IsPlaced storage.old) (length (S.memory storage.old).bytes) target
         count }
-    ensures stored { S.memory storage.new
+    ensures stored { result ≡ true
+        → S.memory storage.new
         ≡ with_stored (S.memory storage.old) target.start
         (made_of operation (S.memory storage.old).bytes target.start source.start count) }
-    ensures condition { cpu.new
+    ensures condition { result ≡ true
+        → cpu.new
         ≡ combined_condition operation cpu.old
         (made_of operation (S.memory storage.old).bytes target.start source.start count) }
+    ensures still { result ≡ false
+        → (S.memory storage.new ≡ S.memory storage.old) × (cpu.new ≡ cpu.old) }
     ensures rest { S.Keeps storage.old storage.new }
 {
-    if count <= 8
-        && lag_of(target.start, source.start, count) == count
-        && holds_eight(target.block, target.start)
-        && holds_eight(source.block, source.start)
+    if count > 8
+        || lag_of(target.start, source.start, count) != count
+        || !holds_eight(target.block, target.start)
+        || !holds_eight(source.block, source.start)
     {
-        return combine_short(operation, cpu, storage, target, source, count);
+        return false;
     }
-    combine_long(operation, cpu, storage, target, source, count)
+    combine_short(operation, cpu, storage, target, source, count);
+    true
+}
+
+/// Does MVN, MVZ, NC, OC or XC of `count` bytes at `to` with those at `from`, as [`combine_row`].
+///
+/// # Errors
+///
+/// A `Refusal`, as [`combine_row`].
+pub fn combine_strings<S: Storage>(
+    operation: Combine,
+    cpu: &mut Cpu,
+    storage: &mut S,
+    to: Addr24,
+    from: Addr24,
+    count: u32,
+) -> Result<Completion, Refusal>
+    requires some { 0 < count }
+    requires short { count ≤ 256 }
+    ensures row { let before = state_of cpu.old (S.memory storage.old) in
+        let after = state_of cpu.new (S.memory storage.new) in
+        MeetsRow (strings_combined operation before to from count) (S.present storage.old) before
+        result after }
+    ensures rest { S.Keeps storage.old storage.new }
+{
+    let (to, from) = (to.get(), from.get());
+    let target = Range { start: to, count };
+    let source = Range { start: from, count };
+    grant_two(cpu, storage, target, Access::Store, source, Access::Fetch)?;
+    let count = count as usize;
+    let mut made = [0u8; 256];
+    let mut source = [0u8; 256];
+    combine_at(
+        operation,
+        storage,
+        to,
+        from,
+        &mut made[..count],
+        &mut source[..count],
+    );
+    set_combined_condition(operation, cpu, &made[..count]);
+    Ok(Completion::Done)
 }
 
 /// Does MVN (D1), MVZ (D3), NC (D4), OC (D6) or XC (D7): combines the first operand with the second
@@ -422,25 +470,9 @@ pub fn combine_row<S: Storage>(
         MeetsRow (string_combined operation before i) (S.present storage.old) before result after }
     ensures rest { S.Keeps storage.old storage.new }
 {
-    let to = cpu.based(i.second_half).get();
-    let from = cpu.based(i.third_half).get();
-    let count = i.second_byte as u32 + 1;
-    let target = Range { start: to, count };
-    let source = Range { start: from, count };
-    grant_two(cpu, storage, target, Access::Store, source, Access::Fetch)?;
-    let count = count as usize;
-    let mut made = [0u8; 256];
-    let mut source = [0u8; 256];
-    combine_at(
-        operation,
-        storage,
-        to,
-        from,
-        &mut made[..count],
-        &mut source[..count],
-    );
-    set_combined_condition(operation, cpu, &made[..count]);
-    Ok(Completion::Done)
+    let to = cpu.based(i.second_half);
+    let from = cpu.based(i.third_half);
+    combine_strings(operation, cpu, storage, to, from, i.second_byte as u32 + 1)
 }
 
 /// Copies a range of storage as if byte by byte from left to right, through a buffer of its length.

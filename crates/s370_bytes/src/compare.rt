@@ -1,6 +1,6 @@
 //! Strings of bytes against each other.
 ghost use Rattle.std.specs.Prelude.{◌≡◌, ◌≢◌, ℕ, ◌+◌, ◌<◌, ◌≤◌, true, length, slice_index};
-ghost use Rattle.std.specs.Prelude.{slice_range, take};
+ghost use Rattle.std.specs.Prelude.{IfSome, slice_range, take};
 ghost use Rattle.s370_rows.specs.State.{state_of};
 ghost use Rattle.s370_rows.specs.Rows.{MeetsRow};
 ghost use Rattle.s370_rows.specs.Arithmetic.{order_code};
@@ -136,8 +136,7 @@ fn order_in<S: Storage>(
 /// through buffers.
 ///
 /// Short strings go through short buffers, which take no time to make.
-#[inline(never)]
-fn compare_long<S: Storage>(
+pub fn compare_straight<S: Storage>(
     storage: &S,
     left: StringAt,
     right: StringAt,
@@ -215,30 +214,29 @@ pub fn holds_eight(block: Block, start: u32) -> bool
     start - block.first <= 2040
 }
 
-/// Returns the condition code of comparing two strings, each in a block that `find_block` returned.
-///
-/// Strings of at most eight bytes are compared as numbers, if eight bytes can be loaded.
+/// Returns the condition code of comparing two strings of at most eight bytes as numbers, or `None`
+/// if they are longer or eight bytes do not lie in their blocks, which `find_block` returned.
 #[inline(always)]
-pub fn compare_straight<S: Storage>(
+pub fn compare_few<S: Storage>(
     storage: &S,
     left: StringAt,
     right: StringAt,
     count: u32,
-) -> ConditionCode
+) -> Option<ConditionCode>
     requires some { 0 < count }
-    requires short { count ≤ 256 }
     requires left { LiesIn (S.IsPlaced storage.now) (length (S.memory storage.now).bytes) left
         count }
     requires right { LiesIn (S.IsPlaced storage.now) (length (S.memory storage.now).bytes) right
         count }
-    ensures { let bytes = (S.memory storage.now).bytes in result ≡ string_order
+    ensures { let bytes = (S.memory storage.now).bytes in IfSome result
+        (λ code. code ≡ string_order
         (slice_range bytes left.start (left.start + count))
-        (slice_range bytes right.start (right.start + count)) }
+        (slice_range bytes right.start (right.start + count))) }
 {
-    if count <= 8 && holds_eight(left.block, left.start) && holds_eight(right.block, right.start) {
-        let x = number_in(storage, left.block, left.start, count);
-        let y = number_in(storage, right.block, right.start, count);
-        return number_order(x, y);
+    if count > 8 || !holds_eight(left.block, left.start) || !holds_eight(right.block, right.start) {
+        return None;
     }
-    compare_long(storage, left, right, count)
+    let x = number_in(storage, left.block, left.start, count);
+    let y = number_in(storage, right.block, right.start, count);
+    Some(number_order(x, y))
 }

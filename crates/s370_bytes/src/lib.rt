@@ -33,8 +33,8 @@ mod multiple;
 mod straight;
 mod translate;
 
-pub use combine::{Combine, combine_row, combine_straight, move_row};
-pub use compare::{compare_row, compare_straight, holds_eight};
+pub use combine::{Combine, combine_few, combine_row, combine_straight, combine_strings, move_row};
+pub use compare::{compare_few, compare_row, compare_straight, holds_eight};
 pub use decimal::{binary_row, decimal_of, decimal_row};
 pub use digits::{Layout, layout_row};
 pub use long::{compare_long_row, move_long_quickly, move_long_row};

@@ -1,4 +1,3 @@
-use Rattle.std.proofs.Common.{refl}
 use Rattle.s370_bytes.proofs.Places.{groups_more}
 use Rattle.s370_bytes.proofs.compare.equal_groups.Goals as goal
 

@@ -1,4 +1,4 @@
-use Rattle.std.proofs.Common.{arith, refl, rules, ◌≡◌, ◌∙◌, ℕ, ◌+◌, List, length, slice_range, ap}
+use Rattle.std.proofs.Common.{arith, refl, rules, ◌∙◌, ◌+◌, slice_range, ap}
 use Rattle.s370_store.specs.Memory.{with_stored}
 use Rattle.s370_bytes.proofs.Changes.{filled_is}
 use Rattle.s370_bytes.proofs.straight.fill_straight.Goals as goal
