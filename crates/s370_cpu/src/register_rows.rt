@@ -1,6 +1,7 @@
 //! The rows that access no storage.
 ghost use Rattle.std.specs.Prelude.{◌≡◌, ℕ, ◌<◌, ◌==◌, not, Ok, false, slice_index, true};
 ghost use Rattle.s370_rows.specs.declared.place.Place.{Place};
+ghost use Rattle.s370_rows.specs.Branches.{conditional_branch, counted_branch};
 ghost use Rattle.s370_rows.specs.Formats.{indexed_address, r1_of, r2_of};
 ghost use Rattle.s370_rows.specs.Load.{address_loaded};
 ghost use Rattle.s370_rows.specs.Product.{multiplied, quotient_left};
@@ -85,18 +86,33 @@ fn shift_pair(shift: Shift, cpu: &mut Cpu, i: Instruction) -> Result<Completion,
     Ok(shift_pair_row(shift, cpu, i.r1(), count))
 }
 
-/// Returns whether a branch is taken, if it has an address: always for BAL, else by the count in R1
-/// or the condition code.
+/// Does BC (47): returns a branch to the second operand's address if the mask selects the condition
+/// code; nothing changes.
 #[inline(always)]
-fn is_taken(kind: Branching, cpu: &Cpu, i: Instruction) -> bool
-    ensures { result ≡ false → (place : Place) → (target : ℕ)
-        → branched kind cpu.now place i true target ≡ branched kind cpu.now place i false 0 }
+fn branch_if_selected(cpu: &Cpu, i: Instruction) -> Completion
+    ensures { conditional_branch cpu.now (r1_of i) true
+        (indexed_address cpu.now (r2_of i) i.second_half)
+        ≡ record { ending = result; cpu = cpu.now } }
 {
-    match kind {
-        Branching::Count => cpu.general[i.r1().index()] != 1,
-        Branching::Condition => i.r1().number() >> (3 - cpu.psw.condition().get()) & 1 == 1,
-        Branching::Link => true,
+    if i.r1().number() >> (3 - cpu.psw.condition().get()) & 1 != 1 {
+        return Completion::Done;
     }
+    Completion::Branch(cpu.indexed(i.r2(), i.second_half).get())
+}
+
+/// Does BCT (46): counts R1 down, and returns a branch to the second operand's address unless that
+/// makes it zero.
+#[inline(always)]
+fn count_and_branch(cpu: &mut Cpu, i: Instruction) -> Completion
+    ensures { counted_branch cpu.old (r1_of i) true
+        (indexed_address cpu.old (r2_of i) i.second_half)
+        ≡ record { ending = result; cpu = cpu.new } }
+{
+    if cpu.general[i.r1().index()] == 1 {
+        return branch_on_count(cpu, i.r1(), false, 0);
+    }
+    let target = cpu.indexed(i.r2(), i.second_half).get();
+    branch_on_count(cpu, i.r1(), true, target)
 }
 
 /// Does BAL (45), BCT (46) or BC (47): sets R1 for BAL and BCT, and returns a branch to the second
@@ -110,11 +126,14 @@ pub fn branch_to(kind: Branching, cpu: &mut Cpu, place: Place, i: Instruction) -
     ensures { branched kind cpu.old place i true (indexed_address cpu.old (r2_of i) i.second_half)
         ≡ record { ending = result; cpu = cpu.new } }
 {
-    if !is_taken(kind, cpu, i) {
-        return branch_row(kind, cpu, place, i, false, 0);
+    match kind {
+        Branching::Count => count_and_branch(cpu, i),
+        Branching::Condition => branch_if_selected(cpu, i),
+        Branching::Link => {
+            let target = cpu.indexed(i.r2(), i.second_half).get();
+            branch_and_link(cpu, place, i.r1(), true, target)
+        }
     }
-    let target = cpu.indexed(i.r2(), i.second_half).get();
-    branch_row(kind, cpu, place, i, true, target)
 }
 
 /// Does BALR (05), BCTR (06) or BCR (07): sets R1 for BALR and BCTR, and returns a branch to the
@@ -155,6 +174,8 @@ pub fn load_address(cpu: &mut Cpu, i: Instruction) -> Completion
 /// # Errors
 ///
 /// The code of the program interruption; nothing has changed.
+// The compiler drops `inline(always)` without a word from a function that takes more than some 7,000
+// LLVM instructions, and then each row is a call, several times slower (.ci/test-inlined).
 #[inline(always)]
 pub fn register_row(
     row: RegisterRow,
