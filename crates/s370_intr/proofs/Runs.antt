@@ -1,5 +1,5 @@
 -- A run of units done, and what comes after it.
-use Rattle.std.proofs.Common.{◌≡◌, ℕ, ◌+◌, ◌<◌, ◌≤◌, zero, suc, Bool, true, false, Option, None, Some, length}
+use Rattle.std.proofs.Common.{◌≡◌, ℕ, ◌+◌, ◌-◌, ◌<◌, ◌≤◌, zero, suc, Bool, true, false, Option, None, Some, length}
 use Rattle.std.proofs.Common.{replicate, List, [], ◌∷◌, ◌++◌, refl, sym, ◌∙◌, ap, arith, subst}
 use Rattle.std.specs.Prelude.{if◌then◌else◌, ◌==◌, not}
 use Rattle.s370_intr.specs.declared.pending.Pending.{Pending}
@@ -362,6 +362,14 @@ and_one_more n first m m' present next before h pending list e =
           (subst Goes (sym b.1) tt) step,
       looks_same m m' pending list h.rights ∙ b.1,
     )
+
+-- of those that were left, one fewer
+pub and_one_left : (limit left : ℕ) (first m m' : State) (present : ℕ → Bool) (next : ℕ) → 0 < left → left ≤ limit
+    → DoesInstructions (limit - left) first m → StepsQuickly present m (Some next) m'
+    → DoesInstructions (limit - (left - 1)) first m'
+and_one_left limit left first m m' present next some within before h =
+    subst (λ (n : ℕ). DoesInstructions n first m') (omega arith)
+    (and_one_more (limit - left) first m m' present next before h)
 
 -- Instructions, after which nothing changed.
 pub and_no_more : (n : ℕ) (first m m' : State) → DoesInstructions n first m → m' ≡ m → DoesInstructions n first m'

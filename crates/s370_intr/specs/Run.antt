@@ -6,6 +6,7 @@ use Rattle.s370_store.specs.Blocks.{MayFetch}
 use Rattle.s370_store.specs.Memory.{Memory}
 use Rattle.s370_store.specs.declared.block.Block.{Block}
 use Rattle.s370_store.specs.declared.supply.FramesOut.{FramesOut as Lack}
+use Rattle.s370_intr.specs.declared.code_blocks.CodeBlocks.{CodeBlocks}
 use Rattle.s370_intr.specs.declared.next.Next.{Next}
 use Rattle.s370_intr.specs.declared.next.Next.TheVariants.{Stops, Accepts, AcceptsStatus, Instructs}
 use Rattle.s370_intr.specs.declared.next.Reason.{Reason}
@@ -70,6 +71,16 @@ pub record HasNext (is_placed : Block → Type 0) (m : Memory) (present : ℕ �
   pub begins : block.first ≤ cpu.psw.address
   pub ends : cpu.psw.address ≤ block.first + 2042
   pub even : cpu.psw.address % 2 ≡ 0
+
+-- from both blocks instructions may be fetched, and the first has the one at an address, however
+-- long that is
+pub record AreAt (is_placed : Block → Type 0) (m : Memory) (present : ℕ → Bool) (key next : ℕ)
+    (blocks : CodeBlocks) : Type 0 where
+  pub current : IsFetched is_placed m present key blocks.current
+  pub previous : IsFetched is_placed m present key blocks.previous
+  pub begins : blocks.current.first ≤ next
+  pub ends : next ≤ blocks.current.first + 2042
+  pub even : next % 2 ≡ 0
 
 -- ---- pages that are brought
 

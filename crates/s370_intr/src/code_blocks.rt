@@ -1,7 +1,7 @@
 //! The blocks from which the loop fetches instructions.
-ghost use Rattle.std.specs.Prelude.{◌≡◌, ◌+◌, ◌%◌, ◌<◌, ◌≤◌, IfSome, IsSome, Some, true};
+ghost use Rattle.std.specs.Prelude.{◌≡◌, ◌+◌, ◌%◌, ◌<◌, ◌≤◌, IfSome, Some, true};
 ghost use Rattle.s370_quick.specs.Quick.{FollowsIn, next_after};
-ghost use Rattle.s370_intr.specs.Run.{IsFetched};
+ghost use Rattle.s370_intr.specs.Run.{AreAt, IsFetched};
 
 use s370_num::{AccessKey, Addr24};
 use s370_quick::Stepped;
@@ -77,15 +77,8 @@ pub fn other_blocks<S: Storage>(
         (S.present storage.now) key blocks.current }
     requires previous { IsFetched (S.IsPlaced storage.now) (S.memory storage.now)
         (S.present storage.now) key blocks.previous }
-    ensures current { IfSome result
-        (λ found. IsFetched (S.IsPlaced storage.now) (S.memory storage.now) (S.present storage.now)
-        key found.current) }
-    ensures previous { IfSome result
-        (λ found. IsFetched (S.IsPlaced storage.now) (S.memory storage.now) (S.present storage.now)
-        key found.previous) }
-    ensures begins { IfSome result (λ found. found.current.first ≤ next) }
-    ensures ends { IfSome result (λ found. next ≤ found.current.first + 2042) }
-    ensures even { IsSome result → next % 2 ≡ 0 }
+    ensures { IfSome result
+        (AreAt (S.IsPlaced storage.now) (S.memory storage.now) (S.present storage.now) key next) }
 {
     let left = blocks.current;
     if blocks.previous.has_room(next.get()) {
@@ -120,15 +113,8 @@ pub fn blocks_at<S: Storage>(
         (S.present storage.now) key blocks.current }
     requires previous { IsFetched (S.IsPlaced storage.now) (S.memory storage.now)
         (S.present storage.now) key blocks.previous }
-    ensures current { IfSome result
-        (λ found. IsFetched (S.IsPlaced storage.now) (S.memory storage.now) (S.present storage.now)
-        key found.current) }
-    ensures previous { IfSome result
-        (λ found. IsFetched (S.IsPlaced storage.now) (S.memory storage.now) (S.present storage.now)
-        key found.previous) }
-    ensures begins { IfSome result (λ found. found.current.first ≤ next) }
-    ensures ends { IfSome result (λ found. next ≤ found.current.first + 2042) }
-    ensures even { IsSome result → next % 2 ≡ 0 }
+    ensures { IfSome result
+        (AreAt (S.IsPlaced storage.now) (S.memory storage.now) (S.present storage.now) key next) }
 {
     if blocks.current.has_room(next.get()) {
         return Some(blocks);

@@ -281,7 +281,7 @@ struct LeftOut {
 }
 
 /// Does instructions, at most `limit`, until one cannot be done quickly, and returns how many it
-/// did and the block of that one, if it was found.
+/// did and the blocks of that one, if they were found.
 ///
 /// After each of them a look would say what it said before: so the blocks from which they are
 /// fetched, at first `blocks`, are looked up once, as long as they stay in them.
@@ -324,13 +324,15 @@ fn instruct_steadily<S: Storage>(
             };
         }
     };
-    for units in 0..limit {
+    // It counts down to zero, which costs no comparison.
+    let mut left = limit;
+    while left > 0 {
         let start = next;
         let went = step_quickly(cpu, storage, start, blocks.current, held);
         match went {
             Stepped::Unassigned => {
                 return Steady {
-                    units,
+                    units: limit - left,
                     blocks: None,
                 };
             }
@@ -340,11 +342,12 @@ fn instruct_steadily<S: Storage>(
             Some(address) => address,
             None => {
                 return Steady {
-                    units,
+                    units: limit - left,
                     blocks: Some(blocks),
                 };
             }
         };
+        left -= 1;
         if stays_in(blocks.current, start, &went, next) {
             continue;
         }
@@ -352,7 +355,7 @@ fn instruct_steadily<S: Storage>(
             Some(found) => found,
             None => {
                 return Steady {
-                    units: units + 1,
+                    units: limit - left,
                     blocks: None,
                 };
             }

@@ -1,11 +1,11 @@
-use Rattle.std.proofs.Common.{◌≡◌, ◌+◌, ◌%◌, ◌≤◌}
+use Rattle.std.proofs.Common.{◌≡◌, ◌+◌, ◌-◌, ◌%◌, ◌≤◌}
 use Rattle.s370_rows.specs.State.{state_of}
 use Rattle.s370_quick.specs.Quick.{AreHeld}
 use Rattle.s370_intr.specs.Run.{DoesInstructions, IsFetched}
 use Rattle.s370_intr.proofs.run.instruct_steadily.Given as goal
 
-abbrev pub invariant-loop-units : goal.invariant-loop-units
-invariant-loop-units g l =
+abbrev pub invariant-loop-left : goal.invariant-loop-left
+invariant-loop-left g l =
     let m0 = state_of l.fn.cpu (g.S.Storage.memory l.fn.storage) in
     let m = state_of l.cpu (g.S.Storage.memory l.storage) in
     record {
@@ -20,6 +20,10 @@ invariant-loop-units g l =
       even : l.next % 2 ≡ 0;
       operands : AreHeld (g.S.Storage.IsPlaced l.storage) (g.S.Storage.memory l.storage)
           (g.S.Storage.present l.storage) l.key l.held;
-      done : DoesInstructions l.units m0 m;
+      within : l.left ≤ l.limit;
+      done : DoesInstructions (l.limit - l.left) m0 m;
       rest : g.S.Storage.Keeps l.fn.storage l.storage;
     }
+
+abbrev pub decreases-loop-left : goal.decreases-loop-left
+decreases-loop-left g l = l.left
