@@ -57,14 +57,6 @@ exact low z = record {
   overflows = not (fits_word z);
 }
 
--- the low bits of a signed result, and whether the exact one does not fit
-abbrev pub fitted : ℤ → Bool → Computed
-fitted low overflows = record {
-  value = cast_unsigned w32 low;
-  condition = if overflows then 3 else sign_code low;
-  overflows = overflows;
-}
-
 -- the low 32 bits of an integer, which overflows if it does not fit
 abbrev pub exact_number : ℤ → Computed
 exact_number z = exact (cast_unsigned w64 z % 2 ^ 32) z

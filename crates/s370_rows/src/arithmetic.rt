@@ -1,7 +1,7 @@
 //! The operations on a register and another operand: of a register, a word or a halfword.
-ghost use Rattle.std.specs.Prelude.{◌≡◌, ℕ, ◌+◌, ◌-◌, ◌%◌, ◌^◌, ◌==◌, nat_lt, ◌+ℤ◌, ◌-ℤ◌, neg_ℤ};
+ghost use Rattle.std.specs.Prelude.{◌≡◌, ℕ, ◌+◌, ◌/◌, ◌%◌, ◌^◌, ◌==◌, nat_lt};
 ghost use Rattle.s370_rows.specs.Arithmetic.{computed, plain, exact, exact_number, sign_code};
-ghost use Rattle.s370_rows.specs.Arithmetic.{order_code, zero_code, carry_code, fitted, signed};
+ghost use Rattle.s370_rows.specs.Arithmetic.{order_code, zero_code, carry_code};
 
 use s370_num::ConditionCode;
 
@@ -41,16 +41,18 @@ pub struct Computed {
 pub fn compute(operation: Arithmetic, condition: ConditionCode, a: u32, b: u32) -> Computed
     ensures { result ≡ computed operation condition a b }
 {
+    let x = a.cast_signed() as i64;
+    let y = b.cast_signed() as i64;
     match operation {
         Arithmetic::Load => kept(b, condition),
-        Arithmetic::LoadAndTest => kept(b, sign_of(b.cast_signed() as i64)),
+        Arithmetic::LoadAndTest => kept(b, sign_of(y)),
         Arithmetic::LoadPositive => judged_number(b.cast_signed().unsigned_abs() as i64),
         Arithmetic::LoadNegative => judged_number(-(b.cast_signed().unsigned_abs() as i64)),
-        Arithmetic::LoadComplement => complemented(b),
-        Arithmetic::Compare => kept(a, signed_order_of(a.cast_signed(), b.cast_signed())),
+        Arithmetic::LoadComplement => judged_number(-y),
+        Arithmetic::Compare => kept(a, sign_of(x - y)),
         Arithmetic::CompareLogical => kept(a, order_of(a, b)),
-        Arithmetic::Add => added(a, b),
-        Arithmetic::Subtract => subtracted(a, b),
+        Arithmetic::Add => judged(a.wrapping_add(b), x + y),
+        Arithmetic::Subtract => judged(a.wrapping_sub(b), x - y),
         Arithmetic::AddLogical => carried(a as u64 + b as u64),
         Arithmetic::SubtractLogical => carried(a as u64 + (0x1_0000_0000 - b as u64)),
         Arithmetic::And => tested(a & b),
@@ -80,21 +82,6 @@ pub fn sign_of(number: i64) -> ConditionCode
         ConditionCode::ONE
     } else if number == 0 {
         ConditionCode::ZERO
-    } else {
-        ConditionCode::TWO
-    }
-}
-
-/// Returns the condition code of comparing two signed numbers: 0 if equal, 1 if `a` is low, 2 if it
-/// is high.
-#[inline(always)]
-fn signed_order_of(a: i32, b: i32) -> ConditionCode
-    ensures { result ≡ sign_code (a -ℤ b) }
-{
-    if a == b {
-        ConditionCode::ZERO
-    } else if a < b {
-        ConditionCode::ONE
     } else {
         ConditionCode::TWO
     }
@@ -139,50 +126,6 @@ fn judged_number(number: i64) -> Computed
     ensures { result ≡ exact_number number }
 {
     judged((number.cast_unsigned() & 0xFFFF_FFFF) as u32, number)
-}
-
-/// Returns the signed sum of two words, as `judged`.
-#[inline(always)]
-fn added(a: u32, b: u32) -> Computed
-    ensures { result ≡ exact ((a + b) % 2 ^ 32) (signed a +ℤ signed b) }
-{
-    let (sum, overflows) = a.cast_signed().overflowing_add(b.cast_signed());
-    fitted(sum, overflows)
-}
-
-/// Returns the signed difference of two words, as `judged`.
-#[inline(always)]
-fn subtracted(a: u32, b: u32) -> Computed
-    ensures { result ≡ exact ((a + (2 ^ 32 - b)) % 2 ^ 32) (signed a -ℤ signed b) }
-{
-    let (difference, overflows) = a.cast_signed().overflowing_sub(b.cast_signed());
-    fitted(difference, overflows)
-}
-
-/// Returns the complement of a signed word, as `judged`.
-#[inline(always)]
-fn complemented(b: u32) -> Computed
-    ensures { result ≡ exact_number (neg_ℤ (signed b)) }
-{
-    let (complement, overflows) = b.cast_signed().overflowing_neg();
-    fitted(complement, overflows)
-}
-
-/// Returns a word with the condition code of its sign, or with code 3 if the exact result did not
-/// fit.
-#[inline(always)]
-fn fitted(low: i32, overflows: bool) -> Computed
-    ensures { result ≡ fitted low overflows }
-{
-    let value = low.cast_unsigned();
-    if overflows {
-        return Computed {
-            value,
-            condition: ConditionCode::THREE,
-            overflows: true,
-        };
-    }
-    kept(value, sign_of(low as i64))
 }
 
 /// Returns the low 32 bits of an unsigned sum, with the condition code of zero and carry.
