@@ -14,7 +14,7 @@ use s370_store::{Page, Storage};
 /// # Errors
 ///
 /// A page that is needed and absent; nothing has changed.
-#[inline]
+#[inline(always)]
 pub fn reflect<S: Storage>(
     cpu: &mut Cpu,
     storage: &mut S,

@@ -23,6 +23,7 @@ const PSWS: Range = Range {
 /// # Errors
 ///
 /// A page that is needed and absent; nothing has changed.
+#[inline(always)]
 pub fn swap<S: Storage>(
     cpu: &mut Cpu,
     storage: &mut S,

@@ -324,7 +324,7 @@ fn instruct_steadily<S: Storage>(
             };
         }
     };
-    // It counts down to zero, which costs no comparison.
+    // It counts down, in each way by itself and last, so that the host compares nothing for it.
     let mut left = limit;
     while left > 0 {
         let start = next;
@@ -347,19 +347,20 @@ fn instruct_steadily<S: Storage>(
                 };
             }
         };
-        left -= 1;
         if stays_in(blocks.current, start, &went, next) {
+            left -= 1;
             continue;
         }
         blocks = match other_blocks(storage, blocks, next, key) {
             Some(found) => found,
             None => {
                 return Steady {
-                    units: limit - left,
+                    units: limit - (left - 1),
                     blocks: None,
                 };
             }
         };
+        left -= 1;
     }
     Steady {
         units: limit,
