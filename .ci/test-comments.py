@@ -51,12 +51,12 @@ def signature(lines: list[str], at: int) -> str:
 
 
 def doc_comment(lines: list[str], at: int) -> str:
-    """The doc comment above a line."""
+    """The doc comment above a line, between which attributes and comments of the code may stand."""
     found = []
     for line in reversed(lines[:at]):
         if line.strip().startswith("///"):
             found.append(line.strip())
-        elif not line.strip().startswith("#["):
+        elif not line.strip().startswith(("#[", "//")):
             break
     return "\n".join(reversed(found))
 
