@@ -13,13 +13,13 @@
 //! track.push([0, 1, 0, 18, 1], b"KEY", b"DATA")?;
 //! let mut out = Vec::new(alloc);
 //! put_volume(&mut out, &volume)?;
-//! let read = volume_of(alloc, &mut Input::new(&out)).ok_or("no volume")?;
+//! let read = volume_of(alloc, &mut Input::new(&out))?;
 //! let mut again = Vec::new(alloc);
 //! put_volume(&mut again, &read)?;
 //! assert!(rt; again.as_slice() == out.as_slice());
 //! assert!(rt; read.cylinder(1).track(18).record(0).content == b"DATA".as_slice());
 //! let short = out.len() - 1;
-//! assert!(rt; volume_of(alloc, &mut Input::new(&out[..short])).is_none());
+//! assert!(rt; volume_of(alloc, &mut Input::new(&out[..short])).is_err());
 //! ```
 #![tactic(auto)]
 

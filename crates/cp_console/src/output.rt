@@ -8,7 +8,7 @@ ghost use Rattle.cp_console.specs.Saved.{printed_bytes};
 use crate::console_line::MOST_CHARACTERS;
 use crate::responses::Response;
 use crate::texts::add_text;
-use saved_bytes::{Input, put_bytes, put_one, put_zero};
+use saved_bytes::{Input, RestoreError, put_bytes, put_one, put_zero};
 use std::alloc::{AllocError, Global};
 use std::marker::Model;
 
@@ -173,19 +173,23 @@ impl ConsoleOutput {
         put_zero(out)
     }
 
-    /// Takes lines from `input` and appends them to the printed lines, or returns `None` if the
-    /// input is bad or memory is refused, perhaps after appending some.
+    /// Takes lines from `input` and appends them to the printed lines.
     ///
     /// After a line was appended, there is no room for others.
-    pub fn restore(&mut self, input: &mut Input<'_>) -> Option<()> {
+    ///
+    /// # Errors
+    ///
+    /// `Malformed` if the input is bad, `Memory` if memory is refused, perhaps after appending
+    /// some.
+    pub fn restore(&mut self, input: &mut Input<'_>) -> Result<(), RestoreError> {
         for _ in 0..u64::MAX {
             if !input.flag()? {
                 break;
             }
             let text = input.bytes()?;
-            self.add_line(text).ok()?;
+            self.add_line(text)?;
         }
-        Some(())
+        Ok(())
     }
 
     /// Appends a printed line, which takes memory, and leaves no room for others.

@@ -15,7 +15,7 @@ use crate::order::move_to_end;
 use crate::table::PAGES;
 use crate::{FRAME_SIZE, FrameNo, Frames, UserPage};
 use s370_store::{PAGE_SIZE, Page};
-use saved_bytes::{Input, put_flag, put_number, put_one, put_zero};
+use saved_bytes::{Input, RestoreError, put_flag, put_number, put_one, put_zero};
 use std::alloc::{AllocError, Global};
 use user_names::{MOST_USERS, UserNo};
 
@@ -215,48 +215,59 @@ impl Frames {
         }
     }
 
-    /// Maps a page to a free frame, which is zeroed; returns None and changes nothing if the frame
-    /// is not free, or if the page is not the user's or is in a frame or slot already.
-    fn seat(&mut self, frame: usize, there: UserPage) -> Option<()>
+    /// Maps a page to a free frame, which is zeroed.
+    ///
+    /// # Errors
+    ///
+    /// `Malformed` if the frame is not free, or if the page is not the user's or is in a frame or
+    /// slot already; nothing has changed then.
+    fn seat(&mut self, frame: usize, there: UserPage) -> Result<(), RestoreError>
         ensures sizes { map length self.new.storages ≡ map length self.old.storages }
         ensures pins { self.new.supply.pins ≡ self.old.supply.pins }
         ensures frames { length self.new.supply.owners ≡ length self.old.supply.owners }
     {
         let UserPage { user, page } = there;
         if frame >= self.owners.len() || self.owners[frame].is_some() {
-            return None;
+            return Err(RestoreError::Malformed);
         }
         if page.0 >= self.size(user) / PAGE_SIZE {
-            return None;
+            return Err(RestoreError::Malformed);
         }
         if self.frame_of(user, page).is_some() || self.slot_of(user, page).is_some() {
-            return None;
+            return Err(RestoreError::Malformed);
         }
         self.fill(frame, user, page);
-        Some(())
+        Ok(())
     }
 
-    /// Puts a page of zeros into a free slot, by way of frame 0, which is left free; returns None,
-    /// perhaps with the page in frame 0, if the page, the slot or the frame does not allow that.
-    fn seat_in_slot(&mut self, slot: usize, there: UserPage) -> Option<()>
+    /// Puts a page of zeros into a free slot, by way of frame 0, which is left free.
+    ///
+    /// # Errors
+    ///
+    /// `Malformed`, perhaps with the page in frame 0, if the page, the slot or the frame does not
+    /// allow that.
+    fn seat_in_slot(&mut self, slot: usize, there: UserPage) -> Result<(), RestoreError>
         ensures sizes { map length self.new.storages ≡ map length self.old.storages }
         ensures pins { self.new.supply.pins ≡ self.old.supply.pins }
         ensures frames { length self.new.supply.owners ≡ length self.old.supply.owners }
     {
         self.seat(0, there)?;
         if self.owners.is_empty() || self.is_pinned(FrameNo(0)) {
-            return None;
+            return Err(RestoreError::Malformed);
         }
         if slot >= self.slot_owners.len() || self.slot_owners[slot].is_some() {
-            return None;
+            return Err(RestoreError::Malformed);
         }
         self.exchange(0, slot);
-        Some(())
+        Ok(())
     }
 
-    /// Puts each of these pages, as zeros, into the slot of its index, by way of frame 0; returns
-    /// None at the first that cannot be put there.
-    fn seat_slots(&mut self, slots: &[Option<UserPage>]) -> Option<()>
+    /// Puts each of these pages, as zeros, into the slot of its index, by way of frame 0.
+    ///
+    /// # Errors
+    ///
+    /// `Malformed` at the first that cannot be put there.
+    fn seat_slots(&mut self, slots: &[Option<UserPage>]) -> Result<(), RestoreError>
         ensures sizes { map length self.new.storages ≡ map length self.old.storages }
         ensures pins { self.new.supply.pins ≡ self.old.supply.pins }
         ensures frames { length self.new.supply.owners ≡ length self.old.supply.owners }
@@ -267,12 +278,15 @@ impl Frames {
                 None => {}
             }
         }
-        Some(())
+        Ok(())
     }
 
-    /// Maps each of these pages, as zeros, to the frame of its index; returns None at the first
-    /// that cannot be put there.
-    fn seat_frames(&mut self, owners: &[Option<UserPage>]) -> Option<()>
+    /// Maps each of these pages, as zeros, to the frame of its index.
+    ///
+    /// # Errors
+    ///
+    /// `Malformed` at the first that cannot be put there.
+    fn seat_frames(&mut self, owners: &[Option<UserPage>]) -> Result<(), RestoreError>
         ensures sizes { map length self.new.storages ≡ map length self.old.storages }
         ensures pins { self.new.supply.pins ≡ self.old.supply.pins }
         ensures frames { length self.new.supply.owners ≡ length self.old.supply.owners }
@@ -283,7 +297,7 @@ impl Frames {
                 None => {}
             }
         }
-        Some(())
+        Ok(())
     }
 
     /// Returns the index of a frame in the order, if it is there.
@@ -310,21 +324,26 @@ impl Frames {
         move_to_end(&mut self.order, turn);
     }
 
-    /// Reads frame numbers from the input, and moves each frame to the end of the order; returns
-    /// None if there is no such frame or the input is malformed.
-    fn restore_order(&mut self, input: &mut Input<'_>) -> Option<()>
+    /// Reads frame numbers from the input, and moves each frame to the end of the order.
+    ///
+    /// # Errors
+    ///
+    /// `Malformed` if there is no such frame, or the input is bad.
+    fn restore_order(&mut self, input: &mut Input<'_>) -> Result<(), RestoreError>
         ensures storages { self.new.storages ≡ self.old.storages }
         ensures pins { self.new.supply.pins ≡ self.old.supply.pins }
         ensures owners { self.new.supply.owners ≡ self.old.supply.owners }
     {
         for _ in 0..u16::MAX {
             if !input.flag()? {
-                return Some(());
+                return Ok(());
             }
-            let turn = self.turn_of(input.next_u16()?)?;
-            self.put_last(turn);
+            match self.turn_of(input.next_u16()?) {
+                Some(turn) => self.put_last(turn),
+                None => return Err(RestoreError::Malformed),
+            }
         }
-        None
+        Err(RestoreError::Malformed)
     }
 
     /// Sets the number of page-ins so far.
@@ -336,8 +355,12 @@ impl Frames {
         self.page_ins = page_ins;
     }
 
-    /// Writes the content of a page into its frame or slot; returns None if it is in neither.
-    fn write(&mut self, user: UserNo, page: Page, content: &[u8]) -> Option<()>
+    /// Writes the content of a page into its frame or slot.
+    ///
+    /// # Errors
+    ///
+    /// `Malformed` if the page is in neither.
+    fn write(&mut self, user: UserNo, page: Page, content: &[u8]) -> Result<(), RestoreError>
         requires inside { page.0 * 4096 < length (bytes_of self.old user) }
         requires full { length content.now ≡ 4096 }
         ensures sizes { map length self.new.storages ≡ map length self.old.storages }
@@ -346,72 +369,96 @@ impl Frames {
         match self.frame_of(user, page) {
             Some(frame) => {
                 self.frames[frame.0 as usize].copy_from_slice(content);
-                return Some(());
+                return Ok(());
             }
             None => {}
         }
         match self.slot_of(user, page) {
             Some(slot) => {
                 self.slots[slot].copy_from_slice(content);
-                Some(())
+                Ok(())
             }
-            None => None,
+            None => Err(RestoreError::Malformed),
         }
     }
 
     /// Reads the content of a page from the input, and writes it to its frame or slot; a page saved
-    /// as all zero is left as it is. Returns None if that cannot be done.
-    fn restore_page(&mut self, user: UserNo, page: Page, input: &mut Input<'_>) -> Option<()>
+    /// as all zero is left as it is.
+    ///
+    /// # Errors
+    ///
+    /// `Malformed` if there is no content, no such page, or it is in no frame and no slot.
+    fn restore_page(
+        &mut self,
+        user: UserNo,
+        page: Page,
+        input: &mut Input<'_>,
+    ) -> Result<(), RestoreError>
         ensures sizes { map length self.new.storages ≡ map length self.old.storages }
         ensures supply { self.new.supply ≡ self.old.supply }
     {
         if !input.flag()? {
-            return Some(());
+            return Ok(());
         }
         if page.0 >= self.size(user) / PAGE_SIZE {
-            return None;
+            return Err(RestoreError::Malformed);
         }
         let content = input.take(FRAME_SIZE)?;
         self.write(user, page, content)
     }
 
-    /// Reads a user's storage from the input, and writes its pages; returns None if its size is
-    /// another or the input is malformed.
-    fn restore_storage(&mut self, user: UserNo, input: &mut Input<'_>) -> Option<()>
+    /// Reads a user's storage from the input, and writes its pages.
+    ///
+    /// # Errors
+    ///
+    /// `Malformed` if its size is another or the input is bad.
+    fn restore_storage(&mut self, user: UserNo, input: &mut Input<'_>) -> Result<(), RestoreError>
         ensures sizes { map length self.new.storages ≡ map length self.old.storages }
         ensures supply { self.new.supply ≡ self.old.supply }
     {
         let size = self.size(user);
         if input.number()? != u64::from(size) {
-            return None;
+            return Err(RestoreError::Malformed);
         }
         for page in 0..size / PAGE_SIZE {
             self.restore_page(user, Page(page), input)?;
         }
-        Some(())
+        Ok(())
     }
 
-    /// Reads all users' storages from the input into pages that are mapped as zeros; None if their
-    /// number or a size differs, a page with content is unmapped, or the input is malformed.
-    fn restore_storages(&mut self, input: &mut Input<'_>) -> Option<()>
+    /// Reads all users' storages from the input into pages that are mapped as zeros.
+    ///
+    /// # Errors
+    ///
+    /// `Malformed` if their number or a size differs, a page with content is unmapped, or the input
+    /// is bad.
+    fn restore_storages(&mut self, input: &mut Input<'_>) -> Result<(), RestoreError>
         ensures sizes { map length self.new.storages ≡ map length self.old.storages }
         ensures supply { self.new.supply ≡ self.old.supply }
     {
         for user in 0..self.users() {
             if !input.flag()? {
-                return None;
+                return Err(RestoreError::Malformed);
             }
             self.restore_storage(UserNo::new(user as u8), input)?;
         }
-        if input.flag()? { None } else { Some(()) }
+        if input.flag()? {
+            Err(RestoreError::Malformed)
+        } else {
+            Ok(())
+        }
     }
 
     /// Reads pages, their places, the order of frames and the number of page-ins from the input
-    /// into free frames and slots; returns None, perhaps after restoring a part, if the input has
-    /// no such or memory is refused.
+    /// into free frames and slots.
     ///
-    /// What is left after None is lawful, and nothing else is said of it.
-    pub fn restore(&mut self, alloc: Global, input: &mut Input<'_>) -> Option<()>
+    /// What an error leaves is lawful, and nothing else is said of it.
+    ///
+    /// # Errors
+    ///
+    /// `Malformed` if the input has no such, `Memory` if memory is refused, perhaps after restoring
+    /// a part.
+    pub fn restore(&mut self, alloc: Global, input: &mut Input<'_>) -> Result<(), RestoreError>
         ensures sizes { map length self.new.storages ≡ map length self.old.storages }
         ensures pins { self.new.supply.pins ≡ self.old.supply.pins }
         ensures frames { length self.new.supply.owners ≡ length self.old.supply.owners }
@@ -428,49 +475,61 @@ impl Frames {
     }
 }
 
-/// Reads from the input which page is in a frame or slot, or that none is; returns None if
-/// malformed.
-fn next_place(input: &mut Input<'_>) -> Option<Option<UserPage>> {
+/// Reads from the input which page is in a frame or slot, or that none is.
+///
+/// # Errors
+///
+/// `Malformed` if the input is bad.
+fn next_place(input: &mut Input<'_>) -> Result<Option<UserPage>, RestoreError> {
     if !input.flag()? {
-        return Some(None);
+        return Ok(None);
     }
     let user = input.next_u8()?;
     let page = input.next_u16()?;
     if usize::from(user) >= MOST_USERS || usize::from(page) >= PAGES {
-        return None;
+        return Err(RestoreError::Malformed);
     }
-    Some(Some(UserPage {
+    Ok(Some(UserPage {
         user: UserNo::new(user),
         page: Page(u32::from(page)),
     }))
 }
 
-/// Reads from the input which page, if any, is in each frame or slot; returns None if malformed, or
-/// if memory is refused.
-fn next_places(alloc: Global, input: &mut Input<'_>) -> Option<Vec<Option<UserPage>>> {
+/// Reads from the input which page, if any, is in each frame or slot.
+///
+/// # Errors
+///
+/// `Malformed` if the input is bad, `Memory` if memory is refused.
+fn next_places(
+    alloc: Global,
+    input: &mut Input<'_>,
+) -> Result<Vec<Option<UserPage>>, RestoreError> {
     let mut places = Vec::new(alloc);
     for _ in 0..u64::MAX {
         if !input.flag()? {
-            return Some(places);
+            return Ok(places);
         }
         let place = next_place(input)?;
-        places.push(place).ok()?;
+        places.push(place)?;
     }
-    None
+    Err(RestoreError::Malformed)
 }
 
-/// Skips the pins of frames in the input; returns None if one of them is set or the input is
-/// malformed.
-fn skip_pins(input: &mut Input<'_>) -> Option<()> {
+/// Skips the pins of frames in the input.
+///
+/// # Errors
+///
+/// `Malformed` if one of them is set or the input is bad.
+fn skip_pins(input: &mut Input<'_>) -> Result<(), RestoreError> {
     for _ in 0..u64::MAX {
         if !input.flag()? {
-            return Some(());
+            return Ok(());
         }
         if input.flag()? {
-            return None;
+            return Err(RestoreError::Malformed);
         }
     }
-    None
+    Err(RestoreError::Malformed)
 }
 
 /// States that no two pools have the same bytes, so what saves the same bytes again is what was

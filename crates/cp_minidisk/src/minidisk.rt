@@ -6,7 +6,7 @@ ghost use Rattle.cp_minidisk.specs.Saved.{extent_bytes, minidisk_bytes, sense_by
 
 use crate::extent::Extent;
 use ckd_volume::{HEADS, Sense, Unit};
-use saved_bytes::{Input, put_flag, put_number};
+use saved_bytes::{Input, RestoreError, put_flag, put_number};
 use std::alloc::AllocError;
 use std::marker::Model;
 
@@ -136,12 +136,16 @@ fn put_extent(out: &mut Vec<u8>, extent: Extent) -> Result<(), AllocError>
     put_flag(out, extent.is_writable())
 }
 
-/// Skips an extent in the input; returns None if the input is malformed.
-fn pass_extent(input: &mut Input<'_>) -> Option<()> {
+/// Skips an extent in the input.
+///
+/// # Errors
+///
+/// `Malformed` if there is none.
+fn pass_extent(input: &mut Input<'_>) -> Result<(), RestoreError> {
     let _start = input.number()?;
     let _count = input.number()?;
     let _writable = input.flag()?;
-    Some(())
+    Ok(())
 }
 
 /// Appends the two sense bytes.
@@ -176,22 +180,25 @@ impl Minidisk {
         put_sense(out, *sense)
     }
 
-    /// Reads an extent, the arm's place and the sense from the input, and sets the last two;
-    /// returns None, and changes nothing, if they are malformed or the minidisk has no such place.
-    pub fn restore(&mut self, input: &mut Input<'_>) -> Option<()>
+    /// Reads an extent, the arm's place and the sense from the input, and sets the last two.
+    ///
+    /// # Errors
+    ///
+    /// `Malformed` if they are none, or the minidisk has no such place; nothing has changed then.
+    pub fn restore(&mut self, input: &mut Input<'_>) -> Result<(), RestoreError>
         ensures { self.new.extent ≡ self.old.extent }
     {
         pass_extent(input)?;
         let cylinder = input.next_usize()?;
         let head = input.next_usize()?;
         if cylinder >= usize::from(self.extent.count()) || head >= HEADS {
-            return None;
+            return Err(RestoreError::Malformed);
         }
         let first = input.next_u8()?;
         let second = input.next_u8()?;
         self.cylinder = cylinder;
         self.head = head;
         self.sense = Sense { first, second };
-        Some(())
+        Ok(())
     }
 }

@@ -1,5 +1,6 @@
 //! Why the queues refuse.
 
+use saved_bytes::RestoreError;
 use thiserror::Error;
 
 /// Why something is not done with spool files. Then they are as they were.
@@ -14,4 +15,14 @@ pub enum SpoolError {
     /// There is no user of this number.
     #[error("there is no such user")]
     NoSuchUser,
+}
+
+impl From<SpoolError> for RestoreError {
+    /// Returns `Memory` for refused memory, else `Malformed`: no state names such a user or file.
+    fn from(error: SpoolError) -> RestoreError {
+        match error {
+            SpoolError::Memory => RestoreError::Memory,
+            SpoolError::NoSuchFile | SpoolError::NoSuchUser => RestoreError::Malformed,
+        }
+    }
 }

@@ -9,7 +9,7 @@ use crate::file::SpoolFile;
 use crate::queues::Queues;
 use crate::reader::SpoolReader;
 use crate::seen::SeenDeck;
-use saved_bytes::{Input, put_bytes, put_number, put_one, put_zero};
+use saved_bytes::{Input, RestoreError, put_bytes, put_number, put_one, put_zero};
 use std::alloc::{AllocError, Global};
 use unit_record::saved::{
     card_of, entries_of, put_entries, put_sender, put_target, record_of, sender_of, target_of,
@@ -36,9 +36,12 @@ impl SpoolReader {
         put_bytes(out, &bytes.as_slice()[*given..])
     }
 
-    /// Reads the sense byte and the bytes to be given from the input and sets them; returns None,
-    /// and changes nothing, if malformed.
-    pub fn restore(&mut self, input: &mut Input<'_>) -> Option<()> {
+    /// Reads the sense byte and the bytes to be given from the input and sets them.
+    ///
+    /// # Errors
+    ///
+    /// `Malformed` if the input is bad; nothing has changed then.
+    pub fn restore(&mut self, input: &mut Input<'_>) -> Result<(), RestoreError> {
         let sense = input.next_u8()?;
         let bytes = record_of(input)?;
         *self = SpoolReader {
@@ -46,7 +49,7 @@ impl SpoolReader {
             bytes,
             given: 0,
         };
-        Some(())
+        Ok(())
     }
 }
 
@@ -95,26 +98,33 @@ fn put_place(out: &mut Vec<u8>, place: Option<usize>) -> Result<(), AllocError>
     }
 }
 
-/// Reads from the input how many cards of a deck were read, or that it is not current; returns None
-/// if malformed.
-fn place_of(input: &mut Input<'_>) -> Option<Option<usize>> {
+/// Reads from the input how many cards of a deck were read, or that it is not current.
+///
+/// # Errors
+///
+/// `Malformed` if the input is bad.
+fn place_of(input: &mut Input<'_>) -> Result<Option<usize>, RestoreError> {
     if input.flag()? {
-        Some(Some(input.next_usize()?))
+        Ok(Some(input.next_usize()?))
     } else {
-        Some(None)
+        Ok(None)
     }
 }
 
-/// Reads a list of cards from the input; returns None if malformed, or if memory is refused.
-fn cards_of(alloc: Global, input: &mut Input<'_>) -> Option<Vec<Card>> {
+/// Reads a list of cards from the input.
+///
+/// # Errors
+///
+/// `Malformed` if the input is bad, `Memory` if memory is refused.
+fn cards_of(alloc: Global, input: &mut Input<'_>) -> Result<Vec<Card>, RestoreError> {
     let mut cards = Vec::new(alloc);
     for _ in 0..u64::MAX {
         if !input.flag()? {
             break;
         }
-        cards.push(card_of(input)?).ok()?;
+        cards.push(card_of(input)?)?;
     }
-    Some(cards)
+    Ok(cards)
 }
 
 impl Queues {
@@ -182,11 +192,19 @@ impl Queues {
         put_zero(out)
     }
 
-    /// Reads the decks and the closed files of a user, who has none, from the input and adds them;
-    /// returns None, perhaps after adding some, if malformed, or if memory is refused.
+    /// Reads the decks and the closed files of a user, who has none, from the input and adds them.
     ///
-    /// There are as many users as before in either case.
-    pub fn restore(&mut self, alloc: Global, user: UserNo, input: &mut Input<'_>) -> Option<()>
+    /// There are as many users as before, also after an error.
+    ///
+    /// # Errors
+    ///
+    /// `Malformed` if the input is bad, `Memory` if memory is refused, perhaps after adding some.
+    pub fn restore(
+        &mut self,
+        alloc: Global,
+        user: UserNo,
+        input: &mut Input<'_>,
+    ) -> Result<(), RestoreError>
         ensures { length self.new.users ≡ length self.old.users }
     {
         self.take_decks(alloc, user, input)?;
@@ -196,9 +214,18 @@ impl Queues {
         self.take_printed(alloc, user, input)
     }
 
-    /// Reads decks from the input and appends them to the queue of a user's reader; returns None,
-    /// perhaps after appending some, if malformed, or if memory is refused.
-    fn take_decks(&mut self, alloc: Global, user: UserNo, input: &mut Input<'_>) -> Option<()>
+    /// Reads decks from the input and appends them to the queue of a user's reader.
+    ///
+    /// # Errors
+    ///
+    /// `Malformed` if the input is bad, `Memory` if memory is refused, perhaps after appending
+    /// some.
+    fn take_decks(
+        &mut self,
+        alloc: Global,
+        user: UserNo,
+        input: &mut Input<'_>,
+    ) -> Result<(), RestoreError>
         ensures { length self.new.users ≡ length self.old.users }
     {
         for _ in 0..u64::MAX {
@@ -208,14 +235,23 @@ impl Queues {
             let label = input.number()?;
             let sender: Sender = sender_of(input)?;
             let cards = cards_of(alloc, input)?;
-            self.append(user, label, sender, cards).ok()?;
+            self.append(user, label, sender, cards)?;
         }
-        Some(())
+        Ok(())
     }
 
-    /// Reads files from the input and appends them to those that a user's punch closed; returns
-    /// None, perhaps after appending some, if malformed, or if memory is refused.
-    fn take_punched(&mut self, alloc: Global, user: UserNo, input: &mut Input<'_>) -> Option<()>
+    /// Reads files from the input and appends them to those that a user's punch closed.
+    ///
+    /// # Errors
+    ///
+    /// `Malformed` if the input is bad, `Memory` if memory is refused, perhaps after appending
+    /// some.
+    fn take_punched(
+        &mut self,
+        alloc: Global,
+        user: UserNo,
+        input: &mut Input<'_>,
+    ) -> Result<(), RestoreError>
         ensures { length self.new.users ≡ length self.old.users }
     {
         for _ in 0..u64::MAX {
@@ -224,15 +260,24 @@ impl Queues {
             }
             let target = target_of(input)?;
             let entries = entries_of(alloc, input)?;
-            self.make_room(user).ok()?;
+            self.make_room(user)?;
             self.close_punched(user, target, entries);
         }
-        Some(())
+        Ok(())
     }
 
-    /// Reads files from the input and appends them to those that a user's printer closed; returns
-    /// None, perhaps after appending some, if malformed, or if memory is refused.
-    fn take_printed(&mut self, alloc: Global, user: UserNo, input: &mut Input<'_>) -> Option<()>
+    /// Reads files from the input and appends them to those that a user's printer closed.
+    ///
+    /// # Errors
+    ///
+    /// `Malformed` if the input is bad, `Memory` if memory is refused, perhaps after appending
+    /// some.
+    fn take_printed(
+        &mut self,
+        alloc: Global,
+        user: UserNo,
+        input: &mut Input<'_>,
+    ) -> Result<(), RestoreError>
         ensures { length self.new.users ≡ length self.old.users }
     {
         for _ in 0..u64::MAX {
@@ -241,9 +286,9 @@ impl Queues {
             }
             let target = target_of(input)?;
             let entries = entries_of(alloc, input)?;
-            self.make_room(user).ok()?;
+            self.make_room(user)?;
             self.close_printed(user, target, entries);
         }
-        Some(())
+        Ok(())
     }
 }

@@ -6,7 +6,7 @@ ghost use Rattle.cp_volumes.specs.Shared.{placement_of};
 
 use cp_minidisk::{Extent, Minidisk};
 use s370_num::DevAddr;
-use saved_bytes::{Input, put_number};
+use saved_bytes::{Input, RestoreError, put_number};
 use std::alloc::AllocError;
 use std::marker::Model;
 
@@ -113,9 +113,12 @@ impl SharedDisk {
     }
 
     /// Reads an address, a volume, an extent, the arm and the sense from the input, and sets the
-    /// last two; returns None, and changes nothing, if they are malformed or the minidisk has no
-    /// such place.
-    pub fn restore(&mut self, input: &mut Input<'_>) -> Option<()>
+    /// last two.
+    ///
+    /// # Errors
+    ///
+    /// `Malformed` if they are none, or the minidisk has no such place; nothing has changed then.
+    pub fn restore(&mut self, input: &mut Input<'_>) -> Result<(), RestoreError>
         ensures { placement_of self.new ≡ placement_of self.old }
     {
         let _address = input.number()?;

@@ -11,7 +11,7 @@ use s370_intr::Pending;
 use s370_num::{Addr24, ConditionCode};
 use s370_psw::Psw;
 use s370_rows::Cpu;
-use saved_bytes::{Input, put_flag, put_number, put_one, put_zero};
+use saved_bytes::{Input, RestoreError, put_flag, put_number, put_one, put_zero};
 use std::alloc::AllocError;
 
 /// Appends registers to `out`, each after a byte of 1, and then a byte of 0.
@@ -26,16 +26,24 @@ fn put_registers(out: &mut Vec<u8>, registers: &[u32]) -> Result<(), AllocError>
     put_zero(out)
 }
 
-/// Takes registers from `input` and returns them, or `None` if they are not sixteen or are bad.
-fn registers_of(input: &mut Input<'_>) -> Option<[u32; 16]> {
+/// Takes sixteen registers from `input` and returns them.
+///
+/// # Errors
+///
+/// `Malformed` if they are not sixteen or are bad.
+fn registers_of(input: &mut Input<'_>) -> Result<[u32; 16], RestoreError> {
     let mut registers = [0u32; 16];
     for place in 0..16usize {
         if !input.flag()? {
-            return None;
+            return Err(RestoreError::Malformed);
         }
         registers[place] = input.next_u32()?;
     }
-    if input.flag()? { None } else { Some(registers) }
+    if input.flag()? {
+        Err(RestoreError::Malformed)
+    } else {
+        Ok(registers)
+    }
 }
 
 /// Appends to `out` the system mask, the key and the program mask of a PSW, as numbers.
@@ -68,15 +76,22 @@ fn put_psw(out: &mut Vec<u8>, psw: &Psw) -> Result<(), AllocError>
     put_number(out, u64::from(psw.address().get()))
 }
 
-/// Takes a flag from `input` and returns `bit` if it is set, or zero if not, or `None` if there is
-/// no flag.
-fn bit_of(input: &mut Input<'_>, bit: u64) -> Option<u64> {
-    if input.flag()? { Some(bit) } else { Some(0) }
+/// Takes a flag from `input` and returns `bit` if it is set, or zero if not.
+///
+/// # Errors
+///
+/// `Malformed` if there is no flag.
+fn bit_of(input: &mut Input<'_>, bit: u64) -> Result<u64, RestoreError> {
+    if input.flag()? { Ok(bit) } else { Ok(0) }
 }
 
-/// Takes a PSW from `input` and returns it, or `None` if a part is missing or bad; key, program
-/// mask, condition code and address are cut to their bits.
-fn psw_of(input: &mut Input<'_>) -> Option<Psw> {
+/// Takes a PSW from `input` and returns it; key, program mask, condition code and address are cut
+/// to their bits.
+///
+/// # Errors
+///
+/// `Malformed` if a part is missing or bad.
+fn psw_of(input: &mut Input<'_>) -> Result<Psw, RestoreError> {
     let system_mask = input.next_u8()?;
     let key = input.next_u8()?;
     let program_mask = input.next_u8()?;
@@ -89,7 +104,7 @@ fn psw_of(input: &mut Input<'_>) -> Option<Psw> {
     psw.set_problem(input.flag()?);
     psw.set_condition(ConditionCode::new(input.next_u8()? % 4));
     psw.set_address(Addr24::wrapping(input.next_u32()?));
-    Some(psw)
+    Ok(psw)
 }
 
 /// Appends to `out` the general registers, the control registers and the PSW of a processor.
@@ -136,13 +151,17 @@ fn put_mode(out: &mut Vec<u8>, mode: Mode) -> Result<(), AllocError>
     put_number(out, number_of(mode))
 }
 
-/// Takes a mode from `input` and returns it, or `None` if there is none or it is bad.
-fn mode_of(input: &mut Input<'_>) -> Option<Mode> {
+/// Takes a mode from `input` and returns it.
+///
+/// # Errors
+///
+/// `Malformed` if there is none or it is bad.
+fn mode_of(input: &mut Input<'_>) -> Result<Mode, RestoreError> {
     match input.number()? {
-        0 => Some(Mode::Off),
-        1 => Some(Mode::Stopped),
-        2 => Some(Mode::Running),
-        _ => None,
+        0 => Ok(Mode::Off),
+        1 => Ok(Mode::Stopped),
+        2 => Ok(Mode::Running),
+        _ => Err(RestoreError::Malformed),
     }
 }
 
@@ -171,11 +190,15 @@ impl Machine {
         output.save(out)
     }
 
-    /// Restores a machine, except its storage, from `input`, or returns `None` if that is bad or
-    /// memory is refused; the machine is then off and perhaps partly restored.
+    /// Restores a machine, except its storage, from `input`.
     ///
     /// It has printed nothing before. No device is added or removed, whatever the input has.
-    pub fn restore(&mut self, input: &mut Input<'_>) -> Option<()>
+    ///
+    /// # Errors
+    ///
+    /// `Malformed` if the input is bad, `Memory` if memory is refused; the machine is then off and
+    /// perhaps partly restored.
+    pub fn restore(&mut self, input: &mut Input<'_>) -> Result<(), RestoreError>
         ensures { addresses self.new.subchannels ≡ addresses self.old.subchannels }
     {
         // It does not run until there is room for the notice of its stop.
@@ -193,8 +216,8 @@ impl Machine {
         self.subchannels.restore(input)?;
         let mode = mode_of(input)?;
         self.output.restore(input)?;
-        self.output.make_room(1).ok()?;
+        self.output.make_room(1)?;
         self.mode = mode;
-        Some(())
+        Ok(())
     }
 }

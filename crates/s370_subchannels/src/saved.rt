@@ -5,7 +5,7 @@ ghost use Rattle.s370_subchannels.specs.Saved.{subchannel_bytes, subchannels_byt
 
 use crate::subchannel::{DeviceState, Subchannel};
 use crate::subchannels::Subchannels;
-use saved_bytes::{Input, put_flag, put_number, put_one, put_zero};
+use saved_bytes::{Input, RestoreError, put_flag, put_number, put_one, put_zero};
 use std::alloc::AllocError;
 
 /// Returns the number for the kind of a state: 0 idle, 1 working, 2 pending.
@@ -67,16 +67,31 @@ fn put_subchannels(out: &mut Vec<u8>, list: &[Subchannel]) -> Result<(), AllocEr
     put_zero(out)
 }
 
-/// Takes a device's state from `input`, two numbers, and returns it, or `None` if they are no
-/// state.
-fn state_of(input: &mut Input<'_>) -> Option<DeviceState> {
+/// Returns the state of a device that works on the program at this address word.
+///
+/// # Errors
+///
+/// `Malformed` if the word does not fit 32 bits.
+fn working(word: u64) -> Result<DeviceState, RestoreError> {
+    match u32::try_from(word) {
+        Ok(word) => Ok(DeviceState::Working(word)),
+        Err(_) => Err(RestoreError::Malformed),
+    }
+}
+
+/// Takes a device's state from `input`, two numbers, and returns it.
+///
+/// # Errors
+///
+/// `Malformed` if they are no state.
+fn state_of(input: &mut Input<'_>) -> Result<DeviceState, RestoreError> {
     let kind = input.number()?;
     let word = input.number()?;
     match kind {
-        0 => Some(DeviceState::Idle),
-        1 => Some(DeviceState::Working(u32::try_from(word).ok()?)),
-        2 => Some(DeviceState::Pending(word)),
-        _ => None,
+        0 => Ok(DeviceState::Idle),
+        1 => working(word),
+        2 => Ok(DeviceState::Pending(word)),
+        _ => Err(RestoreError::Malformed),
     }
 }
 
@@ -92,29 +107,40 @@ impl Subchannels {
         put_subchannels(out, self.list())
     }
 
-    /// Takes as many subchannels from `input` as there are devices and sets the devices of their
-    /// addresses, if there are such; returns `None`, perhaps after some were set, if `input` has
-    /// fewer, more or bad ones.
+    /// Takes as many subchannels from `input` as there are devices, and sets the devices of their
+    /// addresses, if there are such.
     ///
     /// No device is added or removed, whatever the input has.
-    pub fn restore(&mut self, input: &mut Input<'_>) -> Option<()>
+    ///
+    /// # Errors
+    ///
+    /// `Malformed`, perhaps after some were set, if `input` has fewer, more or bad ones.
+    pub fn restore(&mut self, input: &mut Input<'_>) -> Result<(), RestoreError>
         ensures { addresses self.new ≡ addresses self.old }
     {
         let count = self.list().len();
         for _ in 0..count {
             self.restore_next(input)?;
         }
-        if input.flag()? { None } else { Some(()) }
+        if input.flag()? {
+            Err(RestoreError::Malformed)
+        } else {
+            Ok(())
+        }
     }
 
     /// Takes one subchannel from `input` and sets state, attention and last start of the device of
-    /// its address, if there is one; returns `None` and sets nothing if it is bad or missing.
+    /// its address, if there is one.
+    ///
+    /// # Errors
+    ///
+    /// `Malformed` if it is bad or missing; nothing is set then.
     #[tactic(auto, using(crate::proofs::Kept::state_kept, crate::proofs::Kept::attention_kept, crate::proofs::Kept::last_start_kept))]
-    fn restore_next(&mut self, input: &mut Input<'_>) -> Option<()>
+    fn restore_next(&mut self, input: &mut Input<'_>) -> Result<(), RestoreError>
         ensures { addresses self.new ≡ addresses self.old }
     {
         if !input.flag()? {
-            return None;
+            return Err(RestoreError::Malformed);
         }
         let device = input.next_u16()?;
         let state = state_of(input)?;
@@ -123,6 +149,6 @@ impl Subchannels {
         self.set_state(device, state);
         self.set_attention(device, attention);
         self.set_last_start(device, last_start);
-        Some(())
+        Ok(())
     }
 }

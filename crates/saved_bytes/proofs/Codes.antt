@@ -29,6 +29,11 @@ number_code a b x y e =
     let k = ap (λ l. get_or l 7 0) e in
     record { this = omega (arith, c, d, f, g, h, i, j, k); rest = ap (λ l. drop 8 l) e }
 
+-- A number has eight bytes.
+pub number_long : (n : ℕ) → length (number n) ≡ 8
+unfolding number
+number_long n = refl
+
 -- The byte of a flag is a code.
 pub flag_code : IsCode flag
 flag_code false false x y e = record { this = refl; rest = ap (λ l. drop 1 l) e }

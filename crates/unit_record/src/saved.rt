@@ -12,7 +12,7 @@ use crate::printer::Printer;
 use crate::punch::Punch;
 use crate::reader::{Card, Sender};
 use crate::record::{RECORD_LENGTH, RecordBytes};
-use saved_bytes::{Input, put_bytes, put_flag, put_number, put_one, put_zero};
+use saved_bytes::{Input, RestoreError, put_bytes, put_flag, put_number, put_one, put_zero};
 use std::alloc::{AllocError, Global};
 use std::collections::VecDeque;
 
@@ -34,12 +34,16 @@ pub fn put_target(out: &mut Vec<u8>, target: Target) -> Result<(), AllocError>
     }
 }
 
-/// Takes from `input` whom a file is for and returns it, or `None` if that is not there or bad.
-pub fn target_of(input: &mut Input<'_>) -> Option<Target> {
+/// Takes from `input` whom a file is for and returns it.
+///
+/// # Errors
+///
+/// `Malformed` if that is not there or bad.
+pub fn target_of(input: &mut Input<'_>) -> Result<Target, RestoreError> {
     if input.flag()? {
-        Some(Target::User(input.next_u8()?))
+        Ok(Target::User(input.next_u8()?))
     } else {
-        Some(Target::System)
+        Ok(Target::System)
     }
 }
 
@@ -61,35 +65,45 @@ pub fn put_sender(out: &mut Vec<u8>, sender: Sender) -> Result<(), AllocError>
     }
 }
 
-/// Takes from `input` whom a deck is from and returns it, or `None` if that is not there or bad.
-pub fn sender_of(input: &mut Input<'_>) -> Option<Sender> {
+/// Takes from `input` whom a deck is from and returns it.
+///
+/// # Errors
+///
+/// `Malformed` if that is not there or bad.
+pub fn sender_of(input: &mut Input<'_>) -> Result<Sender, RestoreError> {
     if input.flag()? {
-        Some(Sender::User(input.next_u8()?))
+        Ok(Sender::User(input.next_u8()?))
     } else {
-        Some(Sender::System)
+        Ok(Sender::System)
     }
 }
 
-/// Takes a card from `input`, with its length before it, and returns it, or `None` if it is not
-/// there or not 80 bytes long.
-pub fn card_of(input: &mut Input<'_>) -> Option<Card> {
+/// Takes a card from `input`, with its length before it, and returns it.
+///
+/// # Errors
+///
+/// `Malformed` if it is not there or not 80 bytes long.
+pub fn card_of(input: &mut Input<'_>) -> Result<Card, RestoreError> {
     let bytes = input.bytes()?;
     let mut card = [0u8; 80];
     if bytes.len() != card.len() {
-        return None;
+        return Err(RestoreError::Malformed);
     }
     card.copy_from_slice(bytes);
-    Some(card)
+    Ok(card)
 }
 
-/// Takes a record from `input`, with its length before it, and returns it, or `None` if it is not
-/// there or too long.
-pub fn record_of(input: &mut Input<'_>) -> Option<RecordBytes> {
+/// Takes a record from `input`, with its length before it, and returns it.
+///
+/// # Errors
+///
+/// `Malformed` if it is not there or too long.
+pub fn record_of(input: &mut Input<'_>) -> Result<RecordBytes, RestoreError> {
     let bytes = input.bytes()?;
     if bytes.len() > RECORD_LENGTH {
-        return None;
+        return Err(RestoreError::Malformed);
     }
-    Some(RecordBytes::of(bytes))
+    Ok(RecordBytes::of(bytes))
 }
 
 /// Appends to `out` the code of an entry, the number of its bytes and these bytes.
@@ -115,9 +129,12 @@ pub fn put_entries(out: &mut Vec<u8>, entries: &[Entry]) -> Result<(), AllocErro
     put_zero(out)
 }
 
-/// Takes entries from `input` and returns them in a new vector, or `None` if they are bad or memory
-/// is refused.
-pub fn entries_of(alloc: Global, input: &mut Input<'_>) -> Option<Vec<Entry>> {
+/// Takes entries from `input` and returns them in a new vector.
+///
+/// # Errors
+///
+/// `Malformed` if they are bad, `Memory` if memory is refused.
+pub fn entries_of(alloc: Global, input: &mut Input<'_>) -> Result<Vec<Entry>, RestoreError> {
     let mut entries = Vec::new(alloc);
     for _ in 0..u64::MAX {
         if !input.flag()? {
@@ -125,9 +142,9 @@ pub fn entries_of(alloc: Global, input: &mut Input<'_>) -> Option<Vec<Entry>> {
         }
         let code = input.next_u8()?;
         let bytes = record_of(input)?;
-        entries.push(Entry::new(code, bytes)).ok()?;
+        entries.push(Entry::new(code, bytes))?;
     }
-    Some(entries)
+    Ok(entries)
 }
 
 /// Appends records to `out`, each after a byte of 1 and its length, and then a byte of 0.
@@ -141,28 +158,37 @@ fn put_records(out: &mut Vec<u8>, records: &[RecordBytes]) -> Result<(), AllocEr
     put_zero(out)
 }
 
-/// Takes records from `input` and appends them to `lines`, or returns `None` if one is bad or
-/// memory is refused, perhaps after appending some.
-fn take_lines(lines: &mut Vec<RecordBytes>, input: &mut Input<'_>) -> Option<()> {
+/// Takes records from `input` and appends them to `lines`.
+///
+/// # Errors
+///
+/// `Malformed` if one is bad, `Memory` if memory is refused, perhaps after appending some.
+fn take_lines(lines: &mut Vec<RecordBytes>, input: &mut Input<'_>) -> Result<(), RestoreError> {
     for _ in 0..u64::MAX {
         if !input.flag()? {
             break;
         }
-        lines.push(record_of(input)?).ok()?;
+        lines.push(record_of(input)?)?;
     }
-    Some(())
+    Ok(())
 }
 
-/// Takes records from `input` and appends them to `waiting`, or returns `None` if one is bad or
-/// memory is refused, perhaps after appending some.
-fn take_waiting(waiting: &mut VecDeque<RecordBytes>, input: &mut Input<'_>) -> Option<()> {
+/// Takes records from `input` and appends them to `waiting`.
+///
+/// # Errors
+///
+/// `Malformed` if one is bad, `Memory` if memory is refused, perhaps after appending some.
+fn take_waiting(
+    waiting: &mut VecDeque<RecordBytes>,
+    input: &mut Input<'_>,
+) -> Result<(), RestoreError> {
     for _ in 0..u64::MAX {
         if !input.flag()? {
             break;
         }
-        waiting.push_back(record_of(input)?).ok()?;
+        waiting.push_back(record_of(input)?)?;
     }
-    Some(())
+    Ok(())
 }
 
 /// Appends to `out` a byte of 1 and the code of the command under way, or a byte of 0 if there is
@@ -179,13 +205,16 @@ fn put_command(out: &mut Vec<u8>, command: Option<u8>) -> Result<(), AllocError>
     }
 }
 
-/// Takes from `input` the code of the command under way, if there is one, and returns it, or `None`
-/// if the input is bad.
-fn command_of(input: &mut Input<'_>) -> Option<Option<u8>> {
+/// Takes from `input` the code of the command under way, if there is one, and returns it.
+///
+/// # Errors
+///
+/// `Malformed` if the input is bad.
+fn command_of(input: &mut Input<'_>) -> Result<Option<u8>, RestoreError> {
     if input.flag()? {
-        Some(Some(input.next_u8()?))
+        Ok(Some(input.next_u8()?))
     } else {
-        Some(None)
+        Ok(None)
     }
 }
 
@@ -248,9 +277,13 @@ impl Console {
         put_zero(out)
     }
 
-    /// Restores a console, on which nothing was written or typed, from `input`, or returns `None`
-    /// if that is bad or memory is refused, perhaps after restoring a part.
-    pub fn restore(&mut self, input: &mut Input<'_>) -> Option<()> {
+    /// Restores a console, on which nothing was written or typed, from `input`.
+    ///
+    /// # Errors
+    ///
+    /// `Malformed` if the input is bad, `Memory` if memory is refused, perhaps after restoring a
+    /// part.
+    pub fn restore(&mut self, input: &mut Input<'_>) -> Result<(), RestoreError> {
         // Nothing is being written until there is room for it.
         self.ends_line = false;
         self.wanted = 0;
@@ -260,14 +293,14 @@ impl Console {
         self.sense = input.next_u8()?;
         let wanted = input.next_usize()?;
         if wanted > RECORD_LENGTH {
-            return None;
+            return Err(RestoreError::Malformed);
         }
         let ends_line = input.flag()?;
         self.giving = Outgoing::of(record_of(input)?);
-        self.lines.reserve(2).ok()?;
+        self.lines.reserve(2)?;
         self.wanted = wanted;
         self.ends_line = ends_line;
-        Some(())
+        Ok(())
     }
 }
 
@@ -294,18 +327,22 @@ impl Punch {
         put_bytes(out, card.as_slice())
     }
 
-    /// Replaces all of a punch from `input`, or returns `None` if that is bad or memory is refused,
-    /// perhaps after replacing a part.
-    pub fn restore(&mut self, alloc: Global, input: &mut Input<'_>) -> Option<()> {
+    /// Replaces all of a punch from `input`.
+    ///
+    /// # Errors
+    ///
+    /// `Malformed` if the input is bad, `Memory` if memory is refused, perhaps after replacing a
+    /// part.
+    pub fn restore(&mut self, alloc: Global, input: &mut Input<'_>) -> Result<(), RestoreError> {
         // No card is being punched until there is room for it.
         self.is_punching = false;
         self.output = Output::of(entries_of(alloc, input)?);
         self.sense = input.next_u8()?;
         let is_punching = input.flag()?;
         self.card = record_of(input)?;
-        self.output.reserve().ok()?;
+        self.output.reserve()?;
         self.is_punching = is_punching;
-        Some(())
+        Ok(())
     }
 }
 
@@ -332,17 +369,21 @@ impl Printer {
         put_bytes(out, line.as_slice())
     }
 
-    /// Replaces all of a printer from `input`, or returns `None` if that is bad or memory is
-    /// refused, perhaps after replacing a part.
-    pub fn restore(&mut self, alloc: Global, input: &mut Input<'_>) -> Option<()> {
+    /// Replaces all of a printer from `input`.
+    ///
+    /// # Errors
+    ///
+    /// `Malformed` if the input is bad, `Memory` if memory is refused, perhaps after replacing a
+    /// part.
+    pub fn restore(&mut self, alloc: Global, input: &mut Input<'_>) -> Result<(), RestoreError> {
         // No line is being printed until there is room for it.
         self.printing = None;
         self.output = Output::of(entries_of(alloc, input)?);
         self.sense = input.next_u8()?;
         let printing = command_of(input)?;
         self.line = record_of(input)?;
-        self.output.reserve().ok()?;
+        self.output.reserve()?;
         self.printing = printing;
-        Some(())
+        Ok(())
     }
 }
