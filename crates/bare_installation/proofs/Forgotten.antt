@@ -246,3 +246,7 @@ events_go_on = record {
         (sym (append-nil one.equipped.machine.output)));
   };
 }
+
+-- What goes on as a machine goes on as one that is the same.
+pub on_same : (first one other : Bare) → one ≡ other → GoesOnAs first other → GoesOnAs first one
+on_same first one other same on = subst (λ (b : Bare). GoesOnAs first b) (sym same) on

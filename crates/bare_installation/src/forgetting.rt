@@ -19,7 +19,8 @@ impl Bare {
     ///
     /// A file that the reader still has as a deck keeps its entries.
     pub fn forget_files(&mut self, since: usize)
-        ensures { GoesOnAs self.old self.new }
+        ensures on { GoesOnAs self.old self.new }
+        ensures lines { self.new.equipped.machine.output ≡ self.old.equipped.machine.output }
     {
         for place in since..self.files.len() {
             if let Some(note) = self.files.get(place).copied() {
@@ -30,7 +31,8 @@ impl Bare {
 
     /// Drops the entries of the file of this note.
     fn forget_file(&mut self, note: FileNote)
-        ensures { GoesOnAs self.old self.new }
+        ensures on { GoesOnAs self.old self.new }
+        ensures lines { self.new.equipped.machine.output ≡ self.old.equipped.machine.output }
     {
         match note.kind {
             FileKind::Punch(place) => self.queues.forget_punched(note.user, place),

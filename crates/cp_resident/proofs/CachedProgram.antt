@@ -48,6 +48,7 @@ pub known : (old new : ReuseValue) (d held : Dat) (start : Caw) (index : ℕ) (d
     → HasReusedDisk old d start index done new
 known old new d held start index done none same kept = record {
   again = λ again. absurd (none again);
+  spare = λ again. absurd (none again);
   anew = λ _. inl (held, same, kept);
 }
 

@@ -1,6 +1,6 @@
 -- The programs of a user's devices that are kept, and how often one was run again.
-use Rattle.std.specs.Prelude.{◌≡◌, ◌⊎◌, ℕ, ◌+◌, ◌%◌, ◌==◌, if◌then◌else◌, Bool, false, List, length}
-use Rattle.std.specs.Prelude.{replicate, None, Option, Some, slice_index_or, slice_set}
+use Rattle.std.specs.Prelude.{◌≡◌, ◌⊎◌, ℕ, ◌+◌, ◌%◌, ◌==◌, if◌then◌else◌, Bool, true, false, List}
+use Rattle.std.specs.Prelude.{length, replicate, None, Option, Some, slice_index_or, slice_set}
 use Rattle.s370_channel.specs.declared.words.Caw.{Caw}
 use Rattle.cp_ccw.specs.CachedProgram.{IsAtBase, KeptProgram}
 use Rattle.cp_ccw.specs.CachedPages.{IsAsKnown, KnownProgram}
@@ -111,10 +111,12 @@ pub record HasReused (old : ReuseValue) (d : Dat) (start : Caw) (unit : UnitReco
       → ((held : Dat) × (lent_memory held ≡ lent_memory d) × KeepsCopy old held start unit done new)
       ⊎ KeepsNone (lent_memory d) start (with_unit old unit None) new
 
--- the same of a minidisk's
+-- The same of a minidisk's, and one that is run again is not refused: it takes no memory, and has
+-- its pages.
 pub record HasReusedDisk (old : ReuseValue) (d : Dat) (start : Caw) (index : ℕ) (done : Bool)
     (new : ReuseValue) : Type 0 where
   pub again : KnowsAgain old index d start → new ≡ run_again old
+  pub spare : KnowsAgain old index d start → done ≡ true
   pub anew : (KnowsAgain old index d start → ⊥)
       → ((held : Dat) × (lent_memory held ≡ lent_memory d)
       × KeepsKnown old held start index done new)

@@ -11,6 +11,7 @@ pub mod Beside
 pub mod Answered
 mod OneLife
 mod Working
+mod Turned
 pub mod DeviceCodes
 pub mod Forgotten
 pub mod Written

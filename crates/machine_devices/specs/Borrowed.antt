@@ -32,7 +32,7 @@ use Rattle.machine_devices.specs.Lines.{IsLine, KindLoads, LoadHadRoom, LoadsKin
 use Rattle.machine_devices.specs.Lines.{logged_off, outcome, requested}
 use Rattle.machine_devices.specs.Requests.{needs_of, switches}
 use Rattle.machine_devices.specs.declared.request.Request.{Request}
-use Rattle.machine_devices.specs.Reuses.{LineForgets, LoadForgets, StartReuses}
+use Rattle.machine_devices.specs.Reuses.{LineForgets, LoadForgets, MayHaveRun, StartReuses}
 use Rattle.machine_devices.specs.Serve.{IsServedAt, RunsKind, StartNeeds}
 use Rattle.machine_devices.specs.Stopped.{StartHadRoom, StopsProgram}
 use Rattle.machine_devices.specs.UserDirectory.{UserDirectory}
@@ -170,7 +170,7 @@ module _ {C S : Type 0} (channels : Channels C S) (disks : Disks C) (storage : S
     pub ready : channels.IsReady new.storage
     pub kept : OnOk r (StartReuses channels.Reuses channels.ReusesDisk old.channels old.storage
         new.channels kind start true)
-    pub kept_if_refused : OnErr r ((done : Bool)
+    pub kept_if_refused : OnErr r ((done : Bool) × MayHaveRun kind done
         × StartReuses channels.Reuses channels.ReusesDisk old.channels old.storage new.channels
         kind start done)
     pub others : disks.KeepsOthers old.channels new.channels

@@ -20,7 +20,9 @@ pub mod Coming
 pub mod Reuses
 pub mod OneLife
 pub mod Working
+pub mod Turned
 pub mod Saved
 pub mod Forgotten
 pub mod Written
+pub mod Dropped
 pub mod Borrowed

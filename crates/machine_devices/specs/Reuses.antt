@@ -30,6 +30,16 @@ module _ {C S : Type 0} (Reuses : C → S → Caw → UnitRecord → Bool → C 
   StartReuses (Some kind) None done = new ≡ old
   StartReuses (Some kind) (Some start) done = KindReuses kind start done
 
+-- whether the program of a device of this kind may have run to its end where the serve is refused:
+-- only a console's, whose lines are printed after it
+abbrev pub MayHaveRun : Option AttachedDevice → Bool → Type 0
+MayHaveRun None done = done ≡ false
+MayHaveRun (Some kinds.Console) done = Unit {0}
+MayHaveRun (Some kinds.Reader) done = done ≡ false
+MayHaveRun (Some kinds.Punch) done = done ≡ false
+MayHaveRun (Some kinds.Printer) done = done ≡ false
+MayHaveRun (Some (kinds.Disk index)) done = done ≡ false
+
 -- What a line drops: LOGON, LOGOFF, SYSTEM RESET, and an IPL that finds its device; else they are
 -- as they were.
 module _ {C : Type 0} (Forgets : C → C → Type 0) (old new : C) where

@@ -1,6 +1,7 @@
 //! Laws of a machine with devices, as functions that promise them.
 ghost use Rattle.machine_devices.specs.Forgotten.{PrintedLinesDoNotMatter};
 ghost use Rattle.machine_devices.specs.OneLife.{LinesAreOne, LivesAreApart, LivesAreOne};
+ghost use Rattle.machine_devices.specs.Turned.{OnlyLinesTurn};
 ghost use Rattle.machine_devices.specs.Working.{AllGoOnHavingPrograms, DevicesStay};
 ghost use Rattle.machine_devices.specs.Working.{NoneWorksAtFirst, WorksWithProgram};
 ghost use Rattle.machine_devices.specs.Written.{ClosedFilesStay, WrittenFilesDoNotMatter};
@@ -30,6 +31,11 @@ pub fn what_works_has_a_program()
     ensures later { AllGoOnHavingPrograms }
     ensures served { WorksWithProgram }
     ensures devices { DevicesStay }
+{}
+
+/// States that no event but a typed line turns a machine on or off.
+pub fn only_lines_turn()
+    ensures { OnlyLinesTurn }
 {}
 
 /// States that lines that were printed before do not matter to a machine with devices: whatever

@@ -45,7 +45,9 @@ pub use attaching::AttachError;
 pub use devices::Devices;
 pub use event::Event;
 pub use files::{ClosedFiles, FileKind, FileNote, deck_line};
-pub use laws::{attention_agrees, printed_lines_do_not_matter};
+pub use laws::{
+    a_life_comes_to_one_end, attention_agrees, only_lines_turn, printed_lines_do_not_matter,
+};
 pub use line::{LineOutcome, TypedLine};
 pub use places::{AttachedDevice, Places};
 pub use reply::{Delivered, Delivery, Ended, Reply, UserResponse, said_to_line};

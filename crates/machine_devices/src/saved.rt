@@ -12,7 +12,7 @@ use crate::devices::Devices;
 use crate::files::{FileKind, FileNote};
 use crate::places::Places;
 use s370_num::DevAddr;
-use saved_bytes::{Input, put_number, put_one, put_zero};
+use saved_bytes::{Input, RestoreError, put_number, put_one, put_zero};
 use std::alloc::{AllocError, Global};
 use unit_record::saved::{put_target, target_of};
 use user_names::{MOST_USERS, UserNo};
@@ -30,13 +30,16 @@ fn put_address(out: &mut Vec<u8>, address: Option<DevAddr>) -> Result<(), AllocE
     }
 }
 
-/// Reads from the input the address of a device, or that there is none; returns None if it is
-/// malformed.
-fn address_of(input: &mut Input<'_>) -> Option<Option<DevAddr>> {
+/// Reads from the input the address of a device, or that there is none.
+///
+/// # Errors
+///
+/// `Malformed` if the input is bad.
+fn address_of(input: &mut Input<'_>) -> Result<Option<DevAddr>, RestoreError> {
     if input.flag()? {
-        Some(Some(DevAddr::new(input.next_u16()?)))
+        Ok(Some(DevAddr::new(input.next_u16()?)))
     } else {
-        Some(None)
+        Ok(None)
     }
 }
 
@@ -57,10 +60,13 @@ fn put_places(out: &mut Vec<u8>, places: Places) -> Result<(), AllocError>
     put_address(out, printer)
 }
 
-/// Reads from the input the addresses of console, reader, punch and printer; returns None if
-/// malformed.
-fn places_of(input: &mut Input<'_>) -> Option<Places> {
-    Some(Places {
+/// Reads from the input the addresses of console, reader, punch and printer.
+///
+/// # Errors
+///
+/// `Malformed` if the input is bad.
+fn places_of(input: &mut Input<'_>) -> Result<Places, RestoreError> {
+    Ok(Places {
         console: address_of(input)?,
         reader: address_of(input)?,
         punch: address_of(input)?,
@@ -68,14 +74,17 @@ fn places_of(input: &mut Input<'_>) -> Option<Places> {
     })
 }
 
-/// Reads the number of a user from the input; returns None if no user can have it, or it is
-/// malformed.
-fn user_of(input: &mut Input<'_>) -> Option<UserNo> {
+/// Reads the number of a user from the input.
+///
+/// # Errors
+///
+/// `Malformed` if no user can have it, or it is none.
+fn user_of(input: &mut Input<'_>) -> Result<UserNo, RestoreError> {
     let number = input.next_u8()?;
     if usize::from(number) < MOST_USERS {
-        Some(UserNo::new(number))
+        Ok(UserNo::new(number))
     } else {
-        None
+        Err(RestoreError::Malformed)
     }
 }
 
@@ -129,17 +138,20 @@ impl Devices {
         self.put_owner(out)
     }
 
-    /// Reads the state of these devices, which have done nothing, from the input; returns None,
-    /// perhaps after restoring a part, if it is malformed, one of devices at other addresses or of
-    /// another user, or if memory is refused.
+    /// Reads the state of these devices, which have done nothing, from the input.
     ///
-    /// What is left after None is lawful, and nothing else is said of it.
-    pub fn restore(&mut self, alloc: Global, input: &mut Input<'_>) -> Option<()>
+    /// What an error leaves is lawful, and nothing else is said of it.
+    ///
+    /// # Errors
+    ///
+    /// `Malformed` if the input is bad, or has the state of devices at other addresses or of
+    /// another user; `Memory` if memory is refused. A part may be restored then.
+    pub fn restore(&mut self, alloc: Global, input: &mut Input<'_>) -> Result<(), RestoreError>
         ensures places { self.new.places ≡ self.old.places }
         ensures user { self.new.user ≡ self.old.user }
     {
         if places_of(input)? != self.places {
-            return None;
+            return Err(RestoreError::Malformed);
         }
         self.console.restore(input)?;
         self.reader.restore(input)?;
@@ -147,9 +159,9 @@ impl Devices {
         self.printer.restore(alloc, input)?;
         self.target = target_of(input)?;
         if user_of(input)? == self.user {
-            Some(())
+            Ok(())
         } else {
-            None
+            Err(RestoreError::Malformed)
         }
     }
 }
@@ -190,9 +202,12 @@ pub fn put_note(out: &mut Vec<u8>, note: FileNote) -> Result<(), AllocError>
     put_number(out, place_of(kind) as u64)
 }
 
-/// Reads the user, the kind and the place of a file from the input; returns None if it is
-/// malformed.
-pub fn note_of(input: &mut Input<'_>) -> Option<FileNote> {
+/// Reads the user, the kind and the place of a file from the input.
+///
+/// # Errors
+///
+/// `Malformed` if the input is bad.
+pub fn note_of(input: &mut Input<'_>) -> Result<FileNote, RestoreError> {
     let user = user_of(input)?;
     let number = input.next_u8()?;
     let place = input.next_usize()?;
@@ -200,7 +215,7 @@ pub fn note_of(input: &mut Input<'_>) -> Option<FileNote> {
         0 => FileKind::Deck,
         1 => FileKind::Punch(place),
         2 => FileKind::Printer(place),
-        _ => return None,
+        _ => return Err(RestoreError::Malformed),
     };
-    Some(FileNote { user, kind })
+    Ok(FileNote { user, kind })
 }

@@ -18,8 +18,8 @@ invariant_of-self c =
     let many = as_many_lost s.queues.users c.forget_punched.new.self.users lost' in
     (c.self.invariant.0, subst (λ (n : ℕ). s.devices.user < n) (sym many) c.self.invariant.1)
 
-pub returns-in-Punch : goal.returns-in-Punch
-returns-in-Punch c =
+pub returns-in-Punch-clause-on : goal.returns-in-Punch-clause-on
+returns-in-Punch-clause-on c =
     let s = c.self.inside in
     let lost' = punched_lost c.args.note.user c.in-Punch.place s.queues.users c.forget_punched.new.self.users
     c.forget_punched.ensures.lost in
@@ -43,8 +43,8 @@ invariant_of-self-in-Printer c =
     let many = as_many_lost s.queues.users c.forget_printed.new.self.users lost' in
     (c.self.invariant.0, subst (λ (n : ℕ). s.devices.user < n) (sym many) c.self.invariant.1)
 
-pub returns-in-Printer : goal.returns-in-Printer
-returns-in-Printer c =
+pub returns-in-Printer-clause-on : goal.returns-in-Printer-clause-on
+returns-in-Printer-clause-on c =
     let s = c.self.inside in
     let lost' = printed_lost c.args.note.user c.in-Printer.place s.queues.users c.forget_printed.new.self.users
     c.forget_printed.ensures.lost in
@@ -60,5 +60,11 @@ returns-in-Printer c =
     record { lines = []; lost = lost_files old new; same = ap with_files (files_again old new lost) } in
     subst (λ (b : Bare). GoesOnAs b (with_files new)) c.self.view_is on
 
-pub returns-in-Deck : goal.returns-in-Deck
-returns-in-Deck c = events_go_on.reflexive c.args.self.now
+pub returns-in-Deck-clause-on : goal.returns-in-Deck-clause-on
+returns-in-Deck-clause-on c = events_go_on.reflexive c.args.self.now
+
+pub returns-in-Punch-clause-lines : goal.returns-in-Punch-clause-lines
+returns-in-Punch-clause-lines c = ap (λ (b : Bare). b.equipped.machine.output) c.self.view_is
+
+pub returns-in-Printer-clause-lines : goal.returns-in-Printer-clause-lines
+returns-in-Printer-clause-lines c = ap (λ (b : Bare). b.equipped.machine.output) c.self.view_is
