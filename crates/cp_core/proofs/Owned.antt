@@ -135,7 +135,8 @@ owner_still d d' q q' keeps inside = omega (arith, inside, keeps.user, as_many q
 
 -- ---- what is delivered
 
-no_seat : SeatParts
+-- the parts of nobody, as they are kept
+pub no_seat : SeatParts
 no_seat = record {
   parts = no_user.parts;
   devices = parts_new no_places 0;

@@ -13,12 +13,16 @@ use Rattle.cp_volumes.specs.Shared.{AllLeaveBe, AreThere, IsUsers, Placement, pl
 use Rattle.cp_volumes.proofs.Seats.{users_on}
 use Rattle.machine_devices.specs.declared.files.FileNote.{FileNote}
 use Rattle.cp_core.specs.Owners.{AreOwners}
-use Rattle.cp_core.specs.Saved.{AreAsLarge, HasSameBase, SeatBase, base_of}
+use Rattle.cp_core.specs.Saved.{AreAlike, HasSameBase, SeatBase, base_of}
 use Rattle.cp_core.specs.System.{SystemView, placements_among}
 use Rattle.cp_core.specs.UserMachines.{SeatParts, seats_on}
 use Rattle.cp_core.specs.Whole.{AreSeated, IsSystem, IsWhole, no_user}
 use Rattle.cp_core.proofs.Owned.{length-seats}
 use Rattle.cp_core.proofs.Systems.{get-placements, length-users, seen}
+
+-- Volumes are alike if they are the same.
+pub alike_same : (volumes : List VolumeFormat) → AreAlike volumes volumes
+alike_same volumes = record { count = refl; sizes = λ index. refl; volsers = λ index. refl }
 
 -- ---- what a base says
 
@@ -110,11 +114,11 @@ module _ (q q' : QueuesValue) (seats seats' : List SeatParts) (same : map base_o
     });
   }
 
-  seated_restored : (volumes volumes' : List VolumeFormat) → AreAsLarge volumes volumes'
+  seated_restored : (volumes volumes' : List VolumeFormat) → AreAlike volumes volumes'
       → AreSeated (seats_on q seats) volumes → AreSeated (seats_on q' seats') volumes'
-  seated_restored volumes volumes' large seated = record {
+  seated_restored volumes volumes' alike seated = record {
     seated = λ k. (subst (λ (s : List Placement). IsUsers volumes' s) (sym (stands_at_too k))
-        (users_on volumes volumes' (placements_of (get_or (seats_on q seats) k no_user).minidisks) large
+        (users_on volumes volumes' (placements_of (get_or (seats_on q seats) k no_user).minidisks) alike.sizes
         (seated.seated k)));
     apart = λ j k i t differs at.
         (subst (λ (s : List Placement). AllLeaveBe s t) (sym (stands_at_too j))
@@ -129,12 +133,12 @@ module _ (q q' : QueuesValue) (seats seats' : List SeatParts) (same : map base_o
   }
 
   pub system_restored : (volumes volumes' : List VolumeFormat) (pool pool' : Pool) (directory : List DirectoryUser)
-      → AreAsLarge volumes volumes' → AreThere volumes' → map length pool'.storages ≡ map length pool.storages
+      → AreAlike volumes volumes' → AreThere volumes' → map length pool'.storages ≡ map length pool.storages
       → pool'.supply.pins ≡ pool.supply.pins → length pool'.supply.owners ≡ length pool.supply.owners
       → IsSystem (seats_on q seats) volumes pool directory → IsSystem (seats_on q' seats') volumes' pool' directory
-  system_restored volumes volumes' pool pool' directory large there sizes pins frames system = record {
+  system_restored volumes volumes' pool pool' directory alike there sizes pins frames system = record {
     whole = whole_restored pool.storages pool'.storages directory sizes system.whole;
-    disks = seated_restored volumes volumes' large system.disks;
+    disks = seated_restored volumes volumes' alike system.disks;
     there = there;
     between = between_restored pool.supply pool'.supply pins frames system.between;
   }
@@ -143,9 +147,10 @@ module _ (q q' : QueuesValue) (seats seats' : List SeatParts) (same : map base_o
   pub base_restored : (volumes volumes' : List VolumeFormat) (pool pool' : Pool) (directory : List DirectoryUser)
       (files files' : List FileNote) (spent spent' : Bool) (old : SystemView)
       → map length pool'.storages ≡ map length pool.storages → IsWhole (seats_on q seats) pool.storages directory
+      → AreAlike volumes volumes'
       → seen (seats_on q seats) volumes pool.storages directory pool.supply files spent ≡ old
       → HasSameBase old (seen (seats_on q' seats') volumes' pool'.storages directory pool'.supply files' spent')
-  base_restored volumes volumes' pool pool' directory files files' spent spent' old sizes whole is =
+  base_restored volumes volumes' pool pool' directory files files' spent spent' old sizes whole alike is =
       let stored : length (seats_on q seats) ≡ length pool.storages = whole.seated ∙ sym whole.stored in
       let stored' : length (seats_on q' seats') ≡ length pool'.storages =
       seats_as_many ∙ stored ∙ sym (storages_as_many pool.storages pool'.storages sizes) in
@@ -154,4 +159,5 @@ module _ (q q' : QueuesValue) (seats seats' : List SeatParts) (same : map base_o
         placements = placements_too ∙ ap (λ (s : SystemView). s.placements) is;
         users = length-users (seats_on q' seats') volumes' pool'.storages stored' ∙ seats_as_many ∙ sym
             (length-users (seats_on q seats) volumes pool.storages stored) ∙ ap (λ (s : SystemView). length s.users) is;
+        volumes = subst (λ (s : SystemView). AreAlike s.volumes volumes') is alike;
       }

@@ -10,12 +10,12 @@ use Rattle.machine_devices.specs.declared.request.Request.TheVariants.{Alone}
 use Rattle.machine_devices.specs.Devices.{kind_at}
 use Rattle.machine_devices.specs.Equipped.{Equipped}
 use Rattle.machine_devices.specs.Lines.{can_load}
-use Rattle.machine_devices.specs.Reuses.{LineForgets, LoadForgets, StartReuses}
+use Rattle.machine_devices.specs.Reuses.{LineForgets, LoadForgets, MayHaveRun, StartReuses}
 use Rattle.cp_dat.specs.declared.dat.Dat.{Dat}
-use Rattle.cp_resident.specs.Reuse.{HasReused, HasReusedDisk}
+use Rattle.cp_resident.specs.Reuse.{HasReused, HasReusedDisk, ReuseValue}
 use Rattle.cp_resident.specs.GuestChannels.{Forgets, reuse_of}
 use Rattle.cp_resident.specs.declared.resident.GuestChannels.{GuestChannels}
-use Rattle.cp_core.specs.Keeps.{IsForgotten, Starts}
+use Rattle.cp_core.specs.Keeps.{IsForgotten, RunsKept, Starts}
 
 -- how the channels of a user keep programs
 abbrev pub UnitReuses : GuestChannels → Dat → Caw → UnitRecord → Bool → GuestChannels → Type 0
@@ -50,6 +50,18 @@ forgets r s (Loads device) e left = loads r s (can_load (kind_at e.devices e.dis
 forgets r s Types e left = ap reuse_of left
 forgets r s (Asks command) e left = ap reuse_of left
 forgets r s (Alone asked) e left = ap reuse_of left
+
+-- a refused serve of which this much is so has no minidisk's program that may run again
+pub none_kept : (old new : ReuseValue) (d : Dat) (kind : Option AttachedDevice) (start : Option Caw) (done : Bool)
+    → MayHaveRun kind done → Starts old d new kind start done → RunsKept old d kind start → ⊥
+none_kept old new d None start done cut ran runs = runs
+none_kept old new d (Some kinds.Console) start done cut ran runs = runs
+none_kept old new d (Some kinds.Reader) start done cut ran runs = runs
+none_kept old new d (Some kinds.Punch) start done cut ran runs = runs
+none_kept old new d (Some kinds.Printer) start done cut ran runs = runs
+none_kept old new d (Some (kinds.Disk index)) None done cut ran runs = runs
+none_kept old new d (Some (kinds.Disk index)) (Some start) done cut ran runs =
+    let on = ran.spare runs in cc
 
 -- where a device has no program, all is as it was
 pub none_starts : {C S : Type 0} (Reuses : C → S → Caw → UnitRecord → Bool → C → Type 0)

@@ -42,11 +42,12 @@ use Rattle.machine_devices.specs.Coming.{comes_by_line, comes_from_operator}
 use Rattle.machine_devices.specs.Notes.{closed_by, next_file, note_where, noted, stands_in}
 use Rattle.cp_core.specs.Histories.{IsReplied}
 use Rattle.cp_core.specs.Local.{Step, coming, run_of, units_of}
+use Rattle.cp_core.specs.Keeps.{ServeKeeps}
 use Rattle.cp_core.specs.Memory.{IsCutShort}
 use Rattle.machine_devices.specs.declared.request.Request.{Request}
 use Rattle.machine_devices.specs.Replies.{silent}
 use Rattle.cp_core.specs.Supply.{IsGivenBack}
-use Rattle.cp_core.specs.System.{SystemView, logged_on_of, machine_at, user_at, world_among, world_of}
+use Rattle.cp_core.specs.System.{SystemView, kept_at, logged_on_of, machine_at, user_at, world_among, world_of}
 use Rattle.machine_devices.specs.Notes.{deck_noted}
 use Rattle.machine_devices.specs.Replies.{delivered_by, given, said_to_line, saying}
 use Rattle.cp_core.specs.UserOp.{HasRun, HasServed, HasTicked, HasTyped}
@@ -60,6 +61,7 @@ use Rattle.machine_devices.specs.declared.files.FileNote.{FileNote}
 use Rattle.machine_devices.proofs.Answered.{follow_may, follow_same, line_stands, load_needs_none}
 use Rattle.cp_core.proofs.Kept.{nine_each}
 use Rattle.cp_core.proofs.Led.{come_led, led_alone, lives_on, others_stay, printer_stays, punch_stays, stays_each}
+use Rattle.cp_core.proofs.Reused.{none_kept}
 use Rattle.cp_core.proofs.Switches.{switch_wants_none}
 
 -- a work on one user's machine changes him and the frames alone
@@ -471,9 +473,18 @@ serve_out old new user device h lent rest between = record {
 pub serve_cut : (old new : SystemView) (user device : ℕ)
     → HasServed device user (user_at old user) old.supply (Err errors.Memory) (user_at new user) new.supply
     → IsLent old user new → IsBetweenUnits old.supply → IsBetweenUnits new.supply
+    → ServeKeeps device user (user_at old user) old.supply (Err errors.Memory) (kept_at old user) (kept_at new user)
     → IsCutShort old (Serve user device) new
-serve_cut old new user device h lent rest between = record {
-  may = h.leaves;
+serve_cut old new user device h lent rest between keeps = record {
+  may = (
+    h.leaves,
+    record {
+      storage = keeps.storage;
+      lent = keeps.lent;
+      none = none_kept (kept_at old user) (kept_at new user) keeps.storage _ _ keeps.refused.0 keeps.refused.1
+          keeps.refused.2;
+    },
+  );
   roomy = h.roomy refl;
   supplied = record {
     between_before = rest;

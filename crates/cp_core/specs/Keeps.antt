@@ -1,7 +1,7 @@
 -- What is kept of the programs of a user's devices, as a work leaves it that is done with his
 -- machine.
 use Rattle.std.specs.Prelude.{◌≡◌, ℕ, Bool, true, false, List, OnErr, OnOk, Option, Result, Err, Ok}
-use Rattle.std.specs.Prelude.{slice_set}
+use Rattle.std.specs.Prelude.{slice_set, None, Some}
 use Rattle.s370_channel.specs.declared.words.Caw.{Caw}
 use Rattle.s370_subchannels.specs.Programs.{program_of}
 use Rattle.machine_panel.specs.declared.line.LineError.{LineError}
@@ -10,15 +10,16 @@ use Rattle.machine_devices.specs.Comes.{is_ipl}
 use Rattle.machine_devices.specs.Devices.{kind_at}
 use Rattle.machine_devices.specs.Equipped.{Equipped, storage_in}
 use Rattle.machine_devices.specs.Lines.{requested}
-use Rattle.machine_devices.specs.Reuses.{LineForgets, StartReuses}
+use Rattle.machine_devices.specs.Reuses.{LineForgets, MayHaveRun, StartReuses}
 use Rattle.machine_devices.specs.declared.line.LineOutcome.{LineOutcome}
 use Rattle.machine_devices.specs.declared.reply.Ended.{Ended}
 use Rattle.machine_devices.specs.declared.reply.Ended.TheVariants as ends
 use Rattle.machine_devices.specs.declared.places.AttachedDevice.{AttachedDevice}
+use Rattle.machine_devices.specs.declared.places.AttachedDevice.TheVariants as kinds
 use Rattle.cp_frames.specs.Layout.{FrameSupply}
 use Rattle.cp_dat.specs.declared.dat.Dat.{Dat}
 use Rattle.cp_dat.specs.Lent.{lent_memory, lent_pool, user_of}
-use Rattle.cp_resident.specs.Reuse.{HasReused, HasReusedDisk, ReuseValue, dropped}
+use Rattle.cp_resident.specs.Reuse.{HasReused, HasReusedDisk, KnowsAgain, ReuseValue, dropped}
 use Rattle.cp_core.specs.System.{SystemView, kept_at, user_at}
 use Rattle.machine_devices.specs.declared.event.Event.{Event}
 use Rattle.machine_devices.specs.declared.event.Event.TheVariants.{Run, Line, Tick, Deck, Serve}
@@ -55,8 +56,28 @@ pub record ServeKeeps (device user : ℕ) (e : Equipped) (supply : FrameSupply)
   pub kept : OnOk result (Starts old storage new (kind_at e.devices e.disks device)
       (program_of device e.machine.core.subchannels) true)
   pub refused : OnErr result
-      ((done : Bool) × Starts old storage new (kind_at e.devices e.disks device)
+      ((done : Bool) × MayHaveRun (kind_at e.devices e.disks device) done
+      × Starts old storage new (kind_at e.devices e.disks device)
       (program_of device e.machine.core.subchannels) done)
+
+-- the minidisk's program that is kept may run again for this start, over that storage
+abbrev pub RunsKept : ReuseValue → Dat → Option AttachedDevice → Option Caw → Type 0
+RunsKept kept storage (Some (kinds.Disk index)) (Some start) = KnowsAgain kept index storage start
+RunsKept kept storage (Some (kinds.Disk index)) None = ⊥
+RunsKept kept storage (Some kinds.Console) start = ⊥
+RunsKept kept storage (Some kinds.Reader) start = ⊥
+RunsKept kept storage (Some kinds.Punch) start = ⊥
+RunsKept kept storage (Some kinds.Printer) start = ⊥
+RunsKept kept storage None start = ⊥
+
+-- the serve of a device needs more than that: its program is no minidisk's that is kept and may run
+-- again
+pub record IsNoneKept (device user : ℕ) (e : Equipped) (supply : FrameSupply)
+    (kept : ReuseValue) : Type 0 where
+  pub storage : Dat
+  pub lent : IsLentSo storage user e supply
+  pub none : RunsKept kept storage (kind_at e.devices e.disks device)
+      (program_of device e.machine.core.subchannels) → ⊥
 
 -- ---- events
 

@@ -24,3 +24,5 @@ pub mod Saved
 pub mod Forgotten
 pub mod Serving
 pub mod Applied
+pub mod Unbooted
+pub mod Alone

@@ -3,14 +3,15 @@ use Rattle.std.specs.Prelude.{◌≡◌, ℕ, ◌<◌, ◌==◌, ◌&&◌, Bool,
 use Rattle.s370_subchannels.specs.Programs.{program_of}
 use Rattle.machine_devices.specs.Comes.{LineMay, is_cut}
 use Rattle.machine_devices.specs.Lines.{requested}
+use Rattle.cp_core.specs.Keeps.{IsNoneKept}
 use Rattle.cp_core.specs.Room.{LineHadFrames, ServeHadFrames}
 use Rattle.cp_core.specs.Supply.{IsSuppliedInPart}
-use Rattle.cp_core.specs.System.{SystemView, machine_at, user_at, world_of}
+use Rattle.cp_core.specs.System.{SystemView, kept_at, machine_at, user_at, world_of}
 use Rattle.machine_devices.specs.declared.event.Event.{Event}
 use Rattle.machine_devices.specs.declared.event.Event.TheVariants.{Run, Line, Tick, Deck, Serve}
 
 -- the events that may take memory: such lines of a machine with devices, decks, and a device that
--- is served and works on a program
+-- is served and works on a program, but for a minidisk's that is kept and may run again
 abbrev pub MayTakeMemory : SystemView → Event → Type 0
 MayTakeMemory old (Run user asked) = ⊥
 MayTakeMemory old (Line user typed) = LineMay (world_of old user) typed.now (user_at old user)
@@ -18,6 +19,7 @@ MayTakeMemory old (Tick user) = ⊥
 MayTakeMemory old (Deck user cards) = 0 < length cards.now
 MayTakeMemory old (Serve user device) =
     IsSome (program_of device (machine_at old user).core.subchannels)
+    × IsNoneKept device user (user_at old user) old.supply (kept_at old user)
 
 -- a user whose own line is one of those, or whose device is served: nothing is said of his machine
 -- then

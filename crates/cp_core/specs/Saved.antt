@@ -117,11 +117,19 @@ pub record IsSaved (view : SystemView) (bytes : List ℕ) : Type 0 where
 
 -- ---- what bytes say
 
--- the same users have their minidisks at the same places
+-- as many volumes, each with the serial number and as many cylinders as the other of its index
+pub record AreAlike (old new : List VolumeFormat) : Type 0 where
+  pub count : length new ≡ length old
+  pub sizes : (index : ℕ) → length (volume_at new index).cylinders
+      ≡ length (volume_at old index).cylinders
+  pub volsers : (index : ℕ) → (volume_at new index).volser ≡ (volume_at old index).volser
+
+-- the same users have their minidisks at the same places of volumes that are alike
 pub record HasSameBase (one other : SystemView) : Type 0 where
   pub directory : other.directory ≡ one.directory
   pub placements : other.placements ≡ one.placements
   pub users : length other.users ≡ length one.users
+  pub volumes : AreAlike one.volumes other.volumes
 
 -- all is the same but which programs are kept
 abbrev pub AgreeButKept : SystemView → SystemView → Type 0
@@ -133,11 +141,6 @@ IsOneBySaved = (one other : SystemView) (bytes : List ℕ) → other.directory �
     → IsSaved one bytes → IsSaved other bytes → AgreeButKept one other
 
 -- ---- parts while they are restored
-
--- the volumes have as many cylinders as these
-abbrev pub AreAsLarge : List VolumeFormat → List VolumeFormat → Type 0
-AreAsLarge old new = (index : ℕ)
-    → length (volume_at new index).cylinders ≡ length (volume_at old index).cylinders
 
 -- where its minidisks are, whose it is, and how many storage keys it has, which nothing that is
 -- restored changes

@@ -11,7 +11,7 @@ use Rattle.machine_devices.specs.Borrowed.{Borrowed, IsOut, machine_in}
 use Rattle.machine_devices.specs.Devices.{kind_at}
 use Rattle.machine_devices.specs.Equipped.{Equipped}
 use Rattle.machine_devices.specs.Lent.{KeepsOtherUsers}
-use Rattle.machine_devices.specs.Reuses.{StartReuses}
+use Rattle.machine_devices.specs.Reuses.{MayHaveRun, StartReuses}
 use Rattle.machine_devices.specs.Serve.{IsServedAt, ServeNeeds}
 use Rattle.machine_devices.specs.Stopped.{ServeHadRoom}
 
@@ -33,6 +33,7 @@ module _ {C S : Type 0} (channels : Channels C S) (disks : Disks C) (storage : S
         new.channels (kind_at before.devices before.disks device)
         (program_of device old.machine.subchannels) true)
     pub kept_if_refused : OnErr r ((done : Bool)
+        × MayHaveRun (kind_at before.devices before.disks device) done
         × StartReuses channels.Reuses channels.ReusesDisk old.channels old.storage new.channels
         (kind_at before.devices before.disks device) (program_of device old.machine.subchannels)
         done)

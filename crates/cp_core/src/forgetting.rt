@@ -3,6 +3,8 @@
 //! They do not matter to what events leave ([`printed_lines_do_not_matter`]), so a system whose
 //! lines and files were written elsewhere needs no memory for them.
 ghost use Rattle.std.specs.Prelude.{◌≡◌, map};
+ghost use Rattle.machine_devices.specs.Dropped.{AreDropped, IsDropped, closed_of, outputs_of};
+ghost use Rattle.machine_devices.specs.declared.files.FileNote.{FileNote};
 ghost use Rattle.cp_core.specs.Forgotten.{GoesOnAs, StepsGoOn, forgotten, seat_unprinted};
 
 use crate::system::System;
@@ -40,7 +42,10 @@ impl System {
     ///
     /// A file that a reader still has as a deck keeps its entries.
     pub fn forget_files(&mut self, since: usize)
-        ensures { GoesOnAs self.old self.new }
+        ensures on { GoesOnAs self.old self.new }
+        ensures gone { AreDropped since self.new.files self.new.users }
+        ensures lines { outputs_of self.new.users ≡ outputs_of self.old.users }
+        ensures kept { self.new.kept ≡ self.old.kept }
     {
         for place in since..self.files.len() {
             if let Some(note) = self.files.get(place).copied() {
@@ -51,7 +56,14 @@ impl System {
 
     /// Drops the entries of the file of this note.
     fn forget_file(&mut self, note: FileNote)
-        ensures { GoesOnAs self.old self.new }
+        ensures on { GoesOnAs self.old self.new }
+        ensures gone { IsDropped self.new.users (closed_of self.new.users note) }
+        ensures stays { (other : FileNote)
+            → IsDropped self.old.users (closed_of self.old.users other)
+            → IsDropped self.new.users (closed_of self.new.users other) }
+        ensures lines { outputs_of self.new.users ≡ outputs_of self.old.users }
+        ensures kept { self.new.kept ≡ self.old.kept }
+        ensures files { self.new.files ≡ self.old.files }
     {
         match note.kind {
             FileKind::Punch(place) => self.queues.forget_punched(note.user, place),

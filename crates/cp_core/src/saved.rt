@@ -3,14 +3,14 @@
 //! Bytes are those of one system of a directory, but for the programs that it keeps
 //! ([`one_by_saved`]). A system that is restored keeps its invariant whatever the bytes are.
 //! Nothing else is proved of it: save it again, and compare.
-ghost use Rattle.std.specs.Prelude.{◌≡◌, ◌++◌, ℕ, IfSome, List, OnOk, length, map, option_copied};
+ghost use Rattle.std.specs.Prelude.{◌≡◌, ◌++◌, ℕ, IfOk, List, OnOk, length, map, option_copied};
 ghost use Rattle.std.specs.Prelude.{true};
 ghost use Rattle.saved_bytes.specs.Codes.{each, number};
 ghost use Rattle.ckd_saved.specs.Saved.{volume_bytes};
 ghost use Rattle.cp_volumes.specs.Saved.{disk_bytes};
 ghost use Rattle.cp_volumes.specs.Shared.{AreThere, placements_of, volume_or_none};
 ghost use Rattle.machine_devices.specs.Saved.{note_bytes};
-ghost use Rattle.cp_core.specs.Saved.{AreAsLarge, HasSameBase, IsOneBySaved, IsSaved, base_of};
+ghost use Rattle.cp_core.specs.Saved.{AreAlike, HasSameBase, IsOneBySaved, IsSaved, base_of};
 ghost use Rattle.cp_core.specs.Saved.{devices_part_bytes, lists_bytes, saved_user, seat_bytes};
 
 use crate::system::System;
@@ -22,7 +22,7 @@ use cp_volumes::{SharedDisk, Volumes};
 use machine_devices::FileNote;
 use machine_devices::saved::{note_of, put_note};
 use s370_num::StorageKey;
-use saved_bytes::{Input, put_flag, put_number, put_one, put_zero};
+use saved_bytes::{Input, RestoreError, put_flag, put_number, put_one, put_zero};
 use std::alloc::{AllocError, Global};
 
 /// Appends the addresses, volumes, extents, arms and senses of these minidisks, but not their
@@ -37,18 +37,28 @@ fn put_minidisks(out: &mut Vec<u8>, minidisks: &[SharedDisk]) -> Result<(), Allo
     put_zero(out)
 }
 
-/// Reads the arm and the sense of each of these minidisks from the input and sets them; returns
-/// None if malformed, or if there are more or fewer.
-fn restore_minidisks(minidisks: &mut [SharedDisk], input: &mut Input<'_>) -> Option<()>
+/// Reads the arm and the sense of each of these minidisks from the input and sets them.
+///
+/// # Errors
+///
+/// `Malformed` if the input is bad, or has more or fewer.
+fn restore_minidisks(
+    minidisks: &mut [SharedDisk],
+    input: &mut Input<'_>,
+) -> Result<(), RestoreError>
     ensures { placements_of minidisks.new ≡ placements_of minidisks.old }
 {
     for disk in minidisks.iter_mut() {
         if !input.flag()? {
-            return None;
+            return Err(RestoreError::Malformed);
         }
         disk.restore(input)?;
     }
-    if input.flag()? { None } else { Some(()) }
+    if input.flag()? {
+        Err(RestoreError::Malformed)
+    } else {
+        Ok(())
+    }
 }
 
 /// Appends these storage keys, in order, each after a byte of 1, and then a byte of 0.
@@ -63,28 +73,39 @@ fn put_keys(out: &mut Vec<u8>, keys: &[StorageKey]) -> Result<(), AllocError>
     put_zero(out)
 }
 
-/// Reads a storage key from the input; returns None if it is not below 32 or malformed.
-fn key_of(input: &mut Input<'_>) -> Option<StorageKey> {
+/// Reads a storage key from the input.
+///
+/// # Errors
+///
+/// `Malformed` if it is not below 32, or none.
+fn key_of(input: &mut Input<'_>) -> Result<StorageKey, RestoreError> {
     let key = input.next_u8()?;
     if key < 32 {
-        Some(StorageKey::new(key))
+        Ok(StorageKey::new(key))
     } else {
-        None
+        Err(RestoreError::Malformed)
     }
 }
 
-/// Reads a key for each of these storage keys from the input and sets it; returns None if
-/// malformed, or if there are more or fewer.
-fn restore_keys(keys: &mut [StorageKey], input: &mut Input<'_>) -> Option<()>
+/// Reads a key for each of these storage keys from the input and sets it.
+///
+/// # Errors
+///
+/// `Malformed` if the input is bad, or has more or fewer.
+fn restore_keys(keys: &mut [StorageKey], input: &mut Input<'_>) -> Result<(), RestoreError>
     ensures { length keys.new ≡ length keys.old }
 {
     for key in keys.iter_mut() {
         if !input.flag()? {
-            return None;
+            return Err(RestoreError::Malformed);
         }
         *key = key_of(input)?;
     }
-    if input.flag()? { None } else { Some(()) }
+    if input.flag()? {
+        Err(RestoreError::Malformed)
+    } else {
+        Ok(())
+    }
 }
 
 impl UserMachine {
@@ -126,11 +147,20 @@ impl UserMachine {
     }
 
     /// Reads a user's machine, devices, files, minidisks and keys from the input into a machine
-    /// that was never switched on; returns None if malformed, or if memory is refused.
+    /// that was never switched on.
     ///
     /// Its user, the places of its minidisks and the number of its keys stay the same, whatever the
     /// bytes are.
-    fn restore(&mut self, alloc: Global, queues: &mut Queues, input: &mut Input<'_>) -> Option<()>
+    ///
+    /// # Errors
+    ///
+    /// `Malformed` if the input is bad, `Memory` if memory is refused.
+    fn restore(
+        &mut self,
+        alloc: Global,
+        queues: &mut Queues,
+        input: &mut Input<'_>,
+    ) -> Result<(), RestoreError>
         ensures base { base_of self.new ≡ base_of self.old }
         ensures queues { length queues.new.users ≡ length queues.old.users }
     {
@@ -155,24 +185,31 @@ fn put_users(out: &mut Vec<u8>, users: &[UserMachine], queues: &Queues) -> Resul
     put_zero(out)
 }
 
-/// Reads each of these users' machines, devices, files, minidisks and keys from the input; returns
-/// None if malformed, if there are more or fewer, or if memory is refused.
+/// Reads each of these users' machines, devices, files, minidisks and keys from the input.
+///
+/// # Errors
+///
+/// `Malformed` if the input is bad, or has more or fewer; `Memory` if memory is refused.
 fn restore_users(
     alloc: Global,
     users: &mut [UserMachine],
     queues: &mut Queues,
     input: &mut Input<'_>,
-) -> Option<()>
+) -> Result<(), RestoreError>
     ensures bases { map base_of users.new ≡ map base_of users.old }
     ensures queues { length queues.new.users ≡ length queues.old.users }
 {
     for user in users.iter_mut() {
         if !input.flag()? {
-            return None;
+            return Err(RestoreError::Malformed);
         }
         user.restore(alloc, queues, input)?;
     }
-    if input.flag()? { None } else { Some(()) }
+    if input.flag()? {
+        Err(RestoreError::Malformed)
+    } else {
+        Ok(())
+    }
 }
 
 /// Appends the user, kind and place of each of these files, in order, each file after a byte of 1,
@@ -187,17 +224,20 @@ fn put_notes(out: &mut Vec<u8>, notes: &[FileNote]) -> Result<(), AllocError>
     put_zero(out)
 }
 
-/// Reads a list of the users, kinds and places of files from the input; returns None if malformed,
-/// or if memory is refused.
-fn notes_of(alloc: Global, input: &mut Input<'_>) -> Option<Vec<FileNote>> {
+/// Reads a list of the users, kinds and places of files from the input.
+///
+/// # Errors
+///
+/// `Malformed` if the input is bad, `Memory` if memory is refused.
+fn notes_of(alloc: Global, input: &mut Input<'_>) -> Result<Vec<FileNote>, RestoreError> {
     let mut notes = Vec::new(alloc);
     for _ in 0..u64::MAX {
         if !input.flag()? {
             break;
         }
-        notes.push(note_of(input)?).ok()?;
+        notes.push(note_of(input)?)?;
     }
-    Some(notes)
+    Ok(notes)
 }
 
 /// Appends these volumes with their cylinders, in order, each after a byte of 1, and then a byte of
@@ -216,24 +256,30 @@ fn put_volumes(out: &mut Vec<u8>, volumes: &Volumes) -> Result<(), AllocError>
     put_zero(out)
 }
 
-/// Reads a list of volumes from the input; returns None if malformed, or if memory is refused.
-fn volumes_of(alloc: Global, input: &mut Input<'_>) -> Option<Vec<Volume>> {
+/// Reads a list of volumes from the input.
+///
+/// # Errors
+///
+/// `Malformed` if the input is bad, `Memory` if memory is refused.
+fn volumes_of(alloc: Global, input: &mut Input<'_>) -> Result<Vec<Volume>, RestoreError> {
     let mut volumes = Vec::new(alloc);
     for _ in 0..u64::MAX {
         if !input.flag()? {
             break;
         }
-        volumes.push(volume_of(alloc, input)?).ok()?;
+        volumes.push(volume_of(alloc, input)?)?;
     }
-    Some(volumes)
+    Ok(volumes)
 }
 
 /// Returns whether a volume has the size and the serial number of another; false if there is no
 /// other.
 fn is_alike(volume: &Volume, other: Option<&Volume>) -> bool
-    ensures { result ≡ true
+    ensures size { result ≡ true
         → length volume.now.cylinders
         ≡ length (volume_or_none (option_copied other.entry)).cylinders }
+    ensures volser { result ≡ true
+        → volume.now.volser ≡ (volume_or_none (option_copied other.entry)).volser }
 {
     match other {
         Some(other) => other.count() == volume.count() && other.volser() == volume.volser(),
@@ -243,7 +289,7 @@ fn is_alike(volume: &Volume, other: Option<&Volume>) -> bool
 
 /// Returns whether volumes have the sizes and the serial numbers of others, in the same order.
 fn are_alike(volumes: &[Volume], old: &Volumes) -> bool
-    ensures { result ≡ true → AreAsLarge old.now volumes.now }
+    ensures { result ≡ true → AreAlike old.now volumes.now }
 {
     if volumes.len() != old.count() {
         return false;
@@ -256,20 +302,25 @@ fn are_alike(volumes: &[Volume], old: &Volumes) -> bool
     true
 }
 
-/// Reads volumes from the input; returns None if their sizes and serial numbers are not those of
-/// `old`, or if memory is refused.
-fn restored_volumes(alloc: Global, old: &Volumes, input: &mut Input<'_>) -> Option<Volumes>
-    ensures there { IfSome result (λ made. AreThere made) }
-    ensures large { IfSome result (λ made. AreAsLarge old.now made) }
+/// Reads volumes from the input.
+///
+/// # Errors
+///
+/// `Malformed` if their sizes and serial numbers are not those of `old`, `Memory` if memory is
+/// refused.
+fn restored_volumes(
+    alloc: Global,
+    old: &Volumes,
+    input: &mut Input<'_>,
+) -> Result<Volumes, RestoreError>
+    ensures there { IfOk result (λ made. AreThere made) }
+    ensures alike { IfOk result (λ made. AreAlike old.now made) }
 {
     let volumes = volumes_of(alloc, input)?;
     if !are_alike(&volumes, old) {
-        return None;
+        return Err(RestoreError::Malformed);
     }
-    match Volumes::new(alloc, volumes) {
-        Ok(made) => Some(made),
-        Err(_) => None,
-    }
+    Ok(Volumes::new(alloc, volumes)?)
 }
 
 impl System {
@@ -304,11 +355,15 @@ impl System {
     }
 
     /// Reads a state from the input into this system, to which no event was applied, and returns
-    /// it; None if the input has no state of such a system, or if memory is refused.
+    /// it.
     ///
     /// Nothing is proved of what the bytes hold: save the system again, and compare.
-    pub fn restore(self, input: &mut Input<'_>) -> Option<System>
-        ensures { IfSome result (λ made. HasSameBase self made) }
+    ///
+    /// # Errors
+    ///
+    /// `Malformed` if the input has no state of such a system, `Memory` if memory is refused.
+    pub fn restore(self, input: &mut Input<'_>) -> Result<System, RestoreError>
+        ensures { IfOk result (λ made. HasSameBase self made) }
     {
         let System {
             alloc,
@@ -325,7 +380,7 @@ impl System {
         frames.restore(alloc, input)?;
         let files = notes_of(alloc, input)?;
         let is_spent = input.flag()?;
-        Some(System {
+        Ok(System {
             alloc,
             directory,
             users,

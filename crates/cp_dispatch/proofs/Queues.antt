@@ -12,7 +12,8 @@ use Rattle.std.proofs.lemmas.Map.Steps.{length-le_from_distinct_below}
 use Rattle.cp_dispatch.specs.Policy.{IsQueue, same_user}
 use Rattle.cp_dispatch.specs.Turns.{at_end, without}
 
-flips : (x y : ℕ) → eqb x y ≡ eqb y x
+-- equality of numbers is the same both ways
+pub flips : (x y : ℕ) → eqb x y ≡ eqb y x
 flips x y = grind (arith, nat_tests)
 
 -- whoever moves is in the queue once
@@ -66,7 +67,8 @@ left p xs most q = record {
   below = λ user stands. q.below user (among p (eqb user) xs stands);
 }
 
-same_number : (user x : ℕ) → eqb user x ≡ true → user ≡ x
+-- numbers that are tested to be equal are
+pub same_number : (user x : ℕ) → eqb user x ≡ true → user ≡ x
 same_number user x h = grind (arith, nat_tests, h)
 
 gone_step : (b : Bool) (user x : ℕ) (xs ys : List ℕ) → eqb user x ≡ b → AllByRecursion (λ y. eqb x y ≡ false) xs
@@ -75,7 +77,9 @@ gone_step true user x xs ys is apart left = subst (λ (u : ℕ). AllByRecursion 
     (sym (same_number user x is)) apart
 gone_step false user x xs ys is apart left = (is, left)
 
-gone : (user : ℕ) (xs : List ℕ) → IsDistinct eqb xs → AllByRecursion (λ y. eqb user y ≡ false) (without (eqb user) xs)
+-- whoever has gone is in the queue no more
+pub gone : (user : ℕ) (xs : List ℕ) → IsDistinct eqb xs
+    → AllByRecursion (λ y. eqb user y ≡ false) (without (eqb user) xs)
 gone user [] h = tt
 gone user (x ∷ xs) h = gone_step (eqb user x) user x xs (without (eqb user) xs) refl (IsDistinct-head eqb x xs h)
     (gone user xs (IsDistinct-tail eqb x xs h))

@@ -37,6 +37,11 @@ pub record IsQueue (queue : List ℕ) (most : ℕ) : Type 0 where
   pub once : IsDistinct same_user queue
   pub below : (user : ℕ) → list_any (same_user user) queue ≡ true → user < most
 
+-- in a queue are those of whom this is true, each once
+pub record HasJust (is : ℕ → Bool) (queue : List ℕ) (most : ℕ) : Type 0 where
+  pub who : (user : ℕ) → list_any (same_user user) queue ≡ is user
+  pub each_once : IsQueue queue most
+
 -- both lines are fair
 pub record IsFairPolicy : Type 0 where
   pub slices : IsFair same_user

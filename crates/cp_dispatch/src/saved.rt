@@ -1,12 +1,12 @@
 //! A policy as the bytes of a saved state, and back.
-ghost use Rattle.std.specs.Prelude.{◌≡◌, ◌++◌, ◌<◌, IfOk, IfSome, OnOk};
+ghost use Rattle.std.specs.Prelude.{◌≡◌, ◌++◌, ◌<◌, IfOk, OnOk};
 ghost use Rattle.saved_bytes.specs.Codes.{each, number};
 ghost use Rattle.cp_dispatch.specs.Saved.{IsOneBySaved, lines_bytes, program_bytes};
 
 use crate::policy::Policy;
 use crate::program::Program;
 use s370_num::DevAddr;
-use saved_bytes::{Input, put_number, put_one, put_zero};
+use saved_bytes::{Input, RestoreError, put_number, put_one, put_zero};
 use std::alloc::{AllocError, Global};
 use user_names::{MOST_USERS, UserNo};
 
@@ -43,17 +43,20 @@ fn put_programs(out: &mut Vec<u8>, programs: &[Program]) -> Result<(), AllocErro
     put_zero(out)
 }
 
-/// Reads the number of a user from the input; returns None if it is not below `users`, or
-/// malformed.
-fn next_user(input: &mut Input<'_>, users: usize) -> Option<UserNo>
-    ensures { IfSome result (λ user. user < users) }
+/// Reads the number of a user, below `users`, from the input.
+///
+/// # Errors
+///
+/// `Malformed` if it is another number or none.
+fn next_user(input: &mut Input<'_>, users: usize) -> Result<UserNo, RestoreError>
+    ensures { IfOk result (λ user. user < users) }
 {
     let number = input.number()?;
     let few = users.min(MOST_USERS) as u64;
     if number < few {
-        Some(UserNo::new(number as u8))
+        Ok(UserNo::new(number as u8))
     } else {
-        None
+        Err(RestoreError::Malformed)
     }
 }
 
@@ -78,11 +81,15 @@ impl Policy {
     }
 
     /// Reads a policy for this many users from the input, whose own number of users is not
-    /// compared; returns None if it is malformed or memory is refused.
-    pub fn read(alloc: Global, users: usize, input: &mut Input<'_>) -> Option<Policy>
-        ensures { IfSome result (λ policy. policy.most_users ≡ users) }
+    /// compared.
+    ///
+    /// # Errors
+    ///
+    /// `Malformed` if the input is bad, `Memory` if memory is refused.
+    pub fn read(alloc: Global, users: usize, input: &mut Input<'_>) -> Result<Policy, RestoreError>
+        ensures { IfOk result (λ policy. policy.most_users ≡ users) }
     {
-        let mut policy = Policy::new(alloc, users).ok()?;
+        let mut policy = Policy::new(alloc, users)?;
         'users: for _ in 0..u64::MAX {
             if !input.flag()? {
                 break 'users;
@@ -95,30 +102,27 @@ impl Policy {
             }
             let user = next_user(input, users)?;
             let device = input.next_u16()?;
-            policy.started(user, DevAddr::new(device)).ok()?;
+            policy.started(user, DevAddr::new(device))?;
         }
         let _users = input.number()?;
-        Some(policy)
+        Ok(policy)
     }
 
-    /// Returns the policy for this many users that is saved as exactly these bytes; None if there
-    /// is none, or if memory is refused while it is read.
+    /// Returns the policy for this many users that is saved as exactly these bytes.
     ///
     /// # Errors
     ///
-    /// `AllocError` if memory is refused after it is read.
-    pub fn restored(alloc: Global, users: usize, bytes: &[u8]) -> Result<Option<Policy>, AllocError>
-        ensures { IfOk result (λ found. IfSome found (λ policy. lines_bytes policy ≡ bytes.now)) }
+    /// `Malformed` if there is none, `Memory` if memory is refused.
+    pub fn restored(alloc: Global, users: usize, bytes: &[u8]) -> Result<Policy, RestoreError>
+        ensures { IfOk result (λ policy. lines_bytes policy ≡ bytes.now) }
     {
-        let Some(policy) = Policy::read(alloc, users, &mut Input::new(bytes)) else {
-            return Ok(None);
-        };
+        let policy = Policy::read(alloc, users, &mut Input::new(bytes))?;
         let mut again = Vec::new(alloc);
         policy.save(&mut again)?;
         if again.as_slice() == bytes {
-            Ok(Some(policy))
+            Ok(policy)
         } else {
-            Ok(None)
+            Err(RestoreError::Malformed)
         }
     }
 }

@@ -105,9 +105,9 @@ pub followed_on : {W : Type 0} (i : Installation W) (text : List ℕ) (script : 
     (world next : W) (lines : Lines) (detail : Detail)
     (a b : Option (List ℕ)) → script_of (i.seen old.world).users text ≡ Ok script
     → IsPlayed i (acts script) old (scene world lines detail) a b → i.GoesOnAs world next
-    → but_printed (i.seen world) ≡ but_printed (i.seen next)
+    → i.seen next ≡ but_printed (i.seen world)
     → (followed : IsFollowed i text old (scene next lines detail) a b)
-    × (but_printed (i.seen followed.end.world) ≡ but_printed (i.seen next))
+    × (i.seen next ≡ but_printed (i.seen followed.end.world))
 followed_on i text script old world next lines detail a b accepted played on seen = (
   record {
     script = script;

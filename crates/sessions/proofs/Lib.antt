@@ -19,6 +19,7 @@ pub mod SameLines
 pub mod Told
 pub mod Whole
 pub mod Fair
+mod Queued
 mod Started
 pub mod Restored
 pub mod Runs

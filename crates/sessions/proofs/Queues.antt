@@ -34,6 +34,7 @@ dealt_same p q same old None new h = (sym (any_same p q same old) ∙ h.0, h.1)
 pub nobody_past : (s : Installed) (user : ℕ) → length s.machines ≤ user → user_at s user ≡ nobody
 nobody_past s user past = get_or_past s.machines user nobody past
 
+-- Whom the system does not have is not on.
 pub off_past : (s : Installed) (user : ℕ) → length s.machines ≤ user → is_on (user_at s user).machine.mode ≡ false
 off_past s user past = ap (λ (e : Equipped). is_on e.machine.mode) (nobody_past s user past)
 

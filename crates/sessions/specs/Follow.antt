@@ -92,13 +92,13 @@ EndsAsSession {W} i = (detail : Detail) (text : List ℕ) (first : W) (last : Sc
     → closed_between i Transcript (at_first i detail first) followed.end
     ≡ closing_lines (i.seen followed.end.world))
 
--- what became of a part: it was done, has whole lines, and of the scene to which it has led only
--- printed lines are forgotten; or nothing was done, since this line of it is the first that is
--- refused
+-- what became of a part: it was done, has whole lines, and of the scene to which it has led the
+-- printed lines are forgotten, and nothing else; or nothing was done, since this line of it is the
+-- first that is refused
 abbrev pub Became : {W : Type 0} → Installation W → List ℕ → Scene W → Part W → Option (List ℕ)
     → Option (List ℕ) → Type 0
 Became i text old (parts.Done new) before after = HasWholeLines text
     × (followed : IsFollowed i text old new before after)
-    × (but_printed (i.seen followed.end.world) ≡ but_printed (i.seen new.world))
+    × (i.seen new.world ≡ but_printed (i.seen followed.end.world))
 Became i text old (parts.Refused new line) before after =
     (part_of (i.seen old.world).users text ≡ Err line) × (new ≡ old) × (after ≡ before)

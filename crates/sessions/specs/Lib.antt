@@ -10,5 +10,6 @@ pub mod Noted
 pub mod Continuing
 pub mod Follow
 pub mod Fair
+pub mod Queued
 pub mod Saved
 pub mod Runs

@@ -19,12 +19,12 @@ pub record IsSceneSaved {W : Type 0} (i : Installation W) (scene : Scene W)
   pub world : i.IsSaved scene.world rest
   pub written : bytes ≡ lines_bytes scene.lines ++ rest
 
--- what saving a scene appends: bytes as which it is saved if its installation has states, and
--- otherwise nothing
+-- what saving a scene appends: bytes as which it is saved, or nothing, and that only if its
+-- installation has no states
 abbrev pub AppendsScene : {W : Type 0} → Installation W → Scene W → Bool → List ℕ → List ℕ → Type 0
 AppendsScene i scene true old new =
     (bytes : List ℕ) × IsSceneSaved i scene bytes × (new ≡ old ++ bytes)
-AppendsScene i scene false old new = new ≡ old
+AppendsScene i scene false old new = (i.has_states ≡ false) × (new ≡ old)
 
 -- the scene that these bytes restore in the place of another: it is saved as these bytes, is of the
 -- same base, has the same users, and its transcript has the same lines of turns

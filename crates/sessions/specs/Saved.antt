@@ -19,8 +19,8 @@ pub record KeepsBase {W : Type 0} (i : Installation W) : Type 0 where
   pub kept : (old new : W) (said : EventValue) (reply : Reply) → i.Happens old said reply new
       → i.HasSameBase old new
 
--- what saving an installation appends: bytes as which it is saved if it has states, and otherwise
--- nothing
+-- what saving an installation appends: bytes as which it is saved, or nothing, and that only if it
+-- has no states
 abbrev pub AppendsState : {W : Type 0} → Installation W → W → Bool → List ℕ → List ℕ → Type 0
 AppendsState i world true old new = (bytes : List ℕ) × i.IsSaved world bytes × (new ≡ old ++ bytes)
-AppendsState i world false old new = new ≡ old
+AppendsState i world false old new = (i.has_states ≡ false) × (new ≡ old)

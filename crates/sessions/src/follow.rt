@@ -15,6 +15,7 @@ ghost use Rattle.std.specs.List.{list_all, list_any};
 ghost use Rattle.cp_dispatch.specs.Policy.{is_ready};
 ghost use Rattle.sessions.specs.Installed.{is_stated, names_of};
 ghost use Rattle.sessions.specs.News.{changed_lines, is_idle, modes_of};
+ghost use Rattle.machine_devices.specs.Dropped.{AreDropped, outputs_of};
 ghost use Rattle.sessions.specs.Runs.{AppendsScene, IsRestored, IsSceneSaved};
 ghost use Rattle.sessions.specs.Schedule.{Scene};
 ghost use Rattle.sessions.specs.Session.{Accounts, at_first};
@@ -32,7 +33,7 @@ use crate::transcript::names;
 use cp_dispatch::{Policy, Program, Ready};
 use machine_panel::Mode;
 use s370_num::host::HostWriter;
-use saved_bytes::Input;
+use saved_bytes::{Input, RestoreError};
 use session_script::{ScriptError, ScriptEvent, reads_grammar};
 use std::alloc::{AllocError, Global};
 use std::marker::Model;
@@ -176,6 +177,10 @@ impl<I: Installation + Drop> Follower<I> {
         ensures on { ContinuesAs I.goes self.old self.new }
         ensures chain { (first : Scene I) → ContinuesAs I.goes first self.old
             → ContinuesAs I.goes first self.new }
+        ensures gone { I.goes.has_states ≡ true → AreDropped files
+            (I.goes.seen self.new.world).files (I.goes.seen self.new.world).machines }
+        ensures lines { outputs_of (I.goes.seen self.new.world).machines
+            ≡ outputs_of (I.goes.seen self.old.world).machines }
     {
         I::printed_lines_do_not_matter();
         self.installation.forget_files(files);
@@ -224,21 +229,20 @@ impl<I: Installation + Drop> Follower<I> {
     }
 
     /// Returns the follower that these bytes restore in the place of this one, by which no part has
-    /// been done; None if that follower is not saved as exactly these bytes.
+    /// been done.
     ///
     /// # Errors
     ///
-    /// `AllocError` if memory is refused.
-    pub fn restored(self, alloc: Global, bytes: &[u8]) -> Result<Option<Follower<I>>, AllocError>
-        ensures { IfOk result (λ found. IfSome found (IsRestored I.goes self bytes.now)) }
+    /// `Malformed` if that follower is not saved as exactly these bytes, `Memory` if memory is
+    /// refused.
+    pub fn restored(self, alloc: Global, bytes: &[u8]) -> Result<Follower<I>, RestoreError>
+        ensures { IfOk result (IsRestored I.goes self bytes.now) }
     {
-        let Some(follower) = self.read(alloc, &mut Input::new(bytes)) else {
-            return Ok(None);
-        };
+        let follower = self.read(alloc, &mut Input::new(bytes))?;
         if follower.is_saved_as(alloc, bytes)? {
-            Ok(Some(follower))
+            Ok(follower)
         } else {
-            Ok(None)
+            Err(RestoreError::Malformed)
         }
     }
 
@@ -252,12 +256,17 @@ impl<I: Installation + Drop> Follower<I> {
     }
 
     /// Reads a policy and the state of the installation from the input, and returns this follower
-    /// with them; None if malformed, or if a program is of a device that its user has not.
-    fn read(self, alloc: Global, input: &mut Input<'_>) -> Option<Follower<I>>
-        ensures base { IfSome result (λ made. I.goes.HasSameBase self.world made.world) }
-        ensures users { IfSome result
+    /// with them.
+    ///
+    /// # Errors
+    ///
+    /// `Malformed` if the input is bad, or if a program is of a device that its user has not;
+    /// `Memory` if memory is refused.
+    fn read(self, alloc: Global, input: &mut Input<'_>) -> Result<Follower<I>, RestoreError>
+        ensures base { IfOk result (λ made. I.goes.HasSameBase self.world made.world) }
+        ensures users { IfOk result
             (λ made. (I.goes.seen made.world).users ≡ (I.goes.seen self.world).users) }
-        ensures detail { IfSome result (λ made. made.detail ≡ self.detail) }
+        ensures detail { IfOk result (λ made. made.detail ≡ self.detail) }
     {
         let Follower {
             installation,
@@ -267,9 +276,9 @@ impl<I: Installation + Drop> Follower<I> {
         let policy = Policy::read(alloc, installation.users(), input)?;
         let installation = installation.restore(input)?;
         if !are_stated(&installation, policy.programs()) {
-            return None;
+            return Err(RestoreError::Malformed);
         }
-        Some(Follower {
+        Ok(Follower {
             installation,
             policy,
             detail,

@@ -5,16 +5,18 @@ ghost use Rattle.std.specs.Option.{option_map};
 ghost use Rattle.session_script.specs.Script.{IsOfDevice, IsOfUser};
 ghost use Rattle.session_script.specs.Users.{devices_of, has_device};
 ghost use Rattle.user_names.specs.Users.{name_of};
+ghost use Rattle.machine_devices.specs.Dropped.{AreDropped, outputs_of};
 ghost use Rattle.sessions.specs.Continuing.{IsToGoOn, but_printed};
 ghost use Rattle.sessions.specs.Installed.{Installation as Goings, as_said, machine_at};
 ghost use Rattle.sessions.specs.Installed.{names_of, subchannels_at, user_at};
+ghost use Rattle.sessions.specs.Queued.{TurnsItsOwn};
 ghost use Rattle.sessions.specs.Saved.{AppendsState, IsOneBySaved, KeepsBase};
 ghost use Rattle.sessions.specs.Schedule.{ready_in};
 
 use machine_devices::{Event, FileNote, Reply, SeenDevices};
 use machine_panel::Mode;
 use s370_subchannels::Subchannel;
-use saved_bytes::Input;
+use saved_bytes::{Input, RestoreError};
 use std::alloc::{AllocError, Global};
 use thiserror::Error;
 use user_names::UserNo;
@@ -123,8 +125,14 @@ pub trait Installation {
 
     /// Drops the entries of the closed files that have a number but of the first `since`; what
     /// follows goes on as with them.
+    ///
+    /// An installation that has states keeps such entries only as a deck of a reader.
     fn forget_files(&mut self, since: usize)
         ensures on { (goes).GoesOnAs self.old self.new }
+        ensures gone { (goes).has_states ≡ true → AreDropped since ((goes).seen self.new).files
+            ((goes).seen self.new).machines }
+        ensures lines { outputs_of ((goes).seen self.new).machines
+            ≡ outputs_of ((goes).seen self.old).machines }
         ensures users { ((goes).seen self.new).users ≡ ((goes).seen self.old).users };
 
     /// Appends the state of the installation, and returns true; returns false if it has no states.
@@ -136,14 +144,24 @@ pub trait Installation {
         ensures { IfOk result (λ is. AppendsState (goes) self.now is out.old.items out.new.items) };
 
     /// Restores a state into this installation, which was only booted, without checking that `save`
-    /// would write these bytes; None if they are malformed, memory is refused, or it has no states.
+    /// would write these bytes.
     ///
     /// What is restored is lawful whatever the bytes are; whoever saves it again sees whether it
     /// was saved so.
-    fn restore(self, input: &mut Input<'_>) -> Option<Self>
-        ensures base { IfSome result (λ made. (goes).HasSameBase self made) }
-        ensures users { IfSome result
+    ///
+    /// # Errors
+    ///
+    /// `Malformed` if the bytes are no state, or the installation has no states; `Memory` if memory
+    /// is refused.
+    fn restore(self, input: &mut Input<'_>) -> Result<Self, RestoreError>
+        ensures base { IfOk result (λ made. (goes).HasSameBase self made) }
+        ensures users { IfOk result
             (λ made. ((goes).seen made).users ≡ ((goes).seen self).users) };
+
+    /// States that an event turns no machine on or off but that of the user whom it names, and a run
+    /// or a serve none.
+    fn events_turn_their_own()
+        ensures { TurnsItsOwn (goes) };
 
     /// States that bytes are those of one state of a base, and that no event changes the base.
     fn one_by_saved()

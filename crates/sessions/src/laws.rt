@@ -1,5 +1,6 @@
 //! What follows for the users of a session, and for one that goes on from a saved state.
 ghost use Rattle.sessions.specs.Fair.{ServesAreFair, SlicesAreFair};
+ghost use Rattle.sessions.specs.Queued.{BeginsWithWhoIsOn, KeepsWhoIsOn, SlicesReachAll};
 ghost use Rattle.sessions.specs.Runs.{GoesOn, RestoredContinue, RunsAreASession};
 
 use crate::installation::Installation;
@@ -15,6 +16,19 @@ pub fn sessions_are_fair<I: Installation>()
     ensures serves { ServesAreFair I.goes }
 {
     is_fair();
+}
+
+/// States that the queue has the users who are logged on, each once, and nobody else: when a session
+/// begins, and after whatever is done.
+///
+/// So, of as many successive slices as users are on, each user who is on and stays ready has one.
+pub fn queue_has_who_is_on<I: Installation>()
+    ensures first { BeginsWithWhoIsOn }
+    ensures stays { KeepsWhoIsOn I.goes }
+    ensures slices { SlicesReachAll I.goes }
+{
+    is_fair();
+    I::events_turn_their_own();
 }
 
 /// States that runs that each go on from the state which the run before saved do one script, and

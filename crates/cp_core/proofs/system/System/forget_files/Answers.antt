@@ -1,18 +1,62 @@
-use Rattle.std.proofs.Common.{subst, sym}
-use Rattle.cp_core.specs.Forgotten.{GoesOnAs}
+use Rattle.std.proofs.Common.{◌≡◌, ◌∙◌, ◌+◌, List, None, Some, ap, arith, length, refl, subst, sym}
+use Rattle.std.specs.Prelude.{slice_get}
+use Rattle.machine_devices.specs.declared.files.FileNote.{FileNote}
 use Rattle.cp_core.specs.System.{SystemView}
+use Rattle.cp_core.proofs.Dropped.{HasForgotten, all_dropped, looked_up, none_more, none_yet, one_more}
 use Rattle.cp_core.proofs.Forgotten.{steps_go_on}
 use Rattle.cp_core.proofs.system.System.forget_files.Goals as goal
 use Rattle.cp_core.proofs.system.System.forget_files.Goals.{in-Some, in_default}
+
+pub loop-place-init : goal.loop-place-init
+loop-place-init c = record {
+  on = steps_go_on.reflexive c.args.self.now;
+  gone = none_yet c.args.self.now c.args.since;
+  lines = refl;
+  kept = refl;
+  files = refl;
+}
 
 pub loop-place-preserved : goal.loop-place-preserved
 loop-place-preserved c =
     let first = c.args.self.now in
     let old = c.loop-place.self in
+    let since = c.args.since in
+    let k = c.loop-place.place in
+    let held = c.loop-place.invariant in
+    let copied : slice_get c.deref.result.now k ≡ c.copied.result =
+    looked_up c.deref.result.now k c.get.result c.get.ensures.lookup.0 c.get.ensures.lookup.1 ∙ sym c.copied.ensures in
+    let noted : c.deref.result.now ≡ old.files =
+    c.deref.ensures.value ∙ ap (λ (s : SystemView). s.files) c.self-in-loop-place.view_is in
+    let here : slice_get old.files k ≡ c.copied.result =
+    subst (λ (fs : List FileNote). slice_get fs k ≡ c.copied.result) noted copied in
     elim c.match-copied.branch [
       | in-Some w ↦
-          let on =
-          steps_go_on.transitive first old w.forget_file.new.self c.loop-place.invariant w.forget_file.ensures in
-          subst (λ (s : SystemView). GoesOnAs first s) (sym w.self-is) on
-      | in_default w ↦ subst (λ (s : SystemView). GoesOnAs first s) (sym w.self-is) c.loop-place.invariant
+          let new = w.forget_file.new.self in
+          let did = w.forget_file.ensures in
+          let found : slice_get old.files k ≡ Some w.in-Some.note = here ∙ w.in-Some.is in
+          let all : HasForgotten first new since (k + 1) = record {
+            on = steps_go_on.transitive first old new held.on did.on;
+            gone = one_more old new since k w.in-Some.note held.gone did.stays did.files found did.gone;
+            lines = did.lines ∙ held.lines;
+            kept = did.kept ∙ held.kept;
+            files = did.files ∙ held.files;
+          } in
+          subst (λ (s : SystemView). HasForgotten first s since (k + 1)) (sym w.self-is) all
+      | in_default w ↦
+          let none : slice_get old.files k ≡ None = here ∙ w.in_default.is in
+          let all : HasForgotten first old since (k + 1) = record {
+            on = held.on;
+            gone = none_more old since k held.gone none;
+            lines = held.lines;
+            kept = held.kept;
+            files = held.files;
+          } in
+          subst (λ (s : SystemView). HasForgotten first s since (k + 1)) (sym w.self-is) all
     ]
+
+pub returns-clause-gone : goal.returns-clause-gone
+returns-clause-gone c =
+    let many = ap length c.loop-place.invariant.files in
+    let seen = ap (λ (s : SystemView). length s.files) c.self.view_is in
+    all_dropped c.loop-place.self c.args.since c.loop-place.place c.loop-place.invariant.gone
+    (omega (arith, c.loop-place-test.false, many, seen, c.len-place-end.ensures))

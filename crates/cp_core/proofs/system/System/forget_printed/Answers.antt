@@ -6,7 +6,7 @@ use Rattle.cp_core.specs.Saved.{base_of}
 use Rattle.cp_core.specs.System.{SystemView}
 use Rattle.cp_core.specs.UserMachines.{SeatParts, seats_on}
 use Rattle.cp_core.proofs.Forgotten.{bases_kept, seen_forgotten}
-use Rattle.cp_core.proofs.Restored.{owners_restored, system_restored}
+use Rattle.cp_core.proofs.Restored.{alike_same, owners_restored, system_restored}
 use Rattle.cp_core.proofs.Systems.{seen}
 use Rattle.cp_core.proofs.system.System.forget_printed.Goals as goal
 
@@ -21,7 +21,7 @@ invariant_of-self c =
     let same : map base_of seats' ≡ map base_of s.users.items =
     ap (λ (us : List SeatParts). map base_of us) left ∙ bases_kept s.users.items in (
       system_restored s.queues s.queues s.users.items seats' same s.volumes s.volumes s.frames s.frames s.directory
-          (λ index. refl) c.self.invariant.0.there refl refl refl c.self.invariant.0,
+          (alike_same s.volumes) c.self.invariant.0.there refl refl refl c.self.invariant.0,
       owners_restored s.queues s.queues s.users.items seats' same c.self.invariant.1 refl,
     )
 

@@ -17,7 +17,7 @@ invariant_of-result c =
     ap (λ (us : List SeatParts). map base_of us) whole ∙ c.in_ok-restore_users.ensures.bases ∙ ap
     (λ (us : List SeatParts). map base_of us) c.deref_mut.ensures.value in (
       system_restored s.queues c.restore_users.new.queues s.users.items seats' same s.volumes c.in_ok-volumes.volumes
-          s.frames c.restore.new.self s.directory c.in_ok-volumes.ensures.large c.in_ok-volumes.ensures.there
+          s.frames c.restore.new.self s.directory c.in_ok-volumes.ensures.alike c.in_ok-volumes.ensures.there
           c.in_ok-restore.ensures.sizes c.in_ok-restore.ensures.pins c.in_ok-restore.ensures.frames c.self.invariant.0,
       owners_restored s.queues c.restore_users.new.queues s.users.items seats' same c.self.invariant.1
           c.in_ok-restore_users.ensures.queues,
@@ -35,4 +35,5 @@ returns c =
     (λ (us : List SeatParts). map base_of us) c.deref_mut.ensures.value in
     base_restored s.queues c.restore_users.new.queues s.users.items seats' same s.volumes c.in_ok-volumes.volumes
     s.frames c.restore.new.self s.directory s.files.items c.in_ok-files.files.items s.is_spent
-    c.in_ok-is_spent.is_spent c.args.self c.in_ok-restore.ensures.sizes c.self.invariant.0.whole c.self.view_is
+    c.in_ok-is_spent.is_spent c.args.self c.in_ok-restore.ensures.sizes c.self.invariant.0.whole
+    c.in_ok-volumes.ensures.alike c.self.view_is

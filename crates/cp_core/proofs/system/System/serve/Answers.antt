@@ -37,6 +37,10 @@ returns-in-Err-Memory-clause-cut c =
     (user_at c.with_user.new.self c.args.user) c.with_user.new.self.supply) c.in-Err-Memory.field-0-is
     c.in-Err-Memory.ensures.does) c.with_user.ensures.rest c.with_user.ensures.between_before
     c.with_user.ensures.between
+    (subst (λ (e : LineError).
+    ServeKeeps c.args.device c.args.user (user_at c.args.self.now c.args.user) c.args.self.now.supply (Err e)
+    (kept_at c.args.self.now c.args.user) (kept_at c.with_user.new.self c.args.user)) c.in-Err-Memory.field-0-is
+    c.in-Err-Memory.ensures.keeps)
 
 pub returns-in-Ok-clause-kept : goal.returns-in-Ok-clause-kept
 returns-in-Ok-clause-kept c =

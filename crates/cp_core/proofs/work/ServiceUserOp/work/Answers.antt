@@ -2,6 +2,7 @@ use Rattle.std.proofs.Common.{◌≡◌, refl, subst, sym, length, Bool, true, E
 use Rattle.std.specs.Prelude.{IfOk, OnErr, OnOk}
 use Rattle.s370_subchannels.specs.Programs.{program_of}
 use Rattle.machine_devices.specs.Devices.{kind_at}
+use Rattle.machine_devices.specs.Reuses.{MayHaveRun}
 use Rattle.cp_resident.specs.Reuse.{ReuseValue}
 use Rattle.cp_core.specs.Keeps.{ServeKeeps, Starts}
 use Rattle.cp_core.specs.Lending.{kept_in}
@@ -93,12 +94,13 @@ returns-clause-keeps c =
     → Type 0 = λ ds k done. Starts k d new (kind_at (from ds).devices (from ds).disks device)
     (program_of device lent.machine.now.subchannels) done in
     let Facts : DisksValue → ReuseValue
-    → Type 0 = λ ds k. OnOk r (Ran ds k true) × OnErr r ((done : Bool) × Ran ds k done) in
+    → Type 0 = λ ds k. OnOk r (Ran ds k true) × OnErr r ((done : Bool) × MayHaveRun (kind_at (from ds).devices (from
+    ds).disks device) done × Ran ds k done) in
     let kind = kind_at (from (hung_on taken)).devices (from (hung_on taken)).disks device in
     let program = program_of device lent.machine.now.subchannels in
     let first : Facts (hung_on taken) (reuse_of taken) = (
       on_ok r _ _ (λ ran. starts taken left d kind program true ran) served.ensures.kept,
-      on_err r _ _ (λ ran. (ran.0, starts taken left d kind program ran.0 ran.1)) served.ensures.kept_if_refused,
+      on_err r _ _ (λ ran. (ran.0, ran.1, starts taken left d kind program ran.0 ran.2)) served.ensures.kept_if_refused,
     ) in
     let second : Facts (disks_of lent) (reuse_of taken) =
     subst (λ (ds : DisksValue). Facts ds (reuse_of taken)) c.take_from-channels.ensures.hung first in

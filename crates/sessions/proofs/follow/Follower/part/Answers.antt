@@ -3,7 +3,6 @@ use Rattle.session_script.specs.Script.{said, script_of}
 use Rattle.session_script.specs.declared.event.ScriptEvent.{ScriptEvent}
 use Rattle.sessions.specs.Schedule.{Scene, acts, scene}
 use Rattle.sessions.specs.Session.{IsPlayed}
-use Rattle.sessions.proofs.Continuing.{but_forgotten}
 use Rattle.sessions.proofs.Joined.{followed_on}
 use Rattle.sessions.proofs.follow.Follower.part.Goals as goal
 
@@ -22,6 +21,5 @@ returns-clause-ok g c =
     (i.seen old.world).users c.args.text.now ≡ Ok script) c.self.view_is c.in-Ok.ensures.ok in
     let followed = followed_on i c.args.text.now script c.args.self c.play.new.installation c.forget_printed.new.self
     c.play.new.policy s.detail before after accepted played c.forget_printed.ensures.on
-    (but_forgotten (i.seen c.play.new.installation) (i.seen c.forget_printed.new.self)
-    c.forget_printed.ensures.seen) in
+    c.forget_printed.ensures.seen in
     (c.in-Ok.ensures.whole, followed.0, followed.1)
