@@ -1,3 +1,6 @@
 mod Refused
 mod Noted
 mod Forgotten
+mod Stated
+mod Turned
+mod Programs

@@ -70,6 +70,7 @@ machine_goes = record {
   May = MayRefuse;
   Lacks = MayLack;
   is_spent = λ a. false;
+  has_states = false;
   IsSaved = λ a bytes. ⊥;
   HasSameBase = λ a b. Unit {0};
   GoesOnAs = GoesOnAs;

@@ -13,12 +13,12 @@ ghost use Rattle.bare370.specs.Goes.{usual_places};
 use bare_installation::{BARE, Bare, printed_lines_do_not_matter};
 use ckd_volume::{Arm, Sense, Unit, Volume};
 use machine_channels::AttachedDisk;
-use machine_devices::{AttachError, Event, FileNote, Places, Reply, SeenDevices};
+use machine_devices::{AttachError, Event, FileNote, Places, Reply, SeenDevices, only_lines_turn};
 use machine_panel::Mode;
 use s370_num::DevAddr;
 use s370_store::PlainStorage;
 use s370_subchannels::Subchannel;
-use saved_bytes::Input;
+use saved_bytes::{Input, RestoreError};
 use sessions::{Installation, Refused};
 use std::alloc::{AllocError, Global};
 use std::marker::Model;
@@ -173,14 +173,20 @@ impl Installation for OneMachine {
         Ok(false)
     }
 
-    /// Returns None: a machine of its own has no states.
-    fn restore(self, _input: &mut Input<'_>) -> Option<OneMachine> {
-        None
+    /// Returns `Malformed`: a machine of its own has no states.
+    fn restore(self, _input: &mut Input<'_>) -> Result<OneMachine, RestoreError> {
+        Err(RestoreError::Malformed)
     }
 
     /// States that bytes are those of one state of a machine, and that no event changes what it was
     /// made of.
     fn one_by_saved() {}
+
+    /// States that an event turns no machine on or off but that of the user whom it names, and a run
+    /// or a serve none.
+    fn events_turn_their_own() {
+        only_lines_turn();
+    }
 
     /// States that lines that were printed before do not matter to what follows.
     fn printed_lines_do_not_matter() {

@@ -27,9 +27,11 @@
 pub mod arguments;
 pub mod follow_arguments;
 mod installation;
+mod laws;
 pub mod program;
 pub mod runs;
 
 pub use arguments::{BareOptions, bare_arguments};
 pub use installation::{OneMachine, machine_of};
+pub use laws::sessions_are_histories;
 pub use program::bare_program;

@@ -4,12 +4,14 @@
 //!
 //! The transcript goes to standard output. A failure is one line on standard error, and its kind is
 //! the exit status.
+ghost use Rattle.std.specs.Prelude.{IfErr, OnOk};
+ghost use Rattle.bare370.specs.Runs.{IsFailedProgram, IsWholeProgram};
 
 use crate::arguments::bare_arguments;
 use crate::follow_arguments::follow_arguments;
 use crate::runs::{follow_machine, run_files};
 use programs::program::{asks_to_follow, input, output, words, wrong_use};
-use programs::{Failure, HostFiles, ProgramEnd, finish};
+use programs::{Failure, FileStore, HostFiles, ProgramEnd, finish};
 use std::rt::{Env, Files};
 
 /// The program's name, as it says it.
@@ -36,7 +38,7 @@ pub fn bare_program<R: AllocGlobal + Files + Env + Input + Print + Eprint>(
     rt: &R,
     is_watched: bool,
 ) -> ProgramEnd {
-    finish(rt, run(rt, is_watched))
+    finish(rt, run(rt, &mut HostFiles::new(rt), is_watched))
 }
 
 /// Reads the arguments, and does what they ask: plays a script, or follows one whose parts are read
@@ -44,39 +46,47 @@ pub fn bare_program<R: AllocGlobal + Files + Env + Input + Print + Eprint>(
 ///
 /// It reads the images and the script, writes the transcript, and saves the volumes if `--save` is
 /// given. A wrong use is reported here.
-fn run<R: AllocGlobal + Files + Env + Input + Print + Eprint>(
+fn run<R: AllocGlobal + Env + Input + Print + Eprint, F: FileStore>(
     rt: &R,
+    files: &mut F,
     is_watched: bool,
-) -> Result<(), Failure> {
+) -> Result<(), Failure>
+    ensures ok { OnOk result
+        (IsWholeProgram F.gives F.File.remaining (F.deeds files.old) (F.deeds files.new)) }
+    ensures err { IfErr result
+        (IsFailedProgram F.gives F.File.remaining F.File.HostFile.failures (F.deeds files.old)
+        (F.deeds files.new)) }
+{
     let words = words(rt, PROGRAM)?;
     if asks_to_follow(words.as_slice()) {
-        return follow(rt, words.as_slice());
+        return follow(rt, files, words.as_slice());
     }
     let options = match bare_arguments(rt.alloc(), PROGRAM, words.as_slice()) {
         Ok(options) => options,
         Err(error) => return Err(wrong_use(rt, &error, USAGE_NOTE)),
     };
     let mut output = output(rt, is_watched)?;
-    run_files(rt.alloc(), &mut HostFiles::new(rt), &options, &mut output)
+    run_files(rt.alloc(), files, &options, &mut output)
 }
 
 /// Follows a script whose parts are read from standard input, writes its transcript to standard
 /// output, and at its end saves the volumes if `--save` is given; a usage error is printed here.
-fn follow<R: AllocGlobal + Files + Input + Print + Eprint>(
+fn follow<R: AllocGlobal + Input + Print + Eprint, F: FileStore>(
     rt: &R,
+    files: &mut F,
     words: &[String],
-) -> Result<(), Failure> {
+) -> Result<(), Failure>
+    ensures ok { OnOk result
+        (IsWholeProgram F.gives F.File.remaining (F.deeds files.old) (F.deeds files.new)) }
+    ensures err { IfErr result
+        (IsFailedProgram F.gives F.File.remaining F.File.HostFile.failures (F.deeds files.old)
+        (F.deeds files.new)) }
+{
     let options = match follow_arguments(rt.alloc(), PROGRAM, words) {
         Ok(options) => options,
         Err(error) => return Err(wrong_use(rt, &error, USAGE_NOTE)),
     };
     let mut input = input(rt)?;
     let mut output = output(rt, false)?;
-    follow_machine(
-        rt.alloc(),
-        &mut HostFiles::new(rt),
-        &options,
-        &mut input,
-        &mut output,
-    )
+    follow_machine(rt.alloc(), files, &options, &mut input, &mut output)
 }

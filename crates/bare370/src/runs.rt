@@ -3,6 +3,7 @@
 ghost use Rattle.std.specs.Prelude.{◌≡◌, ◌≤◌, [], IfErr, IfOk, OnErr, OnOk, map};
 ghost use Rattle.programs.specs.Opened.{Adds, AddsFront, opens};
 ghost use Rattle.bare370.specs.Runs.{IsFailedWholeFollowing, IsFailedWholeRun, IsMachineOf, IsMade};
+ghost use Rattle.bare370.specs.Runs.{IsNoMachine, IsUnmade, attach_failure};
 ghost use Rattle.bare370.specs.Runs.{IsWholeFollowing, IsWholeRun, blocks_of, detail_of};
 ghost use Rattle.bare370.specs.Runs.{machine_volumes};
 
@@ -48,8 +49,8 @@ pub fn run_files<F: FileStore, W: HostWriter>(
         (W.contents writer.old) (W.contents writer.new)) }
     ensures flushed { OnOk result (W.held writer.new ≡ []) }
     ensures err { IfErr result
-        (IsFailedWholeRun F.gives F.File.remaining options.now (F.deeds files.old)
-        (F.deeds files.new) (W.contents writer.old) (W.contents writer.new)) }
+        (IsFailedWholeRun F.gives F.File.remaining F.File.HostFile.failures options.now
+        (F.deeds files.old) (F.deeds files.new) (W.contents writer.old) (W.contents writer.new)) }
 {
     let volumes = options.volumes.as_slice();
     let saved = saved_paths(options.save, volumes);
@@ -79,8 +80,8 @@ pub fn follow_machine<F: FileStore, R: HostReader, W: HostWriter>(
         (W.contents writer.new)) }
     ensures flushed { OnOk result (W.held writer.new ≡ []) }
     ensures err { IfErr result
-        (IsFailedWholeFollowing F.gives F.File.remaining options.now (F.deeds files.old)
-        (F.deeds files.new) (R.remaining reader.old) (R.remaining reader.new)
+        (IsFailedWholeFollowing F.gives F.File.remaining F.File.HostFile.failures options.now
+        (F.deeds files.old) (F.deeds files.new) (R.remaining reader.old) (R.remaining reader.new)
         (W.contents writer.old)
         (W.contents writer.new)) }
 {
@@ -119,6 +120,9 @@ pub fn read_machine<F: FileStore>(
     ensures err { OnErr result
         (AddsFront (F.deeds files.old) (F.deeds files.new)
         (opens (map (λ path. path.now) volumes.now))) }
+    ensures why { IfErr result
+        (IsNoMachine F.gives F.File.remaining F.File.HostFile.failures
+        (map (λ path. path.now) volumes.now)) }
 {
     let volumes = read_images(alloc, files, volumes)?;
     made(alloc, storage.blocks(), volumes)
@@ -129,7 +133,8 @@ pub fn read_machine<F: FileStore>(
 fn made(alloc: Global, blocks: u32, volumes: Vec<Volume>) -> Result<OneMachine, Failure>
     requires least { 4 ≤ blocks }
     requires most { blocks ≤ 2048 }
-    ensures { IfOk result (IsMade blocks volumes.items) }
+    ensures ok { IfOk result (IsMade blocks volumes.items) }
+    ensures err { IfErr result (IsUnmade volumes.items) }
 {
     match machine_of(alloc, blocks, volumes) {
         Ok(machine) => Ok(machine),
@@ -139,7 +144,9 @@ fn made(alloc: Global, blocks: u32, volumes: Vec<Volume>) -> Result<OneMachine, 
 
 /// Returns the failure of a program for an error of attaching disks: too many of them are a usage
 /// error.
-fn unattached(error: AttachError) -> Failure {
+fn unattached(error: AttachError) -> Failure
+    ensures { result ≡ attach_failure error }
+{
     match error {
         AttachError::Memory => Failure::Memory,
         // More volumes than a machine has disks, which are words that are not the program's.

@@ -96,10 +96,7 @@ fn restored<F: FileStore>(
 ) -> Result<Follower<SharedMachines>, Failure> {
     let mut file = files.open(state)?;
     let bytes = read_all(alloc, &mut file)?;
-    match follower.restored(alloc, &bytes)? {
-        Some(follower) => Ok(follower),
-        None => Err(Failure::State),
-    }
+    Ok(follower.restored(alloc, &bytes)?)
 }
 
 /// Does the script at this path, whose last line need not be ended, as one part, and returns the

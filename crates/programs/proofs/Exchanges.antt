@@ -1,10 +1,11 @@
 -- Parts that are answered, one after another.
 use Rattle.std.proofs.Common.{◌≡◌, ℕ, true, inl, inr, List, [], ◌∷◌, ◌++◌, Option, Some, Result, Ok, Err, refl, sym, ap}
 use Rattle.std.proofs.Common.{◌∙◌, subst, append_assoc, append-nil, length, arith}
-use Rattle.std.specs.Prelude.{IsErrAnd}
+use Rattle.std.specs.Prelude.{Bool, IfErr, IsErrAnd}
 use Rattle.std.specs.Io.KnownBytes.{Appends, Consumes, Keeps}
 use Rattle.std.proofs.KnownBytes.{Appends-kept, Appends-nil, Appends-trans, Consumes-nil, Consumes-trans}
 use Rattle.s370_num.specs.Host.{AppendsFront, IsCounted}
+use Rattle.s370_num.specs.declared.host.HostFault.{HostFault}
 use Rattle.s370_num.specs.declared.host.HostFault.TheVariants as hosts
 use Rattle.sessions.specs.Continuing.{ContinuesAs, but_printed}
 use Rattle.sessions.specs.Follow.{HasWholeLines, Became, IsFollowed, part_of}
@@ -20,15 +21,17 @@ use Rattle.sessions.specs.declared.faults.PlayError.{PlayError}
 use Rattle.sessions.specs.declared.faults.PlayError.TheVariants as plays
 use Rattle.sessions.specs.declared.schedule.Detail.{Detail}
 use Rattle.sessions.specs.declared.files.Telling.TheVariants.{Answer}
-use Rattle.sessions.proofs.Continuing.{idle_same, seen_files, seen_modes, seen_names}
+use Rattle.sessions.proofs.Continuing.{but_forgotten, idle_same, seen_files, seen_modes, seen_names}
 use Rattle.sessions.proofs.Histories.{front_after}
-use Rattle.programs.specs.Faults.{play_failure}
+use Rattle.programs.specs.Faults.{file_failure, play_failure}
 use Rattle.programs.specs.declared.requests.NextRequest.{NextRequest}
 use Rattle.programs.specs.Requests.{GivesNext}
 use Rattle.programs.specs.Parts.{AnswersPart, AreExchanges, Exchange, IsExchange, IsPartAnsweredPartly, InputAccounts}
-use Rattle.programs.specs.Parts.{IsBegun, IsBrokenOff, IsFollowedTo, IsSoFar, answers_of, news_lines, news_since}
+use Rattle.programs.specs.Parts.{GivesState, IsBegun, IsBrokenOff, IsCausedBy, IsFollowedTo, IsSoFar, answers_of}
+use Rattle.programs.specs.Parts.{news_lines, news_since}
 use Rattle.programs.specs.Parts.{read_of, refused_line}
 use Rattle.programs.specs.declared.faults.Failure.{Failure}
+use Rattle.programs.specs.declared.faults.Failure.TheVariants as failures
 
 -- ---- one part
 
@@ -140,7 +143,12 @@ pub was_done : {W : Type 0} (i : Installation W) (old new : Scene W) (text : Lis
     (a b : Option (List ℕ)) → part ≡ parts.Done new → Became i text old part a b
     → HasWholeLines text × (f : IsFollowed i text old new a b)
     × (but_printed (i.seen f.end.world) ≡ but_printed (i.seen new.world))
-was_done {W} i old new text part a b e h = subst (λ (p : Part W). Became i text old p a b) e h
+was_done {W} i old new text part a b e h =
+    let became = subst (λ (p : Part W). Became i text old p a b) e h in (
+      became.0,
+      became.1,
+      but_forgotten (i.seen became.1.end.world) (i.seen new.world) became.2,
+    )
 
 -- A part that was refused left all as it was.
 pub was_refused : {W : Type 0} (i : Installation W) (old new : Scene W) (line : ℕ) (text : List ℕ) (part : Part W)
@@ -217,8 +225,9 @@ is_next next other a b e h = subst (λ (n : NextRequest). GivesNext n a b) e h
 -- A follow that breaks off has answered all parts but the last.
 pub broken_off : {W : Type 0} (i : Installation W) (detail : Detail) (old : W) (last : Scene W) (more : List ℕ)
     (r s t w x y : Option (List ℕ)) → IsSoFar i (at_first i detail old) last r s w x → Consumes s t more
-    → IsBegun i last more x y → IsBrokenOff i detail old r t w y
-broken_off i detail old last more r s t w x y h read begun = record {
+    → IsBegun i last more x y → (failure : Failure)
+    → IsCausedBy (GivesState more) (i.is_spent last.world ≡ true) failure → IsBrokenOff i detail old r t w y failure
+broken_off i detail old last more r s t w x y h read begun failure cause = record {
   exchanges = h.exchanges;
   last = last;
   answered = h.answered;
@@ -227,7 +236,45 @@ broken_off i detail old last more r s t w x y h read begun = record {
   between = x;
   written = h.written;
   begun = begun;
+  cause = cause;
 }
+
+-- What holds of the failure that was passed on holds of the one that is returned.
+pub if_err : {A : Type 0} (Q : Failure → Type 0) (f : Failure) (r : Result A Failure) → IsErrAnd r (λ z. z ≡ f) → Q f
+    → IfErr r Q
+if_err Q f (Ok a) e q = tt
+if_err Q f (Err z) e q = subst Q (sym e) q
+
+-- Causes of a failure are causes where more would be.
+pub wider : {P Q R S : Type 0} → (P → R) → (Q → S) → (f : Failure) → IsCausedBy P Q f → IsCausedBy R S f
+wider given spent failures.State h = given h
+wider given spent failures.Spent h = spent h
+wider given spent (failures.File k) h = tt
+wider given spent failures.Memory h = tt
+wider given spent (failures.Directory e) h = h
+wider given spent (failures.Image e) h = h
+wider given spent (failures.Boot e) h = h
+wider given spent (failures.Script n) h = h
+wider given spent (failures.Unsaved e p) h = h
+wider given spent failures.Usage h = h
+
+-- A cause stays one where more is known of it.
+pub wider_err : {A P Q R S : Type 0} → (P → R) → (Q → S) → (r : Result A Failure) → IfErr r (IsCausedBy P Q)
+    → IfErr r (IsCausedBy R S)
+wider_err given spent (Ok a) h = tt
+wider_err given spent (Err f) h = wider given spent f h
+
+-- A file that fails, and memory that is refused, need no other cause.
+pub of_file : (P Q : Type 0) (fault : HostFault) → IsCausedBy P Q (file_failure fault)
+of_file P Q hosts.Memory = tt
+of_file P Q (hosts.Device k) = tt
+
+-- An installation says that it is spent only where it is.
+pub of_play : (A P Q : Type 0) (e : PlayError) (was is : Bool) (a b : ℕ) → Accounts {A = A} (Err e) was is a b
+    → (was ≡ true → Q) → IsCausedBy P Q (play_failure e)
+of_play A P Q plays.Memory was is a b h spent = tt
+of_play A P Q (plays.Device k) was is a b h spent = tt
+of_play A P Q plays.Spent was is a b h spent = spent h.1
 
 -- An input that is accounted for stays so when the output failed.
 pub closed_why : (A : Type 0) (e : PlayError) (r s w x y : ℕ) → s ≡ r → x ≡ w → Accounts {A = A} (Err e) true true x y

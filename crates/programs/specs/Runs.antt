@@ -1,6 +1,7 @@
 -- What a program does with its files once its machines are there: it plays or follows a script, and
 -- saves images.
-use Rattle.std.specs.Prelude.{◌≡◌, ◌⊎◌, ℕ, ◌+◌, ◌≤◌, Bool, if◌then◌else◌, List, [], ◌∷◌, length}
+use Rattle.std.specs.Prelude.{◌≡◌, ◌⊎◌, ℕ, ◌+◌, ◌≤◌, Bool, true, if◌then◌else◌, List, [], ◌∷◌}
+use Rattle.std.specs.Prelude.{length}
 use Rattle.std.specs.Prelude.{slice_get, string_bytes, Option, Some, None}
 use Rattle.ckd_volume.specs.Volume.{VolumeFormat}
 use Rattle.sessions.specs.Installed.{Installation}
@@ -68,14 +69,14 @@ pub record IsUnopened {W : Type 0} (script : List ℕ) (first last : W)
   pub unwritten : writer_new ≡ writer_old
   pub deeds : Adds deeds_old deeds_new (Opens script ∷ [])
 
--- a script is refused by its first wrong line
+-- a script is refused by its first wrong line, and a spent installation does none
 abbrev pub IsRefusedFor : {W : Type 0} → Installation W → SessionError → W → Option (List ℕ)
     → Option (List ℕ) → Type 0
 IsRefusedFor i ends.Memory first reader_old reader_new = Unit {0}
 IsRefusedFor i (ends.Line line) first reader_old reader_new =
     IsRefused (i.seen first).users reader_old reader_new line
 IsRefusedFor i (ends.Device count) first reader_old reader_new = Unit {0}
-IsRefusedFor i ends.Spent first reader_old reader_new = Unit {0}
+IsRefusedFor i ends.Spent first reader_old reader_new = i.is_spent first ≡ true
 
 -- the session failed: nothing has happened, or a beginning of it, of which a beginning was written;
 -- and no image was saved
@@ -132,11 +133,12 @@ pub record IsFollowing {W : Type 0} (i : Installation W) (volumes : W → List V
   pub followed : IsLeft i detail first left reader_old reader_new writer_old writer_new
   pub deeds : Adds deeds_old deeds_new (saved_by volumes saved left)
 
--- they were not, and no image was saved
+-- they were not, for this failure, and no image was saved
 pub record IsCutFollowing {W : Type 0} (i : Installation W) (detail : Detail) (first : W)
     (deeds_old deeds_new : Option (List Deed))
-    (reader_old reader_new writer_old writer_new : Option (List ℕ)) : Type 0 where
-  pub broken : IsBrokenOff i detail first reader_old reader_new writer_old writer_new
+    (reader_old reader_new writer_old writer_new : Option (List ℕ))
+    (failure : Failure) : Type 0 where
+  pub broken : IsBrokenOff i detail first reader_old reader_new writer_old writer_new failure
   pub deeds : Adds deeds_old deeds_new []
 
 -- they were, and their end was asked for; and an image was not saved
@@ -156,5 +158,6 @@ abbrev pub IsFailedFollowing : {W : Type 0} → Installation W → (W → List V
 IsFailedFollowing i volumes detail saved first deeds_old deeds_new reader_old reader_new writer_old
     writer_new failure =
     IsCutFollowing i detail first deeds_old deeds_new reader_old reader_new writer_old writer_new
+    failure
     ⊎ IsUnsavedFollowing i volumes detail saved first deeds_old deeds_new reader_old reader_new
     writer_old writer_new failure

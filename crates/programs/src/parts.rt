@@ -20,13 +20,15 @@
 //! > ON A
 //! > DONE
 //! ```
-ghost use Rattle.std.specs.Prelude.{◌≡◌, ◌++◌, ◌∷◌, ℕ, List, [], IfOk, OnErr, OnOk, length};
+ghost use Rattle.std.specs.Prelude.{◌≡◌, ◌++◌, ◌∷◌, ℕ, List, [], IfErr, IfOk, OnErr, OnOk, length};
+ghost use Rattle.std.specs.Prelude.{true};
 ghost use Rattle.std.specs.Io.KnownBytes.{Appends};
 ghost use Rattle.s370_num.specs.Host.{AppendsFront, Counts};
 ghost use Rattle.sessions.specs.Runs.{IsRestored};
 ghost use Rattle.sessions.specs.Transcript.{ended};
 ghost use Rattle.programs.specs.Parts.{Answers, AnswersPart, InputAccounts, IsAnsweredPartly};
-ghost use Rattle.programs.specs.Parts.{IsBrokenOff, IsLeft, IsPartAnsweredPartly, IsRestoredPartly};
+ghost use Rattle.programs.specs.Parts.{IsBrokenOff, IsCausedBy, IsLeft, IsStateGiven};
+ghost use Rattle.programs.specs.Parts.{IsPartAnsweredPartly, IsRestoredPartly};
 ghost use Rattle.programs.specs.Parts.{IsSavedAs, IsSavedPartly, PartAccounts, done_line};
 ghost use Rattle.programs.specs.Parts.{idle_lines, news_since};
 
@@ -66,9 +68,12 @@ pub fn follow_parts<R: HostReader, W: HostWriter, I: Installation + Drop>(
         (R.remaining reader.new)
         (W.contents writer.old) (W.contents writer.new)) }
     ensures flushed { OnOk result (W.held writer.new ≡ []) }
-    ensures err { OnErr result
+    ensures err { IfErr result
         (IsBrokenOff I.goes detail installation (R.remaining reader.old) (R.remaining reader.new)
         (W.contents writer.old) (W.contents writer.new)) }
+    ensures told { W.held writer.old ≡ []
+        → (R.HostFile.failures reader.new ≡ R.HostFile.failures reader.old → ⊥)
+        → W.held writer.new ≡ [] }
     ensures why { InputAccounts result (R.HostFile.failures reader.old)
         (R.HostFile.failures reader.new)
         (W.HostFile.failures writer.old) (W.HostFile.failures writer.new) }
@@ -104,6 +109,8 @@ fn answer<W: HostWriter, I: Installation + Drop>(
     ensures flushed { OnOk result (W.held writer.new ≡ []) }
     ensures err { OnErr result
         (IsAnsweredPartly I.goes follower request (W.contents writer.old) (W.contents writer.new)) }
+    ensures cause { IfErr result (IsCausedBy (IsStateGiven request)
+        (I.goes.is_spent follower.world ≡ true)) }
     ensures why { PartAccounts result (W.HostFile.failures writer.old)
         (W.HostFile.failures writer.new) }
 {
@@ -129,6 +136,7 @@ fn save<W: HostWriter, I: Installation + Drop>(
     ensures flushed { OnOk result (W.held writer.new ≡ []) }
     ensures err { OnErr result
         (IsSavedPartly I.goes follower.now (W.contents writer.old) (W.contents writer.new)) }
+    ensures cause { IfErr result (IsCausedBy ⊥ ⊥) }
     ensures why { PartAccounts result (W.HostFile.failures writer.old)
         (W.HostFile.failures writer.new) }
 {
@@ -157,12 +165,11 @@ fn restore_state<W: HostWriter, I: Installation + Drop>(
     ensures err { OnErr result
         (IsRestoredPartly I.goes follower state.now (W.contents writer.old)
         (W.contents writer.new)) }
+    ensures cause { IfErr result (IsCausedBy (Unit {0}) ⊥) }
     ensures why { PartAccounts result (W.HostFile.failures writer.old)
         (W.HostFile.failures writer.new) }
 {
-    let Some(follower) = follower.restored(alloc, state)? else {
-        return Err(Failure::State);
-    };
+    let follower = follower.restored(alloc, state)?;
     write_flushed(writer, b"> DONE\n")?;
     Ok(follower)
 }
@@ -185,6 +192,7 @@ fn follow_part<W: HostWriter, I: Installation + Drop>(
     ensures err { OnErr result
         (IsPartAnsweredPartly I.goes follower part.now (W.contents writer.old)
         (W.contents writer.new)) }
+    ensures cause { IfErr result (IsCausedBy ⊥ (I.goes.is_spent follower.world ≡ true)) }
     ensures why { PartAccounts result (W.HostFile.failures writer.old)
         (W.HostFile.failures writer.new) }
 {

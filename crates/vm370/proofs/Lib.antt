@@ -2,3 +2,6 @@ pub mod Stated
 mod Refused
 mod Noted
 mod Restored
+mod Unstated
+mod Turned
+mod Programs

@@ -7,7 +7,7 @@ use Rattle.cp_core.specs.Boot.{IsBooted}
 use Rattle.machine_devices.specs.Events.{user_of}
 use Rattle.cp_core.specs.Forgotten.{GoesOnAs, Gone, StepsGoOn, equipped_with, users_with}
 use Rattle.cp_core.specs.Local.{Step as SystemStep}
-use Rattle.cp_core.specs.Saved.{IsOneBySaved as IsOneSystem}
+use Rattle.cp_core.specs.Saved.{AreAlike, IsOneBySaved as IsOneSystem}
 use Rattle.cp_core.specs.System.{SystemView, machine_at}
 use Rattle.cp_directory.specs.Users.{DirectoryUser}
 use Rattle.ckd_volume.specs.Volume.{VolumeFormat}
@@ -21,20 +21,46 @@ use Rattle.sessions.specs.Schedule.{user_said}
 use Rattle.sessions.specs.Transcript.{last_lines}
 use Rattle.sessions.proofs.Told.{user_same}
 use Rattle.vm370.proofs.Noted.{has_full, notes_files}
-use Rattle.vm370.specs.Goes.{HasHappened, seen_in, system_goes}
+use Rattle.vm370.specs.Goes.{HasHappened, IsOfOneBase, seen_in, system_goes}
+
+-- volumes are alike if they are the same ones
+alike : (old new : List VolumeFormat) → new ≡ old → AreAlike old new
+alike old new e = subst (λ (vs : List VolumeFormat). AreAlike old vs) (sym e)
+    (record { count = refl; sizes = λ index. refl; volsers = λ index. refl })
 
 -- A system keeps the base of its sessions.
 pub base : KeepsBase system_goes
 base = record {
-  reflexive = λ one. refl;
-  symmetric = λ one other h. sym h;
-  transitive = λ one other last h k. k ∙ h;
-  kept = λ old new what reply h. h.step.directory;
+  reflexive = λ one. record { directory = refl; volumes = alike one.volumes one.volumes refl };
+  symmetric = λ one other h. record {
+    directory = sym h.directory;
+    volumes = record {
+      count = sym h.volumes.count;
+      sizes = λ index. sym (h.volumes.sizes index);
+      volsers = λ index. sym (h.volumes.volsers index);
+    };
+  };
+  transitive = λ one other last h k. record {
+    directory = k.directory ∙ h.directory;
+    volumes = record {
+      count = k.volumes.count ∙ h.volumes.count;
+      sizes = λ index. k.volumes.sizes index ∙ h.volumes.sizes index;
+      volsers = λ index. k.volumes.volsers index ∙ h.volumes.volsers index;
+    };
+  };
+  kept = λ old new what reply h. record {
+    directory = h.step.directory;
+    volumes = record {
+      count = h.step.confined.count;
+      sizes = h.step.confined.sizes;
+      volsers = h.step.confined.volsers;
+    };
+  };
 }
 
 -- A restored system is the saved one.
 pub one_system : IsOneSystem → IsOneBySaved system_goes
-one_system law one other bytes directory is are = same_but_kept one other (law one other bytes directory is are)
+one_system law one other bytes base is are = same_but_kept one other (law one other bytes base.directory is are)
 
 -- ---- lines that were printed before, and files that have lost entries
 
@@ -112,14 +138,23 @@ module _ (law : StepsGoOn) where
     transitive = law.transitive;
     seen = seen_same;
     full = has_full;
-    base = λ one other g. sym (ap (λ (s : SystemView). s.directory) g.same);
+    base = λ one other g. record {
+      directory = sym (ap (λ (s : SystemView). s.directory) g.same);
+      volumes = alike one.volumes other.volumes (sym (ap (λ (s : SystemView). s.volumes) g.same));
+    };
     happens = happens_too;
     notes = notes_files;
   }
 
 -- ---- boots
 
--- a system that was booted has the directory of its boot
-pub booted_from : (directory : List DirectoryUser) (volumes : List VolumeFormat) (frames slots : ℕ) (s : SystemView)
-    → IsBooted directory volumes frames slots s → s.directory ≡ directory
-booted_from directory volumes frames slots s h = ap (λ (v : SystemView). v.directory) h.rest
+-- systems that were booted from one directory and volumes that are alike are of one base
+pub of_one_base : (directory : List DirectoryUser) (volumes others : List VolumeFormat) (frames slots m n : ℕ)
+    (one other : SystemView) → AreAlike volumes others → IsBooted directory volumes frames slots one
+    → IsBooted directory others m n other → IsOfOneBase one other
+of_one_base directory volumes others frames slots m n one other are h g = record {
+  directory = ap (λ (v : SystemView). v.directory) g.rest ∙ sym (ap (λ (v : SystemView). v.directory) h.rest);
+  volumes = subst (λ (vs : List VolumeFormat). AreAlike vs other.volumes)
+      (sym (ap (λ (v : SystemView). v.volumes) h.rest))
+      (subst (λ (vs : List VolumeFormat). AreAlike volumes vs) (sym (ap (λ (v : SystemView). v.volumes) g.rest)) are);
+}

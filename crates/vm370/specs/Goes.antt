@@ -2,12 +2,13 @@
 use Rattle.std.specs.Prelude.{◌≡◌, ℕ, ◌<◌, true, false, IsSome, List, length, map}
 use Rattle.cp_core.specs.Forgotten.{GoesOnAs}
 use Rattle.cp_core.specs.Histories.{IsStep}
+use Rattle.cp_core.specs.Keeps.{IsNoneKept}
 use Rattle.cp_core.specs.Memory.{MayTakeMemory, is_cut_short}
-use Rattle.cp_core.specs.Saved.{IsSaved}
+use Rattle.cp_core.specs.Saved.{AreAlike, IsSaved}
 use Rattle.cp_core.specs.Supply.{IsSuppliedInPart}
 use Rattle.machine_devices.specs.Comes.{LineMay}
 use Rattle.s370_subchannels.specs.Programs.{program_of}
-use Rattle.cp_core.specs.System.{SystemView, machine_at, user_at, world_of}
+use Rattle.cp_core.specs.System.{SystemView, kept_at, machine_at, user_at, world_of}
 use Rattle.machine_devices.specs.declared.event.Event.{Event}
 use Rattle.machine_devices.specs.declared.reply.Reply.{Reply}
 use Rattle.cp_directory.specs.Users.{DirectoryUser, addresses_of}
@@ -46,20 +47,22 @@ pub record IsSpent (old : SystemView) (said : EventValue) (new : SystemView) : T
   pub others : (user : ℕ) → is_cut_short old event user ≡ false
       → user_at new user ≡ user_at old user
 
--- what was said may want memory: such lines, a device that is served and works on a program, and a
--- deck that has cards
+-- what was said may want memory: such lines, a device that is served and works on a program, but
+-- for a minidisk's that is kept and may run again, and a deck that has cards
 abbrev pub MayRefuse : SystemView → EventValue → Type 0
 MayRefuse old (Run user units) = ⊥
 MayRefuse old (Line user text) = LineMay (world_of old user) text (user_at old user)
 MayRefuse old (Tick user) = ⊥
 MayRefuse old (Serve user device) =
     IsSome (program_of device (machine_at old user).core.subchannels)
+    × IsNoneKept device user (user_at old user) old.supply (kept_at old user)
 MayRefuse old (Deck user cards) = 0 < length cards
 MayRefuse old (Auto turns) = ⊥
 
--- two systems have one directory
-abbrev pub HasSameDirectory : SystemView → SystemView → Type 0
-HasSameDirectory one other = other.directory ≡ one.directory
+-- two systems have one directory, and volumes with the same serial numbers and sizes in one order
+pub record IsOfOneBase (one other : SystemView) : Type 0 where
+  pub directory : other.directory ≡ one.directory
+  pub volumes : AreAlike one.volumes other.volumes
 
 -- how a system goes, as an installation
 abbrev pub system_goes : Installation SystemView
@@ -69,7 +72,8 @@ system_goes = record {
   May = MayRefuse;
   Lacks = IsSpent;
   is_spent = λ s. s.is_spent;
+  has_states = true;
   IsSaved = IsSaved;
-  HasSameBase = HasSameDirectory;
+  HasSameBase = IsOfOneBase;
   GoesOnAs = GoesOnAs;
 }

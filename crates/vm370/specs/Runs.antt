@@ -1,17 +1,27 @@
 -- What the program does with its files.
 use Rattle.std.specs.Prelude.{◌≡◌, ◌⊎◌, ℕ, Bool, true, false, List, [], ◌∷◌, ◌++◌, map, Option, Ok}
+use Rattle.std.specs.Str.Lossy.{utf8_lossy}
+use Rattle.s370_num.specs.Host.{IsCounted}
+use Rattle.s370_num.specs.declared.host.HostFault.TheVariants as hosts
 use Rattle.ckd_volume.specs.Volume.{VolumeFormat}
 use Rattle.cp_core.specs.Boot.{IsBooted}
 use Rattle.cp_core.specs.Sizes.{SystemSizes}
 use Rattle.cp_core.specs.System.{SystemView}
-use Rattle.cp_directory.specs.Directories.{directory_of}
+use Rattle.cp_core.specs.Unbooted.{IsUnbooted}
+use Rattle.cp_core.specs.declared.events.BootError.{BootError}
+use Rattle.cp_directory.specs.Directories.{IsRefusal, directory_of}
+use Rattle.cp_directory.specs.declared.faults.DirError.{DirError}
 use Rattle.cp_directory.specs.Users.{DirectoryUser}
 use Rattle.sessions.specs.Session.{IsRead}
 use Rattle.sessions.specs.declared.schedule.Detail.{Detail}
 use Rattle.sessions.specs.declared.schedule.Detail.TheVariants.{Whole, Terminals}
 use Rattle.programs.specs.Opened.{Adds, AddsFront, AreImagesAt, Deed, Opens, opens}
 use Rattle.programs.specs.Runs.{IsFailedFollowing, IsFailedRun, IsFollowing, IsRun, saved_of}
+use Rattle.programs.specs.Faults.{fault_text, status_of}
+use Rattle.programs.specs.Unread.{IsUnread}
 use Rattle.programs.specs.declared.faults.Failure.{Failure}
+use Rattle.programs.specs.declared.faults.Failure.TheVariants as failures
+use Rattle.vm370.specs.BootFaults.{refusal_status, refusal_text}
 use Rattle.vm370.specs.Goes.{system_goes}
 use Rattle.vm370.specs.declared.arguments.Options.{Options}
 use Rattle.vm370.specs.declared.follow_arguments.SystemFollowOptions.{SystemFollowOptions}
@@ -45,6 +55,73 @@ pub record IsSystemOf {F : Type 0} (Gives : List ℕ → F → Type 0) (remainin
 abbrev pub inputs : List ℕ → List (List ℕ) → List Deed
 inputs directory paths = Opens directory ∷ opens paths
 
+-- ---- why there is no system
+
+-- the file at this path failed before its end, as its count says
+pub record IsBrokenAt {F : Type 0} (Gives : List ℕ → F → Type 0) (count : F → ℕ) (path : List ℕ)
+    (failure : Failure) : Type 0 where
+  pub file : F
+  pub left : F
+  pub opened : Gives path file
+  pub number : ℕ
+  pub counted : IsCounted (count file) (count left) (hosts.Device number)
+  pub reported : failure ≡ failures.File number
+
+-- the file at this path was read to its end, and its text is refused as a directory
+pub record IsRefusedAt {F : Type 0} (Gives : List ℕ → F → Type 0) (remaining : F → Option (List ℕ))
+    (path : List ℕ) (failure : Failure) : Type 0 where
+  pub file : F
+  pub left : F
+  pub text : List ℕ
+  pub opened : Gives path file
+  pub read : IsRead (remaining file) (remaining left) text
+  pub error : DirError
+  pub refused : IsRefusal (directory_of text) error
+  pub reported : failure ≡ failures.Directory error
+
+-- why no directory was read: memory was refused, its file was not opened or failed, or its text is
+-- refused
+abbrev pub IsUnstated : {F : Type 0} → (List ℕ → F → Type 0) → (F → Option (List ℕ)) → (F → ℕ)
+    → List ℕ → Failure → Type 0
+IsUnstated Gives remaining count path failure = (failure ≡ failures.Memory)
+    ⊎ (failure ≡ failures.File 1) ⊎ IsBrokenAt Gives count path failure
+    ⊎ IsRefusedAt Gives remaining path failure
+
+-- a system is not booted with this directory and these volumes: the failure has the line and the
+-- status of an error of that boot, which has its cause
+pub record IsNotBooted (users : List DirectoryUser) (volumes : List VolumeFormat) (frames : ℕ)
+    (failure : Failure) : Type 0 where
+  pub error : BootError
+  pub cause : IsUnbooted users volumes frames error
+  pub line : fault_text failure ≡ refusal_text (map (λ user. utf8_lossy user.name) users) error
+  pub status : status_of failure ≡ refusal_status error
+
+-- there was a directory, but an image was not read
+pub record IsWithoutImage {F : Type 0} (Gives : List ℕ → F → Type 0)
+    (remaining : F → Option (List ℕ)) (count : F → ℕ) (directory : List ℕ) (paths : List (List ℕ))
+    (failure : Failure) : Type 0 where
+  pub users : List DirectoryUser
+  pub stated : IsDirectoryAt Gives remaining directory users
+  pub unread : IsUnread Gives remaining count paths failure
+
+-- all was read, but no system was booted with it
+pub record IsWithoutSystem {F : Type 0} (Gives : List ℕ → F → Type 0)
+    (remaining : F → Option (List ℕ)) (directory : List ℕ) (paths : List (List ℕ))
+    (sizes : SystemSizes) (failure : Failure) : Type 0 where
+  pub users : List DirectoryUser
+  pub volumes : List VolumeFormat
+  pub stated : IsDirectoryAt Gives remaining directory users
+  pub images : AreImagesAt Gives remaining paths volumes
+  pub unbooted : IsNotBooted users volumes sizes.frames failure
+
+-- which of the three steps has failed, and why
+abbrev pub IsNoSystem : {F : Type 0} → (List ℕ → F → Type 0) → (F → Option (List ℕ)) → (F → ℕ)
+    → List ℕ → List (List ℕ) → SystemSizes → Failure → Type 0
+IsNoSystem Gives remaining count directory paths sizes failure =
+    IsUnstated Gives remaining count directory failure
+    ⊎ IsWithoutImage Gives remaining count directory paths failure
+    ⊎ IsWithoutSystem Gives remaining directory paths sizes failure
+
 -- which lines of turns a transcript has
 abbrev pub detail_of : Bool → Detail
 detail_of true = Terminals
@@ -68,14 +145,17 @@ pub record IsWholeRun {F : Type 0} (Gives : List ℕ → F → Type 0) (remainin
       (saved_of options.save (map (λ path. path.now) options.volumes.items)) first last between
       deeds_new writer_old writer_new
 
--- no system was booted, and nothing was written or saved; or one was, and the script was not played
--- or an image not saved
-abbrev pub IsFailedWholeRun : {F : Type 0} → (List ℕ → F → Type 0) → (F → Option (List ℕ)) → Options
+-- no system was booted, for a cause, and nothing was written or saved; or one was, and the script
+-- was not played or an image not saved
+abbrev pub IsFailedWholeRun : {F : Type 0} → (List ℕ → F → Type 0) → (F → Option (List ℕ))
+    → (F → ℕ) → Options
     → Option (List Deed) → Option (List Deed) → Option (List ℕ) → Option (List ℕ) → Failure → Type 0
-IsFailedWholeRun Gives remaining options deeds_old deeds_new writer_old writer_new failure =
+IsFailedWholeRun Gives remaining count options deeds_old deeds_new writer_old writer_new failure =
     (AddsFront deeds_old deeds_new
     (inputs options.directory.now (map (λ path. path.now) options.volumes.items))
-    × (writer_new ≡ writer_old))
+    × (writer_new ≡ writer_old)
+    × IsNoSystem Gives remaining count options.directory.now
+    (map (λ path. path.now) options.volumes.items) options.sizes failure)
     ⊎ ((first : SystemView) × (last : SystemView) × (between : Option (List Deed))
     × IsSystemOf Gives remaining options.directory.now
     (map (λ path. path.now) options.volumes.items) options.sizes first
@@ -103,14 +183,16 @@ pub record IsWholeFollowing {F : Type 0} (Gives : List ℕ → F → Type 0)
 
 -- what a run that followed parts has done when it fails
 abbrev pub IsFailedWholeFollowing : {F : Type 0} → (List ℕ → F → Type 0) → (F → Option (List ℕ))
-    → SystemFollowOptions → Option (List Deed) → Option (List Deed) → Option (List ℕ)
+    → (F → ℕ) → SystemFollowOptions → Option (List Deed) → Option (List Deed) → Option (List ℕ)
     → Option (List ℕ)
     → Option (List ℕ) → Option (List ℕ) → Failure → Type 0
-IsFailedWholeFollowing Gives remaining options deeds_old deeds_new reader_old reader_new writer_old
-    writer_new failure =
+IsFailedWholeFollowing Gives remaining count options deeds_old deeds_new reader_old reader_new
+    writer_old writer_new failure =
     (AddsFront deeds_old deeds_new
     (inputs options.directory.now (map (λ path. path.now) options.volumes.items))
-    × (reader_new ≡ reader_old) × (writer_new ≡ writer_old))
+    × (reader_new ≡ reader_old) × (writer_new ≡ writer_old)
+    × IsNoSystem Gives remaining count options.directory.now
+    (map (λ path. path.now) options.volumes.items) options.sizes failure)
     ⊎ ((first : SystemView) × (between : Option (List Deed))
     × IsSystemOf Gives remaining options.directory.now
     (map (λ path. path.now) options.volumes.items) options.sizes first
@@ -119,3 +201,33 @@ IsFailedWholeFollowing Gives remaining options deeds_old deeds_new reader_old re
     × IsFailedFollowing system_goes system_volumes (detail_of options.terminals)
     (saved_of options.save (map (λ path. path.now) options.volumes.items)) first between
     deeds_new reader_old reader_new writer_old writer_new failure)
+
+-- ---- the program
+
+-- a whole run or a whole following, by some options, whatever standard input had and standard
+-- output has
+abbrev pub IsWholeProgram : {F : Type 0} → (List ℕ → F → Type 0) → (F → Option (List ℕ))
+    → Option (List Deed) → Option (List Deed) → Type 0
+IsWholeProgram Gives remaining deeds_old deeds_new =
+    ((options : Options) × (writer_old : Option (List ℕ)) × (writer_new : Option (List ℕ))
+    × IsWholeRun Gives remaining options deeds_old deeds_new writer_old writer_new)
+    ⊎ ((options : SystemFollowOptions) × (reader_old : Option (List ℕ))
+    × (reader_new : Option (List ℕ)) × (writer_old : Option (List ℕ))
+    × (writer_new : Option (List ℕ))
+    × IsWholeFollowing Gives remaining options deeds_old deeds_new reader_old reader_new writer_old
+    writer_new)
+
+-- the words were no use of the program, or memory was refused, and no file was asked for; or a run
+-- or a following has failed
+abbrev pub IsFailedProgram : {F : Type 0} → (List ℕ → F → Type 0) → (F → Option (List ℕ))
+    → (F → ℕ) → Option (List Deed) → Option (List Deed) → Failure → Type 0
+IsFailedProgram Gives remaining count deeds_old deeds_new failure =
+    (((failure ≡ failures.Usage) ⊎ (failure ≡ failures.Memory)) × (deeds_new ≡ deeds_old))
+    ⊎ ((options : Options) × (writer_old : Option (List ℕ)) × (writer_new : Option (List ℕ))
+    × IsFailedWholeRun Gives remaining count options deeds_old deeds_new writer_old writer_new
+    failure)
+    ⊎ ((options : SystemFollowOptions) × (reader_old : Option (List ℕ))
+    × (reader_new : Option (List ℕ)) × (writer_old : Option (List ℕ))
+    × (writer_new : Option (List ℕ))
+    × IsFailedWholeFollowing Gives remaining count options deeds_old deeds_new reader_old reader_new
+    writer_old writer_new failure)

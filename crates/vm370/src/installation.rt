@@ -11,11 +11,11 @@ ghost use Rattle.vm370.specs.Goes.{known_users, seen_in, system_goes};
 
 use cp_core::{CpError, System, one_by_saved, printed_lines_do_not_matter};
 use cp_directory::{MinidiskStatement, User, UserDevices};
-use machine_devices::{Event, FileNote, Reply, SeenDevices};
+use machine_devices::{Event, FileNote, Reply, SeenDevices, only_lines_turn};
 use machine_panel::Mode;
 use s370_num::DevAddr;
 use s370_subchannels::Subchannel;
-use saved_bytes::Input;
+use saved_bytes::{Input, RestoreError};
 use sessions::{Installation, Refused};
 use std::alloc::{AllocError, Global};
 use std::marker::Model;
@@ -170,19 +170,23 @@ impl Installation for SharedMachines {
         Ok(true)
     }
 
-    /// Reads a state from the input, and returns this system with that state; None if it has none.
-    fn restore(self, input: &mut Input<'_>) -> Option<SharedMachines> {
+    /// Reads a state from the input, and returns this system with that state.
+    fn restore(self, input: &mut Input<'_>) -> Result<SharedMachines, RestoreError> {
         let SharedMachines { system } = self;
-        match system.restore(input) {
-            Some(system) => Some(SharedMachines { system }),
-            None => None,
-        }
+        let system = system.restore(input)?;
+        Ok(SharedMachines { system })
     }
 
     /// States that bytes are those of one state of a system, and that no event changes what it was
     /// booted from.
     fn one_by_saved() {
         one_by_saved();
+    }
+
+    /// States that an event turns no machine on or off but that of the user whom it names, and a run
+    /// or a serve none.
+    fn events_turn_their_own() {
+        only_lines_turn();
     }
 
     /// States that lines that were printed before do not matter to what follows.

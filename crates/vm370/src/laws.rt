@@ -7,8 +7,9 @@ pub fn sessions_are_histories()
     ensures { AreHistories }
 {}
 
-/// States that systems that were booted from one directory are of one base: a state that one of
-/// them has saved can be restored in each of them ([`sessions::restored_sessions_go_on`]).
+/// States that systems that were booted from one directory, with volumes of the same serial numbers
+/// and sizes, are of one base: a state that one of them has saved can be restored in each of them
+/// ([`sessions::restored_sessions_go_on`]).
 pub fn boots_are_of_one_base()
     ensures { BootsAreOfOneBase }
 {}

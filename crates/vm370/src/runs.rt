@@ -4,7 +4,8 @@ ghost use Rattle.std.specs.Prelude.{◌≡◌, ℕ, List, [], ◌∷◌, IfErr, 
 ghost use Rattle.cp_core.specs.Boot.{IsBooted};
 ghost use Rattle.programs.specs.Opened.{Adds, AddsFront, Opens};
 ghost use Rattle.vm370.specs.Runs.{IsDirectoryAt, IsFailedWholeFollowing, IsFailedWholeRun};
-ghost use Rattle.vm370.specs.Runs.{IsSystemOf, IsWholeFollowing, IsWholeRun, detail_of, inputs};
+ghost use Rattle.vm370.specs.Runs.{IsNoSystem, IsNotBooted, IsSystemOf, IsUnstated};
+ghost use Rattle.vm370.specs.Runs.{IsWholeFollowing, IsWholeRun, detail_of, inputs};
 ghost use Rattle.vm370.specs.Runs.{system_volumes};
 
 use crate::arguments::Options;
@@ -47,8 +48,8 @@ pub fn run_files<F: FileStore, W: HostWriter>(
         (W.contents writer.old) (W.contents writer.new)) }
     ensures flushed { OnOk result (W.held writer.new ≡ []) }
     ensures err { IfErr result
-        (IsFailedWholeRun F.gives F.File.remaining options.now (F.deeds files.old)
-        (F.deeds files.new) (W.contents writer.old) (W.contents writer.new)) }
+        (IsFailedWholeRun F.gives F.File.remaining F.File.HostFile.failures options.now
+        (F.deeds files.old) (F.deeds files.new) (W.contents writer.old) (W.contents writer.new)) }
 {
     let volumes = options.volumes.as_slice();
     let saved = saved_paths(options.save, volumes);
@@ -78,8 +79,8 @@ pub fn follow_system<F: FileStore, R: HostReader, W: HostWriter>(
         (W.contents writer.new)) }
     ensures flushed { OnOk result (W.held writer.new ≡ []) }
     ensures err { IfErr result
-        (IsFailedWholeFollowing F.gives F.File.remaining options.now (F.deeds files.old)
-        (F.deeds files.new) (R.remaining reader.old) (R.remaining reader.new)
+        (IsFailedWholeFollowing F.gives F.File.remaining F.File.HostFile.failures options.now
+        (F.deeds files.old) (F.deeds files.new) (R.remaining reader.old) (R.remaining reader.new)
         (W.contents writer.old)
         (W.contents writer.new)) }
 {
@@ -117,6 +118,9 @@ pub fn read_system<F: FileStore>(
         (inputs directory.now (map (λ path. path.now) volumes.now))) }
     ensures err { OnErr result (AddsFront (F.deeds files.old) (F.deeds files.new)
         (inputs directory.now (map (λ path. path.now) volumes.now))) }
+    ensures why { IfErr result
+        (IsNoSystem F.gives F.File.remaining F.File.HostFile.failures directory.now
+        (map (λ path. path.now) volumes.now) sizes) }
 {
     let directory = read_users(alloc, files, directory)?;
     let volumes = read_images(alloc, files, volumes)?;
@@ -127,6 +131,8 @@ pub fn read_system<F: FileStore>(
 fn read_users<F: FileStore>(alloc: Global, files: &mut F, path: &str) -> Result<Directory, Failure>
     ensures ok { IfOk result (IsDirectoryAt F.gives F.File.remaining path.now) }
     ensures deeds { Adds (F.deeds files.old) (F.deeds files.new) (Opens path.now ∷ []) }
+    ensures err { IfErr result
+        (IsUnstated F.gives F.File.remaining F.File.HostFile.failures path.now) }
 {
     let mut file = files.open(path)?;
     let text = read_all(alloc, &mut file)?;
@@ -141,7 +147,8 @@ fn boot(
     volumes: Vec<Volume>,
     sizes: Sizes,
 ) -> Result<SharedMachines, Failure>
-    ensures { IfOk result (IsBooted directory volumes.items sizes.frames sizes.slots) }
+    ensures ok { IfOk result (IsBooted directory volumes.items sizes.frames sizes.slots) }
+    ensures err { IfErr result (IsNotBooted directory volumes.items sizes.frames) }
 {
     let names = names_of(alloc, directory.users())?;
     match System::boot(alloc, directory, volumes, sizes) {

@@ -1,12 +1,14 @@
 use Rattle.std.proofs.Common.{◌∙◌, inl, inr, true, [], refl}
 use Rattle.std.proofs.KnownBytes.{Consumes-nil}
 use Rattle.sessions.specs.Session.{at_first}
-use Rattle.sessions.proofs.Histories.{on_err}
-use Rattle.programs.specs.Faults.{play_failure}
-use Rattle.programs.specs.Parts.{Exchange, IsExchange}
+use Rattle.programs.specs.Faults.{file_failure, play_failure}
+use Rattle.programs.specs.Parts.{Exchange, IsBrokenOff, IsExchange}
 use Rattle.programs.specs.Requests.{end_line}
+use Rattle.programs.specs.declared.faults.Failure.TheVariants as failures
 use Rattle.programs.specs.declared.requests.NextRequest.TheVariants as nexts
-use Rattle.programs.proofs.Exchanges.{broken_off, closed_why, followed_to, is_next, so_far_more, so_far_none, why_of}
+use Rattle.programs.proofs.Exchanges.{broken_off, closed_why, followed_to, if_err, is_next, of_file, of_play}
+use Rattle.programs.proofs.Exchanges.{so_far_more}
+use Rattle.programs.proofs.Exchanges.{so_far_none, why_of, wider}
 use Rattle.programs.proofs.parts.follow_parts.Goals as goal
 
 pub returns-in_err-follower-clause-err : goal.returns-in_err-follower-clause-err
@@ -15,9 +17,11 @@ returns-in_err-follower-clause-err g c =
     let r = g.R.HostReader.remaining c.args.reader.now in
     let w = g.W.HostWriter.contents c.args.writer.now in
     let first = at_first i c.args.detail c.args.installation in
-    on_err c.from_residual.result
+    if_err (IsBrokenOff i c.args.detail c.args.installation (g.R.HostReader.remaining c.args.reader.now) r
+    (g.W.HostWriter.contents c.args.writer.now) w) (failures.Memory) c.from_residual.result c.from_residual.ensures.1
     (broken_off i c.args.detail c.args.installation first [] r r r w w w (so_far_none i first r w) (Consumes-nil r)
-    (inl refl))
+    (inl refl)
+    (failures.Memory) tt)
 
 pub returns-in_err-request-clause-err : goal.returns-in_err-request-clause-err
 returns-in_err-request-clause-err g c =
@@ -26,9 +30,13 @@ returns-in_err-request-clause-err g c =
     let w = g.W.HostWriter.contents c.args.writer.now in
     let x = g.W.HostWriter.contents c.loop.writer in
     let read = c.in_err-request.ensures.err in
-    on_err c.from_residual-in_err-request.result
+    if_err (IsBrokenOff i c.args.detail c.args.installation (g.R.HostReader.remaining c.args.reader.now) (left
+    c.next_input.new.reader)
+    (g.W.HostWriter.contents c.args.writer.now) x) (file_failure c.in_err-request.field-0.0)
+    c.from_residual-in_err-request.result c.from_residual-in_err-request.ensures.1
     (broken_off i c.args.detail c.args.installation c.loop.follower read.0 (left c.args.reader.now)
-    (left c.loop.reader) (left c.next_input.new.reader) w x x c.loop.invariant.so_far read.1 (inl refl))
+    (left c.loop.reader) (left c.next_input.new.reader) w x x c.loop.invariant.so_far read.1 (inl refl)
+    (file_failure c.in_err-request.field-0.0) (of_file _ _ c.in_err-request.field-0.0))
 
 pub returns-in_err-follower-in-Asked-clause-err : goal.returns-in_err-follower-in-Asked-clause-err
 returns-in_err-follower-in-Asked-clause-err g c =
@@ -42,9 +50,14 @@ returns-in_err-follower-in-Asked-clause-err g c =
     let last = c.loop.follower in
     let next = is_next c.in_ok-request.field-0 (nexts.Asked c.in-Asked.request) s t c.in-Asked.is
     c.in_ok-request.ensures.ok in
-    on_err c.from_residual-in_err-follower-in-Asked.result
+    if_err (IsBrokenOff i c.args.detail c.args.installation (g.R.HostReader.remaining c.args.reader.now) t
+    (g.W.HostWriter.contents c.args.writer.now) y) (c.in_err-follower-in-Asked.field-0.0)
+    c.from_residual-in_err-follower-in-Asked.result c.from_residual-in_err-follower-in-Asked.ensures.1
     (broken_off i c.args.detail c.args.installation last next.0 (left c.args.reader.now) s t w x y
-    c.loop.invariant.so_far next.2 (inr (inl (c.in-Asked.request, next.1, c.in_err-follower-in-Asked.ensures.err))))
+    c.loop.invariant.so_far next.2 (inr (inl (c.in-Asked.request, next.1, c.in_err-follower-in-Asked.ensures.err)))
+    (c.in_err-follower-in-Asked.field-0.0) (wider (λ given. (c.in-Asked.request, next.1, given)) (λ spent. spent)
+    c.in_err-follower-in-Asked.field-0.0
+    c.in_err-follower-in-Asked.ensures.cause))
 
 pub returns-in_err-close-in-End-clause-err : goal.returns-in_err-close-in-End-clause-err
 returns-in_err-close-in-End-clause-err g c =
@@ -56,9 +69,14 @@ returns-in_err-close-in-End-clause-err g c =
     let x = g.W.HostWriter.contents c.loop.writer in
     let y = g.W.HostWriter.contents c.close.new.writer in
     let read = is_next c.in_ok-request.field-0 nexts.End s t c.in-End.is c.in_ok-request.ensures.ok in
-    on_err c.from_residual-in_err-close-in-End.result
+    if_err (IsBrokenOff i c.args.detail c.args.installation (g.R.HostReader.remaining c.args.reader.now) t
+    (g.W.HostWriter.contents c.args.writer.now) y) (play_failure c.in_err-close-in-End.field-0.0)
+    c.from_residual-in_err-close-in-End.result c.from_residual-in_err-close-in-End.ensures.1
     (broken_off i c.args.detail c.args.installation c.loop.follower end_line (left c.args.reader.now) s t w x y
-    c.loop.invariant.so_far read (inr (inr (inl refl, c.in_err-close-in-End.ensures.unwritten))))
+    c.loop.invariant.so_far read (inr (inr (inl refl, c.in_err-close-in-End.ensures.unwritten)))
+    (play_failure c.in_err-close-in-End.field-0.0) (of_play g.row.I.Denot _ _ c.in_err-close-in-End.field-0.0
+    (i.is_spent c.loop.follower.world) (i.is_spent c.loop.follower.world) _ _
+    (c.in_err-close-in-End.ensures.why (i.is_spent c.loop.follower.world)) (λ spent. spent)))
 
 pub returns-in_err-close-in-End-clause-why : goal.returns-in_err-close-in-End-clause-why
 returns-in_err-close-in-End-clause-why g c =
@@ -98,9 +116,14 @@ returns-in_err-close-in-Nothing-clause-err g c =
     let x = g.W.HostWriter.contents c.loop.writer in
     let y = g.W.HostWriter.contents c.close-in-Nothing.new.writer in
     let read = is_next c.in_ok-request.field-0 nexts.Nothing s t c.in-Nothing.is c.in_ok-request.ensures.ok in
-    on_err c.from_residual-in_err-close-in-Nothing.result
+    if_err (IsBrokenOff i c.args.detail c.args.installation (g.R.HostReader.remaining c.args.reader.now) t
+    (g.W.HostWriter.contents c.args.writer.now) y) (play_failure c.in_err-close-in-Nothing.field-0.0)
+    c.from_residual-in_err-close-in-Nothing.result c.from_residual-in_err-close-in-Nothing.ensures.1
     (broken_off i c.args.detail c.args.installation c.loop.follower [] (left c.args.reader.now) s t w x y
-    c.loop.invariant.so_far read.0 (inr (inr (inr refl, c.in_err-close-in-Nothing.ensures.unwritten))))
+    c.loop.invariant.so_far read.0 (inr (inr (inr refl, c.in_err-close-in-Nothing.ensures.unwritten)))
+    (play_failure c.in_err-close-in-Nothing.field-0.0) (of_play g.row.I.Denot _ _ c.in_err-close-in-Nothing.field-0.0
+    (i.is_spent c.loop.follower.world) (i.is_spent c.loop.follower.world) _ _
+    (c.in_err-close-in-Nothing.ensures.why (i.is_spent c.loop.follower.world)) (λ spent. spent)))
 
 pub returns-in_err-close-in-Nothing-clause-why : goal.returns-in_err-close-in-Nothing-clause-why
 returns-in_err-close-in-Nothing-clause-why g c =
@@ -156,6 +179,7 @@ loop-preserved g c =
       detail = c.in_ok-follower-in-Asked.ensures.detail;
       read = c.in_ok-request.ensures.why ∙ c.loop.invariant.read;
       written = c.in_ok-follower-in-Asked.ensures.why ∙ c.loop.invariant.written;
+      told = λ _. c.in_ok-follower-in-Asked.ensures.flushed;
     }
 
 pub returns-clause-err : goal.returns-clause-err
@@ -165,4 +189,4 @@ returns-clause-err g c =
     let w = g.W.HostWriter.contents c.args.writer.now in
     let x = g.W.HostWriter.contents c.loop.writer in
     broken_off i c.args.detail c.args.installation c.loop.follower [] (g.R.HostReader.remaining c.args.reader.now) s s w
-    x x c.loop.invariant.so_far (Consumes-nil s) (inl refl)
+    x x c.loop.invariant.so_far (Consumes-nil s) (inl refl) (failures.File 1) tt
