@@ -23,7 +23,7 @@ NOTICES = {
     "is there": b"[YES]\r\n",
 }
 BANNER = NOTICES["online"].decode().strip()
-LINE, MOST_WAITING, SHOWN, KEPT, MOST_STRANGERS = 130, 4096, 1024, 24, 80
+LINE, MOST_WAITING, SHOWN, KEPT, MOST_STRANGERS, MOST_GUESSED = 130, 4096, 1024, 24, 80, 1024
 TIME_TO_LOG_ON, MOST_TRIES = 60000, 3
 PAUSES = (500, 1000, 2000)
 WAITS = ((5000, 0), (15000, 250), (25000, 500), (35000, 1000), (45000, 2000))
@@ -134,15 +134,19 @@ class Account:
         self.is_on = self.is_running = self.is_busy = False
 
 
+class Guessed:
+    """A name that was guessed at from an address: until when that is remembered, and when the next guess is free."""
+
+    def __init__(self, name: bytes, address: int) -> None:
+        self.name, self.address, self.until, self.free = name, address, 0, 0
+
+
 class LogonServer:
-    """The places, the users and the queues of guesses."""
+    """The places, the users and the names that were guessed at."""
 
     def __init__(self, names: list[bytes], room: int) -> None:
-        self.accounts, self.places, self.until = (
-            [Account(name) for name in names],
-            [None] * room,
-            [0] * 1024,
-        )
+        self.accounts, self.places = [Account(name) for name in names], [None] * room
+        self.guessed = []
         self.out, self.reading = [], []
 
     # --- what appears ---
@@ -254,23 +258,49 @@ class LogonServer:
             self.say(number, "enter password")
         elif said[0] == "both":
             place.stage = ("waiting", said[1], said[2])
-            place.left, place.due = max(0, place.deadline - now), now + self.begin(
-                said[1], place.address, now
-            )
+            place.left, place.due = max(0, place.deadline - now), now
         else:
             self.say(number, "type logon")
 
-    def queue(self, name: bytes, address: int) -> int:
-        number = address
-        for c in name:
-            number = (number * 257 + c) % 2**64
-        return number >> 54
+    def has_turn(self, place: Place, now: int) -> bool:
+        """Whether the host may be asked about a guess: none at its name from its address is judged, waits for longer or holds it back."""
+        name = place.stage[1]
+        rivals = [
+            item
+            for item in self.places
+            if item
+            and item.address == place.address
+            and item.stage[0] in ("waiting", "judged")
+            and item.stage[1] == name
+        ]
+        return not any(
+            item.stage[0] == "judged" or item.due < place.due for item in rivals
+        ) and not any(
+            (item.name, item.address) == (name, place.address) and now < item.free
+            for item in self.guessed
+        )
 
-    def begin(self, name: bytes, address: int, now: int) -> int:
-        queue = self.queue(name, address)
-        owed = max(0, self.until[queue] - now)
-        self.until[queue] = now + min(owed, 190000) + 10000
-        return next((wait for most, wait in WAITS if owed < most), 4000)
+    def guess(self, name: bytes, address: int, now: int) -> None:
+        """Remembers a guess about which the host is asked."""
+        item = self.guessed_at(name, address)
+        if item is None:
+            item = Guessed(name, address)
+            over = (
+                number
+                for number, other in enumerate(self.guessed)
+                if max(other.until, other.free) <= now
+            )
+            number = next(over, len(self.guessed))
+            self.guessed[number : number + 1] = [item]
+            del self.guessed[: max(0, len(self.guessed) - MOST_GUESSED)]
+        owed = min(max(0, item.until - now), 190000) + 10000
+        item.until = now + owed
+        item.free = now + next((wait for most, wait in WAITS if owed < most), 4000)
+
+    def guessed_at(self, name: bytes, address: int) -> Guessed | None:
+        return next(
+            (item for item in self.guessed if (item.name, item.address) == (name, address)), None
+        )
 
     def wake(self, number: int, now: int) -> None:
         place = self.places[number]
@@ -279,7 +309,8 @@ class LogonServer:
         kind = place.stage[0]
         if kind in ("naming", "asking") and place.deadline <= now:
             self.end(number, "too late")
-        elif kind == "waiting" and place.due <= now:
+        elif kind == "waiting" and self.has_turn(place, now):
+            self.guess(place.stage[1], place.address, now)
             place.stage = ("judged", *place.stage[1:])
             self.out.append(
                 f"ASKS {number:04X} {written(place.stage[1])} {written(place.stage[2])}"
@@ -294,9 +325,8 @@ class LogonServer:
             self.end(number, *(["takes over"] if place.stage[1].terminal is not None else []))
 
     def log_on(self, number: int, place: Place, user: Account, now: int) -> None:
-        queue = self.queue(user.name, place.address)
-        owed = max(0, self.until[queue] - now)
-        self.until[queue] = now + max(0, min(owed - 10000, 200000))
+        if item := self.guessed_at(user.name, place.address):
+            item.until = now + max(0, min(item.until - now - 10000, 200000))
         place.stage, user.terminal = ("on", user), number
         if not user.is_on and not user.is_busy:
             user.is_busy = True
@@ -540,16 +570,16 @@ class Talk:
 
 
 def try_honest(check: Callable, program: str = None) -> None:
-    """Among 67 strangers a second and 20 who guess at his name, somebody who types a step each five seconds is on each time, also where
+    """Among 67 strangers a second and others who guess at his name, somebody who types a step each five seconds is on each time, also where
     they come from his own address."""
-    for what, origin in (("elsewhere", 2), ("his address", 1)):
+    for what, origin, count in (("elsewhere", 2, 20), ("his address", 1, 4)):
         for tries in range(5):
             talk = Talk(program)
             talk.begin([b"ALICE", b"BOB"], MOST_STRANGERS + 3)
-            guessers = [talk.come(0, 100 + number if origin != 1 else 1) for number in range(20)]
+            guessers = [talk.come(0, 100 + number if origin != 1 else 1) for number in range(count)]
             mine = talk.come(10 * tries, 1)
             was_on = None
-            for now in range(15, 30000, 15):
+            for now in range(15, 32000, 15):
                 talk.come(now, origin)
                 for guesser in guessers:
                     if talk.is_there(*guesser) and now % 500 == 0:
@@ -561,10 +591,37 @@ def try_honest(check: Callable, program: str = None) -> None:
                     was_on = now
                     break
             talk.close()
-            # guesses from elsewhere do not delay him
-            most = 9990 + (4100 if origin == 1 else 100)
+            # guesses from elsewhere do not delay him; at his address he comes after those before him
+            most = 9990 + (4100 * (count + 1) if origin == 1 else 100)
             check(
                 f"he is on among strangers of {what}, {tries}",
                 was_on is not None and was_on <= most,
                 f"{was_on}",
             )
+
+
+def try_class(check: Callable, program: str = None) -> None:
+    """While somebody behind their router guesses at one name by twelve connections, thirty people behind it log on at once."""
+    talk = Talk(program)
+    names = [b"PERSON%d" % number for number in range(30)]
+    talk.begin(names, MOST_STRANGERS + 31)
+    guessers = [talk.come(0, 1) for _ in range(12)]
+    guesses, seconds = 0, {}
+    for now in range(100, 24000, 100):
+        for number, guesser in enumerate(guessers):
+            if not talk.is_there(*guesser):
+                guessers[number] = talk.come(now, 1)
+            if now % 1000 == 0:
+                talk.type(now, guessers[number][0], b"LOGON PERSON0 GUESS\r")
+        if now == 12000:
+            for name in names:
+                talk.type(now, talk.come(now, 1)[0], b"LOGON %s WONDER\r" % name)
+        talk.say(f"TIME {now:X}")
+        guesses += sum(read_bytes(given) == b"GUESS" for _, _, given in talk.asked)
+        talk.judge(now, b"WONDER")
+        for number, _ in talk.typed:
+            seconds.setdefault(number, (now - 12000) / 1000)
+    talk.close()
+    others = [seconds.get(number, 60) for number in range(1, 30)]
+    check("whoever is not guessed at is on at once", max(others) < 0.1, f"{others}")
+    check("one name is guessed at each four seconds", guesses <= 6 + 24 / 4, f"{guesses}")

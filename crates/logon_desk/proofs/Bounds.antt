@@ -1,20 +1,19 @@
 -- What is kept for a connection and a user has bounds.
-use Rattle.std.proofs.Common.{◌≡◌, ◌⊎◌, inl, inr, ◌<◌, ◌≤◌, ◌+◌, ◌-◌, ◌&&◌, ◌||◌, ◌==◌, ℕ, Bool, true, false, not, eqb}
-use Rattle.std.proofs.Common.{leb, ltb, cond, List, [], ◌∷◌, ◌++◌, fold, length, get_or, set, take, drop, map}
-use Rattle.std.proofs.Common.{replicate, Option, Some, None, refl, ap, sym, ◌∙◌, subst, arith, get_or-set_same}
+use Rattle.std.proofs.Common.{◌≡◌, ◌≤◌, ◌+◌, ◌-◌, ◌&&◌, ◌||◌, ◌==◌, ℕ, Bool, true, false, not, eqb}
+use Rattle.std.proofs.Common.{leb, ltb, cond, List, [], ◌∷◌, ◌++◌, fold, length, get_or, set, take, drop}
+use Rattle.std.proofs.Common.{Option, Some, None, refl, ap, sym, ◌∙◌, subst, arith, get_or-set_same}
 use Rattle.std.proofs.Common.{length-append, length-drop, length-take}
-use Rattle.std.proofs.lemmas.Bool.Decides.{eqb_tells, leb_tells}
 use Rattle.std.proofs.lemmas.Bool.{leb-true, ltb-false, ltb-true}
 use Rattle.std.proofs.lemmas.List.{set-set}
 use Rattle.logon_desk.specs.Account.{last_lines}
 use Rattle.logon_desk.specs.Connection.{after_line, again, gone, opened, refused}
 use Rattle.terminal_lines.specs.Decoder.{AfterByte, after_byte, after_character, after_command, after_expected}
-use Rattle.terminal_lines.specs.Decoder.{after_option, after_text, printable, with_character}
+use Rattle.terminal_lines.specs.Decoder.{printable, with_character}
 use Rattle.logon_desk.specs.Desk.{Answers, Closes, Comes, Desk, Event, Finishes, Keeps, Opens, Prints, Step, Takes}
 use Rattle.logon_desk.specs.Desk.{Turns, Wakes, account_of, after_decoded, after_first, after_pause, answer_by}
 use Rattle.logon_desk.specs.Desk.{comes_to, connection_at, ended, is_taking, is_terminal, judged_as, line_by}
-use Rattle.logon_desk.specs.Desk.{logon_line, names, new_desk, quietly, same_guess, shown, step, wake_by}
-use Rattle.logon_desk.specs.Desk.{with_connection}
+use Rattle.logon_desk.specs.Desk.{logon_line, names, new_desk, quietly, same_guess, step, wake_by}
+use Rattle.logon_desk.specs.Desk.{asking, is_turn, with_connection}
 use Rattle.logon_desk.specs.History.{Reading, after, kept_by, kept_of, meaning, read_byte, reading_of}
 use Rattle.terminal_lines.specs.Typed.{Typed}
 use Rattle.logon_desk.specs.declared.account.KeptLine.{KeptLine}
@@ -28,7 +27,7 @@ use Rattle.terminal_lines.specs.declared.decoder.Expects.TheVariants.{Text, Comm
 use Rattle.terminal_lines.specs.declared.decoder.Expects.TheVariants.{ParameterEnd}
 use Rattle.terminal_lines.specs.declared.words.Guess.{Guess}
 use Rattle.user_names.specs.Users.{user_of}
-use Rattle.logon_desk.proofs.Hearing.{arrives, not_both, rest_of, taking_open, vacant, within}
+use Rattle.logon_desk.proofs.Hearing.{arrives, rest_of, taking_open, vacant, within}
 use Rattle.logon_desk.proofs.Reading.{at_one}
 
 -- bytes that wait
@@ -70,7 +69,7 @@ few_wake d k c now Naming = few_either d c _ (quietly d) (leb (connection_at d k
 few_wake d k c now (Asking name) = few_either d c _ (quietly d) (leb (connection_at d k).patience.deadline now)
     (few_gone d k c) (λ few. few c)
 few_wake d k c now (Waiting guess) =
-    few_either d c _ (quietly d) (leb (connection_at d k).patience.due now)
+    few_either d c (asking d k (connection_at d k) guess now) (quietly d) (is_turn d (connection_at d k) guess now)
     (few_set d k c (record (connection_at d k) { stage = Judged guess }) (λ few. few k)) (λ few. few c)
 few_wake d k c now (Judged guess) = λ few. few c
 few_wake d k c now Refused =

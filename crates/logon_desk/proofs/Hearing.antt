@@ -1,22 +1,18 @@
 -- Every connection is what the bytes make of it that have come there since it was opened.
-use Rattle.std.proofs.Common.{◌≡◌, ◌≢◌, ◌⊎◌, inl, inr, ◌<◌, ◌≤◌, ◌+◌, ◌&&◌, ℕ, Bool, true, false, not, eqb, leb, ltb}
-use Rattle.std.proofs.Common.{cond, List, [], ◌∷◌, ◌++◌, length, get_or, set, map, replicate, Option, Some, None, refl}
+use Rattle.std.proofs.Common.{◌≡◌, ◌⊎◌, inl, inr, ◌<◌, ◌≤◌, ◌+◌, ℕ, Bool, true, false, eqb, leb}
+use Rattle.std.proofs.Common.{cond, List, [], ◌∷◌, ◌++◌, length, get_or, set, replicate, Option, Some, None, refl}
 use Rattle.std.proofs.Common.{ap, sym, ◌∙◌, subst, arith, get_or-set_same}
-use Rattle.std.proofs.lemmas.Bool.Decides.{eqb_tells, leb_tells}
+use Rattle.std.proofs.lemmas.Bool.Decides.{leb_tells}
 use Rattle.std.proofs.lemmas.List.{get_or_past, get_or-replicate, length-replicate, set-set}
-use Rattle.std.specs.Str.{bytes_eq}
-use Rattle.text_words.specs.Words.{words_of}
 use Rattle.user_names.specs.Users.{user_of}
 use Rattle.logon_desk.specs.Connection.{after_line, again, begun, gone, opened, refused}
 use Rattle.terminal_lines.specs.Decoder.{after_byte}
 use Rattle.logon_desk.specs.Desk.{Answers, Closes, Comes, Desk, Event, Finishes, Keeps, Opens, Prints, Step, Takes}
-use Rattle.logon_desk.specs.Desk.{Turns, Wakes, account_of, after_bytes, after_decoded, after_first, after_line_at}
-use Rattle.logon_desk.specs.Desk.{after_pause, after_take, answer_by, comes_to, connection_at, ended, is_gone}
+use Rattle.logon_desk.specs.Desk.{Turns, Wakes, account_of, after_decoded, after_first}
+use Rattle.logon_desk.specs.Desk.{after_pause, answer_by, comes_to, connection_at, ended, is_gone}
 use Rattle.logon_desk.specs.Desk.{is_taking, is_terminal, judged_as, line_by, logon_line, names, new_desk, quietly}
-use Rattle.logon_desk.specs.Desk.{same_guess, step, wake_by, with_connection}
-use Rattle.logon_desk.specs.Guesses.{debt, queue_of, wait_of}
-use Rattle.logon_desk.specs.History.{after, arrived, meaning, reading_of, with_line}
-use Rattle.logon_desk.specs.declared.connection.LogonStep.{LogonStep}
+use Rattle.logon_desk.specs.Desk.{asking, is_turn, same_guess, step, wake_by, with_connection}
+use Rattle.logon_desk.specs.History.{after, arrived, meaning, with_line}
 use Rattle.logon_desk.specs.declared.connection.Connection.{Connection}
 use Rattle.logon_desk.specs.declared.connection.Stage.{Stage}
 use Rattle.logon_desk.specs.declared.connection.Stage.TheVariants.{Gone, Naming, Asking, Waiting, Judged, Refused, On}
@@ -69,11 +65,11 @@ late_by d k c came s true e was = subst (λ (n : Desk). IsHeard (connection_at n
 late_by d k c came s false e was = was
 
 asks_by : (d : Desk) (k c : ℕ) (came : List ℕ) (guess : Guess) (s : Step) (is_due : Bool)
-    → (connection_at d k).stage ≡ Waiting guess → s.desk ≡ with_connection d k
+    → (connection_at d k).stage ≡ Waiting guess → s.desk.connections ≡ set d.connections k
     (record (connection_at d k) { stage = Judged guess })
     → IsHeard (connection_at d c) came → IsHeard (connection_at (cond is_due s (quietly d)).desk c) came
 asks_by d k c came guess s true stage e was =
-    subst (λ (n : Desk). IsHeard (connection_at n c) came) (sym e)
+    subst (λ (l : List Connection). IsHeard (get_or l c gone) came) (sym e)
     (heard_set d k c (record (connection_at d k) { stage = Judged guess }) came
     (heard_to (connection_at d k) (record (connection_at d k) { stage = Judged guess }) came
     (ap is_gone stage) refl refl (λ lines said. subst (λ (t : Stage). IsSaid t lines) stage said)) was)
@@ -114,8 +110,8 @@ wakes_by d k c came now Gone e was = was
 wakes_by d k c came now Naming e was = late_by d k c came _ (leb (connection_at d k).patience.deadline now) refl was
 wakes_by d k c came now (Asking name) e was = late_by d k c came _
     (leb (connection_at d k).patience.deadline now) refl was
-wakes_by d k c came now (Waiting guess) e was = asks_by d k c came guess _
-    (leb (connection_at d k).patience.due now) e refl was
+wakes_by d k c came now (Waiting guess) e was = asks_by d k c came guess (asking d k (connection_at d k) guess now)
+    (is_turn d (connection_at d k) guess now) e refl was
 wakes_by d k c came now (Judged guess) e was = was
 wakes_by d k c came now Refused e was = paused_by d k c came now (leb (connection_at d k).patience.due now) e was
 wakes_by d k c came now (On user) e was = left_by d k c came _ (is_terminal (account_of d user).terminal k) refl was
@@ -201,19 +197,7 @@ pub record Arrives (d : Desk) (c : ℕ) (x : Connection) (stage : Stage) (now : 
   pub stage_is : there.stage ≡ stage
   pub decoder_is : there.decoder ≡ x.decoder
   pub waiting_is : there.waiting ≡ x.waiting
-  pub soon : (guess : Guess) → there.stage ≡ Waiting guess → there.patience.due ≤ now + 4000
-
-wait_cases : (a b c e f : Bool) → cond a 0 (cond b 250 (cond c 500 (cond e 1000 (cond f 2000 4000)))) ≤ 4000
-wait_cases true b c e f = omega arith
-wait_cases false true c e f = omega arith
-wait_cases false false true e f = omega arith
-wait_cases false false false true f = omega arith
-wait_cases false false false false true = omega arith
-wait_cases false false false false false = omega arith
-
--- no guess waits for longer than four seconds
-pub wait_bound : (owed : ℕ) → wait_of owed ≤ 4000
-wait_bound owed = wait_cases (ltb owed 5000) (ltb owed 15000) (ltb owed 25000) (ltb owed 35000) (ltb owed 45000)
+  pub soon : (guess : Guess) → there.stage ≡ Waiting guess → there.patience.due ≡ now
 
 -- A connection comes to each stage by its own events.
 pub arrives : (d : Desk) (c : ℕ) (x : Connection) (stage : Stage) (now : ℕ) → Arrives d c x stage now
@@ -244,14 +228,13 @@ arrives d c x (Asking name) now = record {
 arrives d c x (Waiting guess) now = record {
   there = record x {
     stage = Waiting guess;
-    patience = begun x.patience now
-        (wait_of (debt (get_or d.guesses (queue_of guess.name x.address) 0) now));
+    patience = begun x.patience now;
   };
   set_there = refl;
   stage_is = refl;
   decoder_is = refl;
   waiting_is = refl;
-  soon = λ g e. omega (arith, wait_bound (debt (get_or d.guesses (queue_of guess.name x.address) 0) now));
+  soon = λ g e. refl;
 }
 arrives d c x (Judged guess) now = record {
   there = record x { stage = Judged guess };

@@ -2,31 +2,29 @@
 use Rattle.std.proofs.Common.{◌≡◌, ◌≢◌, ◌⊎◌, inl, inr, ◌<◌, ◌≤◌, ◌+◌, ◌&&◌, ◌||◌, ℕ, Bool, true, false, not, eqb, leb}
 use Rattle.std.proofs.Common.{cond, List, [], ◌∷◌, ◌++◌, length, get_or, set, map, take, zero, suc, Option, Some, None}
 use Rattle.std.proofs.Common.{refl, ap, sym, ◌∙◌, subst, arith, get_or-set_other, get_or-set_same, length-take}
-use Rattle.std.proofs.lemmas.Bool.Decides.{eqb_tells, leb_tells}
-use Rattle.std.proofs.lemmas.List.{length-map, length-set, set-set}
+use Rattle.std.proofs.lemmas.Bool.Decides.{eqb_tells}
+use Rattle.std.proofs.lemmas.List.{length-map, set-set}
 use Rattle.std.proofs.lemmas.List.Quantifiers.{position-Some}
 use Rattle.std.proofs.lemmas.Slice.Eq.{bytes_eq-Decides}
-use Rattle.std.proofs.lemmas.Bool.{le-leb}
 use Rattle.std.specs.Str.{bytes_eq}
 use Rattle.std.specs.List.{AllByRecursion}
 use Rattle.user_names.specs.Users.{user_of}
 use Rattle.logon_desk.specs.Account.{last_lines, new_account}
-use Rattle.logon_desk.specs.Connection.{after_line, begun, gone, refused}
+use Rattle.logon_desk.specs.Connection.{after_line, gone, refused}
 use Rattle.terminal_lines.specs.Decoder.{after_byte, printable}
 use Rattle.logon_desk.specs.Desk.{Answers, Closes, Comes, Desk, Event, Finishes, Keeps, Opens, Prints, Step, Takes}
 use Rattle.logon_desk.specs.Desk.{Turns, Wakes, account_of, after_decoded, after_first, after_pause, answer_by}
-use Rattle.logon_desk.specs.Desk.{answered, comes_to, connection_at, ended, greeting, is_gone, is_on_at, is_taking}
-use Rattle.logon_desk.specs.Desk.{is_terminal, is_user, judged_as, leaving, line_by, logged_on, logon_command}
+use Rattle.logon_desk.specs.Desk.{answered, asking, comes_to, connection_at, ended, greeting, is_gone, is_on_at}
+use Rattle.logon_desk.specs.Desk.{is_taking}
+use Rattle.logon_desk.specs.Desk.{is_terminal, is_turn, is_user, judged_as, leaving, line_by, logged_on, logon_command}
 use Rattle.logon_desk.specs.Desk.{logon_line, names, new_desk, nobody, notices, quietly, same_guess, shows_at, shown}
 use Rattle.logon_desk.specs.Desk.{step, terminal_by, typed_line, wake_by, with_connection, wrong_guess}
-use Rattle.logon_desk.specs.Guesses.{debt, queue_of, wait_of}
-use Rattle.logon_desk.specs.History.{IsOnBy, LogsOn, after, arrived, kept_by, kept_of, meaning, reading_of}
+use Rattle.logon_desk.specs.History.{LogsOn, after, arrived, kept_by, kept_of, meaning, reading_of}
 use Rattle.terminal_lines.specs.Script.{script_line}
-use Rattle.logon_desk.specs.Laws.{HasAuthority, HasBounds, HasSecrets, IsAt, IsComplete, IsIn, IsIsolated, IsTyped, May}
-use Rattle.logon_desk.specs.Laws.{WaitsBriefly}
+use Rattle.logon_desk.specs.Laws.{HasAuthority, HasBounds, HasSecrets, IsAt, IsComplete, IsIn, IsIsolated, May}
+use Rattle.logon_desk.specs.Laws.{TakesTurns, WaitsBriefly}
 use Rattle.logon_desk.specs.declared.account.Account.{Account}
 use Rattle.logon_desk.specs.declared.account.KeptLine.{KeptLine}
-use Rattle.logon_desk.specs.declared.connection.LogonStep.{LogonStep}
 use Rattle.logon_desk.specs.declared.connection.Connection.{Connection}
 use Rattle.logon_desk.specs.declared.connection.Stage.{Stage}
 use Rattle.logon_desk.specs.declared.connection.Stage.TheVariants.{Gone, Naming, Asking, Waiting, Judged, Refused, On}
@@ -34,17 +32,16 @@ use Rattle.terminal_lines.specs.declared.decoder.Decoded.{Decoded}
 use Rattle.terminal_lines.specs.declared.decoder.Decoded.TheVariants.{Nothing, Line, Declines as Refuses, AreYouThere}
 use Rattle.logon_desk.specs.declared.output.JournalEntry.TheVariants.{IsBack, Leaves}
 use Rattle.logon_desk.specs.declared.output.Notice.{Notice}
-use Rattle.logon_desk.specs.declared.output.Notice.TheVariants.{Reconnected, TakesOver}
+use Rattle.logon_desk.specs.declared.output.Notice.TheVariants.{Reconnected}
 use Rattle.logon_desk.specs.declared.output.DeskAction.{DeskAction}
-use Rattle.logon_desk.specs.declared.output.DeskAction.TheVariants.{Says, Declines, Shows, ShowsAgain, Types, Asks}
+use Rattle.logon_desk.specs.declared.output.DeskAction.TheVariants.{Says, Shows, ShowsAgain, Types}
 use Rattle.logon_desk.specs.declared.output.DeskAction.TheVariants.{Ends, Notes}
 use Rattle.terminal_lines.specs.declared.words.Guess.{Guess}
-use Rattle.terminal_lines.specs.declared.words.Said.{Said}
 use Rattle.logon_desk.proofs.Bounds.{few, kept_few, short}
 use Rattle.logon_desk.proofs.Hearing.{arrives, heard, not_both, rest_of, taking_open, within}
 use Rattle.logon_desk.proofs.On.{Busy, Logged, answers_accounts, both_true, comes_accounts, eqb_is, eqb_self}
 use Rattle.logon_desk.proofs.On.{guesses_same, is_user_on, names_stay, on_by, takes_accounts, wakes_accounts}
-use Rattle.logon_desk.proofs.Reading.{Heard}
+use Rattle.logon_desk.proofs.Rivals.{alone, apart, asks, briefly, others, whoever}
 
 abbrev AllMay : Desk → Event → List DeskAction → Type 0
 AllMay d event outputs = AllByRecursion (May d event) outputs
@@ -66,7 +63,8 @@ may_wake d k now Naming e = may_either d (Wakes k now) _ (quietly d) (leb (conne
     (refl, (refl, tt)) tt
 may_wake d k now (Asking name) e = may_either d (Wakes k now) _ (quietly d)
     (leb (connection_at d k).patience.deadline now) (refl, (refl, tt)) tt
-may_wake d k now (Waiting guess) e = may_either d (Wakes k now) _ (quietly d) (leb (connection_at d k).patience.due now)
+may_wake d k now (Waiting guess) e = may_either d (Wakes k now) (asking d k (connection_at d k) guess now) (quietly d)
+    (is_turn d (connection_at d k) guess now)
     ((refl, e), tt) tt
 may_wake d k now (Judged guess) e = tt
 may_wake d k now Refused e =
@@ -393,23 +391,10 @@ lets_on d c user now guess stage his =
     (ap (λ (z : Connection). is_user z.stage user) at ∙ eqb_self user)
     (ap (λ (z : Account). is_terminal z.terminal c) has ∙ eqb_self c)
 
--- the host is asked when a guess is due
-
-asks : (d : Desk) (c now : ℕ) (guess : Guess) → (connection_at d c).stage ≡ Waiting guess
-    → (connection_at d c).patience.due ≤ now → (step d (Wakes c now)).outputs ≡ Asks c guess ∷ []
-asks d c now guess stage due =
-    ap (λ (s : Stage). (wake_by d c (connection_at d c) s now).outputs) stage
-    ∙ ap (λ (b : Bool). (cond b (record {
-      desk = with_connection d c
-          (record (connection_at d c) { stage = Judged guess });
-      outputs = Asks c guess ∷ [];
-    }) (quietly d)).outputs)
-    (le-leb (connection_at d c).patience.due now due)
-
--- a guess waits for four seconds at most
+-- a guess waits from now on
 
 abbrev IsSoon : Connection → ℕ → Type 0
-IsSoon x now = (guess : Guess) → x.stage ≡ Waiting guess → x.patience.due ≤ now + 4000
+IsSoon x now = (guess : Guess) → x.stage ≡ Waiting guess → x.patience.due ≡ now
 
 -- a stage at which bytes are taken is none at which a guess waits
 taking_soon : (d : Desk) (k now : ℕ) (x : Connection) (stage : Stage) → x.stage ≡ stage → is_taking d k stage ≡ true
@@ -485,12 +470,12 @@ first_soon d k now (byte ∷ rest) takes =
 
 waits : (d : Desk) (c now : ℕ) (guess : Guess) → is_taking d c (connection_at d c).stage ≡ true
     → (connection_at (step d (Takes c now)).desk c).stage ≡ Waiting guess
-    → (connection_at (step d (Takes c now)).desk c).patience.due ≤ now + 4000
+    → (connection_at (step d (Takes c now)).desk c).patience.due ≡ now
 waits d c now guess takes =
     subst (λ (b : Bool). (connection_at (cond b (after_first d c (connection_at d c).waiting now) (quietly d)).desk
     c).stage ≡ Waiting guess
-    → (connection_at (cond b (after_first d c (connection_at d c).waiting now) (quietly d)).desk c).patience.due ≤ now +
-    4000) (sym takes) (first_soon d c now (connection_at d c).waiting takes guess)
+    → (connection_at (cond b (after_first d c (connection_at d c).waiting now) (quietly d)).desk c).patience.due ≡ now)
+    (sym takes) (first_soon d c now (connection_at d c).waiting takes guess)
 
 -- the lines that are kept
 
@@ -601,11 +586,15 @@ completeness = record { shows = shows; types = types; reads = reads; keeps = kee
 
 -- No byte of a password reaches the journal, a script or another connection.
 pub secrets : HasSecrets
-secrets = record { alike = alike }
+secrets = record { alike = alike; whoever = whoever }
 
--- Whoever gives the right password is on within a time that others' guesses do not change.
+-- Guesses at one name from one address take turns, and hold back no others.
+pub turns : TakesTurns
+turns = record { alone = alone; apart = apart; others = others }
+
+-- A guess waits only for those at its name from its address, and for the last of them at most four seconds.
 pub waiting : WaitsBriefly
-waiting = record { waits = waits; asks = asks; lets_on = lets_on }
+waiting = record { waits = waits; asks = asks; briefly = briefly; lets_on = lets_on }
 
 -- What is kept of connections and users has a constant bound.
 pub bounds : HasBounds

@@ -1,31 +1,27 @@
 -- Whoever is on is on by the name and the password that he gave.
 use Rattle.std.proofs.Common.{◌≡◌, ◌≢◌, ◌⊎◌, inl, inr, ◌<◌, ◌≤◌, ◌+◌, ◌&&◌, ◌||◌, ℕ, Bool, true, false, not, eqb, leb}
 use Rattle.std.proofs.Common.{cond, List, [], ◌∷◌, ◌++◌, length, get_or, set, map, zero, suc, Option, Some, None, refl}
-use Rattle.std.proofs.Common.{ap, sym, ◌∙◌, subst, arith, get_or-set_other, get_or-set_same}
+use Rattle.std.proofs.Common.{ap, sym, ◌∙◌, subst, get_or-set_other, get_or-set_same}
 use Rattle.std.proofs.lemmas.Bool.Decides.{eqb_tells, leb_tells}
 use Rattle.std.proofs.lemmas.List.{get_or_past, set_past, set-set}
 use Rattle.std.proofs.lemmas.Slice.Eq.{bytes_eq-Decides}
-use Rattle.std.specs.List.{AllByRecursion}
 use Rattle.std.specs.Str.{bytes_eq}
 use Rattle.user_names.specs.Users.{user_of}
-use Rattle.logon_desk.specs.Account.{last_lines, new_account}
 use Rattle.logon_desk.specs.Connection.{after_line, again, gone, opened, refused}
 use Rattle.terminal_lines.specs.Decoder.{after_byte}
 use Rattle.logon_desk.specs.Desk.{Answers, Closes, Comes, Desk, Event, Finishes, Keeps, Opens, Prints, Step, Takes}
-use Rattle.logon_desk.specs.Desk.{Turns, Wakes, account_of, after_bytes, after_decoded, after_first, after_pause}
-use Rattle.logon_desk.specs.Desk.{after_take, answer_by, comes_to, connection_at, ended, is_gone, is_on_at, is_taking}
+use Rattle.logon_desk.specs.Desk.{Turns, Wakes, account_of, after_decoded, after_first, after_pause}
+use Rattle.logon_desk.specs.Desk.{answer_by, comes_to, connection_at, ended, is_gone, is_on_at, is_taking}
 use Rattle.logon_desk.specs.Desk.{is_terminal, is_user, judged_as, line_by, logon_line, names, new_desk, nobody}
-use Rattle.logon_desk.specs.Desk.{quietly, same_guess, step, wake_by, with_account, with_connection}
-use Rattle.logon_desk.specs.History.{Gives, IsOnBy, LogsOn, Stays, after, arrived, kept_by, kept_of, meaning}
+use Rattle.logon_desk.specs.Desk.{asking, is_turn, quietly, same_guess, step, wake_by, with_connection}
+use Rattle.logon_desk.specs.History.{Gives, IsOnBy, LogsOn, Stays, after, arrived, meaning}
 use Rattle.logon_desk.specs.History.{reading_of}
 use Rattle.logon_desk.specs.declared.account.Account.{Account}
-use Rattle.logon_desk.specs.declared.account.KeptLine.{KeptLine}
 use Rattle.logon_desk.specs.declared.connection.Connection.{Connection}
 use Rattle.logon_desk.specs.declared.connection.Stage.{Stage}
 use Rattle.logon_desk.specs.declared.connection.Stage.TheVariants.{Gone, Naming, Asking, Waiting, Judged, Refused, On}
 use Rattle.terminal_lines.specs.declared.decoder.Decoded.{Decoded}
 use Rattle.terminal_lines.specs.declared.decoder.Decoded.TheVariants.{Nothing, Line, Declines, AreYouThere}
-use Rattle.logon_desk.specs.declared.output.DeskAction.{DeskAction}
 use Rattle.terminal_lines.specs.declared.words.Guess.{Guess}
 use Rattle.terminal_lines.specs.declared.words.Said.{Said}
 use Rattle.terminal_lines.specs.declared.words.Said.TheVariants.{Both, Name, Word, Other}
@@ -69,7 +65,8 @@ wakes_before d k c user now Naming = either_before d c user _ (quietly d)
 wakes_before d k c user now (Asking name) = either_before d c user _ (quietly d)
     (leb (connection_at d k).patience.deadline now) (before_gone d k c user) (λ e. e)
 wakes_before d k c user now (Waiting guess) =
-    either_before d c user _ (quietly d) (leb (connection_at d k).patience.due now)
+    either_before d c user (asking d k (connection_at d k) guess now) (quietly d)
+    (is_turn d (connection_at d k) guess now)
     (before_set d k c user (record (connection_at d k) { stage = Judged guess }) (λ e. absurd cc)) (λ e. e)
 wakes_before d k c user now (Judged guess) = λ e. e
 wakes_before d k c user now Refused =
@@ -317,8 +314,8 @@ wakes_accounts d k now Naming = either_accounts d _ (quietly d)
     (leb (connection_at d k).patience.deadline now) refl refl
 wakes_accounts d k now (Asking name) = either_accounts d _ (quietly d)
     (leb (connection_at d k).patience.deadline now) refl refl
-wakes_accounts d k now (Waiting guess) = either_accounts d _ (quietly d)
-    (leb (connection_at d k).patience.due now) refl refl
+wakes_accounts d k now (Waiting guess) = either_accounts d (asking d k (connection_at d k) guess now) (quietly d)
+    (is_turn d (connection_at d k) guess now) refl refl
 wakes_accounts d k now (Judged guess) = refl
 wakes_accounts d k now Refused =
     either_accounts d (after_pause d k (connection_at d k) now) (quietly d) (leb (connection_at d k).patience.due now)

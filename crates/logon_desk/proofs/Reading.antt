@@ -1,23 +1,19 @@
 -- What the bytes of a connection have said.
 use Rattle.std.proofs.Common.{◌≡◌, ◌≢◌, ◌⊎◌, inl, inr, ◌<◌, ◌≤◌, ℕ, Bool, true, false, eqb, leb, cond, List, [], ◌∷◌}
-use Rattle.std.proofs.Common.{◌++◌, fold, length, get_or, set, map, Option, Some, None, refl, ap, sym, ◌∙◌, subst}
-use Rattle.std.proofs.Common.{arith, append_assoc, get_or-set_other, get_or-set_same}
+use Rattle.std.proofs.Common.{◌++◌, length, get_or, set, refl, ap, sym, ◌∙◌, subst}
+use Rattle.std.proofs.Common.{append_assoc, get_or-set_other, get_or-set_same}
 use Rattle.std.proofs.lemmas.Bool.Decides.{eqb_tells, leb_tells}
-use Rattle.std.proofs.lemmas.List.{get_or_past, set_past, set-set}
+use Rattle.std.proofs.lemmas.List.{get_or_past, set_past}
 use Rattle.std.proofs.lemmas.List.Sums.{fold-append}
-use Rattle.logon_desk.specs.Connection.{again, begun, gone, opened, refused}
+use Rattle.logon_desk.specs.Connection.{gone, opened}
 use Rattle.terminal_lines.specs.Decoder.{after_byte}
-use Rattle.logon_desk.specs.Desk.{Desk, is_gone, connection_at}
+use Rattle.logon_desk.specs.Desk.{is_gone}
 use Rattle.logon_desk.specs.History.{Gives, Reading, meaning, nothing_read, read_byte, reading_of, with_line}
 use Rattle.terminal_lines.specs.Typed.{Typed}
 use Rattle.logon_desk.specs.declared.connection.Connection.{Connection}
 use Rattle.logon_desk.specs.declared.connection.Stage.{Stage}
 use Rattle.logon_desk.specs.declared.connection.Stage.TheVariants.{Gone, Naming, Asking, Waiting, Judged, Refused, On}
-use Rattle.terminal_lines.specs.declared.decoder.Decoded.{Decoded}
-use Rattle.terminal_lines.specs.declared.decoder.Decoded.TheVariants.{Nothing, Line, Declines, AreYouThere}
-use Rattle.terminal_lines.specs.declared.words.Guess.{Guess}
-use Rattle.terminal_lines.specs.declared.words.Said.{Said}
-use Rattle.terminal_lines.specs.declared.words.Said.TheVariants.{Both, Name, Word, Other}
+use Rattle.terminal_lines.specs.declared.words.Said.TheVariants.{Name}
 
 -- what the stage of a connection says of the lines that were taken there
 abbrev pub IsSaid : Stage → List (List ℕ) → Type 0

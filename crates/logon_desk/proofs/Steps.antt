@@ -1,9 +1,14 @@
 -- Steps of the desk that the code makes in two.
-use Rattle.std.proofs.Common.{◌≡◌, ◌<◌, ℕ, List, ◌∷◌, length, refl, ap, subst, sym, ◌∙◌, get_or, get_or-set_same, map}
-use Rattle.std.proofs.Common.{set}
+use Rattle.std.proofs.Common.{◌≡◌, ◌<◌, ℕ, List, ◌∷◌, length, ap, subst, sym, ◌∙◌, get_or, get_or-set_same, map}
+use Rattle.std.proofs.Common.{set, ◌++◌, []}
 use Rattle.std.proofs.lemmas.List.{get_or_default, set-set}
 use Rattle.logon_desk.specs.Connection.{gone}
 use Rattle.terminal_lines.specs.Decoder.{AfterByte, after_byte}
+use Rattle.logon_desk.specs.Desk.{Does, asking}
+use Rattle.logon_desk.specs.Guesses.{asked_of}
+use Rattle.logon_desk.specs.declared.output.DeskAction.{DeskAction}
+use Rattle.logon_desk.specs.declared.output.DeskAction.TheVariants.{Asks}
+use Rattle.terminal_lines.specs.declared.words.Guess.{Guess}
 use Rattle.logon_desk.specs.Desk.{Desk, after_decoded, after_first, answered, comes_to, connection_at, logon_line}
 use Rattle.logon_desk.specs.Desk.{notices, with_connection}
 use Rattle.text_words.specs.Words.{words_of}
@@ -11,6 +16,7 @@ use Rattle.logon_desk.specs.Connection.{after_line}
 use Rattle.terminal_lines.specs.Typed.{Typed}
 use Rattle.terminal_lines.specs.Words.{capital, said_by}
 use Rattle.logon_desk.specs.declared.account.Account.{Account}
+use Rattle.logon_desk.specs.declared.guesses.GuessedName.{GuessedName}
 use Rattle.terminal_lines.specs.declared.decoder.Decoded.{Decoded}
 use Rattle.terminal_lines.specs.declared.words.Said.{Said}
 use Rattle.logon_desk.specs.declared.connection.LogonStep.{LogonStep}
@@ -60,8 +66,8 @@ pub read_there : (connections : List Connection) (c : ℕ) (at : Connection) →
 read_there connections c at h is = get_or_default connections c gone at h ∙ sym is
 
 -- The first byte that waits is taken by the connection's own decoder.
-pub takes_first : (connections : List Connection) (accounts : List Account) (guesses : List ℕ) (old : Desk) (c : ℕ)
-    (at : Connection) (byte : ℕ) (rest : List ℕ) (typed : Typed) (decoded : Decoded) (now : ℕ)
+pub takes_first : (connections : List Connection) (accounts : List Account) (guesses : List GuessedName) (old : Desk)
+    (c : ℕ) (at : Connection) (byte : ℕ) (rest : List ℕ) (typed : Typed) (decoded : Decoded) (now : ℕ)
     → record { connections = connections; accounts = accounts; guesses = guesses } ≡ old → c < length old.connections
     → at ≡ get_or connections c at → at.waiting ≡ byte ∷ rest
     → after_byte at.decoder byte ≡ record { typed = typed; decoded = decoded }
@@ -80,9 +86,40 @@ takes_first connections accounts guesses old c at byte rest typed decoded now se
     let changed = ap (λ (x : Connection). F x (after_byte x.decoder byte)) same ∙ ap (F at) came in
     sym (first ∙ changed) ∙ ap (λ (e : Desk). after_first e c (connection_at e c).waiting now) seen
 
+-- The host is asked about a guess, which is remembered before the connection comes to its stage.
+pub asks_host : (connections : List Connection) (accounts : List Account) (guesses noted : List GuessedName)
+    (old : Desk) (c : ℕ) (at : Connection) (name : List ℕ) (guess judged asked : Guess) (now : ℕ) (new : Desk)
+    (before outputs : List DeskAction)
+    → record { connections = connections; accounts = accounts; guesses = guesses } ≡ old → c < length old.connections
+    → at ≡ get_or connections c at → name ≡ guess.name → noted ≡ asked_of guesses name at.address now → judged ≡ guess
+    → asked ≡ guess
+    → new ≡ comes_to (record { connections = connections; accounts = accounts; guesses = noted }) c
+    (connection_at (record { connections = connections; accounts = accounts; guesses = noted }) c) (Judged judged) now
+    → outputs ≡ before ++ Asks c asked ∷ []
+    → Does (asking old c (connection_at old c) guess now) before new outputs
+asks_host connections accounts guesses noted old c at name guess judged asked now new before outputs seen h is named
+    notes alike same comes pushed =
+    let d : Desk = record { connections = connections; accounts = accounts; guesses = guesses } in
+    let within : c < length connections = subst (λ (e : Desk). c < length e.connections) (sym seen) h in
+    let there : get_or connections c gone ≡ at = read_there connections c at within is in
+    let F : List GuessedName → Guess → Desk = λ g j. comes_to (record {
+      connections = connections;
+      accounts = accounts;
+      guesses = g;
+    }) c (get_or connections c gone) (Judged j) now in
+    let remembers : noted ≡ asked_of guesses guess.name (get_or connections c gone).address now =
+    notes ∙ ap (λ (n : List ℕ). asked_of guesses n at.address now) named
+    ∙ ap (λ (x : Connection). asked_of guesses guess.name x.address now) (sym there) in (
+      comes ∙ ap (λ (j : Guess). F noted j) alike
+          ∙ ap (λ (g : List GuessedName). F g guess) remembers
+          ∙ ap (λ (e : Desk). (asking e c (connection_at e c) guess now).desk) seen,
+      pushed ∙ ap (λ (g : Guess). before ++ Asks c g ∷ []) same,
+    )
+
 -- A line that a connection ends is answered at its stage.
-pub says_line : (connections : List Connection) (accounts : List Account) (guesses : List ℕ) (old : Desk) (c : ℕ)
-    (at : Connection) (moved stage : Stage) (said : Said) (answer : LogonStep) (line capitals : List ℕ) (now : ℕ)
+pub says_line : (connections : List Connection) (accounts : List Account) (guesses : List GuessedName) (old : Desk)
+    (c : ℕ) (at : Connection) (moved stage : Stage) (said : Said) (answer : LogonStep) (line capitals : List ℕ)
+    (now : ℕ)
     → record { connections = connections; accounts = accounts; guesses = guesses } ≡ old → c < length old.connections
     → at ≡ get_or connections c at
     → moved ≡ Gone → stage ≡ at.stage → capitals ≡ map capital line → said ≡ said_by (words_of capitals)

@@ -1,5 +1,5 @@
 -- The users.
-use Rattle.std.specs.Prelude.{ℕ, Bool, false, List, [], None, nat_lt, if◌then◌else◌, length, drop}
+use Rattle.std.specs.Prelude.{ℕ, false, List, [], None, nat_lt, if◌then◌else◌, length, drop}
 use Rattle.logon_desk.specs.declared.account.Account.{Account}
 use Rattle.logon_desk.specs.declared.account.KeptLine.{KeptLine}
 

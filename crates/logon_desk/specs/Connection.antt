@@ -1,5 +1,5 @@
 -- A connection, and how far whoever is there has come.
-use Rattle.std.specs.Prelude.{ℕ, ◌+◌, ◌-◌, ◌==◌, if◌then◌else◌, min, List, [], ◌∷◌, Option, Some}
+use Rattle.std.specs.Prelude.{ℕ, ◌+◌, ◌-◌, ◌==◌, if◌then◌else◌, min, [], Some}
 use Rattle.std.specs.Prelude.{None}
 use Rattle.terminal_lines.specs.Decoder.{nothing_typed}
 use Rattle.logon_desk.specs.declared.connection.LogonStep.{LogonStep}
@@ -56,9 +56,9 @@ after_line (Judged guess) said = record { stage = Judged guess; notice = None }
 after_line Refused said = record { stage = Refused; notice = None }
 after_line (On user) said = record { stage = On user; notice = None }
 
--- a guess waits for its turn, and he keeps the time that he has left
-abbrev pub begun : Patience → ℕ → ℕ → Patience
-begun p now wait = record p { left = p.deadline - now; due = now + wait }
+-- a guess waits for its turn from now on, and he keeps the time that he has left
+abbrev pub begun : Patience → ℕ → Patience
+begun p now = record p { left = p.deadline - now; due = now }
 
 -- how many milliseconds a guess waits after this many wrong ones
 abbrev pub pause_of : ℕ → ℕ

@@ -1,7 +1,7 @@
 -- The desk: what an event makes of it, and what it does then.
-use Rattle.std.specs.Prelude.{◌≡◌, ℕ, ◌+◌, ◌==◌, ◌&&◌, ◌||◌, not, nat_le, nat_lt, if◌then◌else◌}
+use Rattle.std.specs.Prelude.{◌≡◌, ℕ, ◌+◌, ◌==◌, ◌&&◌, ◌||◌, not, nat_le, if◌then◌else◌}
 use Rattle.std.specs.Prelude.{Bool, true}
-use Rattle.std.specs.Prelude.{false, List, [], ◌∷◌, ◌++◌, length, map, replicate, take, slice_index}
+use Rattle.std.specs.Prelude.{false, List, [], ◌∷◌, ◌++◌, length, map, replicate, take}
 use Rattle.std.specs.Prelude.{slice_index_or, slice_set, Option, Some, None, codes}
 use Rattle.std.specs.Str.{bytes_eq}
 use Rattle.text_words.specs.Words.{words_of}
@@ -9,12 +9,14 @@ use Rattle.user_names.specs.Users.{user_of}
 use Rattle.logon_desk.specs.Account.{last_lines, new_account}
 use Rattle.logon_desk.specs.Connection.{after_line, again, begun, gone, opened, refused}
 use Rattle.terminal_lines.specs.Decoder.{after_byte, printable}
-use Rattle.logon_desk.specs.Guesses.{debt, guessed, no_guesses, queue_of, right_after, wait_of}
+use Rattle.logon_desk.specs.Guesses.{after_right, asked_of}
+use Rattle.logon_desk.specs.Turns.{has_turn}
 use Rattle.terminal_lines.specs.Script.{script_line}
 use Rattle.terminal_lines.specs.Words.{capital, said_by}
 use Rattle.logon_desk.specs.declared.account.Account.{Account}
 use Rattle.logon_desk.specs.declared.account.KeptLine.{KeptLine}
 use Rattle.logon_desk.specs.declared.connection.LogonStep.{LogonStep}
+use Rattle.logon_desk.specs.declared.guesses.GuessedName.{GuessedName}
 use Rattle.logon_desk.specs.declared.connection.Connection.{Connection}
 use Rattle.logon_desk.specs.declared.connection.Stage.{Stage}
 use Rattle.logon_desk.specs.declared.connection.Stage.TheVariants.{Gone, Naming, Asking, Waiting}
@@ -37,11 +39,11 @@ use Rattle.logon_desk.specs.declared.output.DeskAction.TheVariants.{Types}
 use Rattle.logon_desk.specs.declared.output.DeskAction.TheVariants.{Asks, Ends, Notes}
 use Rattle.terminal_lines.specs.declared.words.Guess.{Guess}
 
--- the connections, the users and the queues of guesses
+-- the connections, the users and the names that were guessed at
 pub record Desk : Type 0 where
   pub connections : List Connection
   pub accounts : List Account
-  pub guesses : List ℕ
+  pub guesses : List GuessedName
 
 -- what an event makes of the desk, and what is done then
 pub record Step : Type 0 where
@@ -92,7 +94,7 @@ new_desk names connections =
     record {
       connections = replicate connections gone;
       accounts = map new_account names;
-      guesses = no_guesses;
+      guesses = [];
     }
 
 -- no user
@@ -160,18 +162,11 @@ abbrev pub notices : ℕ → Option Notice → List DeskAction
 notices c None = []
 notices c (Some notice) = Says c notice ∷ []
 
--- a guess waits for its turn in its queue
+-- a guess waits for its turn
 abbrev pub guess_waits : Desk → ℕ → Connection → Guess → ℕ → Desk
 guess_waits d c connection guess now =
-    let queue = queue_of guess.name connection.address in
-    let until = slice_index d.guesses queue in
-    record d {
-      connections = slice_set d.connections c (record connection {
-        stage = Waiting guess;
-        patience = begun connection.patience now (wait_of (debt until now));
-      });
-      guesses = slice_set d.guesses queue (guessed until now);
-    }
+    with_connection d c
+    (record connection { stage = Waiting guess; patience = begun connection.patience now })
 
 -- how far he has come
 abbrev pub comes_to : Desk → ℕ → Connection → Stage → ℕ → Desk
@@ -267,6 +262,22 @@ abbrev pub farewell : ℕ → Option ℕ → List DeskAction
 farewell c None = []
 farewell c (Some other) = Says c TakesOver ∷ []
 
+-- it is the turn of the guess of this connection
+abbrev pub is_turn : Desk → Connection → Guess → ℕ → Bool
+is_turn d connection guess now = has_turn d.connections d.guesses guess.name connection.address
+    connection.patience.due now
+
+-- the host is asked about the guess of a connection, which holds back the next one
+abbrev pub asking : Desk → ℕ → Connection → Guess → ℕ → Step
+asking d c connection guess now =
+    record {
+      desk = record d {
+        connections = slice_set d.connections c (record connection { stage = Judged guess });
+        guesses = asked_of d.guesses guess.name connection.address now;
+      };
+      outputs = Asks c guess ∷ [];
+    }
+
 -- the time has come for a connection in this stage
 abbrev pub wake_by : Desk → ℕ → Connection → Stage → ℕ → Step
 wake_by d c connection Gone now = quietly d
@@ -275,12 +286,7 @@ wake_by d c connection Naming now = if nat_le connection.patience.deadline now
 wake_by d c connection (Asking name) now = if nat_le connection.patience.deadline now
     then ended d c (Says c TooLate ∷ []) else quietly d
 wake_by d c connection (Waiting guess) now =
-    if nat_le connection.patience.due now
-    then record {
-      desk = with_connection d c (record connection { stage = Judged guess });
-      outputs = Asks c guess ∷ [];
-    }
-    else quietly d
+    if is_turn d connection guess now then asking d c connection guess now else quietly d
 wake_by d c connection (Judged guess) now = quietly d
 wake_by d c connection Refused now = if nat_le connection.patience.due now
     then after_pause d c connection now else quietly d
@@ -309,13 +315,12 @@ abbrev pub logged_on : Desk → ℕ → Guess → ℕ → ℕ → Step
 logged_on d c guess user now =
     let connection = connection_at d c in
     let account = account_of d user in
-    let queue = queue_of guess.name connection.address in
     record {
       desk = record {
         connections = slice_set d.connections c (record connection { stage = On user });
         accounts = slice_set d.accounts user
             (record account { terminal = Some c; is_busy = account.is_busy || not account.is_on });
-        guesses = slice_set d.guesses queue (right_after (slice_index d.guesses queue) now);
+        guesses = after_right d.guesses guess.name connection.address now;
       };
       outputs = greeting c user account;
     }

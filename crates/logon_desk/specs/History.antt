@@ -1,7 +1,7 @@
 -- What happens at the desk, one event after another, and who is on by that.
-use Rattle.std.specs.Prelude.{◌≡◌, ◌≢◌, ◌==◌, ◌⊎◌, ℕ, Bool, true, false, if◌then◌else◌, List, []}
+use Rattle.std.specs.Prelude.{◌≡◌, ◌≢◌, ◌==◌, ◌⊎◌, ℕ, true, false, if◌then◌else◌, List, []}
 use Rattle.std.specs.Prelude.{◌∷◌, ◌++◌}
-use Rattle.std.specs.Prelude.{fold, map, Option, Some}
+use Rattle.std.specs.Prelude.{fold, map, Some}
 use Rattle.std.specs.List.{AllByRecursion}
 use Rattle.text_words.specs.Words.{words_of}
 use Rattle.user_names.specs.Users.{user_of}

@@ -1,7 +1,7 @@
 -- What the desk promises, whatever happens.
-use Rattle.std.specs.Prelude.{◌≡◌, ◌⊎◌, ◌+◌, ◌<◌, ◌≤◌, ◌||◌, ℕ, Bool, true, false, List, [], ◌∷◌}
-use Rattle.std.specs.Prelude.{◌++◌}
-use Rattle.std.specs.Prelude.{length, map, Option, Some, None}
+use Rattle.std.specs.Prelude.{◌≡◌, ◌≢◌, ◌⊎◌, ◌+◌, ◌<◌, ◌≤◌, ℕ, Bool, true, false, List, []}
+use Rattle.std.specs.Prelude.{◌∷◌, ◌++◌}
+use Rattle.std.specs.Prelude.{length, map, Some, None}
 use Rattle.std.specs.List.{AllByRecursion}
 use Rattle.user_names.specs.Users.{user_of}
 use Rattle.logon_desk.specs.Connection.{refused}
@@ -11,7 +11,9 @@ use Rattle.logon_desk.specs.Desk.{Prints, Takes}
 use Rattle.logon_desk.specs.Desk.{Turns, Wakes, account_of, connection_at, is_gone, is_on_at}
 use Rattle.logon_desk.specs.Desk.{is_taking}
 use Rattle.logon_desk.specs.Desk.{logon_command, names, new_desk, shown, step, with_connection}
+use Rattle.logon_desk.specs.Guesses.{last_of, remembered, wait_of}
 use Rattle.logon_desk.specs.History.{IsOnBy, LogsOn, after, arrived, kept_of, reading_of}
+use Rattle.logon_desk.specs.Turns.{is_held}
 use Rattle.terminal_lines.specs.Script.{script_line}
 use Rattle.logon_desk.specs.declared.account.KeptLine.{KeptLine}
 use Rattle.logon_desk.specs.declared.connection.Stage.TheVariants.{Judged, Refused, Waiting}
@@ -111,6 +113,43 @@ pub record IsComplete : Type 0 where
       ≡ Notes (IsBack user c) ∷ Says c Reconnected ∷ map (λ line. ShowsAgain c user line)
       (account_of d user).kept
 
+-- an event is of this time or of an earlier one
+abbrev pub HappensBy : ℕ → Event → Type 0
+HappensBy now (Opens c address time) = time ≤ now
+HappensBy now (Comes c bytes) = Unit {0}
+HappensBy now (Takes c time) = time ≤ now
+HappensBy now (Wakes c time) = time ≤ now
+HappensBy now (Answers c guess is_right time) = time ≤ now
+HappensBy now (Closes c) = Unit {0}
+HappensBy now (Prints user line) = Unit {0}
+HappensBy now (Keeps user line) = Unit {0}
+HappensBy now (Turns user is_on is_running) = Unit {0}
+HappensBy now (Finishes user) = Unit {0}
+
+-- a guess of another connection goes before this one: it is at the same name from the same address,
+-- and is being judged or has waited for longer
+abbrev pub GoesBefore : Desk → ℕ → Guess → ℕ → Type 0
+GoesBefore d c guess other = (second : Guess) × (second.name ≡ guess.name)
+    × ((connection_at d other).address ≡ (connection_at d c).address)
+    × (((connection_at d other).stage ≡ Judged second)
+    ⊎ (((connection_at d other).stage ≡ Waiting second)
+    × ((connection_at d other).patience.due < (connection_at d c).patience.due)))
+
+-- the host is asked about no guess at this name from this address by the event
+abbrev pub IsElsewhere : Desk → List ℕ → ℕ → Event → Type 0
+IsElsewhere d name address (Opens c from now) = Unit {0}
+IsElsewhere d name address (Comes c bytes) = Unit {0}
+IsElsewhere d name address (Takes c now) = Unit {0}
+IsElsewhere d name address (Wakes c now) =
+    (guess : Guess) → (connection_at d c).stage ≡ Waiting guess → guess.name ≡ name
+    → (connection_at d c).address ≢ address
+IsElsewhere d name address (Answers c guess is_right now) = Unit {0}
+IsElsewhere d name address (Closes c) = Unit {0}
+IsElsewhere d name address (Prints user line) = Unit {0}
+IsElsewhere d name address (Keeps user line) = Unit {0}
+IsElsewhere d name address (Turns user is_on is_running) = Unit {0}
+IsElsewhere d name address (Finishes user) = Unit {0}
+
 -- a wrong password and a name that is nobody's are answered alike, and after the same wait
 pub record HasSecrets : Type 0 where
   pub alike : (d : Desk) (c : ℕ) (guess : Guess) (is_right : Bool) (now : ℕ)
@@ -122,16 +161,51 @@ pub record HasSecrets : Type 0 where
         stage = Refused;
         patience = refused (connection_at d c).patience now;
       })
+  -- when the host is asked does not depend on whose the names are
+  pub whoever : (d e : Desk) (c now : ℕ) (guess : Guess) → d.connections ≡ e.connections
+      → d.guesses ≡ e.guesses → (connection_at d c).stage ≡ Waiting guess
+      → (step d (Wakes c now)).outputs ≡ (step e (Wakes c now)).outputs
 
--- a guess waits for four seconds at most, whatever others do; then the host is asked, and a right
--- one is let on at once
+-- guesses at one name from one address take turns, and hold back no others
+pub record TakesTurns : Type 0 where
+  -- two of them are never judged at once
+  pub alone : (users : List (List ℕ)) (size : ℕ) (events : List Event) (c other : ℕ)
+      (guess second : Guess)
+      → (connection_at (after (new_desk users size) events) c).stage ≡ Judged guess
+      → (connection_at (after (new_desk users size) events) other).stage ≡ Judged second
+      → guess.name ≡ second.name
+      → (connection_at (after (new_desk users size) events) c).address
+      ≡ (connection_at (after (new_desk users size) events) other).address
+      → c ≡ other
+  -- the host is asked about none that is held back, and each holds back the next one
+  pub apart : (d : Desk) (c now later : ℕ) (guess : Guess)
+      → (connection_at d c).stage ≡ Waiting guess
+      → (step d (Wakes c now)).outputs ≡ Asks c guess ∷ []
+      → later < now + wait_of (remembered
+      (last_of d.guesses guess.name (connection_at d c).address).until now)
+      → (is_held d.guesses guess.name (connection_at d c).address now ≡ false)
+      × (is_held (step d (Wakes c now)).desk.guesses guess.name (connection_at d c).address later
+      ≡ true)
+  -- a guess holds back none at another name, and none from another address
+  pub others : (d : Desk) (event : Event) (name : List ℕ) (address later : ℕ)
+      → IsElsewhere d name address event
+      → is_held (step d event).desk.guesses name address later ≡ true
+      → is_held d.guesses name address later ≡ true
+
+-- a guess waits only for those at its name from its address that go before it, and for four seconds
+-- at most after the last of them; then the host is asked, and a right one is let on at once
 pub record WaitsBriefly : Type 0 where
   pub waits : (d : Desk) (c now : ℕ) (guess : Guess)
       → is_taking d c (connection_at d c).stage ≡ true
       → (connection_at (step d (Takes c now)).desk c).stage ≡ Waiting guess
-      → (connection_at (step d (Takes c now)).desk c).patience.due ≤ now + 4000
+      → (connection_at (step d (Takes c now)).desk c).patience.due ≡ now
   pub asks : (d : Desk) (c now : ℕ) (guess : Guess) → (connection_at d c).stage ≡ Waiting guess
-      → (connection_at d c).patience.due ≤ now → (step d (Wakes c now)).outputs ≡ Asks c guess ∷ []
+      → is_held d.guesses guess.name (connection_at d c).address now ≡ false
+      → ((other : ℕ) → GoesBefore d c guess other → ⊥)
+      → (step d (Wakes c now)).outputs ≡ Asks c guess ∷ []
+  pub briefly : (users : List (List ℕ)) (size : ℕ) (events : List Event) (name : List ℕ)
+      (address now : ℕ) → AllByRecursion (HappensBy now) events
+      → is_held (after (new_desk users size) events).guesses name address (now + 4000) ≡ false
   pub lets_on : (d : Desk) (c user now : ℕ) (guess : Guess)
       → (connection_at d c).stage ≡ Judged guess
       → user_of (names d) guess.name ≡ Some user

@@ -31,10 +31,17 @@ comes_from address connection = is_stranger connection && (connection.address ==
 abbrev pub strangers_from : List Connection → ℕ → ℕ
 strangers_from connections address = count_by (comes_from address) connections
 
--- a stranger from whose address no fewer strangers have come than from any other's
+-- a stranger from whose address no fewer strangers have come than from any other's, and no stranger
+-- from an address as busy has a later deadline
 pub record IsBusiest (connections : List Connection) (c : ℕ) : Type 0 where
   pub stranger : is_stranger (slice_index_or connections c gone) ≡ true
   pub most : (other : ℕ) → other < length connections
       → is_stranger (slice_index_or connections other gone) ≡ true
       → strangers_from connections (slice_index_or connections other gone).address
       ≤ strangers_from connections (slice_index_or connections c gone).address
+  pub latest : (other : ℕ) → other < length connections
+      → is_stranger (slice_index_or connections other gone) ≡ true
+      → strangers_from connections (slice_index_or connections other gone).address
+      ≡ strangers_from connections (slice_index_or connections c gone).address
+      → (slice_index_or connections other gone).patience.deadline
+      ≤ (slice_index_or connections c gone).patience.deadline

@@ -38,7 +38,7 @@ pub struct Patience {
     pub deadline: u64,
     /// How much time he had left when he had made his guess.
     pub left: u64,
-    /// When it is his turn.
+    /// Since when his guess waits, or when he is told that one is wrong.
     pub due: u64,
     /// His wrong guesses.
     pub tries: u8,
@@ -141,16 +141,14 @@ pub fn after_line(stage: Stage, said: Said) -> LogonStep
 }
 
 impl Patience {
-    /// Returns these times with a guess that begins to wait for so long: how much time is left to
-    /// log on, and when the guess is due.
-    pub fn begun(self, now: u64, wait: u64) -> Patience
-        requires now { now < 2 ^ 62 }
-        requires wait { wait ≤ 4000 }
-        ensures { result ≡ begun self now wait }
+    /// Returns these times with a guess that waits from now on: how much time is left to log on,
+    /// and since when the guess waits.
+    pub fn begun(self, now: u64) -> Patience
+        ensures { result ≡ begun self now }
     {
         Patience {
             left: self.deadline.saturating_sub(now),
-            due: now + wait,
+            due: now,
             ..self
         }
     }

@@ -9,11 +9,12 @@ ghost use Rattle.logon_desk.specs.Account.{new_account};
 ghost use Rattle.logon_desk.specs.Connection.{gone};
 ghost use Rattle.logon_desk.specs.Desk.{Answers, Closes, Comes, Does, Finishes, IsStep, Keeps};
 ghost use Rattle.logon_desk.specs.Desk.{Opens, Prints};
-ghost use Rattle.logon_desk.specs.Desk.{Takes, Turns, Wakes, account_of, after_decoded};
+ghost use Rattle.logon_desk.specs.Desk.{Takes, Turns, Wakes, account_of, after_decoded, asking};
 ghost use Rattle.logon_desk.specs.Desk.{after_first};
 ghost use Rattle.logon_desk.specs.Desk.{after_line_at, answered, comes_to, connection_at, ended};
 ghost use Rattle.logon_desk.specs.Desk.{farewell};
-ghost use Rattle.logon_desk.specs.Desk.{greeting, guess_waits, is_gone, is_taking, leaving};
+ghost use Rattle.logon_desk.specs.Desk.{greeting, guess_waits, is_gone, is_taking, is_turn};
+ghost use Rattle.logon_desk.specs.Desk.{leaving};
 ghost use Rattle.logon_desk.specs.Desk.{logged_on};
 ghost use Rattle.logon_desk.specs.Desk.{logon_line, new_desk, after_pause, same_guess, shown};
 ghost use Rattle.logon_desk.specs.Desk.{terminal_of};
@@ -21,9 +22,10 @@ ghost use Rattle.logon_desk.specs.Desk.{typed_line, wrong_guess};
 
 use crate::account::{Account, KeptLine};
 use crate::connection::{Connection, LogonStep, Stage, after_line};
-use crate::guesses::{Guesses, queue_of};
+use crate::guesses::Guesses;
 use crate::output::{DeskAction, JournalEntry, Notice, Outputs};
 use crate::strangers::{busiest, strangers};
+use crate::turns::is_behind;
 use std::alloc::{AllocError, Global};
 use std::marker::Model;
 use std::mem;
@@ -39,7 +41,7 @@ pub const LONGEST_SHOWN: usize = 1024;
 /// The wrong guesses after which a connection is closed.
 const MOST_TRIES: u8 = 3;
 
-/// The connections, the users and the queues of guesses.
+/// The connections, the users and the names that were guessed at.
 #[derive(Drop)]
 pub struct LogonDesk {
     connections: Vec<Connection>,
@@ -75,7 +77,7 @@ impl LogonDesk {
         Ok(LogonDesk {
             connections: places_of(alloc, connections)?,
             accounts: accounts_of(alloc, names)?,
-            guesses: Guesses::new(alloc)?,
+            guesses: Guesses::new(alloc),
         })
     }
 
@@ -101,7 +103,8 @@ impl LogonDesk {
         strangers(&self.connections)
     }
 
-    /// Returns a connection without a user, from the address that has most of these, if any.
+    /// Returns a connection without a user, from the address that has most of these, if any, and of
+    /// these one with the latest deadline.
     pub fn busiest(&self) -> Option<usize>
         ensures within { IfSome result (λ c. c < length self.now.connections) }
         ensures busiest { IfSome result (λ c. IsBusiest self.now.connections c) }
@@ -361,7 +364,7 @@ impl LogonDesk {
         }
     }
 
-    /// Moves a connection to a stage; a guess is counted, and waits as its queue says.
+    /// Moves a connection to a stage; a guess waits from now on.
     fn come_to(&mut self, connection: usize, stage: Stage, now: u64)
         requires within { connection < length self.old.connections }
         requires now { now < 2 ^ 62 }
@@ -374,17 +377,14 @@ impl LogonDesk {
         }
     }
 
-    /// Counts a guess in the queue of its name and address, and makes it wait as that says.
+    /// Makes a guess wait for its turn from now on.
     fn guess_waits(&mut self, connection: usize, guess: Guess, now: u64)
-        requires within { connection < length self.old.connections }
-        requires now { now < 2 ^ 62 }
+        requires { connection < length self.old.connections }
         ensures { self.new ≡ guess_waits self.old connection (connection_at self.old connection)
             guess now }
     {
         let place = &mut self.connections[connection];
-        let queue = queue_of(guess.name.as_slice(), place.address);
-        let wait = self.guesses.begin(queue, now);
-        place.patience = place.patience.begun(now, wait);
+        place.patience = place.patience.begun(now);
         place.stage = Stage::Waiting(guess);
     }
 
@@ -411,14 +411,9 @@ impl LogonDesk {
                 say(connection, Notice::TooLate, out)?;
                 self.end(alloc, connection, out)
             }
-            Stage::Waiting(guess) if place.patience.due <= now => {
+            Stage::Waiting(guess) => {
                 let guess = guess.copy(alloc)?;
-                let asked = guess.copy(alloc)?;
-                place.stage = Stage::Judged(guess);
-                out.push(DeskAction::Asks {
-                    connection,
-                    guess: asked,
-                })
+                self.ask(alloc, connection, &guess, now, out)
             }
             Stage::Refused if place.patience.due <= now => self.after_pause(
                 alloc, connection, now, out,
@@ -429,6 +424,66 @@ impl LogonDesk {
             }
             _ => Ok(()),
         }
+    }
+
+    /// Asks the host about the guess that waits at a connection, if it is its turn.
+    fn ask(
+        &mut self,
+        alloc: Global,
+        connection: usize,
+        guess: &Guess,
+        now: u64,
+        out: &mut Outputs,
+    ) -> Result<(), AllocError>
+        requires within { connection < length self.old.connections }
+        requires waits { (connection_at self.old connection).stage ≡ Stage.Waiting guess.now }
+        requires now { now < 2 ^ 62 }
+        ensures { OnOk result (IsStep self.old (Wakes connection now) out.old self.new out.new) }
+    {
+        if self.is_turn(connection, guess, now) {
+            self.ask_host(alloc, connection, guess, now, out)
+        } else {
+            Ok(())
+        }
+    }
+
+    /// Asks the host about the guess of a connection, which holds back the next one.
+    fn ask_host(
+        &mut self,
+        alloc: Global,
+        connection: usize,
+        guess: &Guess,
+        now: u64,
+        out: &mut Outputs,
+    ) -> Result<(), AllocError>
+        requires within { connection < length self.old.connections }
+        requires now { now < 2 ^ 62 }
+        ensures { OnOk result (Does
+            (asking self.old connection (connection_at self.old connection) guess.now now) out.old
+            self.new out.new) }
+    {
+        let address = self.connections[connection].address;
+        self.guesses
+            .ask(alloc, guess.name.as_slice(), address, now)?;
+        let judged = guess.copy(alloc)?;
+        self.come_to(connection, Stage::Judged(judged), now);
+        let asked = guess.copy(alloc)?;
+        out.push(DeskAction::Asks {
+            connection,
+            guess: asked,
+        })
+    }
+
+    /// Returns whether it is the turn of the guess of a connection: none at its name from its
+    /// address is judged or has waited for longer, and the last one was long enough ago.
+    fn is_turn(&self, connection: usize, guess: &Guess, now: u64) -> bool
+        requires { connection < length self.now.connections }
+        ensures { result ≡ is_turn self.now (connection_at self.now connection) guess.now now }
+    {
+        let place = &self.connections[connection];
+        let name = guess.name.as_slice();
+        !self.guesses.hold_back(name, place.address, now)
+            && !is_behind(&self.connections, name, place.address, place.patience.due)
     }
 
     /// Shows a refusal, and lets a guesser try again, or ends his connection at the third one.
@@ -520,8 +575,8 @@ impl LogonDesk {
         }
     }
 
-    /// Logs a user on at a connection, which is then his terminal, takes his right guess out of its
-    /// queue, and marks him as busy if his machine is off.
+    /// Logs a user on at a connection, which is then his terminal, no longer remembers his right
+    /// guess, and marks him as busy if his machine is off.
     fn log_on(
         &mut self,
         alloc: Global,
@@ -539,9 +594,9 @@ impl LogonDesk {
     {
         greet(alloc, connection, user, &self.accounts[user.index()], out)?;
         let place = &mut self.connections[connection];
-        let queue = queue_of(guess.name.as_slice(), place.address);
         place.stage = Stage::On(user);
-        self.guesses.remove_right_guess(queue, now);
+        self.guesses
+            .remove_right_guess(guess.name.as_slice(), place.address, now);
         let account = &mut self.accounts[user.index()];
         account.terminal = Some(connection);
         account.is_busy = account.is_busy || !account.is_on;

@@ -10,8 +10,8 @@
 //! lines are shown, only where somebody has given the name and the password of his since the
 //! connection was opened, and the host has said that they are right; each line is typed and shown
 //! there; no byte is lost, read twice or left from another connection; nothing but the question to
-//! the host has a password; who gives the right one waits for four seconds at most, whatever others
-//! do; and all that is kept has bounds. Each call is exact on what it changes and adds, so nothing
+//! the host has a password; a guess waits only for those at its name from its address, one after
+//! another, and for four seconds at most after the last; and all that is kept has bounds. Each call is exact on what it changes and adds, so nothing
 //! else is done.
 //!
 //! ```
@@ -44,12 +44,15 @@ mod guesses;
 mod laws;
 mod output;
 mod strangers;
+mod turns;
 mod waiting;
 
 pub use account::{Account, KEPT_LINES, KeptLine, KeptLines};
 pub use connection::{Connection, LogonStep, Patience, Stage, TIME_TO_LOG_ON, after_line};
 pub use desk::{LONGEST_SHOWN, LogonDesk, MOST_WAITING};
-pub use guesses::{Guesses, LONGEST_REMEMBERED, LONGEST_WAIT, QUEUES, REMEMBERED, queue_of};
+pub use guesses::{
+    GuessedName, Guesses, LONGEST_REMEMBERED, LONGEST_WAIT, MOST_GUESSED, REMEMBERED,
+};
 pub use laws::keeps_its_promises;
 pub use output::{DeskAction, JournalEntry, Notice, Outputs};
 pub use waiting::WaitingBytes;

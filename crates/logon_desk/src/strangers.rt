@@ -41,17 +41,18 @@ fn strangers_from(connections: &[Connection], address: u64) -> usize
 }
 
 /// Returns whether one who is about to log on is to be ended before the one who was found: from a
-/// busier address, or with as late a deadline or a later one from one as busy.
+/// busier address, or from one as busy with as late a deadline or a later one.
 fn goes_first(count: usize, most: usize, deadline: u64, latest: u64) -> bool
     ensures above { result ≡ true → most ≤ count }
+    ensures later { result ≡ true → count ≡ most → latest ≤ deadline }
     ensures below { result ≡ false → count ≤ most }
-    ensures some { result ≡ false → 0 < most + latest }
+    ensures earlier { result ≡ false → count ≡ most → deadline < latest }
 {
     count > most || (count == most && deadline >= latest)
 }
 
 /// Returns a connection at which nobody has logged on yet, from the address from which most of them
-/// are, if there is one; of these the one with the latest deadline.
+/// are, if there is one; of these one with the latest deadline.
 pub fn busiest(connections: &[Connection]) -> Option<usize>
     ensures within { IfSome result (λ c. c < length connections.now) }
     ensures busiest { IfSome result (λ c. IsBusiest connections.now c) }

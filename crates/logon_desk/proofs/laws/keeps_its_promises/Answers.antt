@@ -1,4 +1,4 @@
-use Rattle.logon_desk.proofs.Lawful.{authority, bounds, completeness, isolation, secrets, waiting}
+use Rattle.logon_desk.proofs.Lawful.{authority, bounds, completeness, isolation, secrets, turns, waiting}
 use Rattle.logon_desk.proofs.laws.keeps_its_promises.Goals as goal
 
 pub returns : goal.returns
@@ -7,6 +7,7 @@ returns c = record {
   isolation = isolation;
   completeness = completeness;
   secrets = secrets;
+  turns = turns;
   waiting = waiting;
   bounds = bounds;
 }

@@ -1,4 +1,4 @@
-use Rattle.std.proofs.Common.{◌≡◌, ◌<◌, ◌≤◌, ℕ, List, Some, IfNone, Option, None, true, false, get_or, length, ◌∙◌, ap}
+use Rattle.std.proofs.Common.{◌≡◌, ◌<◌, ◌≤◌, ℕ, List, Some, IfNone, Option, None, false, get_or, length, ◌∙◌, ap}
 use Rattle.std.proofs.Common.{sym, arith}
 use Rattle.std.proofs.lemmas.List.{get_or_default}
 use Rattle.std.specs.List.{All}
@@ -22,19 +22,22 @@ loop-place-preserved c =
     let from : strangers_from connections c.index-connections-place.result.address ≡ strangers_from connections
     (get_or connections c.loop-place.place gone).address =
     ap (λ (x : Connection). strangers_from connections x.address) (sym here) in
+    let ends : c.index-connections-place.result.patience.deadline ≡ (get_or connections c.loop-place.place
+    gone).patience.deadline = ap (λ (x : Connection). x.patience.deadline) (sym here) in
     elim c.if-is_stranger.branch [
       | then-is_stranger+then-goes_first w ↦
           renamed connections _ _ _ _ _ _ _ w.found-is w.most-is w.latest-is
           (found_more connections c.loop-place.place c.loop-place.found c.loop-place.most c.loop-place.latest
           w.strangers_from-count.result c.index-connections-place.result.patience.deadline
           c.loop-place.invariant c.loop-place-test.true (reported ∙ w.if-is_stranger.true)
-          (w.strangers_from-count.ensures ∙ from) (w.goes_first.ensures.above w.if-goes_first.true))
+          (w.strangers_from-count.ensures ∙ from) ends (w.goes_first.ensures.above w.if-goes_first.true)
+          (w.goes_first.ensures.later w.if-goes_first.true))
       | then-is_stranger+else-goes_first w ↦
           renamed connections _ _ _ _ _ _ _ w.found-is w.most-is w.latest-is
           (kept_more connections c.loop-place.place c.loop-place.found c.loop-place.most c.loop-place.latest
-          w.strangers_from-count.result c.loop-place.invariant
-          (w.strangers_from-count.ensures ∙ from) (w.goes_first.ensures.below w.if-goes_first.false)
-          (w.goes_first.ensures.some w.if-goes_first.false))
+          w.strangers_from-count.result c.index-connections-place.result.patience.deadline c.loop-place.invariant
+          (w.strangers_from-count.ensures ∙ from) ends (w.goes_first.ensures.below w.if-goes_first.false)
+          (w.goes_first.ensures.earlier w.if-goes_first.false))
       | else-is_stranger w ↦
           renamed connections _ _ _ _ _ _ _ w.found-is w.most-is w.latest-is
           (passed_more connections c.loop-place.place c.loop-place.found c.loop-place.most c.loop-place.latest
