@@ -23,6 +23,7 @@ from gathjumli.recording import (
     without_passwords,
 )
 from gathjumli.state_files import is_state
+from gathjumli.strays import forget_states, state_paths
 
 DIRECTORY = "directory"
 # in the folder of a session: the states with which it began and ended
@@ -75,6 +76,9 @@ class Checkpoint:
     def begin(self) -> Any:
         """The paths by which the program reads the volumes, and will save others."""
         self.forget()
+        if os.path.isfile(self.beginning()):
+            # it may be of a version that made it for others to read
+            os.chmod(self.beginning(), 0o600)
         where, name = os.path.split(os.path.abspath(self.record))
         self.folder = tempfile.mkdtemp(prefix=f"{name}{ENDING}", dir=where)
         for path, volume in zip(self.paths(), self.volumes):
@@ -112,6 +116,8 @@ class Checkpoint:
         """Puts the saved images in the places of the volumes, and returns the folder to which the recording goes with these as they
         were, and with the directory. What of this was done before a crash stays."""
         digits = self.find(recording.last)
+        # what the session has is in the images and in the state with which it ended
+        forget_states(self.record)
         aside = recording.aside()
         os.makedirs(aside, 0o700, exist_ok=True)
         for path, volume, known in zip(self.paths(), self.volumes, recording.volume_sums()):
@@ -128,6 +134,7 @@ class Checkpoint:
         if digits:
             self.put_next(recording, aside, digits)
         else:
+            self.leave_beginning(aside)
             os.replace(self.record, os.path.join(aside, "recording"))
         sync_folder(self.record)
         self.forget()
@@ -138,6 +145,12 @@ class Checkpoint:
         mark, path = recording.beginning, self.beginning()
         if mark and is_state(path, mark.sum):
             keep(path, os.path.join(aside, FIRST_STATE))
+
+    def leave_beginning(self, aside: str) -> None:
+        """Has the state with which the session began in the session's folder only: the next one begins without any."""
+        if os.path.isfile(self.beginning()):
+            keep(self.beginning(), os.path.join(aside, FIRST_STATE))
+            os.unlink(self.beginning())
 
     def put_next(self, recording: Recording, aside: str, digits: str) -> None:
         """Puts the recording of the next session, which begins with the state of this sum, in the place of this one. There is always
@@ -156,8 +169,9 @@ class Checkpoint:
         """Sets a session aside that is to begin anew, with volumes as they are; the folder to which it goes."""
         aside = recording.aside()
         os.makedirs(aside, 0o700, exist_ok=True)
-        if os.path.isfile(self.beginning()):
-            keep(self.beginning(), os.path.join(aside, FIRST_STATE))
+        self.leave_beginning(aside)
+        for name, path in state_paths(self.record).items():
+            os.replace(path, os.path.join(aside, name))
         os.replace(self.record, os.path.join(aside, "recording"))
         sync_folder(self.record)
         return aside
@@ -174,7 +188,7 @@ class Checkpoint:
             put(path, volume)
             return
         copied = f"{os.path.realpath(volume)}.{name}"
-        copy_whole(path, copied)
+        copy_whole(path, copied, os.stat(volume) if os.path.exists(volume) else None)
         notify(
             f"{volume} was changed by somebody else during the session, and stays as it is; the volume of the session is {copied}"
         )
@@ -220,6 +234,8 @@ def copy_whole(path: str, to: Any, owned: Any = None) -> None:
     """A copy that is there whole or not at all, also after the host has crashed; whose it is, is reported by a file's state."""
     copied = f"{to}.new-{os.getpid()}"
     try:
+        # states have the storages of guests: what has no owner to be like is for this one only
+        os.close(os.open(copied, os.O_WRONLY | os.O_CREAT | os.O_TRUNC, 0o600))
         shutil.copyfile(path, copied)
         if owned:
             os.chmod(copied, owned.st_mode & 0o7777)

@@ -1,7 +1,8 @@
 """Operators who come and go at a socket, several at once (bin/operator).
 
 An operator sends lines, each a command. What is sent to him are lines that begin with + for what happens and with = for an answer;
-at the end of each answer a dot and a number say whether the command was done, was refused, or ends the installation."""
+at the end of each answer a dot and a number say whether the command was done, was refused, or ends the installation. If that
+has ended or is suspended as it was asked to, a dot and ENDED is the last line."""
 from __future__ import annotations
 
 from typing import Any
@@ -9,8 +10,11 @@ import contextlib
 import os
 import socket
 import threading
+import time
 
 from gathjumli.journal import Outlet
+from gathjumli.listening import SECONDS_WITHOUT_FILES
+from gathjumli.operating import ENDED
 
 MOST_OPERATORS = 16
 MOST_COMMAND = 4096
@@ -26,6 +30,7 @@ class Consoles:
         self.journal = journal
         self.loop = loop
         self.count = 0
+        self.is_closed = False
         threading.Thread(target=self.accept_all, daemon=True).start()
 
     def accept_all(self) -> None:
@@ -33,7 +38,11 @@ class Consoles:
             try:
                 connection, _ = self.listener.accept()
             except OSError:
-                return
+                if self.is_closed:
+                    return
+                # the host allows no more files just now
+                time.sleep(SECONDS_WITHOUT_FILES)
+                continue
             if self.count >= MOST_OPERATORS:
                 connection.close()
                 continue
@@ -42,7 +51,9 @@ class Consoles:
 
     def serve(self, connection: Any) -> None:
         """Serves one operator until he goes."""
-        outlet = Outlet(os.dup(connection.fileno()), prefix=HAPPENS)
+        outlet = Outlet(
+            os.dup(connection.fileno()), prefix=HAPPENS, farewell=f"{END_OF_ANSWER}{ENDED}"
+        )
         self.journal.add(outlet)
         try:
             with contextlib.suppress(OSError), connection.makefile("rb") as lines:
@@ -72,6 +83,7 @@ class Consoles:
         )
 
     def close(self) -> None:
+        self.is_closed = True
         with contextlib.suppress(OSError):
             self.listener.shutdown(socket.SHUT_RDWR)
         self.listener.close()

@@ -8,8 +8,13 @@ import os
 from gathjumli.checkpoints import Checkpoint
 from gathjumli.cli import Failure, REFUSED
 from gathjumli.engine import Engine
+from gathjumli.host import MEGABYTE
 from gathjumli.recording import END, END_KEEPING, Recording
 from gathjumli.state_files import is_state
+
+AGAIN = (
+    "what was shown is in the recording: make room, and give the same command again, which ends it"
+)
 
 
 class Ending(enum.Enum):
@@ -39,9 +44,22 @@ def end_session(
     if not recording.last.startswith(END):
         recording.mark(END_KEEPING if digits else END)
     checkpoint.make_room()
-    engine.program.finish()
+    try:
+        engine.program.finish()
+    except Failure as failure:
+        trouble = room_trouble(checkpoint.volumes, recording.free())
+        lines = [*failure.lines, f"the session has not ended: {trouble or 'a volume is not saved'}"]
+        raise Failure(failure.status, *lines, AGAIN) from None
     recording.mark(checkpoint.saved_mark(digits))
     finish_ending(recording, checkpoint, notify)
+
+
+def room_trouble(volumes: list[str], free: int) -> str:
+    """Why volumes cannot be saved on a disk with so many bytes free, or nothing."""
+    needed = sum(os.path.getsize(volume) for volume in volumes)
+    if free >= needed:
+        return ""
+    return f"the disk is full: it has {free / MEGABYTE:.1f} MB free, and the volumes need {needed / MEGABYTE:.1f} MB"
 
 
 def finish_ending(

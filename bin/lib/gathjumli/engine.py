@@ -10,7 +10,7 @@ import re
 import time
 from typing import Any
 
-from gathjumli.following import Died, NotFollowed, PartResult, Program
+from gathjumli.following import Died, NotFollowed, PartResult, Program, is_out_of_memory
 from gathjumli.host import memory_of, processor_seconds
 from gathjumli.machines import ScriptRefused
 from gathjumli.cli import Failure, FILE_FAILED, REFUSED, reason_text
@@ -338,14 +338,19 @@ class Engine:
         self.do_recording(notify, take, take_state)
 
     def restore(self) -> tuple[StateMark | None, StateFile | None]:
-        """Has the program go on from the last state that it takes, or else be at the beginning; where that is in the recording."""
+        """Has the program go on from the last state that it takes, or else be at the beginning; where that is in the recording. If
+        the host refuses it memory, the start ends, and all states stay."""
         for mark, state in self.states.found():
             before = self.seconds()
             self.is_saving = True
             try:
                 self.checked(self.program.restore, state.size, state.pieces())
             except (Failure, OSError) as reason:
-                # whatever it is: all can be computed from further back
+                if is_out_of_memory(reason):
+                    # the state is right, and a start with more memory takes it
+                    self.notify(f"{state.path} is not read: the host is out of memory")
+                    raise
+                # whatever else it is: all can be computed from further back
                 self.notify(f"{state.path} is not taken: {reason_text(reason)}")
                 self.program.close()
                 self.program = self.begun()

@@ -28,6 +28,11 @@ class Died(Failure):
     """The program was killed, or the host refused it memory: another one may go on."""
 
 
+def is_out_of_memory(reason: Exception) -> bool:
+    """Whether a program ended because the host refused it memory."""
+    return isinstance(reason, Died) and reason.status == NO_MEMORY
+
+
 class StateRefused(Failure):
     """A state that the program refuses."""
 

@@ -13,12 +13,21 @@ TIME = "%H:%M:%S"
 DATE_AND_TIME = "%Y-%m-%d %H:%M:%S"
 
 
+def printable(text: str) -> str:
+    """A text without what a terminal, or a reader of lines, takes for something else: names of files are of others' making."""
+    return "".join(item if item.isprintable() else "?" for item in text)
+
+
 class Outlet:
     """A file descriptor to which lines go, by a thread of its own. If nobody reads there nobody waits for that; how many lines are
     lost is said."""
 
-    def __init__(self, handle: Any, time_format: Any = TIME, prefix: Any = "") -> None:
+    def __init__(
+        self, handle: Any, time_format: Any = TIME, prefix: Any = "", farewell: str = ""
+    ) -> None:
         self.handle = handle
+        # what is put last if the installation ends as it was asked to
+        self.farewell = farewell
         self.time_format = time_format
         self.prefix = prefix
         self.lines = queue.Queue(MOST_UNREAD_LINES)
@@ -27,6 +36,7 @@ class Outlet:
         self.thread.start()
 
     def put(self, text: Any, prefix: Any = None) -> None:
+        text = printable(str(text))
         prefix = self.prefix if prefix is None else prefix
         try:
             if self.lost:
@@ -62,9 +72,20 @@ class Journal:
 
     def __init__(self, path: str = None) -> None:
         self.outlets = [Outlet(1)]
+        self.path = path
         if path:
-            handle = os.open(path, os.O_WRONLY | os.O_APPEND | os.O_CREAT, 0o600)
-            self.outlets.append(Outlet(handle, DATE_AND_TIME))
+            self.file = self.opened()
+            self.outlets.append(Outlet(self.file, DATE_AND_TIME))
+
+    def opened(self) -> int:
+        return os.open(self.path, os.O_WRONLY | os.O_APPEND | os.O_CREAT, 0o600)
+
+    def reopen(self) -> None:
+        """Goes on in the file of its path, which may be another one since it was moved away."""
+        if self.path:
+            handle = self.opened()
+            os.dup2(handle, self.file)
+            os.close(handle)
 
     def notify(self, text: str) -> None:
         for outlet in list(self.outlets):
@@ -76,6 +97,12 @@ class Journal:
     def remove(self, outlet: Any) -> None:
         with contextlib.suppress(ValueError):
             self.outlets.remove(outlet)
+
+    def say_farewell(self) -> None:
+        """Has the outlets know that the installation ends as it was asked to."""
+        for outlet in list(self.outlets):
+            if farewell := getattr(outlet, "farewell", ""):
+                outlet.put_as_is(farewell)
 
     def close(self) -> None:
         for outlet in list(self.outlets):

@@ -1,13 +1,14 @@
 """Who may log on, and whether a password is right."""
 from __future__ import annotations
 
+from collections.abc import Callable
 from typing import Any
 import hashlib
 import hmac
 import os
 import re
 
-from gathjumli.cli import Failure, REFUSED, read_file
+from gathjumli.cli import Failure, REFUSED, read_file, reason_text
 
 ENTRY = re.compile(rb"([A-Z][A-Z0-9]{0,7}) ([0-9a-f]{32}) ([0-9a-f]{64})")
 # a sum takes some 50 ms and 16 MB, whoever makes it
@@ -26,6 +27,10 @@ class Passwords:
     def sum_of(self, password: str) -> Any:
         return hmac.digest(self.key, password.encode("latin-1"), hashlib.sha256)
 
+    def take(self, passwords: Any) -> None:
+        """Has the same users have other passwords."""
+        self.sums = {name: self.sum_of(passwords[name]) for name in self.names}
+
     def are_right(self, name: str, password: str) -> Any:
         """Whether this is the password of the user of this name; of a name that is not there it takes as long."""
         return (
@@ -35,22 +40,47 @@ class Passwords:
 
 
 class PasswordsFile:
-    """The passwords of a file, which has their salted sums (docs/man/passwords.1); it is read again each time."""
+    """The passwords of a file, which has their salted sums (docs/man/passwords.1); it is read again each time. If it cannot be, its last
+    good reading counts, and the journal has the reason."""
 
-    def __init__(self, path: str, names: list[bytes]) -> None:
+    def __init__(self, path: str, names: list[bytes], notify: Callable[[str], None]) -> None:
         self.path = path
+        self.notify = notify
+        # why it could not be read last
+        self.trouble = ""
         self.names = list(names)
         self.other = (os.urandom(16), os.urandom(32))
-        read_entries(path)
+        self.entries = read_entries(path)
+
+    def read(self) -> str:
+        """Reads the file; why it cannot be read, or nothing."""
+        before, self.trouble = self.trouble, ""
+        try:
+            self.entries = read_entries(self.path)
+        except (OSError, Failure) as reason:
+            self.trouble = f"{self.path}: {reason_text(reason).removeprefix(f'{self.path}: ')}"
+        if self.trouble and self.trouble != before:
+            self.notify(f"{self.trouble}; the passwords count that were read last")
+        return self.trouble
 
     def are_right(self, name: str, password: str) -> Any:
         """Whether this is the password of the user of this name; of a name that is not there it takes as long."""
-        try:
-            entries = read_entries(self.path)
-        except (OSError, Failure):
-            entries = {}
+        self.read()
+        entries = self.entries
         salt, wanted = entries.get(name, self.other)
         return hmac.compare_digest(salted(password, salt), wanted) and name in entries
+
+
+class Unlocked:
+    """The passwords, of which those of locked users are never right."""
+
+    def __init__(self, passwords: Any, locked: tuple = ()) -> None:
+        self.passwords = passwords
+        self.names = passwords.names
+        self.locked = locked
+
+    def are_right(self, name: str, password: str) -> bool:
+        return self.passwords.are_right(name, password) and name not in self.locked
 
 
 def salted(password: str, salt: Any) -> Any:

@@ -1,9 +1,9 @@
 """The connections of people, and the program that is the logon desk.
 
 The desk (crates/logon_desk_cli) decides who logs on, whose line a typed line is and who is shown what; here are the sockets. Whoever
-brings people, by telnet or otherwise, makes a Connection: `Desk.come` opens it, `Desk.receive` gives the desk bytes that came, at most
-MOST_BYTES and only while `may_send` is set, and `Desk.leave` reports that it has ended. The desk gives it bytes by `send`, and ends it by
-`close`.
+brings people, by telnet or otherwise, makes a Connection: `LogonServer.come` opens it, `receive` gives the desk bytes that came, at most
+USER_BYTES and only while `may_send` is set, and `leave` reports that it has ended. The desk gives it bytes by `send`, and ends it by
+`close`. What strangers take of the command's time is bounded (bin/lib/gathjumli/strangers.py).
 """
 from __future__ import annotations
 
@@ -20,14 +20,25 @@ import subprocess
 import time
 
 from gathjumli.cli import FILE_FAILED, Failure
+from gathjumli.logon import Unlocked
 from gathjumli.parts import typed_line
+from gathjumli.rules import Rules
+from gathjumli.strangers import (
+    Closings,
+    IS_NO_LOGON,
+    MOST_ANSWERS,
+    SECONDS_APART,
+    STRANGER_BYTES,
+    Share,
+    WrongPasswords,
+)
 from gathjumli.users import KEPT_LINES
 
 
 # those who are about to log on, as the desk counts them, and one more
 MOST_STRANGERS = 80
-# bytes that the desk takes at once
-MOST_BYTES = 4096
+# bytes of one who is on that the desk gets at once: nobody waits long for what is done with them
+USER_BYTES = 512
 # lines that the desk is given at once: what they and their answers take fits a pipe
 MOST_PENDING = 16
 # what waits for a reader: he is closed over so many bytes
@@ -39,8 +50,6 @@ SECONDS_TO_LEAVE = 2
 LITTLE_UNREAD = 1 << 16
 # how often the desk is given the time while somebody is about to log on
 TICK = 0.05
-# for so long wrong passwords are summed before the journal has them
-SECONDS_TO_SUM = 60
 LOGON = b"LOGON"
 GOES_DOWN = b"GATHJUMLI GOES DOWN\r\n"
 CLOSED = b"LOGON IS CLOSED\r\n"
@@ -56,6 +65,8 @@ class Connection:
         # when lines are shown again, the minute that was shown last
         self.minute = ""
         self.may_send = asyncio.Event()
+        # how much it was answered before anybody logged on there
+        self.answers = 0
 
     def send(self, data: Any) -> None:
         """Gives it bytes."""
@@ -138,33 +149,14 @@ class Terminal:
             self.desk.leave(self.connection)
 
 
-class WrongPasswords:
-    """Sums the wrong passwords, so that the journal has a line for many."""
-
-    def __init__(self, notify: Any) -> None:
-        self.notify = notify
-        self.counts = collections.Counter()
-
-    def add(self, name: Any, address: int) -> None:
-        if not self.counts:
-            asyncio.get_running_loop().call_later(SECONDS_TO_SUM, self.notify_all)
-        self.counts[name, address] += 1
-
-    def notify_all(self) -> None:
-        for (name, address), count in self.counts.items():
-            passwords = "a wrong password" if count == 1 else f"{count} wrong passwords"
-            self.notify(
-                f"{passwords} for {name or 'nobody here'}{' from ' * bool(address)}{address}"
-            )
-        self.counts.clear()
-
-
 class LogonServer:
     """The program that is the desk, the connections at its places, and the people who log on."""
 
     def __init__(self, engine: Any, passwords: Any, notify: Any, program: Any) -> None:
         self.engine = engine
-        self.passwords = passwords
+        self.passwords = Unlocked(passwords)
+        # which addresses may come
+        self.rules = Rules()
         self.notify = notify
         # what everybody is shown who logs on
         self.log_message = ""
@@ -176,6 +168,8 @@ class LogonServer:
         self.begun = time.monotonic()
         self.key = os.urandom(16)
         self.wrong = WrongPasswords(notify)
+        self.closings = Closings(notify)
+        self.share = Share()
         self.pending = []
         self.places = {}
         self.serving = set()
@@ -260,6 +254,7 @@ class LogonServer:
             getattr(self, f"obey_{word.lower()}")(connection, *words)
 
     def obey_give(self, connection: Any, data: Any) -> None:
+        connection.answers += not connection.user
         connection.send(read_bytes(data))
 
     def obey_back(self, connection: Any, minute: str, text: str) -> None:
@@ -342,8 +337,16 @@ class LogonServer:
 
     # --- connections ---
 
+    def take_rules(self, rules: Rules) -> None:
+        """Has these rules hold for whoever comes from now on."""
+        self.rules = rules
+        self.passwords.locked = rules.locked
+
     def come(self, connection: Any) -> bool:
         """A connection has come; whether there is a place for it."""
+        if not self.rules.lets_in(connection.address):
+            self.closings.add("the rules refuse its address", connection.address)
+            return False
         connection.place = next(
             (number for number in range(self.room) if number not in self.places), None
         )
@@ -368,6 +371,10 @@ class LogonServer:
             connection.may_send.clear()
             self.ask("CAME", connection.place, data.hex().upper())
 
+    def is_crowded(self) -> bool:
+        """Whether as many connections wait for a place as there may be strangers."""
+        return len(self.serving) - len(self.places) > MOST_STRANGERS
+
     def leave(self, connection: Any) -> None:
         """A connection has ended."""
         if connection.place is not None:
@@ -380,18 +387,34 @@ class LogonServer:
         # the installation stops by an end of all these
         try:
             with contextlib.suppress(asyncio.CancelledError, OSError):
-                is_open = self.come(connection)
+                is_open = await self.share.turn(lambda: self.come(connection))
                 while is_open:
                     await connection.may_send.wait()
-                    data = await reader.read(MOST_BYTES)
+                    data = await reader.read(USER_BYTES if connection.user else STRANGER_BYTES)
                     if not data or connection.place is None:
                         await self.answered(connection)
                         break
-                    self.receive(connection, data)
+                    is_open = await self.take(connection, data)
         finally:
             self.leave(connection)
             connection.close()
             self.serving.discard(asyncio.current_task())
+
+    async def take(self, connection: Connection, data: bytes) -> bool:
+        """Gives the desk what came at a connection; a stranger waits for his turn. Whether the connection goes on."""
+        if connection.user:
+            begun = time.monotonic()
+            self.receive(connection, data)
+            # whoever sends without an end leaves others as much time
+            await asyncio.sleep(time.monotonic() - begun)
+            return True
+        await self.share.turn(lambda: self.receive(connection, data))
+        if not connection.user and connection.answers > MOST_ANSWERS:
+            self.closings.add("too much that is no LOGON", connection.address)
+            connection.send(IS_NO_LOGON)
+            return False
+        await asyncio.sleep(0 if connection.user else SECONDS_APART)
+        return True
 
     async def answered(self, connection: Connection) -> None:
         """Waits for the answer to the last line of a connection that types no more, but may still read."""
@@ -405,8 +428,8 @@ class LogonServer:
         for connection in list(self.places.values()):
             connection.send(GOES_DOWN)
             connection.close()
-        if self.wrong.counts:
-            self.wrong.notify_all()
+        self.wrong.notify_all()
+        self.closings.notify_all()
         for task in [*self.serving, *self.tasks]:
             task.cancel()
         if self.serving:

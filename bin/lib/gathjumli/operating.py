@@ -12,9 +12,9 @@ import threading
 
 from gathjumli.host import MEGABYTE, memory_of
 from gathjumli.cli import ask_build, read_file, write_whole
-from gathjumli.ending import Ending
+from gathjumli.ending import Ending, room_trouble
 
-DONE, NOT_DONE, ENDS = range(3)
+DONE, NOT_DONE, ENDS, ENDED = range(4)
 # before all of the recording is done again
 ALWAYS = {"status", "help", "suspend"}
 MOST_SPOOL_LINES = 40
@@ -30,6 +30,7 @@ message TEXT       a line for each terminal; message USER TEXT for one user
 logmsg TEXT        a line for everybody who logs on; logmsg alone shows it, logmsg off ends it
 logon closed       nobody logs on any more, but who is on may come back; logon open ends that
 force USER         logs a user off
+reload             reads journal, certificate, passwords and rules again, as a SIGHUP does
 suspend            ends this command; the next start goes on from here
 end                if all printouts are written, ends the session: volumes are saved, the
                    recording is set aside, and the next session goes on with all machines
@@ -59,7 +60,7 @@ class Operator:
         self.ending_path = f"{installation.options['record']}.end-at"
         self.commands = {"status": self.status, "users": self.users, "spool": self.spool, "message": self.message,
                          "logmsg": self.set_log_message, "logon": self.set_logon, "force": self.force, "suspend": self.suspend, "end": self.end,
-                         "help": self.help}  # fmt: skip
+                         "reload": self.reload, "help": self.help}  # fmt: skip
 
     def read(self, loop: Any, lines: list) -> None:
         """Takes commands from a stream as they come; answers go to everybody."""
@@ -215,6 +216,12 @@ class Operator:
             raise NotDone(f"{user.name} is not on")
         self.installation.force(user, "by the operator")
 
+    def reload(self, rest: str, reply: Any) -> Any:
+        troubles = self.installation.reload.all()
+        for text in troubles or ["journal, certificate, passwords and rules are read again"]:
+            reply(text)
+        return NOT_DONE if troubles else DONE
+
     def suspend(self, rest: str, reply: Any) -> Any:
         self.notify("the installation is suspended")
         self.installation.stop()
@@ -231,6 +238,8 @@ class Operator:
         ending = Ending.LOGOFF if rest.startswith("logoff") else Ending.KEEPING
         if not rest.endswith("now"):
             self.judge_end(ending)
+        if trouble := room_trouble(self.installation.volumes, self.engine.recording.free()):
+            raise NotDone(f"the session has not ended: {trouble}")
         self.cancel()
         self.notify("the session ends")
         self.installation.stop(ending)
@@ -277,7 +286,7 @@ class Operator:
             if left > 60 * minutes:
                 findings = f"GATHJUMLI GOES DOWN IN {minutes} MINUTE{'S' * (minutes > 1)}"
                 self.ending.append(loop.call_later(left - 60 * minutes, self.announce, findings))
-        self.ending.append(loop.call_later(left, self.end, f"{how}now", self.notify))
+        self.ending.append(loop.call_later(left, self.do, f"end {how}now", self.notify))
 
     def cancel(self) -> None:
         for planned in self.ending[1:]:

@@ -3,10 +3,7 @@ from __future__ import annotations
 
 from collections.abc import Callable, Iterator
 from typing import TYPE_CHECKING, Any, NamedTuple
-import contextlib
 import glob
-import os
-import re
 import time
 
 from gathjumli.cli import FILE_FAILED, Failure, REFUSED, reason_text
@@ -25,6 +22,8 @@ from gathjumli.state_files import (
     write_state,
 )
 
+from gathjumli.strays import SESSION, forget_states
+
 if TYPE_CHECKING:
     from gathjumli.users import User
 
@@ -35,8 +34,6 @@ MOST_WAITED = 1.0
 SLOW_ONES = 2
 # between two states is so many times what people wait for one
 WAITS_APART = 50
-# the names of states, and of what was written of one before a kill
-NAME = re.compile(r"state-[0-9]+(\.new-\w+)?")
 
 
 class LastState(NamedTuple):
@@ -101,6 +98,7 @@ class States:
             self.report(f"its disk has {free // MEGABYTE} MB free")
             return False
         name = f"state-{self.recording.lines}"
+        notes = notes | {SESSION: self.recording.name()}
         try:
             digits = write_state(self.path(name), self.base(), notes, saved)
         except OSError as error:
@@ -169,12 +167,7 @@ class States:
     def forget_before(self, count: int) -> None:
         """Removes all files but those of so many last marks."""
         kept = {mark.name for mark in self.recording.states[-count:]} if count else set()
-        for path in glob.glob(glob.escape(self.path("state-")) + "*"):
-            name = path.removeprefix(self.path(""))
-            if NAME.fullmatch(name) and name not in kept:
-                # one that stays hinders nobody
-                with contextlib.suppress(OSError):
-                    os.unlink(path)
+        forget_states(self.recording.path, kept)
 
     # --- going on ---
 

@@ -6,14 +6,6 @@ import ssl
 
 from gathjumli.cli import FILE_FAILED, Failure, UsageError
 
-# who does not come to an end of a handshake goes
-SECONDS_FOR_A_HANDSHAKE = 10
-
-
-def how(context: Any) -> dict:
-    """The words of a server for its encryption."""
-    return {"ssl": context, "ssl_handshake_timeout": SECONDS_FOR_A_HANDSHAKE} if context else {}
-
 
 def tls_of(certificate: Any, key: Any) -> Any:
     """The context of connections that are encrypted, or None."""
@@ -23,10 +15,17 @@ def tls_of(certificate: Any, key: Any) -> Any:
         return None
     context = ssl.SSLContext(ssl.PROTOCOL_TLS_SERVER)
     context.minimum_version = ssl.TLSVersion.TLSv1_2
+    load_certificate(context, certificate, key)
+    return context
+
+
+def load_certificate(context: ssl.SSLContext, certificate: str, key: str) -> None:
+    """Has the next handshakes of a context use the certificate and key of these files, or leaves it as it was."""
     try:
-        context.load_cert_chain(certificate, key)
+        # a pair that does not fit would leave the context with half of it
+        for found in (ssl.SSLContext(ssl.PROTOCOL_TLS_SERVER), context):
+            found.load_cert_chain(certificate, key)
     except (OSError, ssl.SSLError) as error:
         raise Failure(
             FILE_FAILED, f"{certificate}, {key}: {error.strerror or error.reason}"
         ) from None
-    return context

@@ -5,28 +5,25 @@ from __future__ import annotations
 from typing import Any
 import asyncio
 import collections
+import functools
 import json
 import logging
-import resource
 
 from websockets.exceptions import ConnectionClosed
-from websockets.legacy.server import WebSocketServerProtocol, serve
+from websockets.legacy.server import WebSocketServer, WebSocketServerProtocol
 
 from gathjumli.minidisks import Minidisks
 from gathjumli.web_operator import OperatorPage, OperatorPages
 from gathjumli.web_requests import HEADERS, USER_SOCKET, answer_to, read_files
 from gathjumli.web_pages import Outbox, Pages, Rate
-from gathjumli.cli import FILE_FAILED, Failure
-from gathjumli.tls import how
+from gathjumli.listening import Door, address_socket
 
 # a connection that asks for nothing goes after so many seconds; of too many that nobody has logged on at one goes
 SECONDS_TO_ASK = 10
 MOST_CONNECTIONS = 512
 MOST_MESSAGE = 3 << 14
-# files and connections that the command may have open
-MOST_OPEN = 1 << 13
 LIMITS = {"max_size": MOST_MESSAGE, "max_queue": 2, "read_limit": 1 << 16, "write_limit": 1 << 16, "ping_interval": 20, "ping_timeout": 20,
-          "close_timeout": 2, "compression": None, "server_header": None}  # fmt: skip
+          "close_timeout": 2, "server_header": None}  # fmt: skip
 WRONG_MESSAGE = 1008
 
 
@@ -91,22 +88,13 @@ class Web:
         self.tasks = [loop.create_task(pages.watch()) for pages in (self.pages, self.operators)]
 
     async def listen(self, where: Any) -> None:
-        address, _, port = where.rpartition(":")
         logger = logging.Logger("web", logging.CRITICAL + 1)
         kind = type("OwnConnection", (Connection,), {"crowd": self.crowd})
-        more = {
-            "create_protocol": kind,
-            "process_request": self.answer,
-            "logger": logger,
-            "backlog": 512,
-            **LIMITS,
-            **how(self.tls),
-        }
-        allow_more_files()
-        try:
-            self.server = await serve(self.serve, address.strip("[]"), int(port), **more)
-        except OSError as error:
-            raise Failure(FILE_FAILED, f"{where}: {error.strerror}") from None
+        self.server = WebSocketServer(logger=logger)
+        words = {"process_request": self.answer, "logger": logger, "secure": bool(self.tls)}
+        factory = functools.partial(kind, self.serve, self.server, **words, **LIMITS)
+        notify = self.installation.notify
+        self.server.wrap(Door(address_socket(where), factory, self.tls, notify))
         scheme = "https" if self.tls else "http"
         self.installation.notify(
             f"pages are at {scheme}://{where}/, the operator's at /operator with the token in {self.operators.path}"
@@ -193,14 +181,6 @@ class Web:
             task.cancel()
         self.server.close()
         await self.server.wait_closed()
-
-
-def allow_more_files() -> None:
-    """Has the host allow so many files that a flood of connections leaves some for others."""
-    soft, hard = resource.getrlimit(resource.RLIMIT_NOFILE)
-    most = MOST_OPEN if hard == resource.RLIM_INFINITY else min(MOST_OPEN, hard)
-    if soft != resource.RLIM_INFINITY and soft < most:
-        resource.setrlimit(resource.RLIMIT_NOFILE, (most, hard))
 
 
 async def received(connection: Any) -> Any:

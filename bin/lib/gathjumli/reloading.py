@@ -1,0 +1,68 @@
+"""What an installation reads again while it goes on: the journal's file, the certificate, the passwords and the rules. What cannot be
+read stays as it was."""
+from __future__ import annotations
+
+from collections.abc import Callable
+from typing import Any
+
+from gathjumli.cli import Failure, REFUSED, reason_text
+from gathjumli.host import MEGABYTE
+from gathjumli.logon import Passwords
+from gathjumli.recording import read_whole, without_passwords
+from gathjumli.rules import Rules, read_rules
+from gathjumli.tls import load_certificate
+
+
+class Reload:
+    """What is read again, and where it goes."""
+
+    def __init__(self, installation: Any, passwords: Any, read_users: Callable[[], dict]) -> None:
+        self.installation = installation
+        self.passwords = passwords
+        self.read_users = read_users
+        self.stated = without_passwords(read_whole(installation.directory))
+        self.path = f"{installation.options['record']}.rules"
+        # as the options have them
+        self.limits = installation.limits
+        self.take_rules()
+
+    def all(self) -> list[str]:
+        """Reads all again; what could not be read."""
+        steps = {"journal": self.installation.journal.reopen, "certificate": self.take_certificate,
+                 "passwords": self.take_passwords, "rules": self.take_rules}  # fmt: skip
+        troubles = []
+        for what, step in steps.items():
+            try:
+                step()
+            except (Failure, OSError) as reason:
+                troubles.append(f"{what} not read again: {reason_text(reason)}")
+        return troubles
+
+    def do(self) -> None:
+        """Reads all again, and has the journal say how that ended."""
+        for text in self.all() or ["journal, certificate, passwords and rules are read again"]:
+            self.installation.notify(text)
+
+    def take_certificate(self) -> None:
+        options = self.installation.options
+        if options["tls"]:
+            load_certificate(options["tls"], options["certificate"], options["key"])
+
+    def take_passwords(self) -> None:
+        if not isinstance(self.passwords, Passwords):
+            if trouble := self.passwords.read():
+                raise Failure(REFUSED, trouble)
+            return
+        directory = self.installation.directory
+        if without_passwords(read_whole(directory)) != self.stated:
+            raise Failure(REFUSED, f"{directory} has other changes than passwords")
+        self.passwords.take(self.read_users())
+
+    def take_rules(self) -> None:
+        rules: Rules = read_rules(self.path)
+        installation = self.installation
+        installation.limits = self.limits._replace(
+            user=rules.quota * MEGABYTE if rules.quota else self.limits.user,
+            memory=rules.memory * MEGABYTE if rules.memory else self.limits.memory,
+        )
+        installation.desk.take_rules(rules)
