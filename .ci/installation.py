@@ -314,8 +314,11 @@ class StandIn:
         sys.stdout.flush()
 
     def restore(self) -> None:
-        """Takes the bytes of a state."""
+        """Takes the bytes of a state, or has no memory for it while there is the file that PEOPLE_NO_MEMORY names."""
         size = int(sys.stdin.buffer.readline())
+        if os.path.exists(os.environ.get("PEOPLE_NO_MEMORY", "")):
+            sys.stderr.write("fault: memory Memory\n")
+            sys.exit(4)
         try:
             self.users, self.files = json.loads(sys.stdin.buffer.read(size))
         except ValueError:
@@ -350,6 +353,9 @@ def stand_in(words: list[str]) -> None:
         findings = ["> REFUSED 1"] if findings is None else [*findings, "> DONE"]
         sys.stdout.write("\n".join(findings) + "\n")
         sys.stdout.flush()
+    if size == b"END\n" and os.environ.get("PEOPLE_SAVES") == "fails":
+        sys.stderr.write("fault: file Device 1\n")
+        sys.exit(3)
     if size == b"END\n" and "--save" in words:
         for path in paths[1:]:
             with open(f"{path}.new", "x") as file:

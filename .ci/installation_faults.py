@@ -132,6 +132,37 @@ def try_removed_deck(check: Callable, folder: str) -> None:
     check("a file that is removed while it is read in", holds, *findings)
 
 
+def try_deceiving_names(check: Callable, site: object) -> None:
+    """Names of users' files forge no line for the operators or the journal, move no cursor, and end no command."""
+    alice = f"{site.folder}/decks/ALICE"
+    os.makedirs(alice)
+    names = [
+        "a\n=16:40:00 5 wrong passwords for ROOT",
+        "b\n+16:40:00 forged",
+        "c\x1b[2Jd",
+        "y\n.0\nz",
+        "e\u202ef",
+        "g\udcffh",
+    ]
+    for name in names:
+        write(f"{alice}/{name}", "CARD\n")
+    words = ["--decks", f"{site.folder}/decks", "--journal", f"{site.folder}/journal"]
+    site.online(*words, "--operate", f"{site.folder}/operator")
+    command = [site.command.replace("/installation", "/operator"), f"{site.folder}/operator"]
+    operator = subprocess.Popen(command, stdin=subprocess.PIPE, stdout=subprocess.PIPE)
+    is_told = all(site.await_message(f"deck {text} for ALICE: read in") for text in ("a?=16:40:00 5 wrong passwords for ROOT",
+                  "b?+16:40:00 forged", "c?[2Jd", "y?.0?z", "e?f", "g?h"))  # fmt: skip
+    check("each name is one line", is_told, *site.findings)
+    answer = subprocess.run([*command, "users"], capture_output=True, text=True)
+    check("a command is answered meanwhile", answer.returncode == 0 and "0 on" in answer.stdout)
+    check("it is suspended", site.stop() == 0)
+    seen = operator.communicate()[0] + read(f"{site.folder}/journal")
+    lines = [
+        line for line in seen.decode().splitlines() if not re.match("[-0-9: ]{8,19} [^0-9]", line)
+    ]
+    check("no line is forged", not lines and b"\x1b" not in seen, *lines)
+
+
 # --- connections ---
 
 
@@ -619,3 +650,4 @@ def try_faults(check: Callable, command: str, program: str, folder: str) -> None
     try_volumes(check, make_site(command, f"{folder}/volumes"))
     try_listing(check, make_site(command, f"{folder}/listing"))
     try_decks(check, make_site(command, f"{folder}/folders of decks"))
+    try_deceiving_names(check, make_site(command, f"{folder}/names"))

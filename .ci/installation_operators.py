@@ -20,6 +20,7 @@ from installation import (
     person,
     read,
     run,
+    until_so,
     write_text as write,
 )
 
@@ -172,13 +173,113 @@ def try_limits(check: Callable, site: object) -> None:
     check("it is an event like any other", read(site.record).count(b"LINE ALICE #CP LOGOFF\n") == 1)
 
     async def stay() -> object:
-        return (await (await on(site)).rest())[-2:]
+        alice = await on(site)
+        alice.type("BEGIN 100")
+        while not (await alice.line()).startswith(
+            "YOUR MACHINE IS STOPPED, AND YOUR FILES ARE CLOSED"
+        ):
+            pass
+        await until_so(lambda: b"LINE ALICE #CP CLOSE 00E" in read(site.record))
+        alice.type("DISPLAY G1", "LOGOFF")
+        return (await alice.rest())[-1:]
 
     site.online("--memory", "1")
     shown = run(stay())
-    holds = shown[0].startswith("YOU ARE LOGGED OFF: THERE IS NO MORE MEMORY")
-    check("so is one while the program has too much memory", holds, *shown)
+    check(
+        "while the program has too much memory a machine is stopped", shown == ["LOGOFF OK"], *shown
+    )
     check("it is suspended again", site.stop() == 0)
+    recording = read(site.record)
+    check(
+        "but its user is not logged off",
+        b"ALICE #CP LOGOFF" not in recording.partition(b"#CP CLOSE")[2],
+    )
+    check(
+        "nor are files lost",
+        all(b"LINE ALICE #CP CLOSE %s\n" % item in recording for item in (b"00D", b"00E")),
+    )
+
+
+class SomeMachines:
+    """An engine whose program has memory as users' machines print, and its installation."""
+
+    def __init__(self, printing: dict[str, int], is_freed: bool) -> None:
+        from gathjumli.limits import Limits, Watch
+        from gathjumli.users import User
+
+        self.users = {name: User(name) for name in ("A", "B", "C", "D", "E", "F")}
+        self.printing, self.is_freed = printing, is_freed
+        self.held = dict.fromkeys(self.users, 0)
+        self.engine = self.machines = self
+        self.devices = {name: {"00E": "printer", "009": "console"} for name in self.users}
+        self.is_saving = False
+        self.lines, self.forced, self.findings = [], [], []
+        self.limits = Limits(256 << 20, 60 << 20)
+        for user in self.users.values():
+            user.is_on = True
+            user.is_running = user.name in printing
+        self.watch = Watch(self)
+
+    notify = property(lambda self: self.findings.append)
+
+    def is_person(self, user: object) -> bool:
+        return True
+
+    def memory(self) -> int:
+        return (10 << 20) + sum(self.held.values())
+
+    async def give(self, part: object) -> None:
+        name, text = part.typed[0]
+        self.lines.append(f"{name} {text}")
+        if text == "#CP":
+            self.users[name].is_running = False
+        elif self.is_freed:
+            self.held[name] = 0
+
+    def force(self, user: object, reason: str) -> None:
+        self.forced.append(user.name)
+        user.is_forced = True
+
+    async def second(self) -> None:
+        """A second in which machines print, and B and C type."""
+        for name, count in self.printing.items():
+            if self.users[name].is_running:
+                self.held[name] += count << 20
+        for name in ("B", "C"):
+            self.users[name].written += 900
+        self.watch.look_at_users()
+        self.watch.look_at_memory()
+        await asyncio.sleep(0)
+        await asyncio.sleep(0)
+
+
+# whose machines take how many megabytes a second, whether a close frees them, and whether the first begins again each time; who is stopped
+# and who is logged off in thirty seconds
+RELIEFS = {
+    "one who prints": (({"A": 3}, True, False), ["A"], []),
+    "one who prints, and others who compute": (({"A": 3, "D": 0, "E": 0}, True, False), ["A"], []),
+    "one whose files stay": (({"A": 3}, False, False), ["A"], []),
+    "one who begins again": (({"A": 3}, False, True), ["A"], ["A"]),
+}
+
+
+def try_relief(check: Callable) -> None:
+    """At the bound of memory the one who took it is stopped, and logged off only if he goes on; nobody else is, whoever types."""
+
+    async def tried(printing: dict[str, int], is_freed: bool, is_stubborn: bool) -> tuple:
+        some = SomeMachines(printing, is_freed)
+        for _ in range(30):
+            await some.second()
+            some.users["A"].is_running |= is_stubborn and not some.users["A"].is_forced
+        stopped = [line.split()[0] for line in some.lines if line.endswith("#CP")]
+        return sorted(set(stopped)), sorted(set(some.forced)), some.lines
+
+    for what, (given, stopped, forced) in RELIEFS.items():
+        found = run(tried(*given))
+        # others whose machines run may be stopped before him, since nobody says who has the memory
+        holds = "A" in found[0] and set(found[0]) <= set(given[0]) and found[1] == forced
+        holds = holds and (found[0] == stopped or len(given[0]) > 1)
+        check(f"memory of {what}", holds, *map(str, found))
 
 
 def try_waiting_printout(check: Callable, site: object) -> None:
@@ -398,11 +499,45 @@ def try_small_faults(check: Callable, site: object) -> None:
     check("a recording that is a link is set aside where it is", holds, *kept)
 
 
+def try_failed_end(check: Callable, site: object) -> None:
+    """An end without room is refused with the reason, and one that fails later has another status than one that ends well."""
+    volume = f"{site.folder}/volume"
+    write(volume, "AS IT WAS\n")
+    site.paths.append(volume)
+    operate = ["--operate", f"{site.folder}/operator"]
+    site.online(*operate)
+    run(logged_on(site, "ALICE", "WONDER"))
+    disk = os.statvfs(site.folder)
+    # a file of which nothing is on the disk
+    os.truncate(volume, disk.f_bavail * disk.f_frsize + (1 << 31))
+    for words in (("end",), ("end", "now"), ("end", "logoff", "now")):
+        refused = operator(site, *words)
+        holds = refused.returncode == 1 and "the disk is full: it has " in refused.stdout
+        check(f"{' '.join(words)} without room", holds, refused.stdout, refused.stderr)
+    write(volume, "AS IT WAS\n")
+    answer = run(logged_on(site, "ALICE", "WONDER"))
+    check("the session goes on", answer == "RECONNECTED", answer, *site.findings)
+    check("it is suspended", operator(site, "suspend").returncode == 0 and site.ended() == 0)
+    os.environ["PEOPLE_SAVES"] = "fails"
+    site.online(*operate)
+    failed = operator(site, "end")
+    del os.environ["PEOPLE_SAVES"]
+    holds = failed.returncode == 3 and "not as it was asked to" in failed.stderr
+    check("an end that fails", holds, failed.stdout, failed.stderr)
+    holds = "the session has not ended: a volume is not saved" in failed.stdout
+    check("the reason is said", holds and site.ended() == 3, failed.stdout, *site.findings)
+    site.online(*operate)
+    check("the next start ends it, and the next session begins", site.stop() == 0, *site.findings)
+    check("volumes are saved", read(volume) == b"SAVED\n", *site.findings)
+
+
 def try_operating(check: Callable, command: str, folder: str) -> None:
     """All that is tried in seconds, over a stand-in for the program."""
     os.makedirs(folder)
     try_unit(check, folder)
+    try_relief(check)
     try_operators(check, make_site(command, f"{folder}/operators"))
+    try_failed_end(check, make_site(command, f"{folder}/failed end"))
     try_limits(check, make_site(command, f"{folder}/limits"))
     try_waiting_printout(check, make_site(command, f"{folder}/waiting"))
     try_commands(check, make_site(command, f"{folder}/commands"))

@@ -156,6 +156,13 @@ async def stored(site: Site, value: int) -> None:
     alice.go()
 
 
+async def typed_last(site: Site) -> None:
+    """Somebody types a line, at which the installation ends."""
+    alice = await on(site)
+    alice.type("DISPLAY G1")
+    await alice.rest()
+
+
 async def shown(site: Site) -> list[str]:
     """What somebody who appears back sees, and what the register has."""
     alice = await on(site)
@@ -333,12 +340,7 @@ def try_replaced(check: Check, site: Site, program: str) -> None:
     os.replace(f"{program}.other", program)
     os.kill(site.program(), signal.SIGKILL)
 
-    async def types() -> None:
-        alice = await on(site)
-        alice.type("DISPLAY G1")
-        await alice.rest()
-
-    run(types())
+    run(typed_last(site))
     holds = site.ended() == 1 and "was replaced during the session" in site.since_start()
     write(program, before)
     check("a program that was replaced", holds, *site.findings)
@@ -357,6 +359,48 @@ def try_unread(check: Check, site: Site) -> None:
     holds = "is not taken" in site.since_start() and value_in(run(shown(site))) == 1
     check("a state at which the program ends", holds and not begun_with(site), *site.findings)
     os.environ["PEOPLE_STEP"] = ""
+    check("it is suspended", site.stop() == 0, *site.findings)
+
+
+def try_no_memory(check: Check, site: Site) -> None:
+    """A program that is refused memory while it takes a state ends the installation, which keeps all states."""
+    no_memory = os.environ["PEOPLE_NO_MEMORY"] = f"{site.folder}/no-memory"
+
+    def is_reported(path: str) -> bool:
+        """Whether it has ended with the fault's status, and blamed the memory and not the state."""
+        has_ended = site.await_message("the host is out of memory") and site.ended() == 4
+        found = site.since_start()
+        is_told = f"{path} is not read: the host is out of memory" in found
+        return has_ended and is_told and "is not taken" not in found and "is lost" not in found
+
+    def ends(what: str, path: str) -> None:
+        """A start without memory ends, and one with memory goes on from the state."""
+        before = names_in(site.folder), read(path)
+        write_text(no_memory, "")
+        site.start()
+        holds = is_reported(path) and "fault: memory Memory" in site.since_start()
+        check(f"{what}: the fault is reported", holds, *site.findings)
+        os.unlink(no_memory)
+        names = [name for name in names_in(site.folder) if ".ending-" not in name]
+        check(f"{what}: all files stay", (names, read(path)) == before, *names)
+        site.online()
+        holds = value_in(run(shown(site))) == 2 and begun_with(site) == path
+        check(f"{what}: with memory it goes on", holds, *site.findings)
+
+    for value in (1, 2):
+        site.online()
+        run(stored(site, value))
+        check("it is suspended", site.stop() == 0, *site.findings)
+    ends("no memory for the last state", last_state(site))
+    write_text(no_memory, "")
+    os.kill(site.program(), signal.SIGKILL)
+    run(typed_last(site))
+    check("a program that is started again", is_reported(last_state(site)), *site.findings)
+    os.unlink(no_memory)
+    site.online()
+    site.operate("end now")
+    check("it ends", site.ended() == 0, *site.findings)
+    ends("no memory for the first state", f"{site.record}.begin")
     check("it is suspended", site.stop() == 0, *site.findings)
 
 
@@ -824,6 +868,7 @@ def try_states(check: Check, command: str, program: str, folder: str) -> None:
     try_seconds(check, make_site(command, f"{folder}/seconds"))
     try_wrong_states(check, make_site(command, f"{folder}/wrong"))
     try_other_files(check, make_site(command, f"{folder}/others"))
+    try_no_memory(check, make_site(command, f"{folder}/no memory"))
     try_ending(check, make_site(command, f"{folder}/ending"))
     try_kept_machines(check, make_site(command, f"{folder}/kept"), program)
     repository = os.path.dirname(os.path.dirname(command))

@@ -190,6 +190,19 @@ class Browser:
         return findings + await self.findings()
 
 
+    async def log_off(self) -> object:
+        """Logs off; all that the browser is reported until nobody is on."""
+        findings, until = (
+            await self.send({"is": "line", "text": "logoff"}),
+            time.monotonic() + 5,
+        )
+        # the line of one who has just logged on is read a moment later
+        while self.page.user() and time.monotonic() < until:
+            await asyncio.sleep(0.01)
+            findings += await self.findings()
+        return findings + await self.findings()
+
+
 # what somebody is shown who has logged on, or may not
 ANSWERED = {"LOGON OK", "LOGOFF OK", "RECONNECTED", "LOGON REFUSED"}
 
@@ -295,8 +308,7 @@ async def try_messages(check: Callable, folder: str) -> None:
             f"{name} of nobody", refusals(await browser.send(OBEYED[name][0])) == ["NOT LOGGED ON"]
         )
         await browser.log_on()
-        await browser.send({"is": "line", "text": "logoff"})
-        await browser.findings()
+        await browser.log_off()
         findings = await browser.send(OBEYED[name][0])
         check(
             f"{name} after LOGOFF",
@@ -403,8 +415,7 @@ async def try_coming_back(check: Callable, folder: str) -> None:
     check("and sees nothing twice", numbers == [3, 4], *map(str, numbers))
     await again.send({"is": "seen", "number": 4})
     check("what was seen is not kept", not page.lines and page.size == 0)
-    await again.send({"is": "line", "text": "logoff"})
-    await again.findings()
+    await again.log_off()
     check("after LOGOFF nobody comes back", Browser(house, words).page is not page)
     page.detach()
     check(

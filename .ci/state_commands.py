@@ -6,12 +6,19 @@ import os
 import subprocess
 
 from broken import example
-from installation import read, write
+from installation import image_of, read, write
 
 Check = Callable[..., None]
 
 # examples of disks, pages and decks, and at which part each is broken off
 EXAMPLES = {"two-on-a-volume": 5, "more-pages-than-frames": 9, "decks-for-three": 4}
+# a user with a minidisk on each of two volumes of one cylinder
+TWO_VOLUMES = """\
+USER A PW 8K
+MDISK 190 3330 0 1 VOLA W
+USER B PW 8K
+MDISK 190 3330 0 1 VOLB W
+"""
 # what is typed at a terminal, and what is shown at the end
 TYPED = """\
 LOGON
@@ -206,10 +213,62 @@ def refuse_words(check: Check, program: str, one_machine: str, folder: str) -> N
         "a state that is cut": ([program, "--follow", f"{folder}/directory"], b"STATE\n9\nx", 3, b"", b"fault: file Device 1\n"),
         "a state without a size": ([program, "--follow", f"{folder}/directory"], b"STATE\nx\n", 3, b"", b"fault: file Device 1\n"),
     }  # fmt: skip
-    for what, (words, given, status, out, errors) in cases.items():
-        found = subprocess.run(words, input=given, capture_output=True)
-        holds = (found.returncode, found.stdout, found.stderr) == (status, out, errors)
-        check(what, holds, *findings_of(found))
+    for what, (words, given, *wanted) in cases.items():
+        found = asked(words, given)
+        check(what, found == tuple(wanted), *found)
+
+
+def asked(words: list[str], given: bytes) -> tuple[int, bytes, bytes]:
+    """The status, the output and the errors of a program that is given these requests."""
+    found = subprocess.run(words, input=given, capture_output=True)
+    return found.returncode, found.stdout, found.stderr
+
+
+def saved_state(words: list[str]) -> bytes:
+    """The state with which a program begins."""
+    _, out, _ = asked(words, b"SAVE\nEND\n")
+    return out[out.index(b"\n") + 1 : -len(b"> DONE\n")]
+
+
+def refuse_volumes(check: Check, program: str, folder: str) -> None:
+    """A state is of its volumes in their order: others of the same sizes are refused."""
+    os.makedirs(folder)
+    write(f"{folder}/directory", TWO_VOLUMES.encode())
+    write(f"{folder}/none", b"USER A PW 8K\n")
+    for serial in ("VOLA", "VOLB", "VOLC"):
+        write(f"{folder}/{serial}", image_of(serial, 2))
+    refused = (1, b"", b"fault: state Refused\n")
+    cases = {
+        "a state over its volumes": ("directory", "VOLA VOLB", "VOLA VOLB", (0, b"> DONE\n", b"")),
+        "a state over exchanged volumes": ("directory", "VOLA VOLB", "VOLB VOLA", refused),
+        "a state with another spare volume": ("directory", "VOLA VOLB", "VOLA VOLB VOLC", refused),
+        "a state over exchanged spare volumes": ("none", "VOLA VOLB", "VOLB VOLA", refused),
+        "a state over another serial number": ("none", "VOLA", "VOLC", refused),
+    }
+    for what, (directory, before, after, wanted) in cases.items():
+        command = [program, "--follow", f"{folder}/{directory}"]
+        state = saved_state(command + [f"{folder}/{serial}" for serial in before.split()])
+        words = command + [f"{folder}/{serial}" for serial in after.split()]
+        found = asked(words, b"STATE\n%d\n%sEND\n" % (len(state), state))
+        check(what, found == wanted, *found)
+
+
+def refuse_long_sizes(check: Check, program: str, folder: str) -> None:
+    """A size has at most nine digits, of a state and of a part."""
+    write(f"{folder}/directory", b"USER A PW 8K\n")
+    words = [program, "--follow", f"{folder}/directory"]
+    state, line = saved_state(words), b"LINE A LOGON\n"
+    done, failed = b"> DONE\n", b"fault: file Device 1\n"
+    logged_on = b"A: LOGON OK\n> ON A\n" + done
+    cases = {
+        "a state with a size of nine digits": (b"STATE\n%09d\n%s", state, (0, done, b"")),
+        "a state with a size of ten digits": (b"STATE\n%010d\n%s", state, (3, b"", failed)),
+        "a part with a size of nine digits": (b"%09d\n%s", line, (0, logged_on, b"")),
+        "a part with a size of ten digits": (b"%010d\n%s", line, (3, b"", failed)),
+    }
+    for what, (request, data, wanted) in cases.items():
+        found = asked(words, request % (len(data), data) + b"END\n")
+        check(what, found == wanted, *found)
 
 
 def try_commands(check: Check, repository: str, programs: tuple[str, str], folder: str) -> None:
@@ -220,3 +279,5 @@ def try_commands(check: Check, repository: str, programs: tuple[str, str], folde
     refuse_states(check, f"{repository}/bin/vm370", f"{folder}/refused")
     type_states(check, repository, f"{folder}/typed")
     refuse_words(check, *programs, folder)
+    refuse_volumes(check, programs[0], f"{folder}/volumes")
+    refuse_long_sizes(check, programs[0], folder)

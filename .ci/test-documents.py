@@ -13,7 +13,7 @@ import sys
 
 TOP = pathlib.Path(__file__).resolve().parent.parent
 # of the pages of docs/, without README.md
-MOST_WORDS = 16000
+MOST_WORDS = 19000
 
 # words between backticks that stand in no source: of the kit, of other programs, and placeholders
 OTHER_WORDS = set(

@@ -34,7 +34,10 @@ import desk
 import installation
 import installation_faults
 import installation_operators
+import installation_reload
 import installation_states
+import installation_strangers
+import installation_strays
 import page_tables
 import state_commands
 import typed_lines
@@ -939,11 +942,17 @@ def test_installation(repository: str, work: str) -> None:
     Done(repository, "vm370", "--", f"{work}/directory", f"{work}/nothing")
     installation.try_typed(check, desk.answers)
     desk.try_honest(check)
+    desk.try_class(check)
     installation.try_all(check, repository, f"{work}/sites", is_stand_in=True)
     program = f"{repository}/crates/vm370_cli/out/vm370_cli"
     installation_faults.try_faults(
         check, f"{repository}/bin/installation", program, f"{work}/faults"
     )
+    installation_strangers.try_strangers(
+        check, f"{repository}/bin/installation", f"{work}/strangers"
+    )
+    installation_reload.try_reloading(check, f"{repository}/bin/installation", f"{work}/reload")
+    installation_strays.try_strays(check, f"{repository}/bin/installation", f"{work}/strays")
     installation_operators.try_operating(
         check, f"{repository}/bin/installation", f"{work}/operators"
     )
@@ -1297,6 +1306,7 @@ def try_over_programs(repository: str, folder: str) -> None:
         check, installation.make_site(command, f"{folder}/commands")
     )
     installation_states.try_over_program(check, command, program, f"{folder}/states")
+    installation_strangers.try_floods(check, installation.make_site(command, f"{folder}/floods"))
 
 
 def try_states(repository: str, folder: str) -> None:
@@ -1323,6 +1333,7 @@ def main() -> None:
         program = f"{TOP}/crates/logon_desk_cli/out/logon_desk_cli"
         desk.try_program(check, program)
         desk.try_honest(check, program)
+        desk.try_class(check, program)
         installation.try_typed(check, desk.reported_by(program))
         repository = make_repository(folder.name, BUILT)
         installation.try_all(check, repository, f"{folder.name}/sites", is_stand_in=False)

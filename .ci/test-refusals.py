@@ -20,17 +20,24 @@ sys.dont_write_bytecode = True
 TOP = os.path.dirname(os.path.dirname(os.path.realpath(__file__)))
 sys.path.insert(0, f"{TOP}/.ci")
 import desk
+import refused_states
 
 SOURCE = f"{TOP}/.ci/refusals/refusing.c"
 EXAMPLES = f"{TOP}/examples/users"
 BARE_EXAMPLES = f"{TOP}/examples/machines"
 SESSIONS = f"{TOP}/.ci/transcripts"
-PROGRAMS = ["vm370_cli", "bare370_cli", "volume_cli", "logon_desk_cli"]
+PROGRAMS = ["vm370_cli", "bare370_cli", "volume_cli", "logon_desk_cli", "frame_map"]
 # what happens at the logon desk, of which most lines are drawn
 DESK_LINES = 150
 # a run of a program takes some milliseconds
 SECONDS = 60
 HEADS = 19
+# of the allocations of a state so many are refused, and by a command in Python, which takes longer, so many
+MOST_REFUSED, MOST_COMMANDS = 500, 16
+# runs the program that it names, whose host alone refuses something
+REFUSED_PROGRAM = """#!/bin/sh
+LD_PRELOAD="$LIBRARY" REFUSE="$REFUSED" exec "$PROGRAM" "$@"
+"""
 
 passed = failed = 0
 counts = {}
@@ -105,6 +112,7 @@ class Case:
         files: list,
         findings: object,
         ended: object = None,
+        given: bytes = b"",
     ) -> None:
         self.name, self.program, self.words, self.files, self.findings = (
             name,
@@ -113,6 +121,8 @@ class Case:
             files,
             findings,
         )
+        # what it reads from standard input
+        self.given = given
         # the written files in the order in which they are written, with what each is at the end
         self.ended = ended or {}
 
@@ -180,6 +190,28 @@ def in_the_way(case: object) -> object:
     case.name = "written over: " + case.name
     case.files |= {f"{item}.new": b"in the way" for item in case.ended}
     return case
+
+
+def shorter_case() -> object:
+    """An image that gets shorter, since a record is written on a track where longer ones were, and is written over the old one."""
+    script = b"""\
+LINE A LOGON
+LINE A STORE 48 00000800
+LINE A STORE 800 39000840600000040800080000000000
+LINE A STORE 810 1D00085000000009
+LINE A STORE 850 0000000001000001C1
+LINE A STORE 100 9C000190
+LINE A STORE PSW 00000000 00000100
+LINE A BEGIN
+RUN A 1
+SERVE A 190
+"""
+    findings = b"A: LOGON OK\n" + b"A: STORED\n" * 6 + b"= A 1 COUNT\n= A SERVED 190\n"
+    longer = b"REC 0 0 0000000001 - C1C2C3C4\nREC 0 0 0000000002 - %s\n" % (b"C5" * 200)
+    volume, directory = b"VOLUME SHORT 1\n", b"USER A PW 8K\nMDISK 190 3330 0 1 SHORT W\n"
+    ended = volume + b"REC 0 0 0000000001 - C1\n"
+    case = user_case("a shorter image", directory, script, findings, [volume + longer], [ended])
+    return in_the_way(case)
 
 
 def long_case() -> object:
@@ -260,8 +292,9 @@ class Host:
                 "capture_output": True,
                 "timeout": SECONDS,
                 "close_fds": False,
+                "input": case.given,
             }
-            ended = Ended(subprocess.run(words, stdin=subprocess.DEVNULL, **how))
+            ended = Ended(subprocess.run(words, **how))
         except subprocess.TimeoutExpired:
             ended = Ended(subprocess.CompletedProcess(words, "hangs", b"", b""))
         ended.files = {item: read(f"{folder}/{item}") for item in os.listdir(folder)}
@@ -390,6 +423,15 @@ def test_case(host: object, pool: object, case: object) -> None:
     fail_files(host, pool, case, whole.report[1])
 
 
+def test_shorter(host: Host, pool: ThreadPoolExecutor) -> None:
+    """An image that is written over a longer one is cut, whichever call of a file fails."""
+    case = shorter_case()
+    whole = host.run(case, report=True)
+    is_cut = is_ordinary(case, whole) and len(case.ended["SHORT"]) < len(case.files["SHORT"])
+    check(f"{case.name}: its answer", is_cut, *whole.findings())
+    fail_files(host, pool, case, whole.report[1])
+
+
 def refuse_memory(host: object, pool: object, case: object, allocations: object) -> None:
     """Each allocation once, and then some with all that follow."""
     memory = lambda at, ended: judged(case, ended, MEMORY, 4, True)
@@ -476,6 +518,122 @@ def desk_fault(case: Case, ended: Ended) -> str | None:
     if not isinstance(ended.status, int) or ended.status < 0:
         return "it was ended by a signal"
     return None if case.findings.startswith(ended.out) else "it has written something else"
+
+
+# --- states ---
+
+
+def saved_after(host: Host, requests: bytes) -> tuple[bytes, bytes]:
+    """What a session that nothing interrupts answers to requests of which the last is SAVE, and the state in it."""
+    ended = host.run(follow_case("", requests, b""))
+    assert ended.status == 0, ended.findings()
+    place = ended.out.index(b"> STATE ")
+    size, _, state = ended.out[place:].partition(b"\n")
+    return ended.out[place:], state[: int(size.split()[2])]
+
+
+def follow_case(name: str, requests: bytes, findings: bytes) -> Case:
+    """Users over their volumes who are given requests."""
+    images = {serial: image_of(text) for serial, text in refused_states.VOLUMES.items()}
+    files = {"directory": refused_states.DIRECTORY} | images
+    words = [*refused_states.SIZES, "--follow", "directory", *images]
+    return Case(name, "vm370_cli", words, files, findings, given=requests + b"END\n")
+
+
+def map_of_state(host: Host, state: bytes) -> Case:
+    """The map of frames after a script from a state, which is that after the whole script."""
+    files = follow_case("", b"", b"").files
+    words = [*refused_states.SIZES, "directory", "script", *refused_states.VOLUMES]
+    whole = files | {"script": refused_states.BEFORE + refused_states.AFTER}
+    findings = host.run(Case("", "frame_map", words, whole, b"")).out
+    files |= {"state": state, "script": refused_states.AFTER}
+    words = ["--state", "state", *words]
+    return Case("framemap from a state", "frame_map", words, files, findings)
+
+
+def state_cases(host: Host) -> list[Case]:
+    """A part from a state, the same with a state that is saved then, and a map from a state."""
+    before, after = (
+        refused_states.part(text) for text in (refused_states.BEFORE, refused_states.AFTER)
+    )
+    _, state = saved_after(host, before + b"SAVE\n")
+    saved, _ = saved_after(host, before + after + b"SAVE\n")
+    requests = refused_states.begun_from(state) + after
+    return [
+        follow_case("a state", requests, refused_states.ANSWER),
+        follow_case(
+            "a state, and another one", requests + b"SAVE\n", refused_states.ANSWER + saved
+        ),
+        map_of_state(host, state),
+    ]
+
+
+def spread(total: int, most: int) -> list[tuple[int, int]]:
+    """Each call, or so many of them, the first and the last among them."""
+    if total <= most:
+        return once(total)
+    numbers = {1 + place * (total - 1) // (most - 1) for place in range(most)}
+    return [(number, number) for number in sorted(numbers)]
+
+
+def test_states(host: Host, pool: ThreadPoolExecutor) -> None:
+    """Allocations of programs that go on from a state are refused. Memory that is refused is no state that is refused."""
+    memory = lambda at, ended: judged(case, ended, MEMORY, 4, True)
+    for case in state_cases(host):
+        whole = host.run(case, report=True)
+        check(f"{case.name}: its answer", is_ordinary(case, whole), *whole.findings())
+        numbers = spread(int(whole.report[0]), MOST_REFUSED)
+        ordinary = refuse_each(host, pool, case, "memory", numbers, memory)
+        count("allocations of states refused", len(numbers))
+        count("  the program did without", ordinary)
+
+
+class StateCommand:
+    """What bin/vm370 with states runs, over a program whose host alone refuses something."""
+
+    def __init__(self, host: Host) -> None:
+        self.host = host
+        self.room = tempfile.mkdtemp(dir=host.work)
+        self.files = follow_case("", b"", b"").files
+        texts = {"before": refused_states.BEFORE, "after": refused_states.AFTER}
+        for name, data in (self.files | texts | {"program": REFUSED_PROGRAM}).items():
+            write(f"{self.room}/{name}", data)
+        os.chmod(f"{self.room}/program", 0o755)
+
+    def run(self, refuse: str, *words: str) -> Ended:
+        """How it ended with these words before the volumes."""
+        variables = {"LIBRARY": self.host.library, "REFUSED": refuse}
+        variables |= {"PROGRAM": f"{self.host.programs}/vm370_cli"}
+        variables |= {} if refuse else {"REFUSE_REPORT": f"{self.room}/report"}
+        command = [
+            sys.executable,
+            "-B",
+            f"{TOP}/bin/lib/run.py",
+            "state_runs",
+            "vm370",
+            "./program",
+        ]
+        how = {"cwd": self.room, "env": os.environ | variables, "capture_output": True}
+        words = [*command, *refused_states.SIZES, *words, *refused_states.VOLUMES]
+        return Ended(subprocess.run(words, stdin=subprocess.DEVNULL, timeout=SECONDS, **how))
+
+
+def test_state_command(host: Host, pool: ThreadPoolExecutor) -> None:
+    """bin/vm370 --state reports that its program is refused memory, and not that it refuses the state."""
+    command, wanted = StateCommand(host), refused_states.TRANSCRIPT
+    saved = command.run("", "--save-state", "state", "directory", "before")
+    check("bin/vm370 saves a state", saved.status == 0, *saved.findings())
+    words = ["--state", "state", "directory", "after"]
+    whole = command.run("", *words)
+    holds = (whole.status, whole.out, whole.err) == (0, wanted, b"")
+    check("bin/vm370 --state", holds, *whole.findings())
+    numbers = spread(int(read(f"{command.room}/report").split()[0]), MOST_COMMANDS)
+    fault = (4, f"{MEMORY}\n".encode())
+    for ended in pool.map(lambda at: command.run(f"memory:{at[0]}:{at[1]}", *words), numbers):
+        is_told = (ended.status, ended.err) == fault and wanted.startswith(ended.out)
+        is_whole = (ended.status, ended.out, ended.err) == (0, wanted, b"")
+        check("bin/vm370 --state without memory", is_told or is_whole, *ended.findings())
+    count("allocations of bin/vm370 --state refused", len(numbers))
 
 
 # --- files that are cut ---
@@ -646,7 +804,10 @@ def main() -> int:
         with ThreadPoolExecutor(4) as pool:
             for case in cases():
                 test_case(host, pool, case)
+            test_shorter(host, pool)
             test_desk(host, pool)
+            test_states(host, pool)
+            test_state_command(host, pool)
             test_cut_images(host, pool)
             test_cut_directories(host, pool)
     finally:
