@@ -189,7 +189,6 @@ class Browser:
             findings += await self.findings()
         return findings + await self.findings()
 
-
     async def log_off(self) -> object:
         """Logs off; all that the browser is reported until nobody is on."""
         findings, until = (

@@ -1,5 +1,5 @@
-"""Where connections come in: sockets at an address or at a path. A connection is nobody's until its handshake is over, and few of these
-may be open: of too many the one is closed that has been open longest, among those of the address with most."""
+"""Listens at an address or at a path, and accepts connections. Until its handshake is over a connection counts for its address, and only
+a few such may be open: if there are too many, the oldest one of the address with most of them is closed."""
 from __future__ import annotations
 
 from collections.abc import Callable
