@@ -12,6 +12,7 @@ use Rattle.machine_devices.specs.declared.attaching.AttachError.TheVariants as a
 use Rattle.sessions.specs.declared.schedule.Detail.{Detail}
 use Rattle.sessions.specs.declared.schedule.Detail.TheVariants.{Whole, Terminals}
 use Rattle.programs.specs.Opened.{Adds, AddsFront, AreImagesAt, Deed, opens}
+use Rattle.programs.specs.Parts.{FailureCounts}
 use Rattle.programs.specs.Runs.{IsFailedFollowing, IsFailedRun, IsFollowing, IsRun, saved_of}
 use Rattle.programs.specs.Unread.{IsUnread}
 use Rattle.programs.specs.declared.faults.Failure.{Failure}
@@ -102,9 +103,9 @@ pub record IsWholeRun {F : Type 0} (Gives : List ℕ → F → Type 0) (remainin
 -- was not played or an image not saved
 abbrev pub IsFailedWholeRun : {F : Type 0} → (List ℕ → F → Type 0) → (F → Option (List ℕ))
     → (F → ℕ) → BareOptions → Option (List Deed) → Option (List Deed) → Option (List ℕ)
-    → Option (List ℕ)
-    → Failure → Type 0
-IsFailedWholeRun Gives remaining count options deeds_old deeds_new writer_old writer_new failure =
+    → Option (List ℕ) → ℕ → ℕ → Failure → Type 0
+IsFailedWholeRun Gives remaining count options deeds_old deeds_new writer_old writer_new
+    failed_old failed_new failure =
     (AddsFront deeds_old deeds_new (opens (map (λ path. path.now) options.volumes.items))
     × (writer_new ≡ writer_old)
     × IsNoMachine Gives remaining count (map (λ path. path.now) options.volumes.items) failure)
@@ -112,9 +113,9 @@ IsFailedWholeRun Gives remaining count options deeds_old deeds_new writer_old wr
     × IsMachineOf Gives remaining (map (λ path. path.now) options.volumes.items)
     (blocks_of options.storage) first
     × Adds deeds_old between (opens (map (λ path. path.now) options.volumes.items))
-    × IsFailedRun machine_goes machine_volumes Gives remaining options.script.now
+    × IsFailedRun machine_goes machine_volumes Gives remaining count options.script.now
     (saved_of options.save (map (λ path. path.now) options.volumes.items)) first last between
-    deeds_new writer_old writer_new failure)
+    deeds_new writer_old writer_new failed_old failed_new failure)
 
 -- a machine was made, the parts of a script were followed on that, and the images were saved if
 -- that was asked for, by the options and by the input
@@ -135,9 +136,9 @@ pub record IsWholeFollowing {F : Type 0} (Gives : List ℕ → F → Type 0)
 abbrev pub IsFailedWholeFollowing : {F : Type 0} → (List ℕ → F → Type 0) → (F → Option (List ℕ))
     → (F → ℕ) → MachineFollowOptions → Option (List Deed) → Option (List Deed) → Option (List ℕ)
     → Option (List ℕ)
-    → Option (List ℕ) → Option (List ℕ) → Failure → Type 0
+    → Option (List ℕ) → Option (List ℕ) → FailureCounts → Failure → Type 0
 IsFailedWholeFollowing Gives remaining count options deeds_old deeds_new reader_old reader_new
-    writer_old writer_new failure =
+    writer_old writer_new counts failure =
     (AddsFront deeds_old deeds_new (opens (map (λ path. path.now) options.volumes.items))
     × (reader_new ≡ reader_old) × (writer_new ≡ writer_old)
     × IsNoMachine Gives remaining count (map (λ path. path.now) options.volumes.items) failure)
@@ -147,7 +148,7 @@ IsFailedWholeFollowing Gives remaining count options deeds_old deeds_new reader_
     × Adds deeds_old between (opens (map (λ path. path.now) options.volumes.items))
     × IsFailedFollowing machine_goes machine_volumes (detail_of options.terminals)
     (saved_of options.save (map (λ path. path.now) options.volumes.items)) first between
-    deeds_new reader_old reader_new writer_old writer_new failure)
+    deeds_new reader_old reader_new writer_old writer_new counts failure)
 
 -- ---- the program
 
@@ -171,10 +172,11 @@ abbrev pub IsFailedProgram : {F : Type 0} → (List ℕ → F → Type 0) → (F
 IsFailedProgram Gives remaining count deeds_old deeds_new failure =
     (((failure ≡ failures.Usage) ⊎ (failure ≡ failures.Memory)) × (deeds_new ≡ deeds_old))
     ⊎ ((options : BareOptions) × (writer_old : Option (List ℕ)) × (writer_new : Option (List ℕ))
+    × (failed_old : ℕ) × (failed_new : ℕ)
     × IsFailedWholeRun Gives remaining count options deeds_old deeds_new writer_old writer_new
-    failure)
+    failed_old failed_new failure)
     ⊎ ((options : MachineFollowOptions) × (reader_old : Option (List ℕ))
     × (reader_new : Option (List ℕ)) × (writer_old : Option (List ℕ))
-    × (writer_new : Option (List ℕ))
+    × (writer_new : Option (List ℕ)) × (counts : FailureCounts)
     × IsFailedWholeFollowing Gives remaining count options deeds_old deeds_new reader_old reader_new
-    writer_old writer_new failure)
+    writer_old writer_new counts failure)

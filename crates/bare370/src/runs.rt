@@ -50,7 +50,8 @@ pub fn run_files<F: FileStore, W: HostWriter>(
     ensures flushed { OnOk result (W.held writer.new ≡ []) }
     ensures err { IfErr result
         (IsFailedWholeRun F.gives F.File.remaining F.File.HostFile.failures options.now
-        (F.deeds files.old) (F.deeds files.new) (W.contents writer.old) (W.contents writer.new)) }
+        (F.deeds files.old) (F.deeds files.new) (W.contents writer.old) (W.contents writer.new)
+        (W.HostFile.failures writer.old) (W.HostFile.failures writer.new)) }
 {
     let volumes = options.volumes.as_slice();
     let saved = saved_paths(options.save, volumes);
@@ -82,8 +83,13 @@ pub fn follow_machine<F: FileStore, R: HostReader, W: HostWriter>(
     ensures err { IfErr result
         (IsFailedWholeFollowing F.gives F.File.remaining F.File.HostFile.failures options.now
         (F.deeds files.old) (F.deeds files.new) (R.remaining reader.old) (R.remaining reader.new)
-        (W.contents writer.old)
-        (W.contents writer.new)) }
+        (W.contents writer.old) (W.contents writer.new)
+        (record {
+          reader_old = R.HostFile.failures reader.old;
+          reader_new = R.HostFile.failures reader.new;
+          writer_old = W.HostFile.failures writer.old;
+          writer_new = W.HostFile.failures writer.new;
+        })) }
 {
     let volumes = options.volumes.as_slice();
     let saved = saved_paths(options.save, volumes);

@@ -9,6 +9,7 @@ pub mod Steps
 pub mod Histories
 pub mod Loans
 mod Alone
+mod OneReply
 pub mod Owned
 pub mod Lending
 pub mod Reused

@@ -26,3 +26,4 @@ pub mod Serving
 pub mod Applied
 pub mod Unbooted
 pub mod Alone
+pub mod OneReply

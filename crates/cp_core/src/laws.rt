@@ -1,5 +1,6 @@
-//! The main law: each user's machine equals a machine of its own.
+//! The main law: each user's machine equals a machine of its own; and that its replies are one.
 ghost use Rattle.cp_core.specs.Alone.{EachEqualsABareMachine, EachEqualsABareMachineThroughStates};
+ghost use Rattle.cp_core.specs.OneReply.{HistoriesAreOne, RepliesAreOne};
 
 use crate::saved::one_by_saved;
 use crate::system::each_is_bare;
@@ -16,4 +17,14 @@ pub fn each_equals_a_bare_machine()
     each_is_bare();
     a_life_comes_to_one_end();
     one_by_saved();
+}
+
+/// States that the same event of a user's machine has one reply, whoever else is there, if it is
+/// not cut short for want of frames; and that the same events have the same replies and leave the
+/// same machines, however many frames there are.
+pub fn a_reply_is_one()
+    ensures reply { RepliesAreOne }
+    ensures history { HistoriesAreOne }
+{
+    a_life_comes_to_one_end();
 }

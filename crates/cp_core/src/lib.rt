@@ -52,7 +52,7 @@ pub use cp_frames::{FRAME_SIZE, FrameNo};
 pub use cp_volumes::SeenDisk;
 pub use events::{BootError, CpError};
 pub use forgetting::printed_lines_do_not_matter;
-pub use laws::each_equals_a_bare_machine;
+pub use laws::{a_reply_is_one, each_equals_a_bare_machine};
 pub use machine_devices::Event;
 pub use saved::one_by_saved;
 pub use system::{System, each_is_bare};

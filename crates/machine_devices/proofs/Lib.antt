@@ -10,8 +10,10 @@ pub mod Loads
 pub mod Beside
 pub mod Answered
 mod OneLife
+mod OneReply
 mod Working
 mod Turned
+pub mod SameEvent
 pub mod DeviceCodes
 pub mod Forgotten
 pub mod Written

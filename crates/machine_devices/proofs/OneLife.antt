@@ -63,13 +63,14 @@ device_in (Fetching spot m d) = d
 device_in (Moving p m d) = d
 device_in (Over e m d) = d
 
--- two ends of one walk
-record AreOne {D : Type 0} (e f : Ending) (m n : Memory) (d g : D) : Type 0 where
-  ending : e ≡ f
-  memory : m ≡ n
-  device : d ≡ g
+-- Two ends of one walk are equal in all their parts.
+pub record AreOne {D : Type 0} (e f : Ending) (m n : Memory) (d g : D) : Type 0 where
+  pub ending : e ≡ f
+  pub memory : m ≡ n
+  pub device : d ≡ g
 
-ends_are_one : {D : Type 0} (form : Form) (h : Setting D) (s : State D) (e f : Ending) (m n : Memory) (d g : D)
+-- A walk comes to one end.
+pub ends_are_one : {D : Type 0} (form : Form) (h : Setting D) (s : State D) (e f : Ending) (m n : Memory) (d g : D)
     → Reaches form h s (Over e m d) → Reaches form h s (Over f n g) → AreOne e f m n d g
 ends_are_one {D} form h s e f m n d g a b =
     let same : ◌≡◌ {A = State D} (Over e m d) (Over f n g) = one_end form h s e f m n d g a b in

@@ -19,6 +19,7 @@ pub mod Notes
 pub mod Coming
 pub mod Reuses
 pub mod OneLife
+pub mod OneReply
 pub mod Working
 pub mod Turned
 pub mod Saved

@@ -1,6 +1,7 @@
 //! Laws of a machine with devices, as functions that promise them.
 ghost use Rattle.machine_devices.specs.Forgotten.{PrintedLinesDoNotMatter};
 ghost use Rattle.machine_devices.specs.OneLife.{LinesAreOne, LivesAreApart, LivesAreOne};
+ghost use Rattle.machine_devices.specs.OneReply.{OutcomesAreOne};
 ghost use Rattle.machine_devices.specs.Turned.{OnlyLinesTurn};
 ghost use Rattle.machine_devices.specs.Working.{AllGoOnHavingPrograms, DevicesStay};
 ghost use Rattle.machine_devices.specs.Working.{NoneWorksAtFirst, WorksWithProgram};
@@ -17,11 +18,12 @@ pub fn attention_agrees()
 {}
 
 /// States that the same events leave the same machine with devices, whoever else is logged on at
-/// each of them.
+/// each of them; and that a line typed at one machine reports one thing.
 pub fn a_life_comes_to_one_end()
     ensures life { LivesAreOne }
     ensures line { LinesAreOne }
     ensures apart { LivesAreApart }
+    ensures reported { OutcomesAreOne }
 {}
 
 /// States that a device that works has a program, and that the devices of a machine stay, whatever

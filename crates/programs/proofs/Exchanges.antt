@@ -1,6 +1,6 @@
 -- Parts that are answered, one after another.
 use Rattle.std.proofs.Common.{◌≡◌, ℕ, true, inl, inr, List, [], ◌∷◌, ◌++◌, Option, Some, Result, Ok, Err, refl, sym, ap}
-use Rattle.std.proofs.Common.{◌∙◌, subst, append_assoc, append-nil, length, arith}
+use Rattle.std.proofs.Common.{◌∙◌, ◌+◌, ◌⊎◌, subst, append_assoc, append-nil, length, length-append, arith}
 use Rattle.std.specs.Prelude.{Bool, IfErr, IsErrAnd}
 use Rattle.std.specs.Io.KnownBytes.{Appends, Consumes, Keeps}
 use Rattle.std.proofs.KnownBytes.{Appends-kept, Appends-nil, Appends-trans, Consumes-nil, Consumes-trans}
@@ -25,10 +25,10 @@ use Rattle.sessions.proofs.Continuing.{but_forgotten, idle_same, seen_files, see
 use Rattle.sessions.proofs.Histories.{front_after}
 use Rattle.programs.specs.Faults.{file_failure, play_failure}
 use Rattle.programs.specs.declared.requests.NextRequest.{NextRequest}
-use Rattle.programs.specs.Requests.{GivesNext}
+use Rattle.programs.specs.Requests.{GivesNext, IsMalformed}
 use Rattle.programs.specs.Parts.{AnswersPart, AreExchanges, Exchange, IsExchange, IsPartAnsweredPartly, InputAccounts}
 use Rattle.programs.specs.Parts.{GivesState, IsBegun, IsBrokenOff, IsCausedBy, IsFollowedTo, IsSoFar, answers_of}
-use Rattle.programs.specs.Parts.{news_lines, news_since}
+use Rattle.programs.specs.Parts.{FailureCounts, HasFailed, IsUnanswerable, PartAccounts, news_lines, news_since}
 use Rattle.programs.specs.Parts.{read_of, refused_line}
 use Rattle.programs.specs.declared.faults.Failure.{Failure}
 use Rattle.programs.specs.declared.faults.Failure.TheVariants as failures
@@ -186,15 +186,17 @@ answers_more (x ∷ xs) it =
 
 -- Before the first part nothing is read and nothing is written.
 pub so_far_none : {W : Type 0} (i : Installation W) (first : Scene W) (r w : Option (List ℕ))
-    → IsSoFar i first first r r w w
-so_far_none i first r w = record { exchanges = []; answered = refl; read = Consumes-nil r; written = Appends-nil w }
+    → IsSoFar i 0 first first r r w w
+so_far_none i first r w =
+    record { exchanges = []; many = refl; answered = refl; read = Consumes-nil r; written = Appends-nil w }
 
 -- One more part is read and answered.
-pub so_far_more : {W : Type 0} (i : Installation W) (first mid : Scene W) (r s t w x y : Option (List ℕ))
-    (it : Exchange W) → IsSoFar i first mid r s w x → IsExchange i mid it → Consumes s t it.read → Appends x y it.answer
-    → IsSoFar i first it.left r t w y
-so_far_more i first mid r s t w x y it h one read written = record {
+pub so_far_more : {W : Type 0} (i : Installation W) (n : ℕ) (first mid : Scene W) (r s t w x y : Option (List ℕ))
+    (it : Exchange W) → IsSoFar i n first mid r s w x → IsExchange i mid it → Consumes s t it.read
+    → Appends x y it.answer → IsSoFar i (n + 1) first it.left r t w y
+so_far_more i n first mid r s t w x y it h one read written = record {
   exchanges = h.exchanges ++ it ∷ [];
+  many = omega (arith, length-append h.exchanges (it ∷ []), h.many);
   answered = exchanges_more i h.exchanges it first mid h.answered one;
   read = subst (Consumes r t) (sym (read_more h.exchanges it))
       (Consumes-trans r s t (read_of h.exchanges) it.read h.read read);
@@ -203,10 +205,10 @@ so_far_more i first mid r s t w x y it h one read written = record {
 }
 
 -- A follow that ends has read and answered all parts.
-pub followed_to : {W : Type 0} (i : Installation W) (detail : Detail) (old new : W) (last : Scene W) (end : List ℕ)
-    (r s t w x y : Option (List ℕ)) → IsSoFar i (at_first i detail old) last r s w x → new ≡ last.world
+pub followed_to : {W : Type 0} (i : Installation W) (n : ℕ) (detail : Detail) (old new : W) (last : Scene W)
+    (end : List ℕ) (r s t w x y : Option (List ℕ)) → IsSoFar i n (at_first i detail old) last r s w x → new ≡ last.world
     → Consumes s t end → Keeps x y → IsFollowedTo i detail old new end r t w y
-followed_to i detail old new last end r s t w x y h left read kept = record {
+followed_to i n detail old new last end r s t w x y h left read kept = record {
   exchanges = h.exchanges;
   last = last;
   answered = h.answered;
@@ -214,6 +216,62 @@ followed_to i detail old new last end r s t w x y h left read kept = record {
   read = Consumes-trans r s t (read_of h.exchanges) end h.read read;
   written = Appends-kept w x y (answers_of h.exchanges) h.written kept;
 }
+
+-- ---- files that failed
+
+-- a file is told only if it has failed, or for this
+abbrev pub TellsOfFiles : FailureCounts → Type 0 → Failure → Type 0
+TellsOfFiles counts Other failure = (k : ℕ) → failure ≡ failures.File k → HasFailed counts k ⊎ ((k ≡ 1) × Other)
+
+-- the counts of both files
+abbrev pub counted : ℕ → ℕ → ℕ → ℕ → FailureCounts
+counted r s w x = record { reader_old = r; reader_new = s; writer_old = w; writer_new = x }
+
+abbrev number_of : Failure → ℕ
+number_of (failures.File k) = k
+number_of other = 0
+
+-- Refused memory tells of no file.
+pub no_file : (counts : FailureCounts) (P : Type 0) → TellsOfFiles counts P failures.Memory
+no_file counts P k e = absurd (cc)
+
+-- An input that could not be read has failed, or has what is no request.
+pub input_failed : (fault : HostFault) (q r s w x n : ℕ) (more : List ℕ) (left : Option (List ℕ)) → q ≡ r → x ≡ w
+    → (IsCounted q s fault ⊎ ((s ≡ q) × (fault ≡ hosts.Device 1) × IsMalformed more left))
+    → TellsOfFiles (counted r s w x) (IsUnanswerable n more left) (file_failure fault)
+input_failed hosts.Memory q r s w x n more left before same why k e = absurd (cc)
+input_failed (hosts.Device j) q r s w x n more left before same (inl is) k e =
+    let here = subst (λ (m : ℕ). IsCounted m s (hosts.Device j)) before is in
+    inl (inl (subst (λ (i : ℕ). IsCounted r s (hosts.Device i)) (ap number_of e) here, same))
+input_failed (hosts.Device j) q r s w x n more left before same (inr is) k e =
+    let fault = is.1 in
+    let one : k ≡ 1 = cc in
+    inr (one, inl is.2)
+
+-- An output that could not be written has failed.
+pub output_failed : (A : Type 0) (f : Failure) (r s v w x : ℕ) (P : Type 0) → s ≡ r → v ≡ w
+    → PartAccounts {A = A} (Err f) v x → TellsOfFiles (counted r s w x) P f
+output_failed A (failures.File j) r s v w x P same before why k e =
+    let here = subst (λ (m : ℕ). IsCounted m x (hosts.Device j)) before why in
+    inl (inr (same, subst (λ (i : ℕ). IsCounted w x (hosts.Device i)) (ap number_of e) here))
+output_failed A failures.Memory r s v w x P same before why k e = absurd (cc)
+output_failed A failures.Spent r s v w x P same before why k e = absurd (cc)
+output_failed A failures.State r s v w x P same before why k e = absurd (cc)
+output_failed A (failures.Directory d) r s v w x P same before why k e = absurd why
+output_failed A (failures.Image d) r s v w x P same before why k e = absurd why
+output_failed A (failures.Boot d) r s v w x P same before why k e = absurd why
+output_failed A (failures.Script d) r s v w x P same before why k e = absurd why
+output_failed A (failures.Unsaved d p) r s v w x P same before why k e = absurd why
+output_failed A failures.Usage r s v w x P same before why k e = absurd why
+
+-- An output whose last lines could not be written has failed.
+pub end_failed : (A : Type 0) (e : PlayError) (r s v w x : ℕ) (P : Type 0) → s ≡ r → v ≡ w
+    → Accounts {A = A} (Err e) true true v x → TellsOfFiles (counted r s w x) P (play_failure e)
+end_failed A plays.Memory r s v w x P same before why k e = absurd (cc)
+end_failed A (plays.Device j) r s v w x P same before why k e =
+    let here = subst (λ (m : ℕ). IsCounted m x (hosts.Device j)) before why in
+    inl (inr (same, subst (λ (i : ℕ). IsCounted w x (hosts.Device i)) (ap number_of e) here))
+end_failed A plays.Spent r s v w x P same before why k e = absurd (cc)
 
 -- ---- an input that is not followed to its end
 
@@ -223,11 +281,12 @@ pub is_next : (next other : NextRequest) (a b : Option (List ℕ)) → next ≡ 
 is_next next other a b e h = subst (λ (n : NextRequest). GivesNext n a b) e h
 
 -- A follow that breaks off has answered all parts but the last.
-pub broken_off : {W : Type 0} (i : Installation W) (detail : Detail) (old : W) (last : Scene W) (more : List ℕ)
-    (r s t w x y : Option (List ℕ)) → IsSoFar i (at_first i detail old) last r s w x → Consumes s t more
-    → IsBegun i last more x y → (failure : Failure)
-    → IsCausedBy (GivesState more) (i.is_spent last.world ≡ true) failure → IsBrokenOff i detail old r t w y failure
-broken_off i detail old last more r s t w x y h read begun failure cause = record {
+pub broken_off : {W : Type 0} (i : Installation W) (n : ℕ) (detail : Detail) (old : W) (last : Scene W) (more : List ℕ)
+    (r s t w x y : Option (List ℕ)) (counts : FailureCounts) → IsSoFar i n (at_first i detail old) last r s w x
+    → Consumes s t more → IsBegun i last more x y → (failure : Failure)
+    → IsCausedBy (GivesState more) (i.is_spent last.world ≡ true) failure
+    → TellsOfFiles counts (IsUnanswerable n more t) failure → IsBrokenOff i detail old r t w y counts failure
+broken_off {W = W} i n detail old last more r s t w x y counts h read begun failure cause files = record {
   exchanges = h.exchanges;
   last = last;
   answered = h.answered;
@@ -237,6 +296,7 @@ broken_off i detail old last more r s t w x y h read begun failure cause = recor
   written = h.written;
   begun = begun;
   cause = cause;
+  file = subst (λ (k : ℕ). TellsOfFiles counts (IsUnanswerable k more t) failure) (sym h.many) files;
 }
 
 -- What holds of the failure that was passed on holds of the one that is returned.

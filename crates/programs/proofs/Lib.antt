@@ -2,6 +2,8 @@ pub mod Rules
 pub mod Texts
 pub mod Imaged
 pub mod Framed
+pub mod Unreadable
 pub mod Fronts
 pub mod Exchanges
+pub mod Causes
 pub mod Deeds

@@ -1,5 +1,5 @@
--- What an input asks for: parts of a script, states, and the end.
-use Rattle.std.specs.Prelude.{◌≡◌, ℕ, List, [], ◌∷◌, ◌++◌, ◌⊎◌, codes, length, Option, Some, None}
+-- What an input asks for: parts of a script, states, what users hold, and the end.
+use Rattle.std.specs.Prelude.{◌≡◌, ◌<◌, ◌≤◌, ℕ, List, [], ◌∷◌, ◌++◌, ◌⊎◌, codes, length, Option, Some, None}
 use Rattle.std.specs.Prelude.{Result, Ok, Err}
 use Rattle.std.specs.Io.KnownBytes.{Consumes, IsAtEnd}
 use Rattle.s370_num.specs.Host.{IsCounted}
@@ -30,10 +30,11 @@ abbrev pub end_line : List ℕ
 end_line = word_line (codes "END")
 
 -- how a request is read: a part of the script with its size before it, the word that asks for the
--- state, or the word that gives a state, and then that with its size
+-- state or for what users hold, or the word that gives a state, and then that with its size
 abbrev pub IsAsked : List ℕ → FollowRequest → Type 0
 IsAsked read (requests.Part part) = IsFramed read part.items
 IsAsked read requests.Save = read ≡ word_line (codes "SAVE")
+IsAsked read requests.Holds = read ≡ word_line (codes "HOLDS")
 IsAsked read (requests.State state) = (framed : List ℕ) × IsFramed framed state.items
     × (read ≡ word_line (codes "STATE") ++ framed)
 
@@ -57,6 +58,50 @@ GivesNext (nexts.Asked request) old new = (read : List ℕ) × IsAsked read requ
     × Consumes old new read
 GivesNext nexts.End old new = Consumes old new end_line
 GivesNext nexts.Nothing old new = Consumes old new [] × IsAtEnd new
+
+-- ---- an input that has no requests
+
+-- no byte of these is an LF
+abbrev pub HasNoEnd : List ℕ → Type 0
+HasNoEnd [] = Unit {0}
+HasNoEnd (c ∷ cs) = (c ≡ 10 → ⊥) × HasNoEnd cs
+
+-- these bytes are no request, and do not ask for the end
+pub record IsNoRequest (read : List ℕ) : Type 0 where
+  pub asked : (request : FollowRequest) → IsAsked read request → ⊥
+  pub end : read ≡ end_line → ⊥
+
+-- these bytes are none, however they go on; or the input has ended with them
+abbrev pub IsMalformed : List ℕ → Option (List ℕ) → Type 0
+IsMalformed read after = ((more : List ℕ) → IsNoRequest (read ++ more))
+    ⊎ (IsAtEnd after × IsNoRequest read)
+
+-- a line is not ended, or not soon enough
+abbrev pub IsBadLine : List ℕ → Option (List ℕ) → Type 0
+IsBadLine read after = HasNoEnd read × ((10 ≤ length read) ⊎ IsAtEnd after)
+
+-- the input has ended before so many bytes
+abbrev pub IsShortOf : ℕ → List ℕ → Option (List ℕ) → Type 0
+IsShortOf count read after = (length read < count) × IsAtEnd after
+
+-- the digits are no number, or the input has ended before so many bytes
+abbrev pub IsUnsized : List ℕ → List ℕ → Option (List ℕ) → Type 0
+IsUnsized digits read after = ((decimal_of most_digits digits ≡ None) × (read ≡ []))
+    ⊎ ((size : ℕ) × (decimal_of most_digits digits ≡ Some size) × IsShortOf size read after)
+
+-- these are no bytes after their number, however they go on; or the input has ended with them
+abbrev pub IsUnframed : List ℕ → Option (List ℕ) → Type 0
+IsUnframed read after = ((more bytes : List ℕ) → IsFramed (read ++ more) bytes → ⊥)
+    ⊎ (IsAtEnd after × ((bytes : List ℕ) → IsFramed read bytes → ⊥))
+
+-- some bytes were read, and then a failure of the reader is counted and reports its count; or they
+-- are wrong, and a first failure is said
+abbrev pub FailsToRead : (List ℕ → Option (List ℕ) → Type 0) → Option (List ℕ) → Option (List ℕ) → ℕ
+    → ℕ → HostFault → Type 0
+FailsToRead IsWrong left_old left_new old new fault = (read : List ℕ)
+    × Consumes left_old left_new read
+    × (IsCounted old new fault
+    ⊎ ((new ≡ old) × (fault ≡ hosts.Device 1) × IsWrong read left_new))
 
 -- why nothing was read: a failure of the reader is counted and reports its count; an input that has
 -- no requests says a first failure

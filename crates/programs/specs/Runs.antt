@@ -12,7 +12,7 @@ use Rattle.sessions.specs.declared.schedule.Detail.{Detail}
 use Rattle.sessions.specs.declared.schedule.Detail.TheVariants.{Whole}
 use Rattle.programs.specs.Faults.{session_failure}
 use Rattle.programs.specs.Opened.{Adds, AddsFirst, Deed, Opens, saves}
-use Rattle.programs.specs.Parts.{IsBrokenOff, IsLeft}
+use Rattle.programs.specs.Parts.{FailureCounts, HasFailed, IsBrokenOff, IsLeft}
 use Rattle.programs.specs.declared.faults.Failure.{Failure}
 use Rattle.programs.specs.declared.faults.Failure.TheVariants as failures
 use Rattle.programs.specs.declared.parts.Left.{Left}
@@ -69,27 +69,34 @@ pub record IsUnopened {W : Type 0} (script : List ℕ) (first last : W)
   pub unwritten : writer_new ≡ writer_old
   pub deeds : Adds deeds_old deeds_new (Opens script ∷ [])
 
--- a script is refused by its first wrong line, and a spent installation does none
+-- a script is refused by its first wrong line, a file by its count, and a spent installation does
+-- none
 abbrev pub IsRefusedFor : {W : Type 0} → Installation W → SessionError → W → Option (List ℕ)
-    → Option (List ℕ) → Type 0
-IsRefusedFor i ends.Memory first reader_old reader_new = Unit {0}
-IsRefusedFor i (ends.Line line) first reader_old reader_new =
+    → Option (List ℕ) → FailureCounts → Type 0
+IsRefusedFor i ends.Memory first reader_old reader_new counts = Unit {0}
+IsRefusedFor i (ends.Line line) first reader_old reader_new counts =
     IsRefused (i.seen first).users reader_old reader_new line
-IsRefusedFor i (ends.Device count) first reader_old reader_new = Unit {0}
-IsRefusedFor i ends.Spent first reader_old reader_new = i.is_spent first ≡ true
+IsRefusedFor i (ends.Device k) first reader_old reader_new counts = HasFailed counts k
+IsRefusedFor i ends.Spent first reader_old reader_new counts = i.is_spent first ≡ true
 
 -- the session failed: nothing has happened, or a beginning of it, of which a beginning was written;
 -- and no image was saved
 pub record IsCutRun {W F : Type 0} (i : Installation W) (Gives : List ℕ → F → Type 0)
-    (remaining : F → Option (List ℕ)) (script : List ℕ) (first last : W)
+    (remaining : F → Option (List ℕ)) (count : F → ℕ) (script : List ℕ) (first last : W)
     (deeds_old deeds_new : Option (List Deed)) (writer_old writer_new : Option (List ℕ))
-    (failure : Failure) : Type 0 where
+    (failed_old failed_new : ℕ) (failure : Failure) : Type 0 where
   pub file : F
   pub left : F
   pub opened : Gives script file
   pub error : SessionError
   pub reported : failure ≡ session_failure error
   pub refused : IsRefusedFor i error first (remaining file) (remaining left)
+      (record {
+        reader_old = count file;
+        reader_new = count left;
+        writer_old = failed_old;
+        writer_new = failed_new;
+      })
   pub done : ((last ≡ first) × (writer_new ≡ writer_old))
       ⊎ IsCut i Whole first last (remaining file) (remaining left) writer_old writer_new
   pub deeds : Adds deeds_old deeds_new (Opens script ∷ [])
@@ -107,14 +114,16 @@ pub record IsUnsavedRun {W F : Type 0} (i : Installation W) (volumes : W → Lis
   pub script_opened : Adds deeds_old between (Opens script ∷ [])
   pub unsaved : IsUnsaved saved (volumes last) between deeds_new failure
 
--- which of its three steps failed
+-- which of its three steps failed, and how often the output had failed before and after
 abbrev pub IsFailedRun : {W F : Type 0} → Installation W → (W → List VolumeFormat)
-    → (List ℕ → F → Type 0) → (F → Option (List ℕ)) → List ℕ → List (List ℕ) → W → W
-    → Option (List Deed) → Option (List Deed) → Option (List ℕ) → Option (List ℕ) → Failure → Type 0
-IsFailedRun i volumes Gives remaining script saved first last deeds_old deeds_new writer_old
-    writer_new failure =
+    → (List ℕ → F → Type 0) → (F → Option (List ℕ)) → (F → ℕ) → List ℕ → List (List ℕ) → W → W
+    → Option (List Deed) → Option (List Deed) → Option (List ℕ) → Option (List ℕ) → ℕ → ℕ
+    → Failure → Type 0
+IsFailedRun i volumes Gives remaining count script saved first last deeds_old deeds_new writer_old
+    writer_new failed_old failed_new failure =
     IsUnopened script first last deeds_old deeds_new writer_old writer_new failure
-    ⊎ IsCutRun i Gives remaining script first last deeds_old deeds_new writer_old writer_new failure
+    ⊎ IsCutRun i Gives remaining count script first last deeds_old deeds_new writer_old writer_new
+    failed_old failed_new failure
     ⊎ IsUnsavedRun i volumes Gives remaining script saved first last deeds_old deeds_new writer_old
     writer_new failure
 
@@ -136,9 +145,9 @@ pub record IsFollowing {W : Type 0} (i : Installation W) (volumes : W → List V
 -- they were not, for this failure, and no image was saved
 pub record IsCutFollowing {W : Type 0} (i : Installation W) (detail : Detail) (first : W)
     (deeds_old deeds_new : Option (List Deed))
-    (reader_old reader_new writer_old writer_new : Option (List ℕ))
+    (reader_old reader_new writer_old writer_new : Option (List ℕ)) (counts : FailureCounts)
     (failure : Failure) : Type 0 where
-  pub broken : IsBrokenOff i detail first reader_old reader_new writer_old writer_new failure
+  pub broken : IsBrokenOff i detail first reader_old reader_new writer_old writer_new counts failure
   pub deeds : Adds deeds_old deeds_new []
 
 -- they were, and their end was asked for; and an image was not saved
@@ -154,10 +163,10 @@ pub record IsUnsavedFollowing {W : Type 0} (i : Installation W) (volumes : W →
 -- a script was not followed to its end, or an image was not saved
 abbrev pub IsFailedFollowing : {W : Type 0} → Installation W → (W → List VolumeFormat) → Detail
     → List (List ℕ) → W → Option (List Deed) → Option (List Deed) → Option (List ℕ)
-    → Option (List ℕ) → Option (List ℕ) → Option (List ℕ) → Failure → Type 0
+    → Option (List ℕ) → Option (List ℕ) → Option (List ℕ) → FailureCounts → Failure → Type 0
 IsFailedFollowing i volumes detail saved first deeds_old deeds_new reader_old reader_new writer_old
-    writer_new failure =
+    writer_new counts failure =
     IsCutFollowing i detail first deeds_old deeds_new reader_old reader_new writer_old writer_new
-    failure
+    counts failure
     ⊎ IsUnsavedFollowing i volumes detail saved first deeds_old deeds_new reader_old reader_new
     writer_old writer_new failure

@@ -7,7 +7,9 @@
 //! that a line of it is refused, and nothing of it was done.
 //!
 //! The line `END` asks for the end. The line `SAVE` asks for the state of the session: the answer
-//! is a line with its size, its bytes, and the line `> DONE`. The line `STATE`, a line with a size
+//! is a line with its size, its bytes, and the line `> DONE`. The line `HOLDS` asks what users hold:
+//! the answer is a line for each, with the cards of his punch's open file and the lines of his
+//! printer's, and the line `> DONE`. The line `STATE`, a line with a size
 //! and these bytes let the session go on from that state.
 //!
 //! ```text
@@ -30,7 +32,7 @@ ghost use Rattle.programs.specs.Parts.{Answers, AnswersPart, InputAccounts, IsAn
 ghost use Rattle.programs.specs.Parts.{IsBrokenOff, IsCausedBy, IsLeft, IsStateGiven};
 ghost use Rattle.programs.specs.Parts.{IsPartAnsweredPartly, IsRestoredPartly};
 ghost use Rattle.programs.specs.Parts.{IsSavedAs, IsSavedPartly, PartAccounts, done_line};
-ghost use Rattle.programs.specs.Parts.{idle_lines, news_since};
+ghost use Rattle.programs.specs.Parts.{held_text, idle_lines, news_since};
 
 use crate::faults::Failure;
 use crate::requests::{FollowRequest, NextRequest, next_input};
@@ -70,7 +72,13 @@ pub fn follow_parts<R: HostReader, W: HostWriter, I: Installation + Drop>(
     ensures flushed { OnOk result (W.held writer.new ≡ []) }
     ensures err { IfErr result
         (IsBrokenOff I.goes detail installation (R.remaining reader.old) (R.remaining reader.new)
-        (W.contents writer.old) (W.contents writer.new)) }
+        (W.contents writer.old) (W.contents writer.new)
+        (record {
+          reader_old = R.HostFile.failures reader.old;
+          reader_new = R.HostFile.failures reader.new;
+          writer_old = W.HostFile.failures writer.old;
+          writer_new = W.HostFile.failures writer.new;
+        })) }
     ensures told { W.held writer.old ≡ []
         → (R.HostFile.failures reader.new ≡ R.HostFile.failures reader.old → ⊥)
         → W.held writer.new ≡ [] }
@@ -92,8 +100,8 @@ pub fn follow_parts<R: HostReader, W: HostWriter, I: Installation + Drop>(
     Err(Failure::File(1))
 }
 
-/// Does what a request asks: a part, to write the state, or to go on from a state; writes the
-/// answer, flushes the writer and returns the follower after it.
+/// Does what a request asks: a part, to write the state or what users hold, or to go on from a
+/// state; writes the answer, flushes the writer and returns the follower after it.
 fn answer<W: HostWriter, I: Installation + Drop>(
     alloc: Global,
     follower: Follower<I>,
@@ -118,6 +126,10 @@ fn answer<W: HostWriter, I: Installation + Drop>(
         FollowRequest::Part(part) => follow_part(alloc, follower, detail, &part, writer),
         FollowRequest::Save => {
             save(alloc, &follower, writer)?;
+            Ok(follower)
+        }
+        FollowRequest::Holds => {
+            tell_held(alloc, &follower, writer)?;
             Ok(follower)
         }
         FollowRequest::State(state) => restore_state(alloc, follower, &state, writer),
@@ -148,6 +160,28 @@ fn save<W: HostWriter, I: Installation + Drop>(
     let size = state.len();
     let head = format!(in alloc; "> STATE {size}\n")?;
     write_all_flushed(writer, head.as_bytes(), &state, b"> DONE\n")?;
+    Ok(())
+}
+
+/// Writes a line for each user with what he holds by files that he has not closed, and the line
+/// `> DONE`, and flushes the writer.
+fn tell_held<W: HostWriter, I: Installation + Drop>(
+    alloc: Global,
+    follower: &Follower<I>,
+    writer: &mut W,
+) -> Result<(), Failure>
+    ensures ok { OnOk result
+        (Appends (W.contents writer.old) (W.contents writer.new) (held_text I.goes follower.now)) }
+    ensures flushed { OnOk result (W.held writer.new ≡ []) }
+    ensures err { OnErr result (AppendsFront (W.contents writer.old) (W.contents writer.new)
+        (held_text I.goes follower.now)) }
+    ensures cause { IfErr result (IsCausedBy ⊥ ⊥) }
+    ensures why { PartAccounts result (W.HostFile.failures writer.old)
+        (W.HostFile.failures writer.new) }
+{
+    let lines = follower.held(alloc)?;
+    write_all(writer, &lines)?;
+    write_flushed(writer, b"> DONE\n")?;
     Ok(())
 }
 

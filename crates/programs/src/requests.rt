@@ -1,10 +1,11 @@
-//! What an input asks for: parts of a script, states, and the end.
-ghost use Rattle.std.specs.Prelude.{◌≡◌, IfOk, OnErr, Some, length, option_map};
+//! What an input asks for: parts of a script, states, what users hold, and the end.
+ghost use Rattle.std.specs.Prelude.{◌≡◌, IfErr, IfOk, IfSome, OnErr, Some, length, option_map};
 ghost use Rattle.std.specs.Io.KnownBytes.{Consumes};
 ghost use Rattle.s370_num.specs.Host.{Counts, ReadsFront};
 ghost use Rattle.text_words.specs.Numbers.{decimal_of};
 ghost use Rattle.programs.specs.Requests.{GivesByte, GivesLine, GivesNext, GivesSized};
-ghost use Rattle.programs.specs.Requests.{ReadAccounts, most_digits};
+ghost use Rattle.programs.specs.Requests.{FailsToRead, HasNoEnd, IsBadLine, IsMalformed, IsShortOf};
+ghost use Rattle.programs.specs.Requests.{IsUnframed, IsUnsized, ReadAccounts, most_digits};
 
 use s370_num::host::{HostFault, HostReader};
 use std::alloc::Global;
@@ -24,6 +25,8 @@ pub(crate) enum FollowRequest {
     Part(Vec<u8>),
     /// The state.
     Save,
+    /// What users hold by files that they have not closed.
+    Holds,
     /// That the session goes on from a state.
     State(Vec<u8>),
 }
@@ -38,15 +41,17 @@ pub(crate) enum NextRequest {
     Nothing,
 }
 
-/// Reads the next request of an input: a part, for the state, to go on from a state, or for the
-/// end; or that the input has ended.
+/// Reads the next request of an input: a part, for the state, for what users hold, to go on from a
+/// state, or for the end; or that the input has ended.
 pub(crate) fn next_input<R: HostReader>(
     alloc: Global,
     reader: &mut R,
 ) -> Result<NextRequest, HostFault>
     ensures ok { IfOk result
         (λ next. GivesNext next (R.remaining reader.old) (R.remaining reader.new)) }
-    ensures err { OnErr result (ReadsFront (R.remaining reader.old) (R.remaining reader.new)) }
+    ensures err { IfErr result (FailsToRead IsMalformed (R.remaining reader.old)
+        (R.remaining reader.new) (R.HostFile.failures reader.old)
+        (R.HostFile.failures reader.new)) }
     ensures why { ReadAccounts result (R.HostFile.failures reader.old)
         (R.HostFile.failures reader.new) }
 {
@@ -59,6 +64,9 @@ pub(crate) fn next_input<R: HostReader>(
     if word.as_slice() == b"SAVE".as_slice() {
         return Ok(NextRequest::Asked(FollowRequest::Save));
     }
+    if word.as_slice() == b"HOLDS".as_slice() {
+        return Ok(NextRequest::Asked(FollowRequest::Holds));
+    }
     if word.as_slice() == b"STATE".as_slice() {
         return Ok(NextRequest::Asked(FollowRequest::State(next_state(alloc, reader)?)));
     }
@@ -69,7 +77,9 @@ pub(crate) fn next_input<R: HostReader>(
 fn next_state<R: HostReader>(alloc: Global, reader: &mut R) -> Result<Vec<u8>, HostFault>
     ensures ok { IfOk result
         (λ state. GivesSized state.items (R.remaining reader.old) (R.remaining reader.new)) }
-    ensures err { OnErr result (ReadsFront (R.remaining reader.old) (R.remaining reader.new)) }
+    ensures err { IfErr result (FailsToRead IsUnframed (R.remaining reader.old)
+        (R.remaining reader.new) (R.HostFile.failures reader.old)
+        (R.HostFile.failures reader.new)) }
     ensures why { ReadAccounts result (R.HostFile.failures reader.old)
         (R.HostFile.failures reader.new) }
 {
@@ -90,7 +100,9 @@ fn next_sized<R: HostReader>(
         (λ bytes. decimal_of most_digits digits.now ≡ Some (length bytes.items)) }
     ensures ok { IfOk result
         (λ bytes. Consumes (R.remaining reader.old) (R.remaining reader.new) bytes.items) }
-    ensures err { OnErr result (ReadsFront (R.remaining reader.old) (R.remaining reader.new)) }
+    ensures err { IfErr result (FailsToRead (IsUnsized digits.now) (R.remaining reader.old)
+        (R.remaining reader.new) (R.HostFile.failures reader.old)
+        (R.HostFile.failures reader.new)) }
     ensures why { ReadAccounts result (R.HostFile.failures reader.old)
         (R.HostFile.failures reader.new) }
 {
@@ -106,7 +118,11 @@ fn next_line<R: HostReader>(alloc: Global, reader: &mut R) -> Result<Option<Vec<
     ensures ok { IfOk result
         (λ line. GivesLine (option_map (λ line. line.items) line) (R.remaining reader.old)
         (R.remaining reader.new)) }
-    ensures err { OnErr result (ReadsFront (R.remaining reader.old) (R.remaining reader.new)) }
+    ensures unended { IfOk result
+        (λ line. IfSome line (λ line. HasNoEnd line.items)) }
+    ensures err { IfErr result (FailsToRead IsBadLine (R.remaining reader.old)
+        (R.remaining reader.new) (R.HostFile.failures reader.old)
+        (R.HostFile.failures reader.new)) }
     ensures why { ReadAccounts result (R.HostFile.failures reader.old)
         (R.HostFile.failures reader.new) }
 {
@@ -131,7 +147,9 @@ fn next_bytes<R: HostReader>(
     ensures ok { IfOk result
         (λ bytes. Consumes (R.remaining reader.old) (R.remaining reader.new) bytes.items) }
     ensures count { IfOk result (λ bytes. length bytes.items ≡ count) }
-    ensures err { OnErr result (ReadsFront (R.remaining reader.old) (R.remaining reader.new)) }
+    ensures err { IfErr result (FailsToRead (IsShortOf count) (R.remaining reader.old)
+        (R.remaining reader.new) (R.HostFile.failures reader.old)
+        (R.HostFile.failures reader.new)) }
     ensures why { ReadAccounts result (R.HostFile.failures reader.old)
         (R.HostFile.failures reader.new) }
 {

@@ -15,7 +15,9 @@ pub mod Noted
 pub mod Joined
 pub mod UsersKnown
 pub mod Changes
+mod Holding
 pub mod SameLines
+mod OneTranscript
 pub mod Told
 pub mod Whole
 pub mod Fair

@@ -5,7 +5,9 @@ pub mod Transcript
 pub mod Files
 pub mod Session
 pub mod News
+pub mod Held
 pub mod Alike
+pub mod OneTranscript
 pub mod Noted
 pub mod Continuing
 pub mod Follow

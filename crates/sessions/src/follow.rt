@@ -13,6 +13,7 @@ ghost use Rattle.sessions.specs.Follow.{Became, BeginsWithNothing, EndsAsSession
 ghost use Rattle.sessions.specs.Follow.{IsFollowedPartly, PartsJoin, part_of, unended_line};
 ghost use Rattle.std.specs.List.{list_all, list_any};
 ghost use Rattle.cp_dispatch.specs.Policy.{is_ready};
+ghost use Rattle.sessions.specs.Held.{holds_lines};
 ghost use Rattle.sessions.specs.Installed.{is_stated, names_of};
 ghost use Rattle.sessions.specs.News.{changed_lines, is_idle, modes_of};
 ghost use Rattle.machine_devices.specs.Dropped.{AreDropped, outputs_of};
@@ -25,6 +26,7 @@ ghost use Rattle.sessions.specs.declared.files.Telling.TheVariants.{Answer};
 use crate::acts::play;
 use crate::faults::PlayError;
 use crate::files::{Telling, operator_file_lines};
+use crate::held::held_lines;
 use crate::installation::Installation;
 use crate::known::read_events;
 use crate::news::{mode_change_lines, modes};
@@ -296,6 +298,19 @@ impl<I: Installation + Drop> Follower<I> {
             ≡ ended (lines_since Answer files (I.goes.seen self.now.world))) }
     {
         operator_file_lines(alloc, &self.installation, Telling::Answer, files)
+    }
+
+    /// Returns a line for each user with the entries of the open files of his punch and his printer,
+    /// each ended by LF.
+    ///
+    /// # Errors
+    ///
+    /// `AllocError` if memory is refused.
+    pub fn held(&self, alloc: Global) -> Result<Vec<u8>, AllocError>
+        ensures { let seen = I.goes.seen self.now.world in
+            IfOk result (λ text. text.items ≡ ended (holds_lines seen (length seen.users))) }
+    {
+        held_lines(alloc, &self.installation)
     }
 
     /// Returns a new list of the mode of each user's machine.

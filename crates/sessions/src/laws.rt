@@ -1,5 +1,6 @@
 //! What follows for the users of a session, and for one that goes on from a saved state.
 ghost use Rattle.sessions.specs.Fair.{ServesAreFair, SlicesAreFair};
+ghost use Rattle.sessions.specs.OneTranscript.{HaveOneReply, TranscriptsAreOne};
 ghost use Rattle.sessions.specs.Queued.{BeginsWithWhoIsOn, KeepsWhoIsOn, SlicesReachAll};
 ghost use Rattle.sessions.specs.Runs.{GoesOn, RestoredContinue, RunsAreASession};
 
@@ -44,3 +45,9 @@ pub fn restored_sessions_go_on<I: Installation>()
     I::one_by_saved();
     I::printed_lines_do_not_matter();
 }
+
+/// States that the same acts write one transcript, if no event is cut short for want of frames and
+/// events of such installations have one reply.
+pub fn a_transcript_is_one<I: Installation>()
+    ensures { HaveOneReply I.goes → TranscriptsAreOne I.goes }
+{}

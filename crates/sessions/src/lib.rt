@@ -30,6 +30,7 @@ mod answers;
 pub mod faults;
 pub mod files;
 pub mod follow;
+mod held;
 pub mod installation;
 mod joining;
 mod known;
@@ -45,6 +46,8 @@ pub use faults::{PlayError, SessionError};
 pub use follow::{Follower, Part, parts_are_a_session};
 pub use installation::{Installation, Refused};
 pub use joining::starts_are_in_order;
-pub use laws::{queue_has_who_is_on, restored_sessions_go_on, sessions_are_fair};
+pub use laws::{
+    a_transcript_is_one, queue_has_who_is_on, restored_sessions_go_on, sessions_are_fair,
+};
 pub use schedule::Detail;
 pub use transcript::cuts_back;

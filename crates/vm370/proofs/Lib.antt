@@ -4,4 +4,5 @@ mod Noted
 mod Restored
 mod Unstated
 mod Turned
+mod OneReply
 mod Programs

@@ -16,6 +16,7 @@ use Rattle.sessions.specs.Session.{IsRead}
 use Rattle.sessions.specs.declared.schedule.Detail.{Detail}
 use Rattle.sessions.specs.declared.schedule.Detail.TheVariants.{Whole, Terminals}
 use Rattle.programs.specs.Opened.{Adds, AddsFront, AreImagesAt, Deed, Opens, opens}
+use Rattle.programs.specs.Parts.{FailureCounts}
 use Rattle.programs.specs.Runs.{IsFailedFollowing, IsFailedRun, IsFollowing, IsRun, saved_of}
 use Rattle.programs.specs.Faults.{fault_text, status_of}
 use Rattle.programs.specs.Unread.{IsUnread}
@@ -149,8 +150,10 @@ pub record IsWholeRun {F : Type 0} (Gives : List ℕ → F → Type 0) (remainin
 -- was not played or an image not saved
 abbrev pub IsFailedWholeRun : {F : Type 0} → (List ℕ → F → Type 0) → (F → Option (List ℕ))
     → (F → ℕ) → Options
-    → Option (List Deed) → Option (List Deed) → Option (List ℕ) → Option (List ℕ) → Failure → Type 0
-IsFailedWholeRun Gives remaining count options deeds_old deeds_new writer_old writer_new failure =
+    → Option (List Deed) → Option (List Deed) → Option (List ℕ) → Option (List ℕ) → ℕ → ℕ
+    → Failure → Type 0
+IsFailedWholeRun Gives remaining count options deeds_old deeds_new writer_old writer_new
+    failed_old failed_new failure =
     (AddsFront deeds_old deeds_new
     (inputs options.directory.now (map (λ path. path.now) options.volumes.items))
     × (writer_new ≡ writer_old)
@@ -161,9 +164,9 @@ IsFailedWholeRun Gives remaining count options deeds_old deeds_new writer_old wr
     (map (λ path. path.now) options.volumes.items) options.sizes first
     × Adds deeds_old between
     (inputs options.directory.now (map (λ path. path.now) options.volumes.items))
-    × IsFailedRun system_goes system_volumes Gives remaining options.script.now
+    × IsFailedRun system_goes system_volumes Gives remaining count options.script.now
     (saved_of options.save (map (λ path. path.now) options.volumes.items)) first last between
-    deeds_new writer_old writer_new failure)
+    deeds_new writer_old writer_new failed_old failed_new failure)
 
 -- a system was booted, the parts of a script were followed on that, and the images were saved if
 -- that was asked for, by the options and by the input
@@ -185,9 +188,9 @@ pub record IsWholeFollowing {F : Type 0} (Gives : List ℕ → F → Type 0)
 abbrev pub IsFailedWholeFollowing : {F : Type 0} → (List ℕ → F → Type 0) → (F → Option (List ℕ))
     → (F → ℕ) → SystemFollowOptions → Option (List Deed) → Option (List Deed) → Option (List ℕ)
     → Option (List ℕ)
-    → Option (List ℕ) → Option (List ℕ) → Failure → Type 0
+    → Option (List ℕ) → Option (List ℕ) → FailureCounts → Failure → Type 0
 IsFailedWholeFollowing Gives remaining count options deeds_old deeds_new reader_old reader_new
-    writer_old writer_new failure =
+    writer_old writer_new counts failure =
     (AddsFront deeds_old deeds_new
     (inputs options.directory.now (map (λ path. path.now) options.volumes.items))
     × (reader_new ≡ reader_old) × (writer_new ≡ writer_old)
@@ -200,7 +203,7 @@ IsFailedWholeFollowing Gives remaining count options deeds_old deeds_new reader_
     (inputs options.directory.now (map (λ path. path.now) options.volumes.items))
     × IsFailedFollowing system_goes system_volumes (detail_of options.terminals)
     (saved_of options.save (map (λ path. path.now) options.volumes.items)) first between
-    deeds_new reader_old reader_new writer_old writer_new failure)
+    deeds_new reader_old reader_new writer_old writer_new counts failure)
 
 -- ---- the program
 
@@ -224,10 +227,11 @@ abbrev pub IsFailedProgram : {F : Type 0} → (List ℕ → F → Type 0) → (F
 IsFailedProgram Gives remaining count deeds_old deeds_new failure =
     (((failure ≡ failures.Usage) ⊎ (failure ≡ failures.Memory)) × (deeds_new ≡ deeds_old))
     ⊎ ((options : Options) × (writer_old : Option (List ℕ)) × (writer_new : Option (List ℕ))
+    × (failed_old : ℕ) × (failed_new : ℕ)
     × IsFailedWholeRun Gives remaining count options deeds_old deeds_new writer_old writer_new
-    failure)
+    failed_old failed_new failure)
     ⊎ ((options : SystemFollowOptions) × (reader_old : Option (List ℕ))
     × (reader_new : Option (List ℕ)) × (writer_old : Option (List ℕ))
-    × (writer_new : Option (List ℕ))
+    × (writer_new : Option (List ℕ)) × (counts : FailureCounts)
     × IsFailedWholeFollowing Gives remaining count options deeds_old deeds_new reader_old reader_new
-    writer_old writer_new failure)
+    writer_old writer_new counts failure)

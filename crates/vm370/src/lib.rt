@@ -31,4 +31,4 @@ pub mod program;
 pub mod runs;
 
 pub use installation::SharedMachines;
-pub use laws::{boots_are_of_one_base, sessions_are_histories};
+pub use laws::{boots_are_of_one_base, sessions_are_histories, transcripts_are_one};

@@ -1,0 +1,18 @@
+use Rattle.std.proofs.Common.{◌∙◌, [], ◌∷◌, length, subst}
+use Rattle.std.specs.Io.KnownBytes.{Appends}
+use Rattle.sessions.specs.Held.{holds_lines}
+use Rattle.sessions.specs.Transcript.{ended}
+use Rattle.sessions.proofs.Histories.{front_after, on_err}
+use Rattle.programs.specs.Parts.{done_line}
+use Rattle.programs.proofs.parts.tell_held.Goals as goal
+
+pub returns-in_err-write_flushed-clause-err : goal.returns-in_err-write_flushed-clause-err
+returns-in_err-write_flushed-clause-err g c =
+    let is = g.W.HostWriter.contents in
+    let seen = g.I.Installation.goes.seen c.args.follower.now.world in
+    on_err c.from_residual-in_err-write_flushed.result
+    (front_after (is c.args.writer.now) (is c.write_all.new.writer) (is c.write_flushed.new.writer)
+    (ended (holds_lines seen (length seen.users))) (ended (done_line ∷ []))
+    (subst (Appends (is c.args.writer.now) (is c.write_all.new.writer))
+    (c.deref.ensures.value ∙ c.in_ok-lines.ensures) c.in_ok-write_all.ensures.ok)
+    c.in_err-write_flushed.ensures.err)
