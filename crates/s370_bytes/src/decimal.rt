@@ -1,14 +1,15 @@
 //! Numbers of 15 decimal digits and a sign.
 ghost use Rattle.std.specs.Prelude.{◌≡◌, ℕ, ◌^◌, ◌<◌, length, IfSome};
 ghost use Rattle.s370_rows.specs.State.{state_of};
+ghost use Rattle.s370_rows.specs.Reach.{MeetsBy};
 ghost use Rattle.s370_rows.specs.Rows.{MeetsRow};
 ghost use Rattle.s370_bytes.specs.Decimal.{MeetsEnded, rebased, decimal_value, signed_value};
 ghost use Rattle.s370_bytes.specs.Decimal.{binary_left, binary_loaded, decimal_of, decimal_stored};
 
 use s370_num::Register;
 use s370_psw::ProgramCode;
-use s370_rows::{Completion, Cpu, Instruction, Refusal, grant};
-use s370_store::{Access, Range, Storage, load_doubleword, store_doubleword};
+use s370_rows::{Completion, Cpu, Instruction, Reach, Refusal, grant};
+use s370_store::{Access, Range, Storage, load_doubleword};
 
 /// Returns the number that 15 packed decimal digits are, or `None` if one of them is no digit.
 fn decimal_value(digits: u64) -> Option<u64>
@@ -128,7 +129,7 @@ fn decimal_digits(number: u64) -> u64
 /// Returns a word, taken as a signed number, as 15 packed decimal digits and a sign.
 #[inline]
 #[tactic(auto, unfolding(crate::specs::Decimal::decimal_of))]
-pub fn decimal_of(word: u32) -> u64
+fn decimal_of(word: u32) -> u64
     ensures { result ≡ decimal_of word }
 {
     let number = word.cast_signed();
@@ -137,31 +138,24 @@ pub fn decimal_of(word: u32) -> u64
 }
 
 /// Does CVD (4E): stores a register, taken as a signed number, as a packed decimal doubleword.
-///
-/// # Errors
-///
-/// A `Refusal`: the program interruption, or an absent page that has to be brought first. Nothing
-/// has changed.
-pub fn decimal_row<S: Storage>(
+#[inline(always)]
+pub fn decimal_row<S: Storage, R: Reach<S>>(
     cpu: &Cpu,
     storage: &mut S,
     i: Instruction,
-) -> Result<Completion, Refusal>
+    reach: &mut R,
+) -> Result<Completion, R::Refused>
+    requires ready { R.IsReady storage.old cpu.now.psw.key reach.old }
     ensures row { let before = state_of cpu.now (S.memory storage.old) in
         let after = state_of cpu.now (S.memory storage.new) in
-        MeetsRow (decimal_stored before i) (S.present storage.old) before result after }
+        MeetsBy R.Refused R.Refuses (decimal_stored before i) (S.present storage.old) before result
+        after }
     ensures rest { S.Keeps storage.old storage.new }
+    ensures ready { R.IsReady storage.old cpu.now.psw.key reach.new }
 {
-    let at = cpu.indexed(i.r2(), i.second_half).get();
-    grant(
-        cpu,
-        storage,
-        Range {
-            start: at,
-            count: 8,
-        },
-        Access::Store,
-    )?;
-    store_doubleword(storage, at, decimal_of(cpu.general[i.r1().index()]));
+    let start = cpu.indexed(i.r2(), i.second_half);
+    let span = reach.stored(cpu, storage, start, 8)?;
+    let decimal = decimal_of(cpu.general[i.r1().index()]);
+    R::store(storage, span, start.get(), &decimal.to_be_bytes());
     Ok(Completion::Done)
 }

@@ -35,7 +35,7 @@ mod translate;
 
 pub use combine::{Combine, combine_few, combine_row, combine_straight, combine_strings, move_row};
 pub use compare::{compare_few, compare_row, compare_straight, holds_eight};
-pub use decimal::{binary_row, decimal_of, decimal_row};
+pub use decimal::{binary_row, decimal_row};
 pub use digits::{Layout, layout_row};
 pub use long::{compare_long_row, move_long_quickly, move_long_row};
 pub use masks::{
@@ -43,8 +43,7 @@ pub use masks::{
     insert_characters_row, store_characters_in, store_characters_row,
 };
 pub use multiple::{
-    load_multiple_row, load_registers, load_registers_in, store_multiple_row, store_registers,
-    store_registers_in, words_range,
+    load_multiple_row, load_registers, store_multiple_row, store_registers, words_range,
 };
 pub use straight::{StringAt, fill_straight, move_straight};
 pub use translate::{translate_row, translate_straight, translate_test_row};

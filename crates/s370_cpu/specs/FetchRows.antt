@@ -1,10 +1,7 @@
 -- The rows that fetch their operands, and change registers alone.
 use Rattle.std.specs.Prelude.{◌≡◌, ℕ, ◌%◌, ◌==◌, Bool, if◌then◌else◌, [], ◌∷◌, slice_index, None}
-use Rattle.std.specs.Prelude.{Result, Ok, Err}
 use Rattle.s370_psw.specs.declared.ProgramCode.TheVariants.{Specification}
-use Rattle.s370_store.specs.Access.{Test}
 use Rattle.s370_rows.specs.declared.arithmetic.Arithmetic.{Arithmetic}
-use Rattle.s370_rows.specs.declared.ending.Refusal.{Refusal}
 use Rattle.s370_rows.specs.declared.immediate.ByteTest.{ByteTest}
 use Rattle.s370_rows.specs.declared.instruction.Instruction.{Instruction}
 use Rattle.s370_rows.specs.Formats.{r1_of, r2_of, based_address, indexed_address}
@@ -16,7 +13,6 @@ use Rattle.s370_rows.specs.Registers.{arithmetic, done, with_condition}
 use Rattle.s370_rows.specs.Results.{over_result}
 use Rattle.s370_rows.specs.State.{State}
 use Rattle.s370_rows.specs.Rows.{Row, checked, suppressed, over, fetch_test, half_at, word_at}
-use Rattle.s370_rows.specs.Rows.{fault_of, Grants}
 use Rattle.s370_bytes.specs.Compare.{strings_compared}
 use Rattle.s370_bytes.specs.Decimal.{binary_loaded}
 use Rattle.s370_bytes.specs.Long.{long_compared}
@@ -49,12 +45,6 @@ word_of m i = word_at m.bytes (operand_of m i)
 -- the halfword of the second operand, with its sign extended
 abbrev pub half_of : State → Instruction → ℕ
 half_of m i = halfword_operand (half_at m.bytes (operand_of m i))
-
--- what code may answer that fetches an operand: the operand, where the test passes; or what leave
--- to access it may answer
-abbrev pub MeetsOperand : State → (ℕ → Bool) → Test → ℕ → Result ℕ Refusal → Type 0
-MeetsOperand m present t operand (Ok b) = (fault_of m (t ∷ []) ≡ None) × (b ≡ operand)
-MeetsOperand m present t operand (Err refusal) = Grants m present (t ∷ []) (Err refusal)
 
 -- N, CL, O, X, L, C, A, S, AL, SL
 abbrev pub word_operation : Arithmetic → State → Instruction → Row

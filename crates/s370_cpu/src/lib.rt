@@ -41,10 +41,10 @@ mod store_rows;
 mod unit;
 
 pub use conclude::Stop;
-pub use control::{named_block, supervise};
+pub use control::{perform_control, supervise};
 pub use execute::{EXECUTE, target_of};
 pub use fetch::length_of;
-pub use fetch_rows::fetch_row;
+pub use fetch_rows::{fetch_row, fetch_row_by};
 pub use known::load_known_in;
 pub use laws::{
     changed_bytes_were_tested, few_pages_are_asked_for, few_ranges_are_tested, problem_state_holds,
@@ -52,5 +52,5 @@ pub use laws::{
 };
 pub use opcodes::{Control, FetchRow, Opcode, StoreRow, opcode_of};
 pub use register_rows::register_row;
-pub use store_rows::store_row;
+pub use store_rows::{store_row, store_row_by};
 pub use unit::{is_steady, may_overflow, step, step_in};

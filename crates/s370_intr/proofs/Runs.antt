@@ -17,8 +17,9 @@ use Rattle.s370_store.specs.Blocks.{MayAccess}
 use Rattle.s370_store.specs.Memory.{Memory}
 use Rattle.s370_store.specs.declared.Access.{Access}
 use Rattle.s370_store.specs.declared.block.Block.{Block}
-use Rattle.s370_quick.specs.declared.held.HeldBlock.{HeldBlock}
-use Rattle.s370_quick.specs.Quick.{AreHeld, IsHeld, StepsQuickly}
+use Rattle.s370_rows.specs.declared.held.HeldBlock.{HeldBlock}
+use Rattle.s370_rows.specs.Reach.{AreHeld, IsHeld}
+use Rattle.s370_quick.specs.Quick.{StepsQuickly}
 use Rattle.s370_cpu.specs.declared.conclude.Stop.TheVariants.{Done}
 use Rattle.s370_cpu.specs.Laws.{Rights, rights_of}
 use Rattle.s370_cpu.specs.Table.{unit}

@@ -2,7 +2,8 @@
 ghost use Rattle.std.specs.Prelude.{◌≡◌, ℕ, ◌<◌, ◌≤◌, List, [], ◌∷◌, IfSome, length, Result};
 ghost use Rattle.std.specs.Prelude.{true};
 ghost use Rattle.s370_rows.specs.State.{state_of};
-ghost use Rattle.s370_quick.specs.Quick.{AreHeld, IsLongMoveAt};
+ghost use Rattle.s370_rows.specs.Reach.{AreHeld};
+ghost use Rattle.s370_quick.specs.Quick.{IsLongMoveAt};
 ghost use Rattle.s370_intr.specs.Laws.{begun};
 ghost use Rattle.s370_intr.specs.Units.{MeetsUnitAt, NeedsAt, core_of, look};
 ghost use Rattle.s370_intr.specs.declared.next.Next.TheVariants as next;
@@ -16,8 +17,8 @@ use crate::pending::Pending;
 use crate::unit::{Processor, accept, accept_status, instruct_saving};
 use s370_num::{AccessKey, Addr24};
 use s370_psw::Psw;
-use s370_quick::{HeldBlock, Stepped, move_parts_quickly, step_quickly, supervise_quickly};
-use s370_rows::Cpu;
+use s370_quick::{Stepped, move_parts_quickly, step_quickly, supervise_quickly};
+use s370_rows::{Cpu, HeldBlock};
 use s370_store::{Block, FramesOut, Keyed, Page, Storage, UnitSupply, load_byte_in};
 use s370_subchannels::Subchannels;
 

@@ -3,5 +3,4 @@ pub mod Frequent
 pub mod LongMoves
 pub mod Overflow
 pub mod Quiet
-mod Holds
 pub mod Keyless

@@ -5,6 +5,7 @@ use Rattle.std.proofs.Common.{slice_index}
 use Rattle.std.specs.Prelude.{if◌then◌else◌, ◌&&◌, nat_le, nat_lt}
 use Rattle.s370_psw.specs.declared.ProgramCode.{ProgramCode}
 use Rattle.s370_psw.specs.declared.ProgramCode.TheVariants.{Specification}
+use Rattle.s370_rows.specs.Ending.{GoesOn}
 use Rattle.s370_rows.specs.declared.cpu.Cpu.{Cpu}
 use Rattle.s370_rows.specs.declared.ending.Completion.{Completion}
 use Rattle.s370_rows.specs.declared.ending.Completion.TheVariants.{Done, Again}
@@ -48,7 +49,7 @@ use Rattle.s370_cpu.specs.FetchRows.{fetch_row}
 use Rattle.s370_cpu.specs.StoreRows.{doubleword_taken, store_row, word_taken}
 use Rattle.s370_cpu.specs.Opcodes.{opcode_at}
 use Rattle.s370_cpu.specs.Table.{is_steady, may_overflow, row_named, row_of}
-use Rattle.s370_quick.specs.Quick.{GoesOn, MeetsAtOnce, MeetsQuick}
+use Rattle.s370_quick.specs.Quick.{MeetsAtOnce, MeetsQuick}
 use Rattle.s370_quick.proofs.Overflow.{NoOverflow, arithmetic_quiet, pair_shift_quiet, word_shift_quiet}
 use Rattle.s370_quick.proofs.Frequent.{IsQuiet, LeavesQuiet, branches_go_on, either_quiet, long_quiet, no_overflow}
 use Rattle.s370_quick.proofs.Frequent.{over_quiet, quick_of}

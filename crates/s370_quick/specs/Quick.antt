@@ -1,34 +1,19 @@
 -- What an instruction may answer that is done only where nothing keeps it from being done.
 use Rattle.std.specs.Prelude.{◌≡◌, ℕ, zero, suc, ◌+◌, ◌%◌, ◌<◌, ◌≤◌, Bool, true, false, length}
 use Rattle.std.specs.Prelude.{slice_index, Option, Some, None, Result, Ok, Err, IfSome, IfNone}
-use Rattle.s370_store.specs.Blocks.{MayAccess, MayFetch}
-use Rattle.s370_store.specs.Memory.{Memory}
-use Rattle.s370_store.specs.declared.Access.{Access}
-use Rattle.s370_store.specs.declared.Access.TheVariants.{Fetch, Store}
-use Rattle.s370_store.specs.declared.block.Block.{Block}
+use Rattle.s370_store.specs.Blocks.{MayFetch}
 use Rattle.s370_rows.specs.declared.ending.Completion.{Completion}
-use Rattle.s370_rows.specs.declared.ending.Completion.TheVariants.{Done, Branch, Again, Interrupted}
-use Rattle.s370_rows.specs.declared.ending.Completion.TheVariants.{SupervisorCall, InputOutput}
 use Rattle.s370_rows.specs.declared.ending.Refusal.{Refusal}
+use Rattle.s370_rows.specs.Ending.{GoesOn}
 use Rattle.s370_rows.specs.State.{State}
 use Rattle.s370_rows.specs.Rows.{Row, MeetsRow}
 use Rattle.s370_cpu.specs.Laws.{rights_of}
 use Rattle.s370_cpu.specs.Table.{unit}
 use Rattle.s370_cpu.specs.Unit.{MeetsUnit}
 use Rattle.s370_cpu.specs.declared.conclude.Stop.TheVariants.{Done as DoneStop}
-use Rattle.s370_quick.specs.declared.held.HeldBlock.{HeldBlock}
 use Rattle.s370_quick.specs.declared.stepped.Stepped.{Stepped}
 use Rattle.s370_quick.specs.declared.stepped.Stepped.TheVariants.{Follows, Elsewhere, LeftOut}
 use Rattle.s370_quick.specs.declared.stepped.Stepped.TheVariants.{Unassigned}
-
--- the processor goes on after it, and nothing else follows
-abbrev pub GoesOn : Completion → Type 0
-GoesOn Done = Unit {0}
-GoesOn (Branch a) = Unit {0}
-GoesOn Again = Unit {0}
-GoesOn (Interrupted code) = ⊥
-GoesOn (SupervisorCall n) = ⊥
-GoesOn (InputOutput operation device) = ⊥
 
 -- how a row ended that was carried out
 abbrev pub done_of : Result Completion Refusal → Option Completion
@@ -98,20 +83,3 @@ DoesUnits zero present m m' = m' ≡ m
 DoesUnits (suc n) present m m' =
     (next : State) × MeetsUnit (unit m) present m DoneStop next × (rights_of next ≡ rights_of m)
     × DoesUnits n present next m'
-
--- a block that is held for such operands: where addresses reach it, all of it may be accessed so,
--- and it is where it says
-pub record IsHeld (access : Access) (is_placed : Block → Type 0) (m : Memory) (present : ℕ → Bool)
-    (key : ℕ) (block : Block) : Type 0 where
-  pub far : block.first ≤ 2147483648
-  pub may_access : block.first < 16777216
-      → MayAccess access (length m.bytes) m.keys present key block.first
-  pub placed : block.first < 16777216 → is_placed block
-
--- the blocks that are held for operands, two for those that are fetched, and one for those that are
--- stored
-pub record AreHeld (is_placed : Block → Type 0) (m : Memory) (present : ℕ → Bool) (key : ℕ)
-    (held : HeldBlock) : Type 0 where
-  pub fetched : IsHeld Fetch is_placed m present key held.fetched
-  pub previous : IsHeld Fetch is_placed m present key held.previous
-  pub stored : IsHeld Store is_placed m present key held.stored

@@ -1,22 +1,79 @@
 //! The way of each operation code.
 ghost use Rattle.std.specs.Prelude.{◌≡◌, ◌+◌, ◌<◌, ◌≤◌, Ok};
 ghost use Rattle.s370_rows.specs.State.{state_of};
+ghost use Rattle.s370_rows.specs.Reach.{AreHeld};
 ghost use Rattle.s370_cpu.specs.Fetch.{fetched, instruction_at};
 ghost use Rattle.s370_cpu.specs.Unit.{Carries, place_at};
-ghost use Rattle.s370_quick.specs.Quick.{AreHeld, FollowsIn, IsAt, StepsQuickly, next_after};
+ghost use Rattle.s370_quick.specs.Quick.{FollowsIn, IsAt, StepsQuickly, next_after};
 
-use crate::held::HeldBlock;
 use crate::quick::{carry_apart, carry_quickly, finish_apart};
 use crate::stepped::Stepped;
 use s370_num::Addr24;
-use s370_rows::{Cpu, Instruction, Place};
+use s370_rows::{Cpu, HeldBlock, Instruction, Place};
 use s370_store::{Block, Storage, load_byte_in};
 
-/// Does the instruction at `start` by its operation code, if it is a frequent one and the processor
-/// goes on; else changes only `held`.
+/// Does what an operation code says, which is then a constant: `$near` for those that are inlined,
+/// `$far` for the others of the loop, and nothing for those that it leaves out.
 ///
 /// Every operation code but the last has an arm, those that are left out too, and the last answers
 /// otherwise than they: so LLVM knows that no code is outside the table, and the jump has no test.
+macro_rules! by_code {
+    ($code:expr, $near:ident, $far:ident, $arguments:tt) => {
+        by_code!(
+            $code, $arguments;
+            $near:
+            0x04 0x05 0x06 0x07
+            0x10 0x11 0x12 0x13 0x14 0x15 0x16 0x17 0x18 0x19 0x1A 0x1B 0x1C 0x1E 0x1F
+            0x40 0x41 0x42 0x43 0x45 0x46 0x47 0x48 0x49 0x4A 0x4B
+            0x50 0x54 0x55 0x56 0x57 0x58 0x59 0x5A 0x5B 0x5E 0x5F
+            0x86 0x87 0x88 0x89 0x8A 0x8B 0x8C 0x8D
+            0x91 0x92 0x94 0x95 0x96 0x97
+            0xD2;
+            $far:
+            0x0F
+            0x1D
+            0x44 0x4C 0x4E
+            0x5C 0x5D
+            0x8E 0x8F
+            0x90 0x93 0x98
+            0xBA 0xBB 0xBD 0xBE 0xBF
+            0xD1 0xD3 0xD4 0xD5 0xD6 0xD7 0xDC 0xDD
+            0xF1 0xF2 0xF3;
+            left out:
+            0x00 0x01 0x02 0x03 0x08 0x09 0x0A 0x0B 0x0C 0x0D 0x0E
+            0x20 0x21 0x22 0x23 0x24 0x25 0x26 0x27 0x28 0x29 0x2A 0x2B 0x2C 0x2D 0x2E 0x2F
+            0x30 0x31 0x32 0x33 0x34 0x35 0x36 0x37 0x38 0x39 0x3A 0x3B 0x3C 0x3D 0x3E 0x3F
+            0x4D 0x4F
+            0x51 0x52 0x53
+            0x60 0x61 0x62 0x63 0x64 0x65 0x66 0x67 0x68 0x69 0x6A 0x6B 0x6C 0x6D 0x6E 0x6F
+            0x70 0x71 0x72 0x73 0x74 0x75 0x76 0x77 0x78 0x79 0x7A 0x7B 0x7C 0x7D 0x7E 0x7F
+            0x80 0x81 0x82 0x83 0x84 0x85
+            0x99 0x9A 0x9B 0x9C 0x9D 0x9E 0x9F
+            0xA0 0xA1 0xA2 0xA3 0xA4 0xA5 0xA6 0xA7 0xA8 0xA9 0xAA 0xAB 0xAC 0xAD 0xAE 0xAF
+            0xB0 0xB1 0xB2 0xB3 0xB4 0xB5 0xB6 0xB7 0xB8 0xB9 0xBC
+            0xC0 0xC1 0xC2 0xC3 0xC4 0xC5 0xC6 0xC7 0xC8 0xC9 0xCA 0xCB 0xCC 0xCD 0xCE 0xCF
+            0xD0 0xD8 0xD9 0xDA 0xDB 0xDE 0xDF
+            0xE0 0xE1 0xE2 0xE3 0xE4 0xE5 0xE6 0xE7 0xE8 0xE9 0xEA 0xEB 0xEC 0xED 0xEE 0xEF
+            0xF0 0xF4 0xF5 0xF6 0xF7 0xF8 0xF9 0xFA 0xFB 0xFC 0xFD 0xFE
+        )
+    };
+    (
+        $code:expr, $arguments:tt;
+        $near:ident: $($inlined:literal)*;
+        $far:ident: $($called:literal)*;
+        left out: $($left:literal)*
+    ) => {
+        match $code {
+            $($inlined => $near::<S, $inlined> $arguments,)*
+            $($called => $far::<S, $called> $arguments,)*
+            $($left => Stepped::LeftOut,)*
+            _ => Stepped::Unassigned,
+        }
+    };
+}
+
+/// Does the instruction at `start` by its operation code, if it is a frequent one and the processor
+/// goes on; else changes only `held`.
 #[inline(always)]
 pub(crate) fn step_found_quickly<S: Storage>(
     cpu: &mut Cpu,
@@ -43,264 +100,12 @@ pub(crate) fn step_found_quickly<S: Storage>(
         (S.present storage.old) cpu.old.psw.key held.new }
 {
     // One jump, after which all is compiled for the one operation code.
-    match load_byte_in(storage, block, start.get()) {
-        0x00 => Stepped::LeftOut,
-        0x01 => Stepped::LeftOut,
-        0x02 => Stepped::LeftOut,
-        0x03 => Stepped::LeftOut,
-        0x04 => carry_quickly::<S, 0x04>(cpu, storage, start, block, held),
-        0x05 => carry_quickly::<S, 0x05>(cpu, storage, start, block, held),
-        0x06 => carry_quickly::<S, 0x06>(cpu, storage, start, block, held),
-        0x07 => carry_quickly::<S, 0x07>(cpu, storage, start, block, held),
-        0x08 => Stepped::LeftOut,
-        0x09 => Stepped::LeftOut,
-        0x0A => Stepped::LeftOut,
-        0x0B => Stepped::LeftOut,
-        0x0C => Stepped::LeftOut,
-        0x0D => Stepped::LeftOut,
-        0x0E => Stepped::LeftOut,
-        0x0F => carry_apart::<S, 0x0F>(cpu, storage, start, block, held),
-        0x10 => carry_quickly::<S, 0x10>(cpu, storage, start, block, held),
-        0x11 => carry_quickly::<S, 0x11>(cpu, storage, start, block, held),
-        0x12 => carry_quickly::<S, 0x12>(cpu, storage, start, block, held),
-        0x13 => carry_quickly::<S, 0x13>(cpu, storage, start, block, held),
-        0x14 => carry_quickly::<S, 0x14>(cpu, storage, start, block, held),
-        0x15 => carry_quickly::<S, 0x15>(cpu, storage, start, block, held),
-        0x16 => carry_quickly::<S, 0x16>(cpu, storage, start, block, held),
-        0x17 => carry_quickly::<S, 0x17>(cpu, storage, start, block, held),
-        0x18 => carry_quickly::<S, 0x18>(cpu, storage, start, block, held),
-        0x19 => carry_quickly::<S, 0x19>(cpu, storage, start, block, held),
-        0x1A => carry_quickly::<S, 0x1A>(cpu, storage, start, block, held),
-        0x1B => carry_quickly::<S, 0x1B>(cpu, storage, start, block, held),
-        0x1C => carry_quickly::<S, 0x1C>(cpu, storage, start, block, held),
-        0x1D => carry_apart::<S, 0x1D>(cpu, storage, start, block, held),
-        0x1E => carry_quickly::<S, 0x1E>(cpu, storage, start, block, held),
-        0x1F => carry_quickly::<S, 0x1F>(cpu, storage, start, block, held),
-        0x20 => Stepped::LeftOut,
-        0x21 => Stepped::LeftOut,
-        0x22 => Stepped::LeftOut,
-        0x23 => Stepped::LeftOut,
-        0x24 => Stepped::LeftOut,
-        0x25 => Stepped::LeftOut,
-        0x26 => Stepped::LeftOut,
-        0x27 => Stepped::LeftOut,
-        0x28 => Stepped::LeftOut,
-        0x29 => Stepped::LeftOut,
-        0x2A => Stepped::LeftOut,
-        0x2B => Stepped::LeftOut,
-        0x2C => Stepped::LeftOut,
-        0x2D => Stepped::LeftOut,
-        0x2E => Stepped::LeftOut,
-        0x2F => Stepped::LeftOut,
-        0x30 => Stepped::LeftOut,
-        0x31 => Stepped::LeftOut,
-        0x32 => Stepped::LeftOut,
-        0x33 => Stepped::LeftOut,
-        0x34 => Stepped::LeftOut,
-        0x35 => Stepped::LeftOut,
-        0x36 => Stepped::LeftOut,
-        0x37 => Stepped::LeftOut,
-        0x38 => Stepped::LeftOut,
-        0x39 => Stepped::LeftOut,
-        0x3A => Stepped::LeftOut,
-        0x3B => Stepped::LeftOut,
-        0x3C => Stepped::LeftOut,
-        0x3D => Stepped::LeftOut,
-        0x3E => Stepped::LeftOut,
-        0x3F => Stepped::LeftOut,
-        0x40 => carry_quickly::<S, 0x40>(cpu, storage, start, block, held),
-        0x41 => carry_quickly::<S, 0x41>(cpu, storage, start, block, held),
-        0x42 => carry_quickly::<S, 0x42>(cpu, storage, start, block, held),
-        0x43 => carry_quickly::<S, 0x43>(cpu, storage, start, block, held),
-        0x44 => carry_apart::<S, 0x44>(cpu, storage, start, block, held),
-        0x45 => carry_quickly::<S, 0x45>(cpu, storage, start, block, held),
-        0x46 => carry_quickly::<S, 0x46>(cpu, storage, start, block, held),
-        0x47 => carry_quickly::<S, 0x47>(cpu, storage, start, block, held),
-        0x48 => carry_quickly::<S, 0x48>(cpu, storage, start, block, held),
-        0x49 => carry_quickly::<S, 0x49>(cpu, storage, start, block, held),
-        0x4A => carry_quickly::<S, 0x4A>(cpu, storage, start, block, held),
-        0x4B => carry_quickly::<S, 0x4B>(cpu, storage, start, block, held),
-        0x4C => carry_apart::<S, 0x4C>(cpu, storage, start, block, held),
-        0x4D => Stepped::LeftOut,
-        0x4E => carry_apart::<S, 0x4E>(cpu, storage, start, block, held),
-        0x4F => Stepped::LeftOut,
-        0x50 => carry_quickly::<S, 0x50>(cpu, storage, start, block, held),
-        0x51 => Stepped::LeftOut,
-        0x52 => Stepped::LeftOut,
-        0x53 => Stepped::LeftOut,
-        0x54 => carry_quickly::<S, 0x54>(cpu, storage, start, block, held),
-        0x55 => carry_quickly::<S, 0x55>(cpu, storage, start, block, held),
-        0x56 => carry_quickly::<S, 0x56>(cpu, storage, start, block, held),
-        0x57 => carry_quickly::<S, 0x57>(cpu, storage, start, block, held),
-        0x58 => carry_quickly::<S, 0x58>(cpu, storage, start, block, held),
-        0x59 => carry_quickly::<S, 0x59>(cpu, storage, start, block, held),
-        0x5A => carry_quickly::<S, 0x5A>(cpu, storage, start, block, held),
-        0x5B => carry_quickly::<S, 0x5B>(cpu, storage, start, block, held),
-        0x5C => carry_apart::<S, 0x5C>(cpu, storage, start, block, held),
-        0x5D => carry_apart::<S, 0x5D>(cpu, storage, start, block, held),
-        0x5E => carry_quickly::<S, 0x5E>(cpu, storage, start, block, held),
-        0x5F => carry_quickly::<S, 0x5F>(cpu, storage, start, block, held),
-        0x60 => Stepped::LeftOut,
-        0x61 => Stepped::LeftOut,
-        0x62 => Stepped::LeftOut,
-        0x63 => Stepped::LeftOut,
-        0x64 => Stepped::LeftOut,
-        0x65 => Stepped::LeftOut,
-        0x66 => Stepped::LeftOut,
-        0x67 => Stepped::LeftOut,
-        0x68 => Stepped::LeftOut,
-        0x69 => Stepped::LeftOut,
-        0x6A => Stepped::LeftOut,
-        0x6B => Stepped::LeftOut,
-        0x6C => Stepped::LeftOut,
-        0x6D => Stepped::LeftOut,
-        0x6E => Stepped::LeftOut,
-        0x6F => Stepped::LeftOut,
-        0x70 => Stepped::LeftOut,
-        0x71 => Stepped::LeftOut,
-        0x72 => Stepped::LeftOut,
-        0x73 => Stepped::LeftOut,
-        0x74 => Stepped::LeftOut,
-        0x75 => Stepped::LeftOut,
-        0x76 => Stepped::LeftOut,
-        0x77 => Stepped::LeftOut,
-        0x78 => Stepped::LeftOut,
-        0x79 => Stepped::LeftOut,
-        0x7A => Stepped::LeftOut,
-        0x7B => Stepped::LeftOut,
-        0x7C => Stepped::LeftOut,
-        0x7D => Stepped::LeftOut,
-        0x7E => Stepped::LeftOut,
-        0x7F => Stepped::LeftOut,
-        0x80 => Stepped::LeftOut,
-        0x81 => Stepped::LeftOut,
-        0x82 => Stepped::LeftOut,
-        0x83 => Stepped::LeftOut,
-        0x84 => Stepped::LeftOut,
-        0x85 => Stepped::LeftOut,
-        0x86 => carry_quickly::<S, 0x86>(cpu, storage, start, block, held),
-        0x87 => carry_quickly::<S, 0x87>(cpu, storage, start, block, held),
-        0x88 => carry_quickly::<S, 0x88>(cpu, storage, start, block, held),
-        0x89 => carry_quickly::<S, 0x89>(cpu, storage, start, block, held),
-        0x8A => carry_quickly::<S, 0x8A>(cpu, storage, start, block, held),
-        0x8B => carry_quickly::<S, 0x8B>(cpu, storage, start, block, held),
-        0x8C => carry_quickly::<S, 0x8C>(cpu, storage, start, block, held),
-        0x8D => carry_quickly::<S, 0x8D>(cpu, storage, start, block, held),
-        0x8E => carry_apart::<S, 0x8E>(cpu, storage, start, block, held),
-        0x8F => carry_apart::<S, 0x8F>(cpu, storage, start, block, held),
-        0x90 => carry_apart::<S, 0x90>(cpu, storage, start, block, held),
-        0x91 => carry_quickly::<S, 0x91>(cpu, storage, start, block, held),
-        0x92 => carry_quickly::<S, 0x92>(cpu, storage, start, block, held),
-        0x93 => carry_apart::<S, 0x93>(cpu, storage, start, block, held),
-        0x94 => carry_quickly::<S, 0x94>(cpu, storage, start, block, held),
-        0x95 => carry_quickly::<S, 0x95>(cpu, storage, start, block, held),
-        0x96 => carry_quickly::<S, 0x96>(cpu, storage, start, block, held),
-        0x97 => carry_quickly::<S, 0x97>(cpu, storage, start, block, held),
-        0x98 => carry_apart::<S, 0x98>(cpu, storage, start, block, held),
-        0x99 => Stepped::LeftOut,
-        0x9A => Stepped::LeftOut,
-        0x9B => Stepped::LeftOut,
-        0x9C => Stepped::LeftOut,
-        0x9D => Stepped::LeftOut,
-        0x9E => Stepped::LeftOut,
-        0x9F => Stepped::LeftOut,
-        0xA0 => Stepped::LeftOut,
-        0xA1 => Stepped::LeftOut,
-        0xA2 => Stepped::LeftOut,
-        0xA3 => Stepped::LeftOut,
-        0xA4 => Stepped::LeftOut,
-        0xA5 => Stepped::LeftOut,
-        0xA6 => Stepped::LeftOut,
-        0xA7 => Stepped::LeftOut,
-        0xA8 => Stepped::LeftOut,
-        0xA9 => Stepped::LeftOut,
-        0xAA => Stepped::LeftOut,
-        0xAB => Stepped::LeftOut,
-        0xAC => Stepped::LeftOut,
-        0xAD => Stepped::LeftOut,
-        0xAE => Stepped::LeftOut,
-        0xAF => Stepped::LeftOut,
-        0xB0 => Stepped::LeftOut,
-        0xB1 => Stepped::LeftOut,
-        0xB2 => Stepped::LeftOut,
-        0xB3 => Stepped::LeftOut,
-        0xB4 => Stepped::LeftOut,
-        0xB5 => Stepped::LeftOut,
-        0xB6 => Stepped::LeftOut,
-        0xB7 => Stepped::LeftOut,
-        0xB8 => Stepped::LeftOut,
-        0xB9 => Stepped::LeftOut,
-        0xBA => carry_apart::<S, 0xBA>(cpu, storage, start, block, held),
-        0xBB => carry_apart::<S, 0xBB>(cpu, storage, start, block, held),
-        0xBC => Stepped::LeftOut,
-        0xBD => carry_apart::<S, 0xBD>(cpu, storage, start, block, held),
-        0xBE => carry_apart::<S, 0xBE>(cpu, storage, start, block, held),
-        0xBF => carry_apart::<S, 0xBF>(cpu, storage, start, block, held),
-        0xC0 => Stepped::LeftOut,
-        0xC1 => Stepped::LeftOut,
-        0xC2 => Stepped::LeftOut,
-        0xC3 => Stepped::LeftOut,
-        0xC4 => Stepped::LeftOut,
-        0xC5 => Stepped::LeftOut,
-        0xC6 => Stepped::LeftOut,
-        0xC7 => Stepped::LeftOut,
-        0xC8 => Stepped::LeftOut,
-        0xC9 => Stepped::LeftOut,
-        0xCA => Stepped::LeftOut,
-        0xCB => Stepped::LeftOut,
-        0xCC => Stepped::LeftOut,
-        0xCD => Stepped::LeftOut,
-        0xCE => Stepped::LeftOut,
-        0xCF => Stepped::LeftOut,
-        0xD0 => Stepped::LeftOut,
-        0xD1 => carry_apart::<S, 0xD1>(cpu, storage, start, block, held),
-        0xD2 => carry_quickly::<S, 0xD2>(cpu, storage, start, block, held),
-        0xD3 => carry_apart::<S, 0xD3>(cpu, storage, start, block, held),
-        0xD4 => carry_apart::<S, 0xD4>(cpu, storage, start, block, held),
-        0xD5 => carry_apart::<S, 0xD5>(cpu, storage, start, block, held),
-        0xD6 => carry_apart::<S, 0xD6>(cpu, storage, start, block, held),
-        0xD7 => carry_apart::<S, 0xD7>(cpu, storage, start, block, held),
-        0xD8 => Stepped::LeftOut,
-        0xD9 => Stepped::LeftOut,
-        0xDA => Stepped::LeftOut,
-        0xDB => Stepped::LeftOut,
-        0xDC => carry_apart::<S, 0xDC>(cpu, storage, start, block, held),
-        0xDD => carry_apart::<S, 0xDD>(cpu, storage, start, block, held),
-        0xDE => Stepped::LeftOut,
-        0xDF => Stepped::LeftOut,
-        0xE0 => Stepped::LeftOut,
-        0xE1 => Stepped::LeftOut,
-        0xE2 => Stepped::LeftOut,
-        0xE3 => Stepped::LeftOut,
-        0xE4 => Stepped::LeftOut,
-        0xE5 => Stepped::LeftOut,
-        0xE6 => Stepped::LeftOut,
-        0xE7 => Stepped::LeftOut,
-        0xE8 => Stepped::LeftOut,
-        0xE9 => Stepped::LeftOut,
-        0xEA => Stepped::LeftOut,
-        0xEB => Stepped::LeftOut,
-        0xEC => Stepped::LeftOut,
-        0xED => Stepped::LeftOut,
-        0xEE => Stepped::LeftOut,
-        0xEF => Stepped::LeftOut,
-        0xF0 => Stepped::LeftOut,
-        0xF1 => carry_apart::<S, 0xF1>(cpu, storage, start, block, held),
-        0xF2 => carry_apart::<S, 0xF2>(cpu, storage, start, block, held),
-        0xF3 => carry_apart::<S, 0xF3>(cpu, storage, start, block, held),
-        0xF4 => Stepped::LeftOut,
-        0xF5 => Stepped::LeftOut,
-        0xF6 => Stepped::LeftOut,
-        0xF7 => Stepped::LeftOut,
-        0xF8 => Stepped::LeftOut,
-        0xF9 => Stepped::LeftOut,
-        0xFA => Stepped::LeftOut,
-        0xFB => Stepped::LeftOut,
-        0xFC => Stepped::LeftOut,
-        0xFD => Stepped::LeftOut,
-        0xFE => Stepped::LeftOut,
-        _ => Stepped::Unassigned,
-    }
+    by_code!(
+        load_byte_in(storage, block, start.get()),
+        carry_quickly,
+        carry_apart,
+        (cpu, storage, start, block, held)
+    )
 }
 
 /// Does the target of an EX by its operation code, if it is a frequent one and the processor goes
@@ -326,90 +131,10 @@ pub(crate) fn finish_target<S: Storage>(
     ensures operands { AreHeld (S.IsPlaced storage.old) (S.memory storage.old)
         (S.present storage.old) cpu.old.psw.key held.new }
 {
-    match i.opcode {
-        0x04 => finish_apart::<S, 0x04>(cpu, storage, place, i, held),
-        0x05 => finish_apart::<S, 0x05>(cpu, storage, place, i, held),
-        0x06 => finish_apart::<S, 0x06>(cpu, storage, place, i, held),
-        0x07 => finish_apart::<S, 0x07>(cpu, storage, place, i, held),
-        0x0F => finish_apart::<S, 0x0F>(cpu, storage, place, i, held),
-        0x10 => finish_apart::<S, 0x10>(cpu, storage, place, i, held),
-        0x11 => finish_apart::<S, 0x11>(cpu, storage, place, i, held),
-        0x12 => finish_apart::<S, 0x12>(cpu, storage, place, i, held),
-        0x13 => finish_apart::<S, 0x13>(cpu, storage, place, i, held),
-        0x14 => finish_apart::<S, 0x14>(cpu, storage, place, i, held),
-        0x15 => finish_apart::<S, 0x15>(cpu, storage, place, i, held),
-        0x16 => finish_apart::<S, 0x16>(cpu, storage, place, i, held),
-        0x17 => finish_apart::<S, 0x17>(cpu, storage, place, i, held),
-        0x18 => finish_apart::<S, 0x18>(cpu, storage, place, i, held),
-        0x19 => finish_apart::<S, 0x19>(cpu, storage, place, i, held),
-        0x1A => finish_apart::<S, 0x1A>(cpu, storage, place, i, held),
-        0x1B => finish_apart::<S, 0x1B>(cpu, storage, place, i, held),
-        0x1C => finish_apart::<S, 0x1C>(cpu, storage, place, i, held),
-        0x1D => finish_apart::<S, 0x1D>(cpu, storage, place, i, held),
-        0x1E => finish_apart::<S, 0x1E>(cpu, storage, place, i, held),
-        0x1F => finish_apart::<S, 0x1F>(cpu, storage, place, i, held),
-        0x40 => finish_apart::<S, 0x40>(cpu, storage, place, i, held),
-        0x41 => finish_apart::<S, 0x41>(cpu, storage, place, i, held),
-        0x42 => finish_apart::<S, 0x42>(cpu, storage, place, i, held),
-        0x43 => finish_apart::<S, 0x43>(cpu, storage, place, i, held),
-        0x45 => finish_apart::<S, 0x45>(cpu, storage, place, i, held),
-        0x46 => finish_apart::<S, 0x46>(cpu, storage, place, i, held),
-        0x47 => finish_apart::<S, 0x47>(cpu, storage, place, i, held),
-        0x48 => finish_apart::<S, 0x48>(cpu, storage, place, i, held),
-        0x49 => finish_apart::<S, 0x49>(cpu, storage, place, i, held),
-        0x4A => finish_apart::<S, 0x4A>(cpu, storage, place, i, held),
-        0x4B => finish_apart::<S, 0x4B>(cpu, storage, place, i, held),
-        0x4C => finish_apart::<S, 0x4C>(cpu, storage, place, i, held),
-        0x4E => finish_apart::<S, 0x4E>(cpu, storage, place, i, held),
-        0x50 => finish_apart::<S, 0x50>(cpu, storage, place, i, held),
-        0x54 => finish_apart::<S, 0x54>(cpu, storage, place, i, held),
-        0x55 => finish_apart::<S, 0x55>(cpu, storage, place, i, held),
-        0x56 => finish_apart::<S, 0x56>(cpu, storage, place, i, held),
-        0x57 => finish_apart::<S, 0x57>(cpu, storage, place, i, held),
-        0x58 => finish_apart::<S, 0x58>(cpu, storage, place, i, held),
-        0x59 => finish_apart::<S, 0x59>(cpu, storage, place, i, held),
-        0x5A => finish_apart::<S, 0x5A>(cpu, storage, place, i, held),
-        0x5B => finish_apart::<S, 0x5B>(cpu, storage, place, i, held),
-        0x5C => finish_apart::<S, 0x5C>(cpu, storage, place, i, held),
-        0x5D => finish_apart::<S, 0x5D>(cpu, storage, place, i, held),
-        0x5E => finish_apart::<S, 0x5E>(cpu, storage, place, i, held),
-        0x5F => finish_apart::<S, 0x5F>(cpu, storage, place, i, held),
-        0x86 => finish_apart::<S, 0x86>(cpu, storage, place, i, held),
-        0x87 => finish_apart::<S, 0x87>(cpu, storage, place, i, held),
-        0x88 => finish_apart::<S, 0x88>(cpu, storage, place, i, held),
-        0x89 => finish_apart::<S, 0x89>(cpu, storage, place, i, held),
-        0x8A => finish_apart::<S, 0x8A>(cpu, storage, place, i, held),
-        0x8B => finish_apart::<S, 0x8B>(cpu, storage, place, i, held),
-        0x8C => finish_apart::<S, 0x8C>(cpu, storage, place, i, held),
-        0x8D => finish_apart::<S, 0x8D>(cpu, storage, place, i, held),
-        0x8E => finish_apart::<S, 0x8E>(cpu, storage, place, i, held),
-        0x8F => finish_apart::<S, 0x8F>(cpu, storage, place, i, held),
-        0x90 => finish_apart::<S, 0x90>(cpu, storage, place, i, held),
-        0x91 => finish_apart::<S, 0x91>(cpu, storage, place, i, held),
-        0x92 => finish_apart::<S, 0x92>(cpu, storage, place, i, held),
-        0x93 => finish_apart::<S, 0x93>(cpu, storage, place, i, held),
-        0x94 => finish_apart::<S, 0x94>(cpu, storage, place, i, held),
-        0x95 => finish_apart::<S, 0x95>(cpu, storage, place, i, held),
-        0x96 => finish_apart::<S, 0x96>(cpu, storage, place, i, held),
-        0x97 => finish_apart::<S, 0x97>(cpu, storage, place, i, held),
-        0x98 => finish_apart::<S, 0x98>(cpu, storage, place, i, held),
-        0xBA => finish_apart::<S, 0xBA>(cpu, storage, place, i, held),
-        0xBB => finish_apart::<S, 0xBB>(cpu, storage, place, i, held),
-        0xBD => finish_apart::<S, 0xBD>(cpu, storage, place, i, held),
-        0xBE => finish_apart::<S, 0xBE>(cpu, storage, place, i, held),
-        0xBF => finish_apart::<S, 0xBF>(cpu, storage, place, i, held),
-        0xD1 => finish_apart::<S, 0xD1>(cpu, storage, place, i, held),
-        0xD2 => finish_apart::<S, 0xD2>(cpu, storage, place, i, held),
-        0xD3 => finish_apart::<S, 0xD3>(cpu, storage, place, i, held),
-        0xD4 => finish_apart::<S, 0xD4>(cpu, storage, place, i, held),
-        0xD5 => finish_apart::<S, 0xD5>(cpu, storage, place, i, held),
-        0xD6 => finish_apart::<S, 0xD6>(cpu, storage, place, i, held),
-        0xD7 => finish_apart::<S, 0xD7>(cpu, storage, place, i, held),
-        0xDC => finish_apart::<S, 0xDC>(cpu, storage, place, i, held),
-        0xDD => finish_apart::<S, 0xDD>(cpu, storage, place, i, held),
-        0xF1 => finish_apart::<S, 0xF1>(cpu, storage, place, i, held),
-        0xF2 => finish_apart::<S, 0xF2>(cpu, storage, place, i, held),
-        0xF3 => finish_apart::<S, 0xF3>(cpu, storage, place, i, held),
-        _ => Stepped::LeftOut,
-    }
+    by_code!(
+        i.opcode,
+        finish_apart,
+        finish_apart,
+        (cpu, storage, place, i, held)
+    )
 }

@@ -15,8 +15,8 @@
 //! ```
 //! use s370_num::{AccessKey, Addr24};
 //! use s370_psw::Psw;
-//! use s370_quick::{HeldBlock, Stepped, step_quickly};
-//! use s370_rows::Cpu;
+//! use s370_quick::{Stepped, step_quickly};
+//! use s370_rows::{Cpu, HeldBlock};
 //! use s370_store::{Access, PlainStorage, Storage};
 //!
 //! let mut cpu = Cpu { general: [0; 16], control: [0; 16], psw: Psw::from_word(0x1000) };
@@ -32,7 +32,6 @@
 #![tactic(auto)]
 
 mod codes;
-mod held;
 mod masks;
 mod operands;
 mod quick;
@@ -40,7 +39,6 @@ mod stepped;
 mod strings;
 mod supervised;
 
-pub use held::HeldBlock;
 pub use quick::{move_parts_quickly, step_quickly};
 pub use stepped::Stepped;
 pub use supervised::supervise_quickly;

@@ -1,17 +1,17 @@
 //! The rows of characters that a mask chooses, over blocks that are held for them.
 ghost use Rattle.std.specs.Prelude.{◌≡◌};
 ghost use Rattle.s370_rows.specs.State.{state_of};
+ghost use Rattle.s370_rows.specs.Reach.{AreHeld};
 ghost use Rattle.s370_bytes.specs.Masks.{characters_compared, characters_inserted};
 ghost use Rattle.s370_bytes.specs.Masks.{characters_stored};
-ghost use Rattle.s370_quick.specs.Quick.{AreHeld, MeetsAtOnce};
+ghost use Rattle.s370_quick.specs.Quick.{MeetsAtOnce};
 
-use crate::held::HeldBlock;
-use crate::operands::{done_of, source_block, target_block};
+use crate::operands::done_of;
 use s370_bytes::{
     characters_order_in, chosen_count, compare_characters_row, holds_eight, insert_characters_in,
     insert_characters_row, store_characters_in, store_characters_row,
 };
-use s370_rows::{Completion, Cpu, Instruction};
+use s370_rows::{Completion, Cpu, HeldBlock, Instruction, source_block, target_block};
 use s370_store::Storage;
 
 /// Does ICM (BF), and holds the block of its bytes, unless its mask is zero; returns `None` if the

@@ -2,17 +2,18 @@
 ghost use Rattle.std.specs.Prelude.{◌≡◌, ◌+◌, ◌*◌, ◌%◌, ◌<◌, ◌≤◌, Ok, Some, false, true, length};
 ghost use Rattle.std.specs.Prelude.{nat_le, slice_index};
 ghost use Rattle.s370_store.specs.Blocks.{MayFetch};
+ghost use Rattle.s370_rows.specs.Ending.{GoesOn};
 ghost use Rattle.s370_rows.specs.State.{state_of};
+ghost use Rattle.s370_rows.specs.Reach.{AreHeld};
 ghost use Rattle.s370_cpu.specs.declared.conclude.Stop.TheVariants as stops;
 ghost use Rattle.s370_cpu.specs.Fetch.{fetched, halfwords_of, instruction_at};
-ghost use Rattle.s370_quick.specs.Quick.{AreHeld, DoesUnits, FollowsIn, GoesOn, IsAt, IsLongMoveAt};
+ghost use Rattle.s370_quick.specs.Quick.{DoesUnits, FollowsIn, IsAt, IsLongMoveAt};
 ghost use Rattle.s370_quick.specs.Quick.{MeetsAtOnce, MeetsQuick, StepsQuickly, next_after};
 ghost use Rattle.s370_cpu.specs.Opcodes.{opcode_at};
 ghost use Rattle.s370_cpu.specs.Table.{may_overflow, row_of};
 ghost use Rattle.s370_cpu.specs.Unit.{Carries, place_at, stopped};
 
 use crate::codes::{finish_target, step_found_quickly};
-use crate::held::HeldBlock;
 use crate::operands::{fetch_held, store_held};
 use crate::stepped::Stepped;
 use s370_bytes::move_long_quickly;
@@ -21,7 +22,7 @@ use s370_cpu::{
     target_of,
 };
 use s370_num::Addr24;
-use s370_rows::{Completion, Cpu, Instruction, Place};
+use s370_rows::{Completion, Cpu, HeldBlock, Instruction, Place};
 use s370_store::{Block, Storage};
 
 /// The way of an instruction whose turn it is.

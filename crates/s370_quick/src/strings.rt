@@ -1,22 +1,21 @@
 //! The rows of strings whose operands lie in blocks that are held for them.
 ghost use Rattle.std.specs.Prelude.{◌≡◌, ℕ, ◌<◌, ◌≤◌, [], ◌∷◌, Ok, true, false};
 ghost use Rattle.s370_rows.specs.State.{state_of};
+ghost use Rattle.s370_rows.specs.Reach.{AreHeld};
 ghost use Rattle.s370_rows.specs.Rows.{MeetsRow};
 ghost use Rattle.s370_rows.specs.declared.ending.Completion.TheVariants as endings;
 ghost use Rattle.s370_bytes.specs.Combine.{string_combined, strings_combined};
 ghost use Rattle.s370_bytes.specs.Compare.{strings_compared};
 ghost use Rattle.s370_bytes.specs.Translate.{string_translated};
 ghost use Rattle.s370_bytes.specs.declared.combine.Combine.TheVariants as combines;
-ghost use Rattle.s370_quick.specs.Quick.{AreHeld, MeetsAtOnce};
+ghost use Rattle.s370_quick.specs.Quick.{MeetsAtOnce};
 
-use crate::held::HeldBlock;
-use crate::operands::{source_block, target_block};
 use s370_bytes::{
     Combine, StringAt, combine_few, combine_straight, combine_strings, compare_few, compare_row,
     compare_straight, fill_straight, move_row, move_straight, translate_row, translate_straight,
 };
 use s370_num::Addr24;
-use s370_rows::{Completion, Cpu, Instruction};
+use s370_rows::{Completion, Cpu, HeldBlock, Instruction, source_block, target_block};
 use s370_store::Storage;
 
 /// Does MVC (D2) and returns true if each operand lies in one block, may be accessed there and is

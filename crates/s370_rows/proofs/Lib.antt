@@ -1,3 +1,5 @@
+pub mod Holds
 pub mod Masks
 pub mod Reached
 pub mod Shifts
+pub mod Told

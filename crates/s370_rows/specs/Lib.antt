@@ -13,3 +13,6 @@ pub mod Shift
 pub mod Swap
 pub mod Rows
 pub mod Results
+pub mod Ending
+pub mod Reach
+pub mod Ways

@@ -4,6 +4,6 @@ use Rattle.s370_bytes.proofs.multiple.load_groups.Goals as goal
 
 pub loop-k-preserved : goal.loop-k-preserved
 loop-k-preserved g c =
-    c.take_four.ensures ∙ rw (c.load_in.ensures, c.loop-k.invariant)
+    c.take_four.ensures ∙ rw (c.load.ensures, c.loop-k.invariant)
     (group_loaded (g.S.Storage.memory c.args.storage.now).bytes c.args.registers.now c.get-start.result c.args.first
     c.loop-k.k)

@@ -8,5 +8,5 @@ invariant-loop-k g l = record {
   stored : g.S.Storage.memory l.storage ≡ with_stored (g.S.Storage.memory l.fn.storage) l.start
       (words_from l.registers l.first (4 * l.k));
   rest : g.S.Storage.Keeps l.fn.storage l.storage;
-  placed : g.S.Storage.IsPlaced l.storage l.block;
+  covers : g.R.Reach.Covers l.storage l.fn.address (16 * l.groups) l.span;
 }

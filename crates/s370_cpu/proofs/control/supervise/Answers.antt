@@ -1,5 +1,7 @@
 use Rattle.std.proofs.Common.{◌≡◌, ℕ, ◌+◌, ◌*◌, ◌%◌, ◌^◌, subst, sym}
 use Rattle.s370_rows.specs.State.{state_of}
+use Rattle.s370_rows.proofs.Told.{tested_meets}
+use Rattle.s370_cpu.specs.Control.{control_row}
 use Rattle.s370_cpu.specs.Unit.{stopped}
 use Rattle.s370_cpu.proofs.Units.{supervised_meets}
 use Rattle.s370_cpu.proofs.control.supervise.Goals as goal
@@ -14,7 +16,8 @@ returns-clause-unit g c =
     supervised_meets m ilc c.args.i c.in-Supervised.control c.conclude.result c.conclude.new.cpu
     (g.S.Storage.present c.args.storage.now) c.perform_control-outcome.result m'
     (sym c.in-Supervised.ensures)
-    c.perform_control-outcome.ensures.row
+    (tested_meets (control_row c.in-Supervised.control m c.args.i) (g.S.Storage.present c.args.storage.now) m
+    c.perform_control-outcome.result m' c.perform_control-outcome.ensures.row)
     (subst (λ (n : ℕ). stopped c.perform_control-outcome.result
     (record { next = n; ilc = ilc }) m'.cpu ≡ record { stop = c.conclude.result; cpu = c.conclude.new.cpu }) e
     c.conclude.ensures)

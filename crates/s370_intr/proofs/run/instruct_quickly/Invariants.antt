@@ -1,6 +1,6 @@
 use Rattle.std.proofs.Common.{◌≡◌, ◌-◌, ◌≤◌, true}
 use Rattle.s370_rows.specs.State.{state_of}
-use Rattle.s370_quick.specs.Quick.{AreHeld}
+use Rattle.s370_rows.specs.Reach.{AreHeld}
 use Rattle.s370_intr.specs.Units.{core_of, look}
 use Rattle.s370_intr.specs.Run.{IsFetched, run}
 use Rattle.s370_intr.specs.declared.next.Next.TheVariants.{Instructs}

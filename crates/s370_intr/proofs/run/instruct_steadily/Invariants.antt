@@ -1,6 +1,6 @@
 use Rattle.std.proofs.Common.{◌≡◌, ◌+◌, ◌-◌, ◌%◌, ◌≤◌}
 use Rattle.s370_rows.specs.State.{state_of}
-use Rattle.s370_quick.specs.Quick.{AreHeld}
+use Rattle.s370_rows.specs.Reach.{AreHeld}
 use Rattle.s370_intr.specs.Run.{DoesInstructions, IsFetched}
 use Rattle.s370_intr.proofs.run.instruct_steadily.Given as goal
 

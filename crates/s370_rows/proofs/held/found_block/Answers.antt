@@ -1,7 +1,7 @@
 use Rattle.std.proofs.Common.{refl}
 use Rattle.s370_rows.specs.State.{state_of}
-use Rattle.s370_quick.proofs.Holds.{grants_in}
-use Rattle.s370_quick.proofs.held.found_block.Goals as goal
+use Rattle.s370_rows.proofs.Holds.{grants_in}
+use Rattle.s370_rows.proofs.held.found_block.Goals as goal
 
 pub returns-then-holds-clause-granted : goal.returns-then-holds-clause-granted
 returns-then-holds-clause-granted g c =

@@ -1,6 +1,6 @@
 use Rattle.s370_rows.specs.State.{state_of}
-use Rattle.s370_quick.proofs.Holds.{grants_in}
-use Rattle.s370_quick.proofs.held.is_in_held.Goals as goal
+use Rattle.s370_rows.proofs.Holds.{grants_in}
+use Rattle.s370_rows.proofs.held.is_in_held.Goals as goal
 
 pub returns-clause-placed : goal.returns-clause-placed
 returns-clause-placed g c lies = c.requires.operands.placed (c.holds.ensures.low lies)

@@ -1,12 +1,12 @@
-use Rattle.std.proofs.Common.{◌≡◌}
+use Rattle.std.proofs.Common.{◌≡◌, ◌*◌}
 use Rattle.s370_store.specs.Memory.{with_stored}
 use Rattle.s370_bytes.specs.Multiple.{words_from}
-use Rattle.s370_bytes.proofs.multiple.store_registers_in.Given as goal
+use Rattle.s370_bytes.proofs.multiple.store_registers.Given as goal
 
 abbrev pub invariant-loop-k : goal.invariant-loop-k
 invariant-loop-k g l = record {
   stored : g.S.Storage.memory l.storage ≡ with_stored (g.S.Storage.memory l.fn.storage) l.start
       (words_from l.registers l.first l.k);
   rest : g.S.Storage.Keeps l.fn.storage l.storage;
-  placed : g.S.Storage.IsPlaced l.storage l.block;
+  covers : g.R.Reach.Covers l.storage l.fn.address (4 * l.count) l.span;
 }

@@ -3,10 +3,11 @@ ghost use Rattle.std.specs.Prelude.{◌≡◌, ◌+◌, ◌<◌, ◌≤◌, [], 
 ghost use Rattle.s370_store.specs.Access.{test_of};
 ghost use Rattle.s370_rows.specs.State.{state_of};
 ghost use Rattle.s370_rows.specs.Rows.{Grants};
-ghost use Rattle.s370_quick.specs.Quick.{IsHeld};
+ghost use Rattle.s370_store.specs.declared.Access.TheVariants.{Fetch, Store};
+ghost use Rattle.s370_rows.specs.Reach.{AreHeld, IsHeld};
 
+use crate::cpu::Cpu;
 use s370_num::Addr24;
-use s370_rows::Cpu;
 use s370_store::{Access, Block, Storage};
 
 /// The blocks in which the last operands lay, by the kind of access: what may be fetched from may
@@ -36,7 +37,7 @@ fn holds(block: Block, start: Addr24, count: u32) -> bool
 
 /// Returns whether the operand lies in the held block, and so may be accessed there.
 #[inline(always)]
-pub fn is_in_held<S: Storage>(
+fn is_in_held<S: Storage>(
     access: Access,
     cpu: &Cpu,
     storage: &S,
@@ -60,7 +61,7 @@ pub fn is_in_held<S: Storage>(
 /// Returns the block that is found for this access, or `None` if the operand lies in two blocks or
 /// may not be accessed.
 #[inline(always)]
-pub fn found_block<S: Storage>(
+fn found_block<S: Storage>(
     access: Access,
     cpu: &Cpu,
     storage: &S,
@@ -86,4 +87,79 @@ pub fn found_block<S: Storage>(
         },
         None => None,
     }
+}
+
+/// Returns the block in which an operand that is fetched lies and holds it for later fetches, or
+/// returns `None` if it lies in two blocks or may not be fetched.
+#[inline(always)]
+pub fn source_block<S: Storage>(
+    cpu: &Cpu,
+    storage: &S,
+    held: &mut HeldBlock,
+    start: Addr24,
+    count: u32,
+) -> Option<Block>
+    requires short { count ≤ 256 }
+    requires operands { AreHeld (S.IsPlaced storage.now) (S.memory storage.now)
+        (S.present storage.now) cpu.now.psw.key held.old }
+    ensures operands { AreHeld (S.IsPlaced storage.now) (S.memory storage.now)
+        (S.present storage.now) cpu.now.psw.key held.new }
+    ensures placed { IfSome result (λ found. S.IsPlaced storage.now found) }
+    ensures granted { IfSome result
+        (λ _. Grants (state_of cpu.now (S.memory storage.now)) (S.present storage.now)
+        (test_of Fetch start count ∷ []) (Ok tt)) }
+    ensures begins { IfSome result (λ found. found.first ≤ start) }
+    ensures ends { IfSome result (λ found. start + count ≤ found.first + 2048) }
+{
+    // What is held already is not written again.
+    if is_in_held(Access::Fetch, cpu, storage, held.fetched, start, count) {
+        return Some(held.fetched);
+    }
+    let left = held.fetched;
+    if is_in_held(Access::Fetch, cpu, storage, held.previous, start, count) {
+        held.fetched = held.previous;
+        held.previous = left;
+        return Some(held.fetched);
+    }
+    let found = match found_block(Access::Fetch, cpu, storage, start, count) {
+        Some(found) => found,
+        None => return None,
+    };
+    held.previous = left;
+    held.fetched = found;
+    Some(found)
+}
+
+/// Returns the block in which an operand that is stored lies and holds it for later stores, or
+/// returns `None` if it lies in two blocks or may not be stored.
+#[inline(always)]
+pub fn target_block<S: Storage>(
+    cpu: &Cpu,
+    storage: &S,
+    held: &mut HeldBlock,
+    start: Addr24,
+    count: u32,
+) -> Option<Block>
+    requires short { count ≤ 256 }
+    requires operands { AreHeld (S.IsPlaced storage.now) (S.memory storage.now)
+        (S.present storage.now) cpu.now.psw.key held.old }
+    ensures operands { AreHeld (S.IsPlaced storage.now) (S.memory storage.now)
+        (S.present storage.now) cpu.now.psw.key held.new }
+    ensures placed { IfSome result (λ found. S.IsPlaced storage.now found) }
+    ensures granted { IfSome result
+        (λ _. Grants (state_of cpu.now (S.memory storage.now)) (S.present storage.now)
+        (test_of Store start count ∷ []) (Ok tt)) }
+    ensures begins { IfSome result (λ found. found.first ≤ start) }
+    ensures ends { IfSome result (λ found. start + count ≤ found.first + 2048) }
+{
+    // What is held already is not written again.
+    if is_in_held(Access::Store, cpu, storage, held.stored, start, count) {
+        return Some(held.stored);
+    }
+    let found = match found_block(Access::Store, cpu, storage, start, count) {
+        Some(found) => found,
+        None => return None,
+    };
+    held.stored = found;
+    Some(found)
 }
