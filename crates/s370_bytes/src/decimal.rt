@@ -138,6 +138,10 @@ fn decimal_of(word: u32) -> u64
 }
 
 /// Does CVD (4E): stores a register, taken as a signed number, as a packed decimal doubleword.
+///
+/// # Errors
+///
+/// What `R` says of an operand that is refused. Nothing has changed.
 #[inline(always)]
 pub fn decimal_row<S: Storage, R: Reach<S>>(
     cpu: &Cpu,

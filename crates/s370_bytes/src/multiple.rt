@@ -165,6 +165,10 @@ pub fn load_registers<S: Storage, R: Reach<S>>(
 }
 
 /// Does STM (90): stores general registers R1 to R3 in the words from an address on; 0 follows 15.
+///
+/// # Errors
+///
+/// What `R` says of an operand that is refused. Nothing has changed.
 #[inline(always)]
 pub fn store_multiple_row<S: Storage, R: Reach<S>>(
     cpu: &Cpu,
@@ -187,6 +191,10 @@ pub fn store_multiple_row<S: Storage, R: Reach<S>>(
 }
 
 /// Does LM (98): loads general registers R1 to R3 from the words from an address on; 0 follows 15.
+///
+/// # Errors
+///
+/// What `R` says of an operand that is refused. Nothing has changed.
 #[inline(always)]
 pub fn load_multiple_row<S: Storage, R: Reach<S>>(
     cpu: &mut Cpu,

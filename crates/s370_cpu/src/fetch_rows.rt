@@ -94,7 +94,8 @@ fn word_row<S: Storage, R: Reach<S>>(
     requires ready { R.IsReady storage.now cpu.old.psw.key reach.old }
     ensures row { let before = state_of cpu.old (S.memory storage.now) in
         let after = state_of cpu.new (S.memory storage.now) in
-        MeetsBy R.Refused R.Refuses (word_operation operation before i) (S.present storage.now) before result after }
+        MeetsBy R.Refused R.Refuses (word_operation operation before i) (S.present storage.now)
+        before result after }
     ensures ready { R.IsReady storage.now cpu.old.psw.key reach.new }
 {
     let b = fetched_word(cpu, storage, i, reach)?;
@@ -114,7 +115,8 @@ fn halfword_row<S: Storage, R: Reach<S>>(
     requires ready { R.IsReady storage.now cpu.old.psw.key reach.old }
     ensures row { let before = state_of cpu.old (S.memory storage.now) in
         let after = state_of cpu.new (S.memory storage.now) in
-        MeetsBy R.Refused R.Refuses (halfword_operation operation before i) (S.present storage.now) before result after }
+        MeetsBy R.Refused R.Refuses (halfword_operation operation before i) (S.present storage.now)
+        before result after }
     ensures ready { R.IsReady storage.now cpu.old.psw.key reach.new }
 {
     let b = fetched_halfword(cpu, storage, i, reach)?;
@@ -132,7 +134,8 @@ fn multiply_halfword<S: Storage, R: Reach<S>>(
     requires ready { R.IsReady storage.now cpu.old.psw.key reach.old }
     ensures row { let before = state_of cpu.old (S.memory storage.now) in
         let after = state_of cpu.new (S.memory storage.now) in
-        MeetsBy R.Refused R.Refuses (halfword_multiplied before i) (S.present storage.now) before result after }
+        MeetsBy R.Refused R.Refuses (halfword_multiplied before i) (S.present storage.now)
+        before result after }
     ensures ready { R.IsReady storage.now cpu.old.psw.key reach.new }
 {
     let b = fetched_halfword(cpu, storage, i, reach)?;
@@ -150,7 +153,8 @@ fn multiply_word<S: Storage, R: Reach<S>>(
     requires ready { R.IsReady storage.now cpu.old.psw.key reach.old }
     ensures row { let before = state_of cpu.old (S.memory storage.now) in
         let after = state_of cpu.new (S.memory storage.now) in
-        MeetsBy R.Refused R.Refuses (word_multiplied before i) (S.present storage.now) before result after }
+        MeetsBy R.Refused R.Refuses (word_multiplied before i) (S.present storage.now)
+        before result after }
     ensures ready { R.IsReady storage.now cpu.old.psw.key reach.new }
 {
     if i.r1().number() % 2 != 0 {
@@ -171,7 +175,8 @@ fn divide_word<S: Storage, R: Reach<S>>(
     requires ready { R.IsReady storage.now cpu.old.psw.key reach.old }
     ensures row { let before = state_of cpu.old (S.memory storage.now) in
         let after = state_of cpu.new (S.memory storage.now) in
-        MeetsBy R.Refused R.Refuses (word_divided before i) (S.present storage.now) before result after }
+        MeetsBy R.Refused R.Refuses (word_divided before i) (S.present storage.now)
+        before result after }
     ensures ready { R.IsReady storage.now cpu.old.psw.key reach.new }
 {
     if i.r1().number() % 2 != 0 {
@@ -195,7 +200,8 @@ fn insert_character<S: Storage, R: Reach<S>>(
     requires ready { R.IsReady storage.now cpu.old.psw.key reach.old }
     ensures row { let before = state_of cpu.old (S.memory storage.now) in
         let after = state_of cpu.new (S.memory storage.now) in
-        MeetsBy R.Refused R.Refuses (character_inserted before i) (S.present storage.now) before result after }
+        MeetsBy R.Refused R.Refuses (character_inserted before i) (S.present storage.now)
+        before result after }
     ensures ready { R.IsReady storage.now cpu.old.psw.key reach.new }
 {
     let byte = fetched_byte(cpu, storage, cpu.indexed(i.r2(), i.second_half), reach)?;
@@ -214,7 +220,8 @@ fn test_byte_row<S: Storage, R: Reach<S>>(
     requires ready { R.IsReady storage.now cpu.old.psw.key reach.old }
     ensures row { let before = state_of cpu.old (S.memory storage.now) in
         let after = state_of cpu.new (S.memory storage.now) in
-        MeetsBy R.Refused R.Refuses (byte_tested test before i) (S.present storage.now) before result after }
+        MeetsBy R.Refused R.Refuses (byte_tested test before i) (S.present storage.now)
+        before result after }
     ensures ready { R.IsReady storage.now cpu.old.psw.key reach.new }
 {
     let byte = fetched_byte(cpu, storage, cpu.based(i.second_half), reach)?;
@@ -224,6 +231,10 @@ fn test_byte_row<S: Storage, R: Reach<S>>(
 
 /// Does an instruction that fetches operands from storage and stores none; the caller sets the next
 /// address.
+///
+/// # Errors
+///
+/// What `R` says of an operand that is refused. Nothing has changed.
 #[inline(always)]
 pub fn fetch_row_by<S: Storage, R: Reach<S>, const CODE: u8, const WAY: u8>(
     row: FetchRow,
@@ -235,7 +246,8 @@ pub fn fetch_row_by<S: Storage, R: Reach<S>, const CODE: u8, const WAY: u8>(
     requires ready { R.IsReady storage.now cpu.old.psw.key reach.old }
     ensures row { let before = state_of cpu.old (S.memory storage.now) in
         let after = state_of cpu.new (S.memory storage.now) in
-        MeetsBy R.Refused R.Refuses (fetch_row row before i) (S.present storage.now) before result after }
+        MeetsBy R.Refused R.Refuses (fetch_row row before i) (S.present storage.now)
+        before result after }
     ensures ready { R.IsReady storage.now cpu.old.psw.key reach.new }
 {
     let tested = match row {

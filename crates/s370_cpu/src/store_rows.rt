@@ -29,7 +29,8 @@ fn store_word_row<S: Storage, R: Reach<S>>(
     requires ready { R.IsReady storage.old cpu.now.psw.key reach.old }
     ensures row { let before = state_of cpu.now (S.memory storage.old) in
         let after = state_of cpu.now (S.memory storage.new) in
-        MeetsBy R.Refused R.Refuses (word_stored before i) (S.present storage.old) before result after }
+        MeetsBy R.Refused R.Refuses (word_stored before i) (S.present storage.old)
+        before result after }
     ensures rest { S.Keeps storage.old storage.new }
     ensures ready { R.IsReady storage.old cpu.now.psw.key reach.new }
 {
@@ -51,7 +52,8 @@ fn store_halfword_row<S: Storage, R: Reach<S>>(
     requires ready { R.IsReady storage.old cpu.now.psw.key reach.old }
     ensures row { let before = state_of cpu.now (S.memory storage.old) in
         let after = state_of cpu.now (S.memory storage.new) in
-        MeetsBy R.Refused R.Refuses (halfword_stored before i) (S.present storage.old) before result after }
+        MeetsBy R.Refused R.Refuses (halfword_stored before i) (S.present storage.old)
+        before result after }
     ensures rest { S.Keeps storage.old storage.new }
     ensures ready { R.IsReady storage.old cpu.now.psw.key reach.new }
 {
@@ -73,7 +75,8 @@ fn store_character_row<S: Storage, R: Reach<S>>(
     requires ready { R.IsReady storage.old cpu.now.psw.key reach.old }
     ensures row { let before = state_of cpu.now (S.memory storage.old) in
         let after = state_of cpu.now (S.memory storage.new) in
-        MeetsBy R.Refused R.Refuses (character_stored before i) (S.present storage.old) before result after }
+        MeetsBy R.Refused R.Refuses (character_stored before i) (S.present storage.old)
+        before result after }
     ensures rest { S.Keeps storage.old storage.new }
     ensures ready { R.IsReady storage.old cpu.now.psw.key reach.new }
 {
@@ -97,7 +100,8 @@ fn change_byte_row<S: Storage, R: Reach<S>>(
     requires ready { R.IsReady storage.old cpu.old.psw.key reach.old }
     ensures row { let before = state_of cpu.old (S.memory storage.old) in
         let after = state_of cpu.new (S.memory storage.new) in
-        MeetsBy R.Refused R.Refuses (byte_changed change before i) (S.present storage.old) before result after }
+        MeetsBy R.Refused R.Refuses (byte_changed change before i) (S.present storage.old)
+        before result after }
     ensures rest { S.Keeps storage.old storage.new }
     ensures ready { R.IsReady storage.old cpu.old.psw.key reach.new }
 {
@@ -122,7 +126,8 @@ fn swap_word_row<S: Storage, R: Reach<S>>(
     requires ready { R.IsReady storage.old cpu.old.psw.key reach.old }
     ensures row { let before = state_of cpu.old (S.memory storage.old) in
         let after = state_of cpu.new (S.memory storage.new) in
-        MeetsBy R.Refused R.Refuses (word_swapped before i) (S.present storage.old) before result after }
+        MeetsBy R.Refused R.Refuses (word_swapped before i) (S.present storage.old)
+        before result after }
     ensures rest { S.Keeps storage.old storage.new }
     ensures ready { R.IsReady storage.old cpu.old.psw.key reach.new }
 {
@@ -151,7 +156,8 @@ fn swap_doubleword_row<S: Storage, R: Reach<S>>(
     requires ready { R.IsReady storage.old cpu.old.psw.key reach.old }
     ensures row { let before = state_of cpu.old (S.memory storage.old) in
         let after = state_of cpu.new (S.memory storage.new) in
-        MeetsBy R.Refused R.Refuses (doubleword_swapped before i) (S.present storage.old) before result after }
+        MeetsBy R.Refused R.Refuses (doubleword_swapped before i) (S.present storage.old)
+        before result after }
     ensures rest { S.Keeps storage.old storage.new }
     ensures ready { R.IsReady storage.old cpu.old.psw.key reach.new }
 {
@@ -169,6 +175,10 @@ fn swap_doubleword_row<S: Storage, R: Reach<S>>(
 }
 
 /// Does an instruction that stores an operand in storage; the caller sets the next address.
+///
+/// # Errors
+///
+/// What `R` says of an operand that is refused. Nothing has changed.
 #[inline(always)]
 pub fn store_row_by<S: Storage, R: Reach<S>, const CODE: u8, const WAY: u8>(
     row: StoreRow,
