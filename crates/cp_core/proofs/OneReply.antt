@@ -1,5 +1,6 @@
 -- A reply is one, step by step.
-use Rattle.std.proofs.Common.{◌≡◌, ◌∙◌, ◌++◌, ◌-◌, ◌<◌, ℕ, zero, suc, Bool, true, false, List, [], ◌∷◌, Option, Some, None}
+use Rattle.std.proofs.Common.{◌≡◌, ◌∙◌, ◌++◌, ◌-◌, ◌<◌, ℕ, zero, suc, Bool, true, false, List, [], ◌∷◌}
+use Rattle.std.proofs.Common.{Option, Some, None}
 use Rattle.std.proofs.Common.{◌⊎◌, inl, inr, refl, sym, ap, subst, arith, length, get_or}
 use Rattle.std.specs.Prelude.{◌==◌, if◌then◌else◌, map, nat_lt, slice_get}
 use Rattle.s370_channel.specs.Reading.{Reading, as_reached}
@@ -42,7 +43,8 @@ use Rattle.machine_devices.specs.Replies.{IsLineTold, delivered_by, delivery_to,
 use Rattle.machine_devices.specs.Serve.{IsServedAt, Serves}
 use Rattle.machine_devices.specs.UserDirectory.{UserDirectory}
 use Rattle.cp_core.specs.Histories.{IsHistory, IsReplied, IsStep}
-use Rattle.cp_core.specs.LineOutcome.{TellsOf, TellsOfDeck, TellsOfLine, TellsOfRun, TellsOfServe, TellsOfTick, noted_by}
+use Rattle.cp_core.specs.LineOutcome.{TellsOf, TellsOfDeck, TellsOfLine, TellsOfRun, TellsOfServe, TellsOfTick}
+use Rattle.cp_core.specs.LineOutcome.{noted_by}
 use Rattle.cp_core.specs.Local.{Step, comes_to, coming, deck_by, line_of, local, local_event, own_part}
 use Rattle.cp_core.specs.OneReply.{AllHadFrames, AreOneReplies, HistoriesAreOne, IsAlikeTo, LookAlike}
 use Rattle.cp_core.specs.OneReply.{RepliesAreOne}
@@ -60,8 +62,8 @@ same a b c e f = f ∙ sym e
 
 -- ---- a run
 
-not_cut : (r : Reason) (n : ℕ) (old : Machine) (reported : MachineRun) (short : ℕ → Type 0) → (r ≡ reasons.FramesOut → ⊥)
-    → TellsFor r n old reported short → run n old ≡ reported
+not_cut : (r : Reason) (n : ℕ) (old : Machine) (reported : MachineRun) (short : ℕ → Type 0)
+    → (r ≡ reasons.FramesOut → ⊥) → TellsFor r n old reported short → run n old ≡ reported
 not_cut reasons.Stopped n old reported short had h = h
 not_cut reasons.Count n old reported short had h = h
 not_cut reasons.EcMode n old reported short had h = h
@@ -179,14 +181,15 @@ locals_same old e = of_same (λ one other. local_event old other e ≡ local_eve
 
 decks_same : (old seen : SystemView) (number : ℕ) (one other : Event) → IsSameEvent one other
     → deck_by other old seen number ≡ deck_by one old seen number
-decks_same old seen number = of_same (λ one other. deck_by other old seen number ≡ deck_by one old seen number) (record {
-  run = λ user units. refl;
-  line = λ user typed text same. refl;
-  tick = λ user. refl;
-  deck = λ user cards deck same.
-      ap (λ (cs : List (List ℕ)). record { label = number; sender = senders.System; cards = cs }) same;
-  serve = λ user device. refl;
-})
+decks_same old seen number =
+    of_same (λ one other. deck_by other old seen number ≡ deck_by one old seen number) (record {
+      run = λ user units. refl;
+      line = λ user typed text same. refl;
+      tick = λ user. refl;
+      deck = λ user cards deck same.
+          ap (λ (cs : List (List ℕ)). record { label = number; sender = senders.System; cards = cs }) same;
+      serve = λ user device. refl;
+    })
 
 notes_same : (old seen : SystemView) (one other : Event) → IsSameEvent one other
     → noted_by other old seen ≡ noted_by one old seen
@@ -309,8 +312,8 @@ module _ (lives : LivesAreOne) (lines : LinesAreOne) (outcomes : OutcomesAreOne)
   tells_one : (event : Event) (one other s t : SystemView) (p q : Reply) → IsAlikeTo (user_of event) one other
       → TellsOf one event p s → TellsOf other event q t → HadFrames p.ended → HadFrames q.ended → SayAlike p q
   tells_one (Run user asked) one other s t p q h l r had has =
-      run_one user asked one other s t p q p.ended q.ended refl refl (ap (λ (x : Equipped). x.machine) h.machine) l r had
-      has
+      run_one user asked one other s t p q p.ended q.ended refl refl
+      (ap (λ (x : Equipped). x.machine) h.machine) l r had has
   tells_one (Line user typed) one other s t p q h l r had has =
       line_one user typed.now one other s t p q p.ended q.ended refl refl h l r had has
   tells_one (Tick user) one other s t p q h l r had has =
@@ -405,8 +408,8 @@ module _ (lives : LivesAreOne) (lines : LinesAreOne) (outcomes : OutcomesAreOne)
         (user_at other named) (user_at twin.seen named) (r.applied named) in
         let moved = subst (λ (es : List Local). Lives as_reached es (user_at other named) after.0) owns after.1 in
         let here = subst (λ (x : Equipped). Lives as_reached (own_part named one step) x after.0) alike.machine moved in
-        let middle : before.0 ≡ after.0 = lives as_reached (own_part named one step) (user_at one named) before.0 after.0
-        before.1 here in
+        let middle : before.0 ≡ after.0 = lives as_reached (own_part named one step) (user_at one named) before.0
+        after.0 before.1 here in
         punched_kept named other twin twin.reply.delivered after.0 (user_at twin.seen named) after.2
         ∙ sym (ap (λ (x : Equipped). x.devices.punched) middle)
         ∙ sym (punched_kept named one step step.reply.delivered before.0 (user_at step.seen named) before.2)
@@ -424,8 +427,8 @@ module _ (lives : LivesAreOne) (lines : LinesAreOne) (outcomes : OutcomesAreOne)
         let moved = subst (λ (es : List Local). Lives as_reached es (user_at other v) (user_at twin.seen v)) parts
         (r.applied v) in
         let here = subst (λ (x : Equipped). Lives as_reached (local v one step) x (user_at twin.seen v)) m moved in
-        sym (lives as_reached (local v one step) (user_at one v) (user_at step.seen v) (user_at twin.seen v) (l.applied v)
-        here)
+        sym (lives as_reached (local v one step) (user_at one v) (user_at step.seen v) (user_at twin.seen v)
+        (l.applied v) here)
 
     say_one : IsReplied one step → IsReplied other twin → HadFrames step.reply.ended → HadFrames twin.reply.ended
         → SayAlike step.reply twin.reply
@@ -487,13 +490,14 @@ module _ (lives : LivesAreOne) (lines : LinesAreOne) (outcomes : OutcomesAreOne)
       λ v. machine_one one other step twin event alike v say l.replied r.replied (alike_to one other v h).machine in
       let many : length twin.seen.users ≡ length step.seen.users =
       r.users ∙ ap (λ (us : List Equipped). length us) h.users ∙ sym l.users in
-      let noted = notes_same other twin.seen step.event twin.event event ∙ noted_one step.event one other step.seen twin.seen
-      alike.machine reply.1 in (
+      let noted = notes_same other twin.seen step.event twin.event event
+      ∙ noted_one step.event one other step.seen twin.seen alike.machine reply.1 in (
         reply.0,
         record {
           users = same_users twin.seen.users step.seen.users many each;
           names = ap names_of r.directory ∙ h.names ∙ sym (ap names_of l.directory);
-          files = r.replied.reported.files ∙ ap (λ (xs : List FileNote). xs ++ noted_by twin.event other twin.seen) h.files
+          files = r.replied.reported.files
+              ∙ ap (λ (xs : List FileNote). xs ++ noted_by twin.event other twin.seen) h.files
               ∙ ap (λ (xs : List FileNote). one.files ++ xs) noted ∙ sym l.replied.reported.files;
         },
       )

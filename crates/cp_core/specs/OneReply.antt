@@ -21,8 +21,8 @@ pub record IsAlikeTo (user : ℕ) (one other : SystemView) : Type 0 where
   pub users : length other.users ≡ length one.users
   pub number : next_file other.files ≡ next_file one.files
 
--- The same event in systems that look alike to its user has one reply and leaves one machine of his,
--- if it was cut short in neither.
+-- The same event in systems that look alike to its user has one reply, and leaves one machine of
+-- his, if it was cut short in neither.
 abbrev pub RepliesAreOne : Type 0
 RepliesAreOne = (one other : SystemView) (step twin : Step) → IsSameEvent step.event twin.event
     → IsAlikeTo (user_of step.event) one other → IsReplied one step → IsReplied other twin
@@ -52,8 +52,8 @@ AreOneReplies (step ∷ steps) [] = ⊥
 AreOneReplies (step ∷ steps) (twin ∷ twins) = IsOneReply step.reply twin.reply
     × AreOneReplies steps twins
 
--- The same events have the same replies, and leave systems that look alike, however many frames each
--- has, if none was cut short for want of them.
+-- The same events have the same replies, and leave systems that look alike, however many frames
+-- each has, if none was cut short for want of them.
 abbrev pub HistoriesAreOne : Type 0
 HistoriesAreOne = (one other last end : SystemView) (steps twins : List Step) → LookAlike one other
     → IsHistory one steps last → IsHistory other twins end

@@ -1,5 +1,6 @@
 -- Bytes of an input that are no request.
-use Rattle.std.proofs.Common.{◌≡◌, ◌∙◌, ℕ, ◌+◌, ◌*◌, ◌-◌, ◌<◌, ◌≤◌, Bool, true, false, ◌&&◌, List, [], ◌∷◌, ◌++◌, Option, Some, None}
+use Rattle.std.proofs.Common.{◌≡◌, ◌∙◌, ℕ, ◌+◌, ◌*◌, ◌-◌, ◌<◌, ◌≤◌, Bool, true, false, ◌&&◌, List, [], ◌∷◌}
+use Rattle.std.proofs.Common.{◌++◌, Option, Some, None}
 use Rattle.std.proofs.Common.{if◌then◌else◌, ap, append_assoc, arith, get_or, inl, inr, length, refl, subst, sym}
 use Rattle.std.specs.Prelude.{codes, nat_le, Result, Ok, Err, IfErr, IfSome, IsErrAnd}
 use Rattle.std.specs.Io.KnownBytes.{Consumes, IsAtEnd}

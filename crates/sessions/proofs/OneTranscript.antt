@@ -1,5 +1,6 @@
 -- Two sessions of the same acts write one transcript, act by act.
-use Rattle.std.proofs.Common.{◌≡◌, ◌∙◌, ◌++◌, ◌⊎◌, ℕ, Bool, true, false, List, [], ◌∷◌, Option, Some, None, inl, inr, refl}
+use Rattle.std.proofs.Common.{◌≡◌, ◌∙◌, ◌++◌, ◌⊎◌, ℕ, Bool, true, false, List, [], ◌∷◌, Option, Some, None}
+use Rattle.std.proofs.Common.{inl, inr, refl}
 use Rattle.std.proofs.Common.{sym, ap, subst, map}
 use Rattle.std.specs.Prelude.{◌||◌}
 use Rattle.std.specs.List.{list_any}
@@ -19,7 +20,8 @@ use Rattle.sessions.specs.OneTranscript.{AllHadFrames, HaveOneReply, LookAlike, 
 use Rattle.sessions.specs.Schedule.{Act, Answered, Applies, AreDone, Dealt, Entry, Idle, IsApplied, IsDone, IsNoServe}
 use Rattle.sessions.specs.Schedule.{IsNoSlice, IsServe, IsSlice, Passed, Scene, Serves, Slices, line_after, lines_after}
 use Rattle.sessions.specs.Schedule.{moved, ready_in, slice_units, user_said}
-use Rattle.sessions.specs.Transcript.{delivered_lines, end_lines, ended, entry_lines, reply_lines, said_lines, step_lines}
+use Rattle.sessions.specs.Transcript.{delivered_lines, end_lines, ended, entry_lines, reply_lines, said_lines}
+use Rattle.sessions.specs.Transcript.{step_lines}
 use Rattle.sessions.specs.Transcript.{told_line, transcript, written_lines}
 use Rattle.sessions.specs.declared.schedule.Detail.{Detail}
 use Rattle.sessions.specs.declared.schedule.Detail.TheVariants.{Whole}
@@ -66,7 +68,8 @@ step_one i detail names one other said reply seen =
 none_ready : {X : Type 0} (ready : X → Bool) (before after : List X) (one : X) → ready one ≡ true
     → list_any ready (before ++ one ∷ after) ≡ false → ⊥
 none_ready ready [] after one is none =
-    let both : (true || list_any ready after) ≡ false = subst (λ (b : Bool). (b || list_any ready after) ≡ false) is none in
+    let both : (true || list_any ready after) ≡ false =
+    subst (λ (b : Bool). (b || list_any ready after) ≡ false) is none in
     cc
 none_ready ready (x ∷ before) after one is none =
     let rest : list_any ready (before ++ one ∷ after) ≡ false =
@@ -141,7 +144,8 @@ nobody_taken ready old one new l none =
 module _ {W : Type 0} (i : Installation W) (law : HaveOneReply i) where
   -- what came of an act in two scenes
   record ActAlike (entry twin : Entry W) (next after : Scene W) : Type 0 where
-    lines : (detail : Detail) (names : List (List ℕ)) → entry_lines i detail names twin ≡ entry_lines i detail names entry
+    lines : (detail : Detail) (names : List (List ℕ))
+        → entry_lines i detail names twin ≡ entry_lines i detail names entry
     scenes : LookAlike i next after
 
   -- a scene after an event
@@ -158,8 +162,8 @@ module _ {W : Type 0} (i : Installation W) (law : HaveOneReply i) where
       → IsApplied i said step one next → IsApplied i said twin other after → HadFrames step.reply.ended
       → HadFrames twin.reply.ended → ActAlike (Answered step) (Answered twin) next after
   applied_one said step twin one other next after h l r had has =
-      let now = law one.world other.world step.left twin.left said step.reply twin.reply h.seen l.happened r.happened had
-      has in
+      let now = law one.world other.world step.left twin.left said step.reply twin.reply h.seen l.happened r.happened
+      had has in
       let lines : lines_after (i.seen other.world) (i.seen twin.left) (user_said said) other.lines
       ≡ lines_after (i.seen one.world) (i.seen step.left) (user_said said) one.lines =
       ap (λ (s : Installed). lines_after s (i.seen twin.left) (user_said said) other.lines) h.seen
@@ -187,7 +191,8 @@ module _ {W : Type 0} (i : Installation W) (law : HaveOneReply i) where
       let ready = subst (λ (s : Installed). IsTaken (ready_in s) other.lines.users r.user r.queue) h.seen r.dealt in
       let dealt = subst (λ (ls : Lines). IsTaken (ready_in (i.seen one.world)) ls.users r.user r.queue) h.lines ready in
       let who = taken_one (ready_in (i.seen one.world)) one.lines.users l.user r.user l.queue r.queue l.dealt dealt in
-      let happened = subst (λ (u : ℕ). i.Happens other.world (Run u slice_units) twin.reply twin.left) who.0 r.happened in
+      let happened =
+      subst (λ (u : ℕ). i.Happens other.world (Run u slice_units) twin.reply twin.left) who.0 r.happened in
       let now = law one.world other.world step.left twin.left (Run l.user slice_units) step.reply twin.reply h.seen
       l.happened happened had has in
       let said : twin.said ≡ step.said = r.slice ∙ ap (λ (u : ℕ). Run u slice_units) who.0 ∙ sym l.slice in
@@ -233,8 +238,8 @@ module _ {W : Type 0} (i : Installation W) (law : HaveOneReply i) where
       let who = taken_one always one.lines.programs l.program r.program l.turned r.turned l.dealt dealt in
       let happened = subst (λ (p : Program). i.Happens other.world (Serve p.user p.device) twin.reply twin.left) who.0
       r.happened in
-      let now = law one.world other.world step.left twin.left (Serve l.program.user l.program.device) step.reply twin.reply
-      h.seen l.happened happened had has in
+      let now = law one.world other.world step.left twin.left (Serve l.program.user l.program.device) step.reply
+      twin.reply h.seen l.happened happened had has in
       let said : twin.said ≡ step.said = r.served ∙ ap (λ (p : Program). Serve p.user p.device) who.0 ∙ sym l.served in
       let lines : served other twin.left r.program r.turned ≡ served one step.left l.program l.turned =
       ap (λ (p : Program). served other twin.left p r.turned) who.0

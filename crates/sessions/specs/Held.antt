@@ -5,7 +5,8 @@ use Rattle.user_names.specs.Users.{name_of}
 use Rattle.machine_devices.specs.Devices.{DevicesValue}
 use Rattle.sessions.specs.Installed.{Installed, names_of, user_at}
 
--- the line of a user of this name: the cards of his punch's open file, and the lines of his printer's
+-- the line of a user of this name: the cards of his punch's open file, and the lines of his
+-- printer's
 abbrev pub holds_line : List ℕ → DevicesValue → List ℕ
 holds_line name d = codes "> HOLDS " ++ (name
     ++ (codes " " ++ (decimal (length d.punch.entries)

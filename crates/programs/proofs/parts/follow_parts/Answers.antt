@@ -87,8 +87,8 @@ returns-in_err-close-in-End-clause-err g c =
     if_err (IsBrokenOff i c.args.detail c.args.installation (left c.args.reader.now) t w y counts)
     (play_failure c.in_err-close-in-End.field-0.0)
     c.from_residual-in_err-close-in-End.result c.from_residual-in_err-close-in-End.ensures.1
-    (broken_off i c.loop.counter c.args.detail c.args.installation c.loop.follower end_line (left c.args.reader.now) s t w
-    x y counts c.loop.invariant.so_far read (inr (inr (inl refl, c.in_err-close-in-End.ensures.unwritten)))
+    (broken_off i c.loop.counter c.args.detail c.args.installation c.loop.follower end_line (left c.args.reader.now) s
+    t w x y counts c.loop.invariant.so_far read (inr (inr (inl refl, c.in_err-close-in-End.ensures.unwritten)))
     (play_failure c.in_err-close-in-End.field-0.0) (of_play g.row.I.Denot _ _ c.in_err-close-in-End.field-0.0
     (i.is_spent c.loop.follower.world) (i.is_spent c.loop.follower.world) _ _
     (c.in_err-close-in-End.ensures.why (i.is_spent c.loop.follower.world)) (λ spent. spent))
@@ -201,8 +201,8 @@ loop-preserved g c =
     record { read = next.0; request = c.in-Asked.request; answer = reported.0; left = new } in
     let one : IsExchange i old exchange = record { asked = next.1; answered = reported.1 } in
     record {
-      so_far = so_far_more i c.loop.counter (at_first i c.args.detail c.args.installation) old (left c.args.reader.now) s t w x y
-          exchange c.loop.invariant.so_far one next.2 reported.2;
+      so_far = so_far_more i c.loop.counter (at_first i c.args.detail c.args.installation) old
+          (left c.args.reader.now) s t w x y exchange c.loop.invariant.so_far one next.2 reported.2;
       detail = c.in_ok-follower-in-Asked.ensures.detail;
       read = c.in_ok-request.ensures.why ∙ c.loop.invariant.read;
       written = c.in_ok-follower-in-Asked.ensures.why ∙ c.loop.invariant.written;

@@ -12,6 +12,7 @@ returns-in_err-extend_from_slice-clause-err g c =
     if_err (FailsToRead (IsShortOf c.args.count) (left c.args.reader.now) (left c.read.new.self)
     (count c.args.reader.now) (count c.read.new.self)) hosts.Memory
     c.from_residual-in_err-extend_from_slice.result c.from_residual-in_err-extend_from_slice.ensures.1
-    (fails (IsShortOf c.args.count) (left c.args.reader.now) (left c.read.new.self) (c.reads.bytes.items ++ _) _ _ _ hosts.Memory
+    (fails (IsShortOf c.args.count) (left c.args.reader.now) (left c.read.new.self) (c.reads.bytes.items ++ _) _ _ _
+    hosts.Memory
     (Consumes-trans _ _ _ c.reads.bytes.items _ c.reads.invariant.read c.in_ok-got.ensures.bytes.0)
     c.reads.invariant.same c.in_ok-got.ensures.counts)
