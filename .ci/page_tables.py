@@ -540,6 +540,10 @@ async def try_operators(check: Callable, folder: str) -> None:
         and not operated.outlets,
         *map(str, findings),
     )
+    pages.wrong.notify_all()
+    findings = operated.house.findings
+    wanted = ["a wrong token at /operator from 192.0.2.1"]
+    check("is in the journal", findings == wanted, *findings)
     page = OperatorPage(pages, "192.0.2.1", Outbox())
     await page.take({"is": "open", "token": pages.token})
     await page.take({"is": "command", "text": " status\n", "number": 3, "token": pages.token})

@@ -38,6 +38,7 @@ import installation_reload
 import installation_states
 import installation_strangers
 import installation_strays
+import installation_watchdog
 import page_tables
 import state_commands
 import typed_lines
@@ -953,6 +954,7 @@ def test_installation(repository: str, work: str) -> None:
     )
     installation_reload.try_reloading(check, f"{repository}/bin/installation", f"{work}/reload")
     installation_strays.try_strays(check, f"{repository}/bin/installation", f"{work}/strays")
+    installation_watchdog.try_watchdog(check, f"{repository}/bin/installation", f"{work}/watchdog")
     installation_operators.try_operating(
         check, f"{repository}/bin/installation", f"{work}/operators"
     )

@@ -163,21 +163,38 @@ class Program:
         words = [machines.program(), *options, *machines.follow_words()]
         self.process = subprocess.Popen(words, start_new_session=True, **streams)
         self.awaited = 0
+        # how many answers it was asked for, how many it has given, and how often anything of it was heard
+        self.asked = self.answered = self.heard = 0
         self.answers = queue.SimpleQueue()
         threading.Thread(target=self.listen, daemon=True).start()
 
     def listen(self) -> None:
         """Takes what the program writes, so that it never waits for a reader."""
-        answers = Answers()
+        answers = self.cutter()
         with self.process.stdout as output:
             while data := os.read(output.fileno(), CHUNK):
+                self.heard += 1
                 for answer in answers.feed(data):
+                    self.answered += 1
                     self.answers.put(answer)
         self.answers.put(None)
 
+    def cutter(self) -> Answers:
+        """What cuts that which it writes into answers."""
+        return Answers()
+
+    def is_asked(self) -> bool:
+        """Whether it has yet to give an answer."""
+        return self.asked > self.answered
+
+    def expect(self) -> None:
+        """Counts an answer that it is asked for."""
+        self.awaited += 1
+        self.asked += 1
+
     def send(self, part: Any) -> None:
         """Gives it a part, whose answer is awaited later."""
-        self.awaited += 1
+        self.expect()
         self.write(b"%d\n%s" % (len(part), part))
 
     def write(self, data: bytes) -> None:
@@ -209,16 +226,20 @@ class Program:
         """The state where all that was given has led, or None if the program has none."""
         while self.awaited:
             self.answer()
-        self.awaited += 1
-        self.write(b"SAVE\n")
+        self.ask_for_state()
         try:
             return self.answer()
         except ScriptRefused:
             return None
 
+    def ask_for_state(self) -> None:
+        """Asks for the state where all that was given will have led; the answer is awaited later."""
+        self.expect()
+        self.write(b"SAVE\n")
+
     def restore(self, size: int, pieces: Iterable[bytes]) -> None:
         """Has it go on from a state of so many bytes. It comes before the first part."""
-        self.awaited += 1
+        self.expect()
         self.write(b"STATE\n%d\n" % size)
         for piece in pieces:
             self.write(piece)

@@ -179,6 +179,9 @@ class LogonServer:
         self.judging = concurrent.futures.ThreadPoolExecutor(1)
         self.is_asked = asyncio.Event()
         self.has_failed = asyncio.Event()
+        # whether the program is asked just now, and how often it was
+        self.is_asking = False
+        self.flushes = 0
         self.path = program
         self.program = None
 
@@ -224,6 +227,8 @@ class LogonServer:
     def flush(self) -> None:
         """Says the desk what waits for that, and does what it says to each line."""
         pending, self.pending = self.pending, []
+        self.is_asking = True
+        self.flushes += 1
         try:
             self.program.stdin.write("".join(pending).encode())
             self.program.stdin.flush()
@@ -233,6 +238,7 @@ class LogonServer:
                     self.obey_all()
         except (OSError, ValueError):
             self.has_failed.set()
+        self.is_asking = False
         if self.strangers:
             self.is_asked.set()
 

@@ -4,6 +4,7 @@ from __future__ import annotations
 
 from collections.abc import Callable
 from typing import Any
+import os
 
 from gathjumli.cli import Failure, REFUSED, reason_text
 from gathjumli.host import MEGABYTE
@@ -11,6 +12,12 @@ from gathjumli.logon import Passwords
 from gathjumli.recording import read_whole, without_passwords
 from gathjumli.rules import Rules, read_rules
 from gathjumli.tls import load_certificate
+
+
+def warn_of_readers(path: str, what: str, notify: Callable[[str], None]) -> None:
+    """Says it if others than its owner may read a file of secrets."""
+    if os.stat(path).st_mode & 0o044:
+        notify(f"{path} has {what}, and others may read it: chmod 600 {path}")
 
 
 class Reload:
@@ -47,6 +54,7 @@ class Reload:
         options = self.installation.options
         if options["tls"]:
             load_certificate(options["tls"], options["certificate"], options["key"])
+            warn_of_readers(options["key"], "the key", self.installation.notify)
 
     def take_passwords(self) -> None:
         if not isinstance(self.passwords, Passwords):

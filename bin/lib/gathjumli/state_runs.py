@@ -1,13 +1,12 @@
 """Runs a script from a state, or saves the state at its end: state_runs.py NAME PROGRAM WORD.., as bin/lib/program.sh calls it."""
 from __future__ import annotations
 
-import os
 import re
 import sys
 
 from gathjumli import cli
 from gathjumli.cli import Failure, REFUSED, last, read_arguments, read_file
-from gathjumli.following import Answers, CHUNK, PartResult, Program, SavedState
+from gathjumli.following import Answers, PartResult, Program, SavedState
 from gathjumli.machines import Machines, SIZE_OPTIONS, ScriptRefused, of_directory
 from gathjumli.state_files import NOBODY, StateFile, after, restore, save_state, state_of
 
@@ -53,13 +52,8 @@ class Script(Program):
         self.output = Output()
         super().__init__(machines, *options)
 
-    def listen(self) -> None:
-        answers = PrintedAnswers(self.output)
-        with self.process.stdout as output:
-            while data := os.read(output.fileno(), CHUNK):
-                for answer in answers.feed(data):
-                    self.answers.put(answer)
-        self.answers.put(None)
+    def cutter(self) -> Answers:
+        return PrintedAnswers(self.output)
 
     def print_files(self, files: list[tuple[str, bytes]]) -> None:
         """Prints closed files as a transcript has them."""

@@ -70,6 +70,13 @@ class WrongPasswords(Sums):
         return f"{passwords} for {what or 'nobody here'}"
 
 
+class WrongTokens(Sums):
+    """The wrong tokens at the operator's page."""
+
+    def text(self, what: Any, count: int) -> str:
+        return "a wrong token at /operator" if count == 1 else f"{count} wrong tokens at /operator"
+
+
 class Closings(Sums):
     """The strangers' connections that are closed for a reason."""
 

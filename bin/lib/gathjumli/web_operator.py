@@ -11,6 +11,7 @@ import time
 from gathjumli.host import MEGABYTE, memory_of
 from gathjumli.operating import DONE, plain
 from gathjumli.report_line import count_strangers, place_of
+from gathjumli.strangers import WrongTokens
 from gathjumli.web_pages import Refused, is_token, text_in
 
 
@@ -81,6 +82,7 @@ class OperatorPage:
         kind = str(message.get("is"))
         try:
             if not is_token(message.get("token"), self.pages.token):
+                self.pages.wrong.add(None, self.address)
                 await asyncio.sleep(1)
                 raise Refused("the token is wrong")
             if not self.is_known:
@@ -131,6 +133,7 @@ class OperatorPages:
         self.notify = installation.notify
         self.loop = loop
         self.all = set()
+        self.wrong = WrongTokens(self.notify)
         self.opened = asyncio.Event()
         self.path = f"{installation.options['record']}.web-token"
         self.token = self.read_token()

@@ -179,6 +179,7 @@ class Web:
     async def close(self) -> None:
         for task in self.tasks:
             task.cancel()
+        self.operators.wrong.notify_all()
         self.server.close()
         await self.server.wait_closed()
 
