@@ -17,8 +17,8 @@ WRONG_RULES = {
     "quota many": "quota is followed by a number from 1 to 999999, and not by many",
     "deny 10.0.0.0/99": "deny is followed by an address or a network, as 10.0.0.0/8, and not by 10.0.0.0/99",
     "lock alice": "lock is followed by the name of a user, in capitals, and not by alice",
-    "lock": "a line is one of quota, memory, lock, deny, allow, and a word",
-    "hold ALICE": "a line is one of quota, memory, lock, deny, allow, and a word",
+    "lock": "a line is one of quota, memory, lock, deny, allow, trust, and a word",
+    "hold ALICE": "a line is one of quota, memory, lock, deny, allow, trust, and a word",
 }
 ADDRESSES = {
     "": True,

@@ -564,8 +564,21 @@ async def try_operators(check: Callable, folder: str) -> None:
     check("which goes", not operated.outlets and not pages.all)
 
 
+# the same of a host with the name cp.example.org: host, origin, whether it is encrypted, and the status
+NAMED = {
+    "a socket by a name of the host": ("cp.example.org", "http://cp.example.org", False, None),
+    "one that a proxy encrypts": ("cp.example.org", "https://cp.example.org", False, None),
+    "one of another name": ("cp.example.org", "https://evil.example", False, FORBIDDEN),
+    "one that is no more encrypted": ("cp.example.org", "http://cp.example.org", True, FORBIDDEN),
+    "another name": ("cp.example.com", "https://cp.example.com", False, MISDIRECTED),
+}
+
+
 def try_requests(check: Callable) -> None:
     files = read_files()
+    for name, (host, origin, is_secure, wanted) in NAMED.items():
+        found = answer_to("/socket", host, origin, is_secure, files, ("cp.example.org",))
+        check(f"a browser asks for {name}", (found and found[0]) == wanted, str(found and found[0]))
     for name, (path, host, origin, is_secure, wanted) in REQUESTS.items():
         found = answer_to(path, host, origin, is_secure, files)
         check(f"a browser asks for {name}", (found and found[0]) == wanted, str(found and found[0]))

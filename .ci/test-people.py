@@ -34,6 +34,7 @@ import desk
 import installation
 import installation_faults
 import installation_operators
+import installation_proxies
 import installation_reload
 import installation_states
 import installation_strangers
@@ -194,6 +195,7 @@ def make_repository(work: str, program: str = PLAYED) -> object:
     """A repository of the commands and of programs that are played, or are those that were built, and a kit that builds these."""
     repository = f"{work}/a place with blanks/repository"
     shutil.copytree(f"{TOP}/bin", f"{repository}/bin", ignore=shutil.ignore_patterns("__pycache__"))
+    shutil.copytree(f"{TOP}/web", f"{repository}/web")
     shutil.copy(f"{TOP}/VERSION", repository)
     write(
         f"{repository}/crates.txt", "low:\n" + "".join(f"{program}: low\n" for program in PROGRAMS)
@@ -954,6 +956,7 @@ def test_installation(repository: str, work: str) -> None:
     )
     installation_reload.try_reloading(check, f"{repository}/bin/installation", f"{work}/reload")
     installation_strays.try_strays(check, f"{repository}/bin/installation", f"{work}/strays")
+    installation_proxies.try_proxies(check, f"{repository}/bin/installation", f"{work}/proxies")
     installation_watchdog.try_watchdog(check, f"{repository}/bin/installation", f"{work}/watchdog")
     installation_operators.try_operating(
         check, f"{repository}/bin/installation", f"{work}/operators"

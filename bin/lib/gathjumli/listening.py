@@ -7,12 +7,15 @@ from typing import Any
 import asyncio
 import collections
 import contextlib
+import functools
 import os
 import resource
 import socket
 import stat
 
 from gathjumli.cli import FILE_FAILED, Failure
+from gathjumli.proxies import NoHeader, client_of
+from gathjumli.rules import is_in
 from gathjumli.strangers import Closings
 
 # connections that are in a handshake
@@ -27,6 +30,7 @@ SECONDS_WITHOUT_FILES = 0.1
 SECONDS_APART = 0.002
 BACKLOG = 512
 TOO_MANY = "too many that say nothing"
+NO_HEADER = "no header of the PROXY protocol, version 2"
 
 
 class Door:
@@ -39,9 +43,13 @@ class Door:
         tls: Any,
         notify: Any,
         is_crowded: Callable[[], bool] = lambda: False,
+        proxies: tuple = (),
     ) -> None:
         self.sockets = [listener]
+        # what makes the protocol of a connection from an address
         self.factory = factory
+        # the networks of proxies, who say from where their connections are
+        self.proxies = proxies
         self.tls = tls
         # whether so many wait inside that nobody else is let in yet
         self.is_crowded = is_crowded
@@ -81,12 +89,25 @@ class Door:
         """Has a connection shake hands, and gives it its protocol."""
         words = handshake_words(self.tls)
         try:
-            await self.loop.connect_accepted_socket(self.factory, found, **words)
+            if is_in(address, self.proxies):
+                address = await self.client_of(found, address)
+            await self.loop.connect_accepted_socket(lambda: self.factory(address), found, **words)
         except BaseException:
             # whatever is wrong with it, it is of this connection only
             found.close()
         finally:
             self.waiting.pop(found, None)
+
+    async def client_of(self, found: socket.socket, proxy: str) -> str:
+        """The address from which a proxy's connection is; from now on it counts for that."""
+        try:
+            reading = client_of(self.loop, found, proxy)
+            client = await asyncio.wait_for(reading, SECONDS_FOR_A_HANDSHAKE)
+        except (NoHeader, OSError, asyncio.TimeoutError):
+            self.closings.add(NO_HEADER, proxy)
+            raise
+        self.waiting[found] = (client, self.waiting[found][1])
+        return client
 
     # what a server of pages asks of its server of connections
 
@@ -117,9 +138,10 @@ def handshake_words(tls: Any) -> dict:
 def stream_factory(serve: Callable) -> Callable:
     """What makes the protocol of a connection that is served by streams."""
 
-    def factory() -> asyncio.StreamReaderProtocol:
+    def factory(address: str) -> asyncio.StreamReaderProtocol:
         loop = asyncio.get_running_loop()
-        return asyncio.StreamReaderProtocol(asyncio.StreamReader(loop=loop), serve, loop=loop)
+        served = functools.partial(serve, address=address)
+        return asyncio.StreamReaderProtocol(asyncio.StreamReader(loop=loop), served, loop=loop)
 
     return factory
 

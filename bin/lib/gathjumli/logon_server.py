@@ -22,6 +22,7 @@ import time
 from gathjumli.cli import FILE_FAILED, Failure
 from gathjumli.logon import Unlocked
 from gathjumli.parts import typed_line
+from gathjumli.penalties import Penalties
 from gathjumli.rules import Rules
 from gathjumli.strangers import (
     Closings,
@@ -53,6 +54,7 @@ TICK = 0.05
 LOGON = b"LOGON"
 GOES_DOWN = b"GATHJUMLI GOES DOWN\r\n"
 CLOSED = b"LOGON IS CLOSED\r\n"
+REFUSED_FOR_NOW = b"REFUSED: TOO MANY WRONG PASSWORDS FROM YOUR ADDRESS, COME BACK LATER\r\n"
 
 
 class Connection:
@@ -78,9 +80,11 @@ class Connection:
 class SocketConnection(Connection):
     """A connection by telnet or plain."""
 
-    def __init__(self, writer: Any, notify: Callable) -> None:
+    def __init__(self, writer: Any, notify: Callable, address: str | None = None) -> None:
         peer = writer.get_extra_info("peername")
-        super().__init__(peer[0] if isinstance(peer, tuple) else "")
+        its_own = peer[0] if isinstance(peer, tuple) else ""
+        # a proxy has another one
+        super().__init__(its_own if address is None else address)
         self.writer = writer
         self.notify = notify
         # one that is gone already cannot be asked for anything
@@ -168,6 +172,7 @@ class LogonServer:
         self.begun = time.monotonic()
         self.key = os.urandom(16)
         self.wrong = WrongPasswords(notify)
+        self.penalties = Penalties(notify)
         self.closings = Closings(notify)
         self.share = Share()
         self.pending = []
@@ -291,6 +296,7 @@ class LogonServer:
         user = None if number == "-" else self.people[int(number, 16)]
         if word == "FAIL":
             self.wrong.add(user and user.name, connection.address)
+            self.penalties.add(connection.address)
         elif word in ("LOGS", "BACK"):
             connection.user, user.terminal.connection = user, connection
             origin = f" from {connection.address}" if connection.address else ""
@@ -347,11 +353,16 @@ class LogonServer:
         """Has these rules hold for whoever comes from now on."""
         self.rules = rules
         self.passwords.locked = rules.locked
+        self.penalties.trusted = rules.trusted
 
     def come(self, connection: Any) -> bool:
         """A connection has come; whether there is a place for it."""
         if not self.rules.lets_in(connection.address):
             self.closings.add("the rules refuse its address", connection.address)
+            return False
+        if self.penalties.seconds(connection.address):
+            self.closings.add("its address is refused for a while", connection.address)
+            connection.send(REFUSED_FOR_NOW)
             return False
         connection.place = next(
             (number for number in range(self.room) if number not in self.places), None
@@ -386,9 +397,9 @@ class LogonServer:
         if connection.place is not None:
             self.ask("GONE", connection.place)
 
-    async def serve(self, reader: Any, writer: Any) -> None:
-        """Serves a socket until it ends."""
-        connection = SocketConnection(writer, self.notify)
+    async def serve(self, reader: Any, writer: Any, address: str | None = None) -> None:
+        """Serves a socket until it ends; address: whose it is, if that is not the socket's other end."""
+        connection = SocketConnection(writer, self.notify, address)
         self.serving.add(asyncio.current_task())
         # the installation stops by an end of all these
         try:

@@ -18,6 +18,8 @@ DONE, NOT_DONE, ENDS, ENDED = range(4)
 # before all of the recording is done again
 ALWAYS = {"status", "help", "suspend"}
 MOST_SPOOL_LINES = 40
+# addresses that one line names
+MOST_NAMED = 8
 WARNED_MINUTES = (10, 5, 1)
 LOGOFF = "logoff "
 MINUTE = "%Y-%m-%d %H:%M"
@@ -123,6 +125,9 @@ class Operator:
         waiting = printouts.unwritten()
         trouble = f": {printouts.trouble}" if printouts.trouble else ""
         reply(f"printouts: {len(printouts.all)} closed, {len(waiting)} not written{trouble}")
+        if refused := desk.penalties.refused():
+            more = f" and {len(refused) - MOST_NAMED} more" * (len(refused) > MOST_NAMED)
+            reply(f"refused for a while: {' '.join(refused[:MOST_NAMED])}{more}")
         for text in self.ending[:1]:
             reply(text)
 

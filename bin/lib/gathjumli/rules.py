@@ -14,24 +14,40 @@ NAME = re.compile("[A-Z][A-Z0-9]{0,7}")
 
 class Rules(NamedTuple):
     """The bounds in megabytes, or None where the options have them; users who may not log on; networks from which nobody may, and
-    networks outside of which nobody may, if there are any."""
+    networks outside of which nobody may, if there are any; networks of which no address is ever refused for wrong passwords.
+    """
 
     quota: int | None = None
     memory: int | None = None
     locked: tuple = ()
     denied: tuple = ()
     allowed: tuple = ()
+    trusted: tuple = ()
 
     def lets_in(self, address: str) -> bool:
         """Whether somebody of this address may connect; a socket of the host has none."""
-        try:
-            found = ipaddress.ip_address(address.partition("%")[0])
-        except ValueError:
+        if not is_address(address):
             return True
-        # an address of IPv4 may come in the form of IPv6
-        found = getattr(found, "ipv4_mapped", None) or found
-        is_allowed = not self.allowed or any(found in network for network in self.allowed)
-        return is_allowed and not any(found in network for network in self.denied)
+        is_allowed = not self.allowed or is_in(address, self.allowed)
+        return is_allowed and not is_in(address, self.denied)
+
+
+def is_address(address: str) -> bool:
+    try:
+        ipaddress.ip_address(address.partition("%")[0])
+    except ValueError:
+        return False
+    return True
+
+
+def is_in(address: str, networks: tuple) -> bool:
+    """Whether an address is in one of these networks."""
+    if not networks or not is_address(address):
+        return False
+    found = ipaddress.ip_address(address.partition("%")[0])
+    # an address of IPv4 may come in the form of IPv6
+    found = getattr(found, "ipv4_mapped", None) or found
+    return any(found in item for item in networks)
 
 
 def number(text: str) -> int:
@@ -55,7 +71,7 @@ def network(text: str) -> Any:
 
 # the words of a line: which rule it is, and what follows it
 WORDS = {"quota": ("quota", number), "memory": ("memory", number), "lock": ("locked", name), "deny": ("denied", network),
-         "allow": ("allowed", network)}  # fmt: skip
+         "allow": ("allowed", network), "trust": ("trusted", network)}  # fmt: skip
 
 
 def read_rules(path: str) -> Rules:

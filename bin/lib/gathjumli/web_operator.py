@@ -81,8 +81,10 @@ class OperatorPage:
         """Obeys a message. Each has the token."""
         kind = str(message.get("is"))
         try:
+            if not self.is_known and self.pages.penalties.seconds(self.address):
+                raise Refused("there were too many wrong tokens from your address: come back later")
             if not is_token(message.get("token"), self.pages.token):
-                self.pages.wrong.add(None, self.address)
+                self.pages.note_wrong(self.address)
                 await asyncio.sleep(1)
                 raise Refused("the token is wrong")
             if not self.is_known:
@@ -134,6 +136,7 @@ class OperatorPages:
         self.loop = loop
         self.all = set()
         self.wrong = WrongTokens(self.notify)
+        self.penalties = installation.desk.penalties
         self.opened = asyncio.Event()
         self.path = f"{installation.options['record']}.web-token"
         self.token = self.read_token()
@@ -152,6 +155,11 @@ class OperatorPages:
         with open(handle, "w") as file:
             file.write(f"{token}\n")
         return token
+
+    def note_wrong(self, address: str) -> None:
+        """A wrong token came from an address."""
+        self.wrong.add(None, address)
+        self.penalties.add(address)
 
     def state(self) -> dict:
         """What an operator sees at a glance."""

@@ -5,6 +5,7 @@ from typing import Any
 import http
 import ipaddress
 import os
+import re
 import socket
 
 from gathjumli.cli import ROOT
@@ -25,9 +26,19 @@ HEADERS = {"Content-Security-Policy": POLICY, "X-Content-Type-Options": "nosniff
            "Cross-Origin-Opener-Policy": "same-origin", "Cross-Origin-Resource-Policy": "same-origin", "Cache-Control": "no-store"}  # fmt: skip
 
 
-def is_own_host(host: Any) -> bool:
-    """Whether a page may be asked for by this name: an address, or a name of this host. By any other name another site could have a
-    browser take it for its own."""
+NAME = re.compile("[a-z0-9]([a-z0-9.-]{0,251}[a-z0-9])?")
+
+
+def host_name(text: str) -> str:
+    """A name of this host, as the operator gives it."""
+    if not NAME.fullmatch(text.lower()):
+        raise ValueError("a name of this host, as cp.example.org")
+    return text.lower()
+
+
+def is_own_host(host: Any, names: tuple = ()) -> bool:
+    """Whether a page may be asked for by this name: an address, a name of this host, or one that the operator gave. By any other
+    name another site could have a browser take it for its own."""
     name, _, port = (
         host.rpartition(":") if not host.endswith("]") and ":" in host else (host, "", "")
     )
@@ -36,16 +47,19 @@ def is_own_host(host: Any) -> bool:
         ipaddress.ip_address(name.strip("[]"))
         return True
     except ValueError:
-        return name in ("localhost", socket.gethostname().lower(), socket.getfqdn().lower())
+        return name in (*names, "localhost", socket.gethostname().lower(), socket.getfqdn().lower())
 
 
-def answer_to(path: Any, host: Any, origin: Any, is_secure: Any, files: Any) -> tuple | None:
+def answer_to(
+    path: Any, host: Any, origin: Any, is_secure: Any, files: Any, names: tuple = ()
+) -> tuple | None:
     """What a request gets: the status, the type and the bytes of an answer, or None where it is a WebSocket that may be opened."""
     path = path.partition("?")[0]
-    if not is_own_host(host):
+    if not is_own_host(host, names):
         return http.HTTPStatus.MISDIRECTED_REQUEST, "text/plain", b"this host has another name\n"
     if path in (USER_SOCKET, OPERATOR_SOCKET):
-        if origin != f"{'https' if is_secure else 'http'}://{host}":
+        # a proxy may have encrypted what comes here as it is
+        if origin != f"https://{host}" and (is_secure or origin != f"http://{host}"):
             return http.HTTPStatus.FORBIDDEN, "text/plain", b"a page of another origin\n"
         return None
     if path not in files:

@@ -2,6 +2,7 @@
 the protocol; what the messages mean is in bin/lib/gathjumli/web_pages.py and bin/lib/gathjumli/web_operator.py."""
 from __future__ import annotations
 
+from collections.abc import Callable
 from typing import Any
 import asyncio
 import collections
@@ -32,6 +33,8 @@ class Connection(WebSocketServerProtocol):
 
     crowd = None
     page = None
+    # from where it is, which is not its other end if that is a proxy
+    client_address = ""
 
     def connection_made(self, transport: Any) -> None:
         super().connection_made(transport)
@@ -50,8 +53,8 @@ class Connection(WebSocketServerProtocol):
         """Whether nobody is logged on here."""
         return not (self.page and self.page.is_somebody())
 
-    def address(self) -> Any:
-        return (self.remote_address or [""])[0]
+    def address(self) -> str:
+        return self.client_address
 
 
 class Crowd:
@@ -92,9 +95,10 @@ class Web:
         kind = type("OwnConnection", (Connection,), {"crowd": self.crowd})
         self.server = WebSocketServer(logger=logger)
         words = {"process_request": self.answer, "logger": logger, "secure": bool(self.tls)}
-        factory = functools.partial(kind, self.serve, self.server, **words, **LIMITS)
-        notify = self.installation.notify
-        self.server.wrap(Door(address_socket(where), factory, self.tls, notify))
+        made = functools.partial(kind, self.serve, self.server, **words, **LIMITS)
+        notify, proxies = self.installation.notify, self.installation.options["proxies"]
+        factory = functools.partial(made_for, made)
+        self.server.wrap(Door(address_socket(where), factory, self.tls, notify, proxies=proxies))
         scheme = "https" if self.tls else "http"
         self.installation.notify(
             f"pages are at {scheme}://{where}/, the operator's at /operator with the token in {self.operators.path}"
@@ -106,7 +110,8 @@ class Web:
             found[0] if len(found := headers.get_all(name)) == 1 else ""
             for name in ("Host", "Origin")
         )
-        found = answer_to(path, host, origin, bool(self.tls), self.files)
+        names = self.installation.options["hosts"]
+        found = answer_to(path, host, origin, bool(self.tls), self.files, names)
         if found is None:
             return None
         status, kind, body = found
@@ -182,6 +187,13 @@ class Web:
         self.operators.wrong.notify_all()
         self.server.close()
         await self.server.wait_closed()
+
+
+def made_for(made: Callable[[], Connection], address: str) -> Connection:
+    """A connection from an address."""
+    connection = made()
+    connection.client_address = address
+    return connection
 
 
 async def received(connection: Any) -> Any:
