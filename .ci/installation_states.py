@@ -651,6 +651,41 @@ def try_changed_volume(check: Check, site: Site) -> None:
     check("it is suspended", site.stop() == 0)
 
 
+def try_mended_volume(check: Check, site: Site) -> None:
+    """The end and the next start name the file that mends a changed volume; with it the machines go on."""
+    volume = add_volume(site)
+    site.online()
+    run(stored(site, 4))
+    write(volume, image_of("V2", 1))
+    site.operate("end now")
+    check("it ends", site.ended() == 0, *site.findings)
+    own = next(
+        f"{site.folder}/{name}" for name in names_in(site.folder) if name.startswith("volume.")
+    )
+    told = f"cp '{own}' '{volume}'" if " " in own else f"cp {own} {volume}"
+    check("the end names the file that mends it", told in site.since_start(), *site.findings)
+    status = site.start().ended()
+    check("so does the next start", status == 1 and told in site.since_start(), *site.findings)
+    os.rename(own, f"{site.folder}/elsewhere")
+    site.start()
+    wanted = "put back a copy of it whose SHA-256 begins with "
+    holds = site.ended() == 1 and wanted in site.since_start()
+    check("without that file the sum is said", holds, *site.findings)
+    write(volume, read(f"{site.folder}/elsewhere"))
+    site.online()
+    check("with its own it goes on", value_in(run(shown(site))) == 4, *site.findings)
+    site.kill(is_all=True)
+    write(volume, image_of("V3", 1))
+    status = site.start().ended()
+    wanted = f"or move {site.record} away, and start with --without-machines"
+    check("a session with machines", status == 1 and wanted in site.since_start(), *site.findings)
+    os.rename(site.record, f"{site.folder}/away")
+    site.online("--without-machines")
+    holds = run(person_on(site)) == "LOGON OK" and read(volume) == image_of("V3", 1)
+    check("begins anew as is said", holds, *site.findings)
+    check("it is suspended", site.stop() == 0)
+
+
 def try_unsaved_end(check: Check, site: Site) -> None:
     """An end at which the state cannot be saved has not begun, or is done without machines where that is asked for."""
     os.environ["PEOPLE_STEP"] = "full"
@@ -742,7 +777,7 @@ def try_fronts(check: Check, folder: str) -> None:
     differ = [name for name in names if getattr(one, name) != getattr(whole, name)]
     check("a front means the same", not differ and one.digits() == whole.digits(), *differ)
     marks = [
-        [(mark._replace(weight=0), item.weight - mark.weight) for mark in item.states]
+        [(mark._replace(weight=0), item.weight_since(mark)) for mark in item.states]
         for item in (one, whole)
     ]
     check("so do the last states", marks[0] == marks[1] and len(marks[0]) == 2, *marks)
@@ -879,6 +914,7 @@ def try_states(check: Check, command: str, program: str, folder: str) -> None:
     try_end_steps(check, killed_site(command, f"{folder}/end steps"))
     try_unsaved_end(check, killed_site(command, f"{folder}/unsaved"))
     try_changed_volume(check, make_site(command, f"{folder}/changed"))
+    try_mended_volume(check, make_site(command, f"{folder}/mended"))
     try_replaced(check, make_site(command, f"{folder}/replaced"), program)
     try_weights(check, f"{folder}/weights")
     try_fronts(check, f"{folder}/fronts")

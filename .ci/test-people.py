@@ -36,6 +36,7 @@ import installation_faults
 import installation_operators
 import installation_proxies
 import installation_reload
+import installation_replays
 import installation_states
 import installation_strangers
 import installation_strays
@@ -956,6 +957,7 @@ def test_installation(repository: str, work: str) -> None:
     )
     installation_reload.try_reloading(check, f"{repository}/bin/installation", f"{work}/reload")
     installation_strays.try_strays(check, f"{repository}/bin/installation", f"{work}/strays")
+    installation_replays.try_replays(check, f"{repository}/bin/installation", f"{work}/replays")
     installation_proxies.try_proxies(check, f"{repository}/bin/installation", f"{work}/proxies")
     installation_watchdog.try_watchdog(check, f"{repository}/bin/installation", f"{work}/watchdog")
     installation_operators.try_operating(

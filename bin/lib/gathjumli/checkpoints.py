@@ -8,6 +8,7 @@ import contextlib
 import fcntl
 import glob
 import os
+import shlex
 import shutil
 import tempfile
 
@@ -190,7 +191,8 @@ class Checkpoint:
         copied = f"{os.path.realpath(volume)}.{name}"
         copy_whole(path, copied, os.stat(volume) if os.path.exists(volume) else None)
         notify(
-            f"{volume} was changed by somebody else during the session, and stays as it is; the volume of the session is {copied}"
+            f"{volume} was changed by somebody else during the session, and stays as it is; the volume of the session is {copied}: "
+            f"{put_back(copied, volume)}, if the next session is to go on with it"
         )
 
     def find(self, mark: Any) -> str:
@@ -211,6 +213,48 @@ class Checkpoint:
                 f"{self.folder} has no images that were saved at the end of {self.record}",
             )
         return digits
+
+
+def put_back(copy: str, volume: str) -> str:
+    """The command that puts a copy in the place of a volume."""
+    return f"cp {shlex.quote(copy)} {shlex.quote(volume)}"
+
+
+def copies_of(record: str, volume: str, wanted: str) -> list[str]:
+    """The copies of a volume with this sum, which an end has left next to it or in the folder of a session."""
+    beside = f"{glob.escape(os.path.realpath(volume))}.*"
+    folders = f"{glob.escape(os.path.abspath(record))}.*/volume-*"
+    paths = [path for pattern in (beside, folders) for path in sorted(glob.glob(pattern))]
+    return [path for path in paths if os.path.isfile(path) and sum_of_file(path) == wanted]
+
+
+def changed_volume(record: str, volume: str, wanted: str) -> str:
+    """What mends it that a volume is not the one with this sum."""
+    copies = copies_of(record, volume, wanted)
+    if copies:
+        return f"its own is {copies[0]}: {put_back(copies[0], volume)}, and start again"
+    return f"put back a copy of it whose SHA-256 begins with {wanted}, and start again"
+
+
+def refuse_changed_volumes(recording: Recording, volumes: list[str]) -> None:
+    """Refuses volumes that are not those of a recording, and says what would mend it."""
+    sums = recording.volume_sums()
+    if len(sums) != len(volumes):
+        return
+    found = [
+        (place, volume, wanted)
+        for place, (volume, wanted) in enumerate(zip(volumes, sums), 1)
+        if sum_of_file(volume) != wanted
+    ]
+    if found:
+        path = recording.path
+        lines = [
+            f"{path}: it is of another volume {place} than {volume}; {changed_volume(path, volume, wanted)}"
+            for place, volume, wanted in found
+        ]
+        away = "" if recording.beginning and not recording.weight else f"move {path} away, and "
+        anew = "then a session begins anew, with the volumes as they are"
+        raise Failure(REFUSED, *lines, f"or {away}start with --without-machines: {anew}")
 
 
 def keep(volume: Any, aside: Any) -> None:

@@ -10,6 +10,7 @@ import re
 import time
 from typing import Any
 
+from gathjumli.checkpoints import changed_volume
 from gathjumli.following import Died, NotFollowed, PartResult, Program, is_out_of_memory
 from gathjumli.host import memory_of, processor_seconds
 from gathjumli.machines import ScriptRefused
@@ -21,10 +22,10 @@ from gathjumli.parts import (
     is_shown,
     joined,
     joined_results,
-    part_of,
     turns_part,
 )
-from gathjumli.recording import PRINTED, StateMark, sum_of_file, weight_of
+from gathjumli.recording import PRINTED, StateMark, sum_of_file
+from gathjumli.replaying import Progress, Replay
 from gathjumli.state_files import StateFile
 from gathjumli.states import States, notes_of, take_notes
 
@@ -35,26 +36,8 @@ MOST_LINES = 1000
 LINES_SECONDS = 0.01
 # how often others get their turn after lines were done: whoever has typed more is known then
 TURNS_OF_LOOP = 4
-# parts of a replay that are given before the first of them is answered
-AHEAD = 256
 LACKS = re.compile("= ([A-Z0-9]+) FRAMES")
 NO_ROOM = "NOT DONE: NO ROOM FOR A PAGE, TYPE IT AGAIN"
-
-
-class Progress:
-    """How far something is of which the whole is known, reported each second."""
-
-    def __init__(self, whole: Any, notify: Any) -> None:
-        self.whole = max(1, whole)
-        self.notify = notify
-        self.done = 0
-        self.notified = time.monotonic()
-
-    def add(self, amount: Any) -> None:
-        self.done += amount
-        if time.monotonic() - self.notified >= 1:
-            self.notified = time.monotonic()
-            self.notify(min(1.0, self.done / self.whole))
 
 
 class Engine:
@@ -95,8 +78,9 @@ class Engine:
         self.loop = asyncio.get_running_loop()
         self.woken = asyncio.Event()
         self.is_stopping = False
-        # whether the program has done all that the recording has
+        # whether the program has done all that the recording has, and else how far it is
         self.is_whole = False
+        self.progress = Progress(0, notify)
         printouts.note = lambda name: self.note(PRINTED + name.encode() + b"\n")
         self.parts = 0
 
@@ -274,7 +258,8 @@ class Engine:
         for volume, known in zip(self.machines.originals, self.recording.volume_sums()):
             if sum_of_file(volume) != known:
                 findings = f"{volume} was changed by somebody else during the session, which cannot go on without it as it was"
-                raise Failure(REFUSED, findings)
+                mend = changed_volume(self.recording.path, volume, known)
+                raise Failure(REFUSED, f"{findings}; {mend}")
         if sum_of_file(self.machines.program()) != self.program_sum:
             findings = f"{self.machines.program()} was replaced during the session, which goes on with the one before"
             raise Failure(REFUSED, findings)
@@ -284,6 +269,7 @@ class Engine:
             lambda share: self.notify(f"the program is started again: {100 * share:.0f}% done"),
             lambda *_: None,
             lambda _: None,
+            is_saving=False,
         )
 
     def checked(self, ask: Any, *given: Any, line: Any = None) -> Any:
@@ -335,7 +321,7 @@ class Engine:
             take_notes(state.notes, self.users, self.printouts)
             self.notify(f"begins with {state.path}")
 
-        self.do_recording(notify, take, take_state)
+        self.do_recording(notify, take, take_state, is_saving=True)
 
     def restore(self) -> tuple[StateMark | None, StateFile | None]:
         """Has the program go on from the last state that it takes, or else be at the beginning; where that is in the recording. If
@@ -366,31 +352,22 @@ class Engine:
         self.states.goes_on(self.seconds(), 0.0, None)
         return None, None
 
-    def do_recording(self, notify: Any, take: Any, take_state: Callable[[StateFile], None]) -> None:
-        """Has the program do all that the recording has, from the last state on, and takes the effect of each part."""
+    def do_recording(
+        self,
+        notify: Any,
+        take: Callable,
+        take_state: Callable[[StateFile], None],
+        is_saving: bool,
+    ) -> None:
+        """Has the program do all that the recording has, from the last state on, and takes the effect of each part. States are
+        saved on the way if that is asked for."""
         self.is_whole = False
+        self.progress = Progress(0, notify)
         mark, state = self.restore()
         if state:
             take_state(state)
-        left = self.recording.weight - (mark.weight if mark else 0)
-        progress, sent = Progress(left, notify), collections.deque()
-
-        def take_first() -> None:
-            part, number, when = sent.popleft()
-            take(part, self.checked(self.program.answer, line=number), when.decode()[:16])
-            progress.add(weight_of(part.lines))
-
-        for number, when, entry in self.recording.entries(mark):
-            if self.is_stopping:
-                return
-            part = part_of(entry)
-            self.program.send(part.lines)
-            sent.append((part, number, when))
-            if len(sent) >= AHEAD:
-                take_first()
-        while sent and not self.is_stopping:
-            take_first()
-        self.is_whole = not sent
+        self.progress = Progress(self.recording.weight_since(mark), notify)
+        self.is_whole = Replay(self, mark, take, is_saving).run()
 
     def stop(self) -> None:
         self.is_stopping = True

@@ -24,29 +24,43 @@ STAMP_LINE = re.compile(rb"^\* (\d{4}-\d\d-\d\d \d\d:\d\d:\d\d) UTC [0-9a-f]{8}\
 
 
 class Front(NamedTuple):
-    """How long a front is, in bytes and in lines; the sum of its bytes; the time of its last stamp; and its comments."""
+    """How long a front is, in bytes and in lines; the sum of its bytes; the time of its last stamp; its comments; and of the last
+    states in it the marks, each with the bytes and lines up to its end and the time of the last stamp before it.
+    """
 
     place: int
     lines: int
     sum: hashlib._Hash
     until: bytes
     comments: list[bytes]
+    marks: list[tuple[bytes, int, int, bytes]]
 
 
 def front_of(path: str, states: int) -> Front | None:
-    """What comes before so many last states of a recording, if that is long. The first stamp that follows shows whether all of it is
-    as it was written."""
+    """What comes before the last state of a recording, if that is long, with the marks of so many last states but that one. The
+    first stamp that follows shows whether all of it is as it was written."""
     if os.path.getsize(path) < LEAST:
         return None
     with open(path, "rb") as file, mmap.mmap(file.fileno(), 0, access=mmap.ACCESS_READ) as data:
         comments = list(comments_in(data))
-        marks = [place for place, line in comments if STATE_LINE.match(line)]
-        place = marks[-states:][0] if marks else 0
-        stamps = STAMP_LINE.findall(data[max(0, place - LAST_BYTES) : place])
-        if place < LEAST or not stamps:
+        marks = [item for item in comments if STATE_LINE.match(item[1])][-states:]
+        place = marks[-1][0] if marks else 0
+        stamps = [last_stamp(data, at) for at, _ in marks]
+        if place < LEAST or not all(stamps):
             return None
-        lines, known = counted(data, place)
-        return Front(place, lines, known, stamps[-1], [line for at, line in comments if at < place])
+        lines, known = counted(data, [at for at, _ in marks])
+        before = [line for at, line in comments if at < place]
+        earlier = [
+            (line, at + len(line), count + 1, until)
+            for (at, line), count, until in zip(marks, lines, stamps)
+        ]
+        return Front(place, lines[-1], known, stamps[-1], before, earlier[:-1])
+
+
+def last_stamp(data: mmap.mmap, place: int) -> bytes:
+    """The time of the last stamp before a place, or nothing if there is none near it."""
+    stamps = STAMP_LINE.findall(data[max(0, place - LAST_BYTES) : place])
+    return stamps[-1] if stamps else b""
 
 
 def comments_in(data: mmap.mmap) -> Iterator[tuple[int, bytes]]:
@@ -84,12 +98,14 @@ def after_cards(data: mmap.mmap, place: int, cards: int) -> int:
     return place
 
 
-def counted(data: mmap.mmap, size: int) -> tuple[int, hashlib._Hash]:
-    """How many lines so many bytes have, and their sum."""
-    lines, known = 0, hashlib.sha256()
-    for place in range(0, size, CHUNK):
-        piece = data[place : min(size, place + CHUNK)]
-        lines += piece.count(b"\n")
-        known.update(piece)
-        data.madvise(mmap.MADV_DONTNEED)
+def counted(data: mmap.mmap, places: list[int]) -> tuple[list[int], hashlib._Hash]:
+    """How many lines are before each of these places, which ascend, and the sum of the bytes before the last one."""
+    lines, known = [], hashlib.sha256()
+    for start, end in zip([0, *places], places):
+        lines.append(lines[-1] if lines else 0)
+        for place in range(start, end, CHUNK):
+            piece = data[place : min(end, place + CHUNK)]
+            lines[-1] += piece.count(b"\n")
+            known.update(piece)
+            data.madvise(mmap.MADV_DONTNEED)
     return lines, known

@@ -110,9 +110,7 @@ class Operator:
 
     def status(self, rest: str, reply: Any) -> None:
         engine, desk, recording = self.engine, self.installation.desk, self.engine.recording
-        reply(f"{len(self.on())} on, {desk.strangers} about to log on, {engine.parts} parts, "
-              f"{'somebody computes' if engine.pace.is_busy else 'all wait'}; "
-              f"a start that goes on from here takes about {engine.seconds_to_start():.0f} s")  # fmt: skip
+        reply(self.activity())
         reply(state_text(engine))
         most = self.installation.limits.memory // MEGABYTE
         reply(
@@ -130,6 +128,18 @@ class Operator:
             reply(f"refused for a while: {' '.join(refused[:MOST_NAMED])}{more}")
         for text in self.ending[:1]:
             reply(text)
+
+    def activity(self) -> str:
+        """Who is on and what the program does, or how far it is in the recording."""
+        engine, strangers = self.engine, self.installation.desk.strangers
+        who = f"{len(self.on())} on, {strangers} about to log on, {engine.parts} parts"
+        if not engine.is_whole:
+            is_ready, share = self.installation.is_ready, 100 * engine.progress.share()
+            how = f"{who}; the program is started again" if is_ready else "nobody can log on yet"
+            return f"{how}: the recording is done again, {share:.0f}% so far"
+        does = "somebody computes" if engine.pace.is_busy else "all wait"
+        start = f"a start that goes on from here takes about {engine.seconds_to_start():.0f} s"
+        return f"{who}, {does}; {start}"
 
     def users(self, rest: str, reply: Any) -> None:
         for user in self.on():

@@ -55,7 +55,8 @@ class StateMark(NamedTuple):
     place: int
     lines: int
     until: bytes
-    weight: int
+    # None if it is not known
+    weight: int | None
 
 
 class Base(NamedTuple):
@@ -206,12 +207,14 @@ class Recording:
             if not (TITLE + b"\n").startswith(file.read(len(TITLE) + 1)):
                 raise Failure(REFUSED, f"{self.path} is no recording of an installation")
         front = front_of(self.path, MOST_STATES)
+        self.has_front = bool(front)
         try:
             self.read(front)
         except Failure:
             if not front:
                 raise
             self.reset()
+            self.has_front = False
             self.read(None)
 
     def read(self, front: Front | None) -> None:
@@ -247,6 +250,9 @@ class Recording:
         for comment in front.comments:
             if not comment.startswith(STATE):
                 self.note(comment)
+        for line, place, lines, until in front.marks:
+            name, digits = mark_in(line)
+            self.states.append(StateMark(name, digits, place, lines, until, None))
         self.bytes, self.lines, self.sum = front.place, front.lines, front.sum
         self.right, self.until, self.has_sums = front.lines, front.until, True
         # how much it has to do does not matter, as it is done
@@ -320,7 +326,7 @@ class Recording:
             self.printed.add(entry.removeprefix(PRINTED).decode().rstrip("\n"))
 
     def note_state(self, entry: bytes) -> None:
-        name, _, digits = entry.removeprefix(STATE).decode(errors="replace").strip().partition(" ")
+        name, digits = mark_in(entry)
         mark = StateMark(name, digits, self.bytes, self.lines, self.until, self.weight)
         if name == BEGINNING:
             self.beginning = mark
@@ -398,6 +404,14 @@ class Recording:
                     waiting = []
                 number += entry.count(b"\n")
         yield from ((line, when, text) for line, text in waiting)
+
+    def weight_since(self, mark: StateMark | None) -> int:
+        """About how much was done since a mark, or since the beginning."""
+        if mark and mark.weight is not None:
+            return self.weight - mark.weight
+        if not mark and not self.has_front:
+            return self.weight
+        return sum(weight_of(entry) for _, _, entry in self.entries(mark))
 
     def whole(self) -> Any:
         """All that it has."""
@@ -483,6 +497,12 @@ class Recording:
 def stamp_of(digits: bytes) -> bytes:
     """A stamp of now."""
     return time.strftime(f"* {TIME} ", time.gmtime()).encode() + digits + b"\n"
+
+
+def mark_in(line: bytes) -> tuple[str, str]:
+    """The name and the sum of the state for which a line is the mark."""
+    name, _, digits = line.removeprefix(STATE).decode(errors="replace").strip().partition(" ")
+    return name, digits
 
 
 def sum_digits(known: Any) -> bytes:

@@ -7,7 +7,7 @@ import glob
 import time
 
 from gathjumli.cli import FILE_FAILED, Failure, REFUSED, reason_text
-from gathjumli.following import Died, Program
+from gathjumli.following import Died, Program, SavedState
 from gathjumli.host import MEGABYTE
 from gathjumli.limits import LITTLE_FREE
 from gathjumli.checkpoints import LAST_STATE
@@ -22,7 +22,8 @@ from gathjumli.state_files import (
     write_state,
 )
 
-from gathjumli.strays import SESSION, forget_states
+from gathjumli.replaying import Place, reached
+from gathjumli.strays import SESSION, forget_states, state_paths
 
 if TYPE_CHECKING:
     from gathjumli.users import User
@@ -34,6 +35,8 @@ MOST_WAITED = 1.0
 SLOW_ONES = 2
 # between two states is so many times what people wait for one
 WAITS_APART = 50
+# in the notes of a state that has no mark: the bytes and the lines before it, their sum, and a time
+WAY = "way"
 
 
 class LastState(NamedTuple):
@@ -62,6 +65,8 @@ class States:
         self.last: LastState | None = None
         self.slow = 0
         self.trouble = ""
+        # states without a mark, which starts have saved on their way
+        self.on_way: list[StateMark] = []
 
     # --- saving ---
 
@@ -89,26 +94,34 @@ class States:
         except Died:
             self.stop("the program has died while it was saved")
             raise
+        name = f"state-{self.recording.lines}"
+        digits = self.written(name, saved, notes)
+        if not digits:
+            return False
+        self.recording.mark_state(name, digits)
+        self.on_way = []
+        self.forget_before(MOST_STATES)
+        self.note(LastState(saved.size(), time.monotonic() - begun))
+        return True
+
+    def written(self, name: str, saved: SavedState | None, notes: dict[str, Any]) -> str:
+        """Writes the file of a state; its sum, or nothing if it is not saved for a reason that is reported."""
         if saved is None or saved.size() > MOST_BYTES:
             why = f"it has more than {MOST_BYTES} bytes" if saved else "the program refuses it"
             self.stop(why)
-            return False
+            return ""
         if (free := self.recording.free()) < saved.size() + LITTLE_FREE:
             # what people type has to find room
             self.report(f"its disk has {free // MEGABYTE} MB free")
-            return False
-        name = f"state-{self.recording.lines}"
+            return ""
         notes = notes | {SESSION: self.recording.name()}
         try:
             digits = write_state(self.path(name), self.base(), notes, saved)
         except OSError as error:
             self.report(error.strerror)
-            return False
-        self.recording.mark_state(name, digits)
-        self.forget_before(MOST_STATES)
+            return ""
         self.trouble = ""
-        self.note(LastState(saved.size(), time.monotonic() - begun))
-        return True
+        return digits
 
     def save_last(self, program: Program, path: str, notes: dict[str, Any]) -> str:
         """Saves the state with which the next session goes on; its sum."""
@@ -155,6 +168,51 @@ class States:
             self.notify(f"no state is saved: {why}")
         self.trouble = why
 
+    # --- on the way through a recording ---
+
+    def save_on_way(self, saved: SavedState | None, place: Place, notes: dict[str, Any]) -> None:
+        """Saves the state at a place which the recording has no mark for: the state itself says where that is."""
+        name = f"state-{place.lines}"
+        way = [place.bytes, place.lines, place.sum, place.until.decode()]
+        digits = self.written(name, saved, notes | {WAY: way})
+        if digits and saved:
+            mark = StateMark(name, digits, place.bytes, place.lines, place.until, None)
+            self.on_way = [*self.on_way, mark][-MOST_STATES:]
+            self.forget_before(MOST_STATES)
+            self.last = LastState(saved.size(), 0.0)
+
+    def tried_on_way(self, seconds: float, took: float) -> None:
+        """A state was saved on the way, or was not, after so many seconds of the program. The next one is not due too soon."""
+        self.at, self.due = seconds, seconds + max(self.every, WAITS_APART * took)
+
+    def find_on_way(self) -> None:
+        """Finds the states that starts have saved on their way since the last one with a mark."""
+        marks = [
+            *[self.recording.beginning] * bool(self.recording.beginning),
+            *self.recording.states,
+        ]
+        known = {mark.name for mark in marks}
+        paths = [item for item in state_paths(self.recording.path).items() if item[0] not in known]
+        found = [mark for name, path in paths if (mark := self.mark_on_way(name, path))]
+        last = max((mark.place for mark in marks), default=0)
+        later = [mark for mark in found if mark.place > last]
+        self.on_way = sorted(later, key=lambda mark: mark.place)[-MOST_STATES:]
+
+    def mark_on_way(self, name: str, path: str) -> StateMark | None:
+        """The mark that a state on the way would have, if it is one of this recording as that is now."""
+        try:
+            state = read_state(path)
+            state.file.close()
+            *way, until = state.notes[WAY]
+            place = Place(*way, until.encode())
+            found = reached(self.recording.path, place)
+        except (Failure, OSError, KeyError, TypeError, ValueError, AttributeError):
+            # another kind of state, or none
+            return None
+        if found != place or state.notes.get(SESSION) != self.recording.name():
+            return None
+        return StateMark(name, state.sum, place.bytes, place.lines, place.until, None)
+
     # --- files ---
 
     def base(self) -> list[bytes]:
@@ -167,6 +225,7 @@ class States:
     def forget_before(self, count: int) -> None:
         """Removes all files but those of so many last marks."""
         kept = {mark.name for mark in self.recording.states[-count:]} if count else set()
+        kept |= {mark.name for mark in self.on_way}
         forget_states(self.recording.path, kept)
 
     # --- going on ---
@@ -174,7 +233,8 @@ class States:
     def found(self) -> Iterator[tuple[StateMark, StateFile]]:
         """The states from which the program can go on, the last one first; then that with which the session began."""
         beginning = [self.recording.beginning] * bool(self.recording.beginning)
-        for mark in reversed([*beginning, *self.recording.states[-MOST_STATES:]]):
+        states = self.recording.states[-MOST_STATES:]
+        for mark in reversed([*beginning, *states, *self.on_way]):
             try:
                 state = read_state(self.path(mark.name))
                 if (state.sum, state.base) != (mark.sum, self.base()):
