@@ -510,7 +510,7 @@ class Operated:
     def remove(self, outlet: object) -> None:
         self.outlets.remove(outlet)
 
-    def do(self, text: str, reply: object, end: object) -> None:
+    def do(self, text: str, reply: object, end: object, is_there: object) -> None:
         reply(f"{text}!")
         end(0)
 

@@ -33,6 +33,7 @@ import closed_files
 import desk
 import installation
 import installation_faults
+import installation_maps
 import installation_operators
 import installation_proxies
 import installation_reload
@@ -957,6 +958,7 @@ def test_installation(repository: str, work: str) -> None:
     )
     installation_reload.try_reloading(check, f"{repository}/bin/installation", f"{work}/reload")
     installation_strays.try_strays(check, f"{repository}/bin/installation", f"{work}/strays")
+    installation_maps.try_maps(check, f"{repository}/bin/installation", f"{work}/maps")
     installation_replays.try_replays(check, f"{repository}/bin/installation", f"{work}/replays")
     installation_proxies.try_proxies(check, f"{repository}/bin/installation", f"{work}/proxies")
     installation_watchdog.try_watchdog(check, f"{repository}/bin/installation", f"{work}/watchdog")

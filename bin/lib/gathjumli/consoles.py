@@ -64,6 +64,7 @@ class Consoles:
             # the loop has ended
             pass
         finally:
+            outlet.is_gone = True
             self.count -= 1
             self.journal.remove(outlet)
             # who does not read what waits is left
@@ -80,6 +81,7 @@ class Consoles:
             text,
             lambda answer: outlet.put(answer, ANSWER),
             lambda how: outlet.put_as_is(f"{END_OF_ANSWER}{how}"),
+            lambda: not outlet.is_gone,
         )
 
     def close(self) -> None:

@@ -2,6 +2,7 @@
 from __future__ import annotations
 
 from typing import Any
+import collections
 import contextlib
 import os
 import queue
@@ -9,6 +10,7 @@ import threading
 import time
 
 MOST_UNREAD_LINES = 1000
+MOST_PAST_LINES = 40
 TIME = "%H:%M:%S"
 DATE_AND_TIME = "%Y-%m-%d %H:%M:%S"
 
@@ -30,6 +32,8 @@ class Outlet:
         self.farewell = farewell
         self.time_format = time_format
         self.prefix = prefix
+        # whether whoever reads has gone
+        self.is_gone = False
         self.lines = queue.Queue(MOST_UNREAD_LINES)
         self.lost = 0
         self.thread = threading.Thread(target=self.write_all, daemon=True)
@@ -45,6 +49,12 @@ class Outlet:
             self.lines.put_nowait(f"{prefix}{self.now()} {text}")
         except queue.Full:
             self.lost += 1
+
+    def show_past(self, lines: list[tuple[float, str]]) -> None:
+        """Shows lines of before, each with its time."""
+        for when, text in lines:
+            at = time.strftime(self.time_format, time.localtime(when))
+            self.put_as_is(f"{self.prefix}{at} {printable(text)}")
 
     def put_as_is(self, line: bytes) -> None:
         with contextlib.suppress(queue.Full):
@@ -72,6 +82,9 @@ class Journal:
 
     def __init__(self, path: str = None) -> None:
         self.outlets = [Outlet(1)]
+        # what a new operator sees of before
+        self.past: collections.deque[tuple[float, str]] = collections.deque(maxlen=MOST_PAST_LINES)
+        self.lock = threading.Lock()
         self.path = path
         if path:
             self.file = self.opened()
@@ -88,14 +101,19 @@ class Journal:
             os.close(handle)
 
     def notify(self, text: str) -> None:
-        for outlet in list(self.outlets):
-            outlet.put(text)
+        with self.lock:
+            self.past.append((time.time(), str(text)))
+            for outlet in self.outlets:
+                outlet.put(text)
 
     def add(self, outlet: Any) -> None:
-        self.outlets.append(outlet)
+        """Has an outlet show the last lines, and then all that follow."""
+        with self.lock:
+            outlet.show_past(list(self.past))
+            self.outlets.append(outlet)
 
     def remove(self, outlet: Any) -> None:
-        with contextlib.suppress(ValueError):
+        with self.lock, contextlib.suppress(ValueError):
             self.outlets.remove(outlet)
 
     def say_farewell(self) -> None:

@@ -7,12 +7,11 @@ import contextlib
 import datetime
 import os
 import re
-import subprocess
-import threading
 
 from gathjumli.host import MEGABYTE, memory_of
-from gathjumli.cli import ask_build, read_file, write_whole
+from gathjumli.cli import read_file, write_whole
 from gathjumli.ending import Ending, room_trouble
+from gathjumli.frame_maps import BEING_LOOKED_FOR, FrameMap
 
 DONE, NOT_DONE, ENDS, ENDED = range(4)
 # before all of the recording is done again
@@ -26,7 +25,7 @@ MINUTE = "%Y-%m-%d %H:%M"
 HELP = """\
 status             who is on, memory, sizes, the age of the session, how long a start takes
 users              who is on, and how much each has written since LOGON
-frames             in which frames pages are; the whole recording is done for it
+frames             in which frames pages are; what followed the last state is done for it
 spool              the files that users closed for the operator, the last ones
 message TEXT       a line for each terminal; message USER TEXT for one user
 logmsg TEXT        a line for everybody who logs on; logmsg alone shows it, logmsg off ends it
@@ -54,9 +53,8 @@ class Operator:
     def __init__(self, installation: Any, framemap: Any) -> None:
         self.installation = installation
         self.engine = installation.engine
-        self.framemap = framemap
+        self.frames = FrameMap(self.engine, framemap)
         self.notify = installation.notify
-        self.mapping = None
         self.ending = []
         # if the time of the end is written down, so that the next start knows it
         self.ending_path = f"{installation.options['record']}.end-at"
@@ -69,8 +67,14 @@ class Operator:
         for line in lines:
             loop.call_soon_threadsafe(self.do, line.strip(), self.notify)
 
-    def do(self, line: Any, reply: Any, end: Any = lambda how: None) -> None:
-        """Does a command. How it ended is reported when its answer is whole."""
+    def do(
+        self,
+        line: Any,
+        reply: Any,
+        end: Any = lambda how: None,
+        is_there: Any = lambda: True,
+    ) -> None:
+        """Does a command. How it ended is reported when its answer is whole. What takes long stops if who has asked is not there."""
         word, _, rest = line.partition(" ")
         if not word:
             return
@@ -79,7 +83,7 @@ class Operator:
             end(NOT_DONE)
             return
         if word == "frames":
-            self.frames(reply, end)
+            self.find_frames(reply, end, is_there)
             return
         try:
             if word not in self.commands:
@@ -156,39 +160,13 @@ class Operator:
         reply(f"{len(printouts)} files, the last {MOST_SPOOL_LINES} are shown" if len(printouts) > MOST_SPOOL_LINES
               else f"{len(printouts)} files")  # fmt: skip
 
-    def frames(self, reply: Any, end: Any) -> None:
-        """Has bin/framemap do the recording as it is now, in parallel to all else."""
-        if self.mapping and self.mapping.is_alive():
-            reply("the frames are being looked for")
+    def find_frames(self, reply: Any, end: Any, is_there: Any) -> None:
+        """Has the frames looked for, for one operator at a time."""
+        if self.frames.is_busy():
+            reply(BEING_LOOKED_FOR)
             end(NOT_DONE)
             return
-        self.mapping = threading.Thread(
-            target=self.map_frames, args=(self.engine.recording.whole(), reply, end), daemon=True
-        )
-        self.mapping.start()
-
-    def map_frames(self, script: str, reply: Any, end: Any) -> None:
-        # a build would take minutes in silence
-        if ask_build("tell", "frame_map").endswith("not built"):
-            reply("the program frame_map is not built: run bin/framemap once by hand")
-            end(NOT_DONE)
-            return
-        done = subprocess.run(self.framemap_words(), input=script, capture_output=True)
-        for line in (
-            (done.stderr if done.returncode else done.stdout).decode(errors="replace").splitlines()
-        ):
-            reply(line)
-        end(NOT_DONE if done.returncode else DONE)
-
-    def framemap_words(self) -> list[str]:
-        """The words of bin/framemap, with the state with which the session began, if it began with one."""
-        beginning, place = self.engine.recording.beginning, self.framemap.index("--")
-        path = beginning and self.engine.states.path(beginning.name)
-        return [
-            *self.framemap[:place],
-            *(["--state", path] if path else []),
-            *self.framemap[place:],
-        ]
+        self.frames.start(reply, lambda is_done: end(DONE if is_done else NOT_DONE), is_there)
 
     def message(self, text: str, reply: Any) -> None:
         """A line for the user whose name is the first word, else for each terminal."""

@@ -8,6 +8,7 @@ import os
 import secrets
 import time
 
+from gathjumli.frame_maps import BEING_LOOKED_FOR
 from gathjumli.host import MEGABYTE, memory_of
 from gathjumli.operating import DONE, plain
 from gathjumli.report_line import count_strangers, place_of
@@ -31,11 +32,17 @@ class PageOutlet:
         self.loop = loop
 
     def put(self, text: Any, prefix: Any = None) -> None:
-        now = round(time.time() * 1000)
+        self.put_at(time.time(), text)
+
+    def show_past(self, lines: list[tuple[float, str]]) -> None:
+        """Shows lines of before, each with its time."""
+        for when, text in lines:
+            self.put_at(when, text)
+
+    def put_at(self, when: float, text: str) -> None:
+        message = {"is": "happens", "time": round(when * 1000), "text": plain(text)}
         try:
-            self.loop.call_soon_threadsafe(
-                self.page.put, {"is": "happens", "time": now, "text": plain(text)}
-            )
+            self.loop.call_soon_threadsafe(self.page.put, message)
         except RuntimeError:
             # the loop has ended
             pass
@@ -67,10 +74,10 @@ class OperatorPage:
         self.is_known = True
         self.pages.all.add(self)
         self.pages.opened.set()
-        self.pages.journal.add(self.outlet)
         self.pages.notify(f"an operator comes by a page from {self.address}")
         self.put({"is": "open"})
         self.put(self.pages.state())
+        self.pages.journal.add(self.outlet)
 
     def close(self) -> None:
         if self.is_known:
@@ -106,6 +113,7 @@ class OperatorPage:
             text,
             self.sender("answer", number),
             lambda how: self.from_thread({"is": "end", "number": number, "how": how}),
+            self.is_there,
         )
 
     def sender(self, kind: Any, number: int) -> Any:
@@ -115,14 +123,25 @@ class OperatorPage:
         """Has the frames looked for, and sends the map as a whole."""
         lines, begun = [], time.monotonic()
 
+        def take(text: str) -> None:
+            # the page itself shows that it waits
+            if not text.startswith(f"{BEING_LOOKED_FOR}, "):
+                lines.append(text)
+
         def end(how: Any) -> None:
             took = round(time.monotonic() - begun, 2)
             self.from_thread({"is": "frames", "lines": lines, "done": how == DONE, "took": took})
 
-        self.pages.operator.do("frames", lines.append, end)
+        self.pages.operator.do("frames", take, end, self.is_there)
+
+    def is_there(self) -> bool:
+        """Whether the page is still open; any thread may ask."""
+        return self in self.pages.all
 
     def from_thread(self, message: Any) -> None:
-        self.pages.loop.call_soon_threadsafe(self.put, message)
+        # the loop may have ended
+        with contextlib.suppress(RuntimeError):
+            self.pages.loop.call_soon_threadsafe(self.put, message)
 
 
 class OperatorPages:
