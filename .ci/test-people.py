@@ -33,6 +33,7 @@ import closed_files
 import desk
 import installation
 import installation_faults
+import installation_figures
 import installation_maps
 import installation_operators
 import installation_proxies
@@ -958,6 +959,7 @@ def test_installation(repository: str, work: str) -> None:
     )
     installation_reload.try_reloading(check, f"{repository}/bin/installation", f"{work}/reload")
     installation_strays.try_strays(check, f"{repository}/bin/installation", f"{work}/strays")
+    installation_figures.try_figures(check, f"{repository}/bin/installation", f"{work}/figures")
     installation_maps.try_maps(check, f"{repository}/bin/installation", f"{work}/maps")
     installation_replays.try_replays(check, f"{repository}/bin/installation", f"{work}/replays")
     installation_proxies.try_proxies(check, f"{repository}/bin/installation", f"{work}/proxies")

@@ -11,6 +11,7 @@ import time
 from typing import Any
 
 from gathjumli.checkpoints import changed_volume
+from gathjumli.figures import Waits
 from gathjumli.following import Died, NotFollowed, PartResult, Program, is_out_of_memory
 from gathjumli.host import memory_of, processor_seconds
 from gathjumli.machines import ScriptRefused
@@ -67,6 +68,8 @@ class Engine:
         self.is_saving = False
         # the sum of the program's file, which an update may replace
         self.program_sum = sum_of_file(machines.program())
+        # how often the program was started
+        self.starts = 0
         self.program = self.begun()
         self.thread = concurrent.futures.ThreadPoolExecutor(1)
         # parts that are to be done, each with the future that says when it is
@@ -83,8 +86,10 @@ class Engine:
         self.progress = Progress(0, notify)
         printouts.note = lambda name: self.note(PRINTED + name.encode() + b"\n")
         self.parts = 0
+        self.waits = Waits()
 
     def begun(self) -> Any:
+        self.starts += 1
         return Program(self.machines, "--terminals", "--save")
 
     def seconds(self) -> float:
@@ -101,10 +106,12 @@ class Engine:
 
     async def give(self, part: Part) -> None:
         """Has a part done; ends when the effect of it is shown."""
-        done = asyncio.get_running_loop().create_future()
+        done, begun = asyncio.get_running_loop().create_future(), time.monotonic()
         self.waiting.append((part, done))
         self.woken.set()
         await done
+        if part.typed:
+            self.waits.add(time.monotonic() - begun)
 
     def note(self, mark: bytes) -> None:
         """Has the recording get a comment line; any thread may ask for that."""
@@ -291,8 +298,10 @@ class Engine:
             self.users[heading.rpartition(" ")[2]].written += len(body)
         for name, text in part.typed:
             self.users[name].keep([text], when)
+            self.users[name].typed += when is None
         for name, texts in self.printed(part, came).items():
             self.users[name].show(texts, when)
+            self.users[name].shown += len(texts) if when is None else 0
             if name == self.receiver and when is None:
                 for text in texts:
                     self.notify(f"{name}: {text}")

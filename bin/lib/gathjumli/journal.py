@@ -9,6 +9,8 @@ import queue
 import threading
 import time
 
+from gathjumli.figures import Data
+
 MOST_UNREAD_LINES = 1000
 MOST_PAST_LINES = 40
 TIME = "%H:%M:%S"
@@ -40,13 +42,14 @@ class Outlet:
         self.thread.start()
 
     def put(self, text: Any, prefix: Any = None) -> None:
-        text = printable(str(text))
+        line = printable(str(text))
         prefix = self.prefix if prefix is None else prefix
+        shown = line if isinstance(text, Data) else f"{self.now()} {line}"
         try:
             if self.lost:
                 self.lines.put_nowait(f"{prefix}{self.now()} ({self.lost} lines are lost)")
                 self.lost = 0
-            self.lines.put_nowait(f"{prefix}{self.now()} {text}")
+            self.lines.put_nowait(f"{prefix}{shown}")
         except queue.Full:
             self.lost += 1
 

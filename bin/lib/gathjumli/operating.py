@@ -5,17 +5,19 @@ from typing import Any
 import asyncio
 import contextlib
 import datetime
+import json
 import os
 import re
 
 from gathjumli.host import MEGABYTE, memory_of
 from gathjumli.cli import read_file, write_whole
 from gathjumli.ending import Ending, room_trouble
+from gathjumli.figures import Data, figures, metrics
 from gathjumli.frame_maps import BEING_LOOKED_FOR, FrameMap
 
 DONE, NOT_DONE, ENDS, ENDED = range(4)
 # before all of the recording is done again
-ALWAYS = {"status", "help", "suspend"}
+ALWAYS = {"status", "metrics", "help", "suspend"}
 MOST_SPOOL_LINES = 40
 # addresses that one line names
 MOST_NAMED = 8
@@ -24,6 +26,8 @@ LOGOFF = "logoff "
 MINUTE = "%Y-%m-%d %H:%M"
 HELP = """\
 status             who is on, memory, sizes, the age of the session, how long a start takes
+status --json      the same and more in figures, a line for programs
+metrics            these figures as Prometheus reads them; so are they at /metrics of the pages
 users              who is on, and how much each has written since LOGON
 frames             in which frames pages are; what followed the last state is done for it
 spool              the files that users closed for the operator, the last ones
@@ -60,7 +64,7 @@ class Operator:
         self.ending_path = f"{installation.options['record']}.end-at"
         self.commands = {"status": self.status, "users": self.users, "spool": self.spool, "message": self.message,
                          "logmsg": self.set_log_message, "logon": self.set_logon, "force": self.force, "suspend": self.suspend, "end": self.end,
-                         "reload": self.reload, "help": self.help}  # fmt: skip
+                         "reload": self.reload, "metrics": self.metrics, "help": self.help}  # fmt: skip
 
     def read(self, loop: Any, lines: list) -> None:
         """Takes commands from a stream as they come; answers go to everybody."""
@@ -113,6 +117,11 @@ class Operator:
         ]
 
     def status(self, rest: str, reply: Any) -> None:
+        if rest == "--json":
+            reply(Data(json.dumps(figures(self.installation))))
+            return
+        if rest:
+            raise NotDone("status or status --json")
         engine, desk, recording = self.engine, self.installation.desk, self.engine.recording
         reply(self.activity())
         reply(state_text(engine))
@@ -132,6 +141,10 @@ class Operator:
             reply(f"refused for a while: {' '.join(refused[:MOST_NAMED])}{more}")
         for text in self.ending[:1]:
             reply(text)
+
+    def metrics(self, rest: str, reply: Any) -> None:
+        for line in metrics(figures(self.installation)):
+            reply(Data(line))
 
     def activity(self) -> str:
         """Who is on and what the program does, or how far it is in the recording."""

@@ -71,9 +71,12 @@ class Pace:
         self.turns = 1
         self.is_busy = True
         self.stuck = 0
+        # how long a turn took last
+        self.seconds_a_turn = 0.0
 
     def took(self, turns: int, seconds: float, came: PartResult) -> None:
         """Notes what came of so many turns."""
+        self.seconds_a_turn = round(seconds / turns, 9)
         absent = sum(
             event.startswith("= ") and bool(LACKED.fullmatch(event)) for event in came.events
         )

@@ -14,6 +14,7 @@ MOST_WAITING = 1 << 28
 SECONDS_TO_TRY_AGAIN = 5
 SECONDS_TO_FINISH = 10
 WRITTEN, WAITS, WAITS_FOR_START, TOLD = "written", "waits", "waits for the next start", "closed"
+UNWRITTEN = (WAITS, WAITS_FOR_START)
 
 
 class Printout:
@@ -125,7 +126,7 @@ class Printouts:
 
     def unwritten(self) -> list:
         """The names of the files that are not written."""
-        return [item.name for item in self.all if item.state in (WAITS, WAITS_FOR_START)]
+        return [item.name for item in self.all if item.state in UNWRITTEN]
 
     def settle(self, seconds: Any = SECONDS_TO_FINISH) -> None:
         """Waits until all is written, unless something cannot be."""

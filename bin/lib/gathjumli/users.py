@@ -39,6 +39,8 @@ class User:
         self.is_forced = False
         # bytes that he typed, and his guests printed, since LOGON
         self.written = 0
+        # lines that were typed and shown at his terminal since the start of the command
+        self.typed = self.shown = 0
 
     def keep(self, texts: list[str], when: str | None = None) -> None:
         """Keeps lines for when he appears back, with the minute of their time."""

@@ -8,10 +8,10 @@ import os
 import secrets
 import time
 
+from gathjumli.figures import figures
 from gathjumli.frame_maps import BEING_LOOKED_FOR
-from gathjumli.host import MEGABYTE, memory_of
+from gathjumli.host import MEGABYTE
 from gathjumli.operating import DONE, plain
-from gathjumli.report_line import count_strangers, place_of
 from gathjumli.strangers import WrongTokens
 from gathjumli.web_pages import Refused, is_token, text_in
 
@@ -182,26 +182,15 @@ class OperatorPages:
 
     def state(self) -> dict:
         """What an operator sees at a glance."""
-        installation, engine = self.installation, self.installation.engine
-        recording = engine.recording
-        people = [user for user in engine.users.values() if user is not installation.receiver]
+        found = figures(self.installation)
+        memory, recording, printouts = found["memory"], found["recording"], found["printouts"]
         return {
-            "is": "state", "time": round(time.time() * 1000), "users": [self.user(user) for user in people],
-            "strangers": count_strangers(installation.desk), "parts": engine.parts, "busy": engine.pace.is_busy,
-            "command": memory_of(os.getpid()) // MEGABYTE, "program": engine.memory() // MEGABYTE,
-            "most": installation.limits.memory // MEGABYTE, "lines": recording.lines, "size": recording.size(), "begun": recording.begun_at(),
-            "start": round(engine.seconds_to_start(), 1), "free": recording.free() // MEGABYTE, "printouts": len(engine.printouts.all),
-            "unwritten": len(engine.printouts.unwritten()), "ending": self.operator.ending[:1],
+            "is": "state", "time": round(time.time() * 1000), "users": found["users"], "strangers": found["strangers"],
+            "parts": found["parts"], "busy": found["busy"], "command": memory["command"] // MEGABYTE,
+            "program": memory["program"] // MEGABYTE, "most": memory["most"] // MEGABYTE, "lines": recording["lines"],
+            "size": recording["bytes"], "begun": recording["begun"], "start": found["start"], "free": recording["free"] // MEGABYTE,
+            "printouts": printouts["closed"], "unwritten": printouts["unwritten"], "ending": found["ending"],
         }  # fmt: skip
-
-    def user(self, user: Any) -> dict:
-        return {
-            "name": user.name,
-            "on": user.is_on,
-            "running": user.is_running,
-            "from": place_of(user),
-            "written": user.written,
-        }
 
     async def watch(self) -> None:
         """Says all pages how things are, each second."""

@@ -19,6 +19,9 @@ HTML, SCRIPT, SHEET = (
 FILES = {"/": ("user.html", HTML), "/operator": ("operator.html", HTML), "/style.css": ("style.css", SHEET),
          "/icon.svg": ("icon.svg", "image/svg+xml"),
          **{f"/{name}": (name, SCRIPT) for name in ("connection.js", "paper.js", "user.js", "operator.js")}}  # fmt: skip
+# what Prometheus asks for, with the operator's token, and the form of the answer
+METRICS, METRICS_KIND = "/metrics", "text/plain; version=0.0.4; charset=utf-8"
+BEARER = "Bearer "
 USER_SOCKET, OPERATOR_SOCKET = "/socket", "/operator/socket"
 POLICY = ("default-src 'none'; script-src 'self'; style-src 'self'; connect-src 'self'; img-src 'self'; base-uri 'none'; "
           "form-action 'none'; frame-ancestors 'none'")  # fmt: skip

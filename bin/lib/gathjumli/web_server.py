@@ -7,16 +7,27 @@ from typing import Any
 import asyncio
 import collections
 import functools
+import http
 import json
 import logging
 
 from websockets.exceptions import ConnectionClosed
 from websockets.legacy.server import WebSocketServer, WebSocketServerProtocol
 
+from gathjumli.figures import figures, metrics
 from gathjumli.minidisks import Minidisks
 from gathjumli.web_operator import OperatorPage, OperatorPages
-from gathjumli.web_requests import HEADERS, USER_SOCKET, answer_to, read_files
-from gathjumli.web_pages import Outbox, Pages, Rate
+from gathjumli.web_requests import (
+    HEADERS,
+    METRICS,
+    METRICS_KIND,
+    BEARER,
+    USER_SOCKET,
+    answer_to,
+    is_own_host,
+    read_files,
+)
+from gathjumli.web_pages import Outbox, Pages, Rate, is_token
 from gathjumli.listening import Door, address_socket
 
 # a connection that asks for nothing goes after so many seconds; of too many that nobody has logged on at one goes
@@ -32,6 +43,7 @@ class Connection(WebSocketServerProtocol):
     """A browser's connection, which goes if it asks for nothing."""
 
     crowd = None
+    web = None
     page = None
     # from where it is, which is not its other end if that is a proxy
     client_address = ""
@@ -44,6 +56,9 @@ class Connection(WebSocketServerProtocol):
     def connection_lost(self, error: Any) -> None:
         super().connection_lost(error)
         self.crowd.discard(self)
+
+    async def process_request(self, path: str, headers: Any) -> tuple | None:
+        return self.web.answer(self.address(), path, headers)
 
     def give_up(self) -> None:
         if self.state.name == "CONNECTING":
@@ -92,9 +107,9 @@ class Web:
 
     async def listen(self, where: Any) -> None:
         logger = logging.Logger("web", logging.CRITICAL + 1)
-        kind = type("OwnConnection", (Connection,), {"crowd": self.crowd})
+        kind = type("OwnConnection", (Connection,), {"crowd": self.crowd, "web": self})
         self.server = WebSocketServer(logger=logger)
-        words = {"process_request": self.answer, "logger": logger, "secure": bool(self.tls)}
+        words = {"logger": logger, "secure": bool(self.tls)}
         made = functools.partial(kind, self.serve, self.server, **words, **LIMITS)
         notify, proxies = self.installation.notify, self.installation.options["proxies"]
         factory = functools.partial(made_for, made)
@@ -104,14 +119,18 @@ class Web:
             f"pages are at {scheme}://{where}/, the operator's at /operator with the token in {self.operators.path}"
         )
 
-    async def answer(self, path: str, headers: Any) -> tuple | None:
+    def answer(self, address: str, path: str, headers: Any) -> tuple | None:
+        """What a request gets before it is a WebSocket, or None if it becomes one."""
         # of a header that is there twice none is taken
-        host, origin = (
+        host, origin, given = (
             found[0] if len(found := headers.get_all(name)) == 1 else ""
-            for name in ("Host", "Origin")
+            for name in ("Host", "Origin", "Authorization")
         )
         names = self.installation.options["hosts"]
-        found = answer_to(path, host, origin, bool(self.tls), self.files, names)
+        if path == METRICS and is_own_host(host, names):
+            found = self.metrics(address, given)
+        else:
+            found = answer_to(path, host, origin, bool(self.tls), self.files, names)
         if found is None:
             return None
         status, kind, body = found
@@ -125,6 +144,16 @@ class Web:
             }.items(),
             body,
         )
+
+    def metrics(self, address: str, given: str) -> tuple:
+        """The figures of the installation, for whoever has the operator's token."""
+        if self.operators.penalties.seconds(address):
+            return http.HTTPStatus.TOO_MANY_REQUESTS, "text/plain", b"too many wrong tokens\n"
+        if not is_token(given.removeprefix(BEARER), self.operators.token):
+            self.operators.note_wrong(address)
+            return http.HTTPStatus.FORBIDDEN, "text/plain", b"the operator's token is wanted\n"
+        lines = metrics(figures(self.installation))
+        return http.HTTPStatus.OK, METRICS_KIND, "".join(f"{line}\n" for line in lines).encode()
 
     async def serve(self, connection: Any) -> None:
         """Serves the page of a connection until that ends."""
