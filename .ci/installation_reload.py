@@ -12,13 +12,18 @@ from installation_operators import operator
 from installation_strangers import free_port, make_certificate
 
 REFUSED = "LOGON REFUSED"
+FORMS = "a line is one of quota, memory, lock, deny, allow, trust, keep, and a word, and after keep N the word days"
 # wrong lines of the rules, and what is said of them
 WRONG_RULES = {
     "quota many": "quota is followed by a number from 1 to 999999, and not by many",
     "deny 10.0.0.0/99": "deny is followed by an address or a network, as 10.0.0.0/8, and not by 10.0.0.0/99",
     "lock alice": "lock is followed by the name of a user, in capitals, and not by alice",
-    "lock": "a line is one of quota, memory, lock, deny, allow, trust, and a word",
-    "hold ALICE": "a line is one of quota, memory, lock, deny, allow, trust, and a word",
+    "lock": FORMS,
+    "hold ALICE": FORMS,
+    "keep 30": FORMS,
+    "keep 30 weeks": FORMS,
+    "quota 30 days": FORMS,
+    "keep all days": "keep is followed by a number from 1 to 999999, and not by all",
 }
 ADDRESSES = {
     "": True,

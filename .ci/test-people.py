@@ -34,6 +34,7 @@ import desk
 import installation
 import installation_faults
 import installation_figures
+import installation_keeping
 import installation_maps
 import installation_operators
 import installation_proxies
@@ -959,6 +960,7 @@ def test_installation(repository: str, work: str) -> None:
     )
     installation_reload.try_reloading(check, f"{repository}/bin/installation", f"{work}/reload")
     installation_strays.try_strays(check, f"{repository}/bin/installation", f"{work}/strays")
+    installation_keeping.try_keeping(check, f"{repository}/bin/installation", f"{work}/keeping")
     installation_figures.try_figures(check, f"{repository}/bin/installation", f"{work}/figures")
     installation_maps.try_maps(check, f"{repository}/bin/installation", f"{work}/maps")
     installation_replays.try_replays(check, f"{repository}/bin/installation", f"{work}/replays")

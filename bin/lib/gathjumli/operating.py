@@ -10,6 +10,7 @@ import os
 import re
 
 from gathjumli.host import MEGABYTE, memory_of
+from gathjumli.backups import Backup
 from gathjumli.cli import read_file, write_whole
 from gathjumli.ending import Ending, room_trouble
 from gathjumli.figures import Data, figures, metrics
@@ -36,6 +37,7 @@ logmsg TEXT        a line for everybody who logs on; logmsg alone shows it, logm
 logon closed       nobody logs on any more, but who is on may come back; logon open ends that
 force USER         logs a user off
 reload             reads journal, certificate, passwords and rules again, as a SIGHUP does
+backup /FOLDER     copies all that the session needs to go on elsewhere into a new folder
 suspend            ends this command; the next start goes on from here
 end                if all printouts are written, ends the session: volumes are saved, the
                    recording is set aside, and the next session goes on with all machines
@@ -58,6 +60,9 @@ class Operator:
         self.installation = installation
         self.engine = installation.engine
         self.frames = FrameMap(self.engine, framemap)
+        self.backup = Backup(installation)
+        # commands whose answer may take long
+        self.long = {"frames": self.find_frames, "backup": self.make_backup}
         self.notify = installation.notify
         self.ending = []
         # if the time of the end is written down, so that the next start knows it
@@ -86,8 +91,8 @@ class Operator:
             reply("the installation is not online yet")
             end(NOT_DONE)
             return
-        if word == "frames":
-            self.find_frames(reply, end, is_there)
+        if word in self.long:
+            self.long[word](rest.strip(), reply, end, is_there)
             return
         try:
             if word not in self.commands:
@@ -173,7 +178,21 @@ class Operator:
         reply(f"{len(printouts)} files, the last {MOST_SPOOL_LINES} are shown" if len(printouts) > MOST_SPOOL_LINES
               else f"{len(printouts)} files")  # fmt: skip
 
-    def find_frames(self, reply: Any, end: Any, is_there: Any) -> None:
+    def close(self) -> None:
+        """Ends what takes long."""
+        self.frames.close()
+        self.backup.close()
+
+    def make_backup(self, folder: str, reply: Any, end: Any, is_there: Any) -> None:
+        """Has the session copied into a folder, for one operator at a time."""
+        why = "a backup is being made" if self.backup.is_busy() else wrong_folder(folder)
+        if why:
+            reply(why)
+            end(NOT_DONE)
+            return
+        self.backup.start(folder, reply, lambda is_done: end(DONE if is_done else NOT_DONE))
+
+    def find_frames(self, rest: str, reply: Any, end: Any, is_there: Any) -> None:
         """Has the frames looked for, for one operator at a time."""
         if self.frames.is_busy():
             reply(BEING_LOOKED_FOR)
@@ -300,6 +319,13 @@ class Operator:
         self.ending = []
         with contextlib.suppress(FileNotFoundError):
             os.unlink(self.ending_path)
+
+
+def wrong_folder(folder: str) -> str:
+    """Why nothing can be copied into a folder, or nothing."""
+    if not os.path.isabs(folder):
+        return "backup /FOLDER: a path from the root, since this command may run elsewhere"
+    return f"{folder} is there already" if os.path.lexists(folder) else ""
 
 
 def state_text(engine: Any) -> str:

@@ -74,3 +74,4 @@ class Reload:
             memory=rules.memory * MEGABYTE if rules.memory else self.limits.memory,
         )
         installation.desk.take_rules(rules)
+        installation.retention.take(rules.keep)

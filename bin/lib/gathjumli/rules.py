@@ -23,6 +23,8 @@ class Rules(NamedTuple):
     denied: tuple = ()
     allowed: tuple = ()
     trusted: tuple = ()
+    # for how many days what has ended is kept, or None: for ever
+    keep: int | None = None
 
     def lets_in(self, address: str) -> bool:
         """Whether somebody of this address may connect; a socket of the host has none."""
@@ -71,7 +73,10 @@ def network(text: str) -> Any:
 
 # the words of a line: which rule it is, and what follows it
 WORDS = {"quota": ("quota", number), "memory": ("memory", number), "lock": ("locked", name), "deny": ("denied", network),
-         "allow": ("allowed", network), "trust": ("trusted", network)}  # fmt: skip
+         "allow": ("allowed", network), "trust": ("trusted", network), "keep": ("keep", number)}  # fmt: skip
+# what follows that word, if anything does
+UNITS = {"keep": ["days"]}
+FORMS = f"a line is one of {', '.join(WORDS)}, and a word, and after keep N the word days"
 
 
 def read_rules(path: str) -> Rules:
@@ -91,8 +96,8 @@ def read_rules(path: str) -> Rules:
 
 def with_rule(rules: Rules, words: list[str]) -> Rules:
     """The rules with one more line."""
-    if len(words) != 2 or words[0] not in WORDS:
-        raise ValueError(f"a line is one of {', '.join(WORDS)}, and a word")
+    if len(words) < 2 or words[0] not in WORDS or words[2:] != UNITS.get(words[0], []):
+        raise ValueError(FORMS)
     field, kind = WORDS[words[0]]
     try:
         value = kind(words[1])
