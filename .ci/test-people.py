@@ -40,6 +40,7 @@ import installation_operators
 import installation_proxies
 import installation_reload
 import installation_replays
+import installation_spool
 import installation_states
 import installation_strangers
 import installation_strays
@@ -961,6 +962,7 @@ def test_installation(repository: str, work: str) -> None:
     installation_reload.try_reloading(check, f"{repository}/bin/installation", f"{work}/reload")
     installation_strays.try_strays(check, f"{repository}/bin/installation", f"{work}/strays")
     installation_keeping.try_keeping(check, f"{repository}/bin/installation", f"{work}/keeping")
+    installation_spool.try_spool(check, f"{repository}/bin/installation", f"{work}/spool")
     installation_figures.try_figures(check, f"{repository}/bin/installation", f"{work}/figures")
     installation_maps.try_maps(check, f"{repository}/bin/installation", f"{work}/maps")
     installation_replays.try_replays(check, f"{repository}/bin/installation", f"{work}/replays")

@@ -11,15 +11,15 @@ import re
 
 from gathjumli.host import MEGABYTE, memory_of
 from gathjumli.backups import Backup
-from gathjumli.cli import read_file, write_whole
+from gathjumli.cli import Failure, read_file, write_whole
 from gathjumli.ending import Ending, room_trouble
+from gathjumli.spool_care import Refused, SpoolCare
 from gathjumli.figures import Data, figures, metrics
 from gathjumli.frame_maps import BEING_LOOKED_FOR, FrameMap
 
 DONE, NOT_DONE, ENDS, ENDED = range(4)
 # before all of the recording is done again
 ALWAYS = {"status", "metrics", "help", "suspend"}
-MOST_SPOOL_LINES = 40
 # addresses that one line names
 MOST_NAMED = 8
 WARNED_MINUTES = (10, 5, 1)
@@ -31,7 +31,9 @@ status --json      the same and more in figures, a line for programs
 metrics            these figures as Prometheus reads them; so are they at /metrics of the pages
 users              who is on, and how much each has written since LOGON
 frames             in which frames pages are; what followed the last state is done for it
-spool              the files that users closed for the operator, the last ones
+spool              the files that users closed for the operator, the last ones; spool USER his
+hold FILE          moves a written file into the folder held; release FILE moves it back
+purge FILE         removes a written or held file; reprint FILE puts a copy next to it
 message TEXT       a line for each terminal; message USER TEXT for one user
 logmsg TEXT        a line for everybody who logs on; logmsg alone shows it, logmsg off ends it
 logon closed       nobody logs on any more, but who is on may come back; logon open ends that
@@ -61,15 +63,17 @@ class Operator:
         self.engine = installation.engine
         self.frames = FrameMap(self.engine, framemap)
         self.backup = Backup(installation)
+        self.care = SpoolCare(self.engine.printouts, self.engine.users)
         # commands whose answer may take long
         self.long = {"frames": self.find_frames, "backup": self.make_backup}
         self.notify = installation.notify
         self.ending = []
         # if the time of the end is written down, so that the next start knows it
         self.ending_path = f"{installation.options['record']}.end-at"
-        self.commands = {"status": self.status, "users": self.users, "spool": self.spool, "message": self.message,
+        self.commands = {"status": self.status, "users": self.users, "spool": self.care.list, "message": self.message,
                          "logmsg": self.set_log_message, "logon": self.set_logon, "force": self.force, "suspend": self.suspend, "end": self.end,
-                         "reload": self.reload, "metrics": self.metrics, "help": self.help}  # fmt: skip
+                         "reload": self.reload, "metrics": self.metrics, "help": self.help, "hold": self.care.hold, "release": self.care.release,
+                         "purge": self.care.purge, "reprint": self.care.reprint}  # fmt: skip
 
     def read(self, loop: Any, lines: list) -> None:
         """Takes commands from a stream as they come; answers go to everybody."""
@@ -98,8 +102,8 @@ class Operator:
             if word not in self.commands:
                 raise NotDone(f"there is no command {word}; help shows all")
             how = self.commands[word](rest.strip(), reply)
-        except (NotDone, OSError) as reason:
-            reply(str(reason))
+        except (NotDone, Refused, Failure, OSError) as reason:
+            reply(" ".join(map(str, reason.lines)) if isinstance(reason, Failure) else str(reason))
             how = NOT_DONE
         end(how or DONE)
 
@@ -170,13 +174,6 @@ class Operator:
                 f"{user.name} {'runs' if user.is_running else 'is stopped'}{where}, {user.written / MEGABYTE:.1f} MB written"
             )
         reply(f"{len(self.on())} on")
-
-    def spool(self, rest: str, reply: Any) -> None:
-        printouts = self.engine.printouts.all
-        for printout in printouts[-MOST_SPOOL_LINES:]:
-            reply(f"{printout.name} {printout.lines} lines, {printout.state}")
-        reply(f"{len(printouts)} files, the last {MOST_SPOOL_LINES} are shown" if len(printouts) > MOST_SPOOL_LINES
-              else f"{len(printouts)} files")  # fmt: skip
 
     def close(self) -> None:
         """Ends what takes long."""

@@ -20,7 +20,8 @@ from gathjumli.journal import DATE_AND_TIME, Journal
 SECONDS_BETWEEN_LOOKS = 3600
 DAY = 24 * 3600
 SESSION = re.compile(r"[0-9]{4}-[0-9]{2}-[0-9]{2}-[0-9]{6}")
-PRINTOUT = re.compile(r"(PRT|PUN)[0-9]{4,}-[A-Z0-9]+\.txt")
+# also those that an operator had printed again
+PRINTOUT = re.compile(r"(PRT|PUN)[0-9]{4,}-[A-Z0-9]+(-[0-9]+)?\.txt")
 # the folders of decks that were dealt with
 DEALT_WITH = ("done", "refused")
 # what a date and a time take at the beginning of a line of the journal
