@@ -4,6 +4,7 @@ from __future__ import annotations
 from collections.abc import Iterator
 from typing import Any
 import bisect
+import collections
 import os
 
 from gathjumli.host import memory_of
@@ -80,10 +81,13 @@ def figures(installation: Any) -> dict[str, Any]:
     engine, recording = installation.engine, installation.engine.recording
     people = [user for user in engine.users.values() if user is not installation.receiver]
     printouts, last = engine.printouts, engine.states.last
+    # there may be many files: each is looked at once
+    files = collections.Counter(item.user for item in printouts.all)
+    waiting = collections.Counter(item.user for item in printouts.all if item.state in UNWRITTEN)
     return {
         "online": installation.is_ready and engine.is_whole,
         "repeated": 1.0 if engine.is_whole else round(engine.progress.share(), 4),
-        "users": [user_figures(user, printouts.all) for user in people],
+        "users": [user_figures(user, files[user.name], waiting[user.name]) for user in people],
         "strangers": count_strangers(installation.desk),
         "refused": len(installation.desk.penalties.refused()),
         "parts": engine.parts,
@@ -111,16 +115,15 @@ def figures(installation: Any) -> dict[str, Any]:
         "start": round(engine.seconds_to_start(), 1),
         "printouts": {
             "closed": len(printouts.all),
-            "unwritten": len(printouts.unwritten()),
+            "unwritten": waiting.total(),
             "trouble": printouts.trouble,
         },
         "ending": installation.operator.ending[:1],
     }
 
 
-def user_figures(user: Any, printouts: list) -> dict[str, Any]:
+def user_figures(user: Any, files: int, unwritten: int) -> dict[str, Any]:
     """What is known of a user; lines count since the start of the command."""
-    own = [printout for printout in printouts if printout.user == user.name]
     return {
         "name": user.name,
         "on": user.is_on,
@@ -129,8 +132,8 @@ def user_figures(user: Any, printouts: list) -> dict[str, Any]:
         "written": user.written,
         "typed": user.typed,
         "shown": user.shown,
-        "files": len(own),
-        "unwritten": sum(printout.state in UNWRITTEN for printout in own),
+        "files": files,
+        "unwritten": unwritten,
     }
 
 

@@ -13,7 +13,7 @@ from gathjumli.host import MEGABYTE, memory_of
 from gathjumli.backups import Backup
 from gathjumli.cli import Failure, read_file, write_whole
 from gathjumli.ending import Ending, room_trouble
-from gathjumli.spool_care import Refused, SpoolCare
+from gathjumli.spool_care import NotDone, SpoolCare
 from gathjumli.figures import Data, figures, metrics
 from gathjumli.frame_maps import BEING_LOOKED_FOR, FrameMap
 
@@ -49,10 +49,6 @@ end at HH:MM       ends it then, also after a suspend that ends before; users ar
 end logoff         if nobody is on and all printouts are written, ends it without its
                    machines; end logoff now and end logoff at HH:MM do so whoever is on"""
 ENDS_AT = re.compile(r"(logoff )?at ([01]?\d|2[0-3]):([0-5]\d)")
-
-
-class NotDone(Exception):
-    """A command that is not carried out; the text says why."""
 
 
 class Operator:
@@ -102,7 +98,7 @@ class Operator:
             if word not in self.commands:
                 raise NotDone(f"there is no command {word}; help shows all")
             how = self.commands[word](rest.strip(), reply)
-        except (NotDone, Refused, Failure, OSError) as reason:
+        except (NotDone, Failure, OSError) as reason:
             reply(" ".join(map(str, reason.lines)) if isinstance(reason, Failure) else str(reason))
             how = NOT_DONE
         end(how or DONE)

@@ -253,6 +253,9 @@ class Recording:
         for line, place, lines, until in front.marks:
             name, digits = mark_in(line)
             self.states.append(StateMark(name, digits, place, lines, until, None))
+        if self.beginning:
+            # how much was done since then would be read line by line
+            self.beginning = self.beginning._replace(weight=None)
         self.bytes, self.lines, self.sum = front.place, front.lines, front.sum
         self.right, self.until, self.has_sums = front.lines, front.until, True
         # how much it has to do does not matter, as it is done

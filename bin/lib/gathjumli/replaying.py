@@ -40,7 +40,7 @@ class Progress:
             self.notify(self.share())
 
 
-class Place(NamedTuple):
+class RecordingPlace(NamedTuple):
     """A place in a recording: how many bytes and lines are before it, their sum, and the time of the next stamp."""
 
     bytes: int
@@ -49,7 +49,7 @@ class Place(NamedTuple):
     until: bytes
 
 
-class Reader:
+class PlaceReader:
     """Counts and sums the beginning of a recording, place by place."""
 
     def __init__(self, path: str) -> None:
@@ -57,20 +57,20 @@ class Reader:
         self.lines = 0
         self.known = hashlib.sha256()
 
-    def place(self, lines: int, until: bytes) -> Place:
+    def place(self, lines: int, until: bytes) -> RecordingPlace:
         """The place after so many lines, which is no earlier than the one before."""
         while self.lines < lines and (line := self.file.readline()):
             self.known.update(line)
             self.lines += 1
-        return Place(self.file.tell(), self.lines, sum_digits(self.known).decode(), until)
+        return RecordingPlace(self.file.tell(), self.lines, sum_digits(self.known).decode(), until)
 
     def close(self) -> None:
         self.file.close()
 
 
-def reached(path: str, place: Place) -> Place:
+def reached(path: str, place: RecordingPlace) -> RecordingPlace:
     """What a recording is at the line at which it is said to be so."""
-    reader = Reader(path)
+    reader = PlaceReader(path)
     try:
         return reader.place(place.lines, place.until)
     finally:
@@ -81,7 +81,7 @@ class Sent(NamedTuple):
     """What the program was given and has not answered: a part, or the question for the state at a place; the number of its first
     line and the time of the stamp that follows it."""
 
-    asked: Part | Place
+    asked: Part | RecordingPlace
     number: int
     when: bytes
 
@@ -98,7 +98,7 @@ class Replay:
         # a program that is started again among people has notes of now, and not of the way
         self.is_saving = is_saving
         self.sent: collections.deque[Sent] = collections.deque()
-        self.reader = Reader(engine.recording.path)
+        self.reader = PlaceReader(engine.recording.path)
         self.looked = time.monotonic()
 
     def run(self) -> bool:
@@ -126,7 +126,7 @@ class Replay:
     def take_first(self) -> None:
         """Waits for what is answered next."""
         asked, number, when = self.sent.popleft()
-        if isinstance(asked, Place):
+        if isinstance(asked, RecordingPlace):
             self.save(asked)
             return
         result: PartResult = self.engine.checked(self.engine.program.answer, line=number)
@@ -140,7 +140,7 @@ class Replay:
         if not self.is_saving or now - self.looked < SECONDS_BETWEEN_LOOKS:
             return False
         self.looked = now
-        is_asked = any(isinstance(item.asked, Place) for item in self.sent)
+        is_asked = any(isinstance(item.asked, RecordingPlace) for item in self.sent)
         return not is_asked and self.engine.states.is_due(self.engine.seconds())
 
     def ask_for_state(self, lines: int, when: bytes) -> None:
@@ -148,7 +148,7 @@ class Replay:
         self.engine.program.ask_for_state()
         self.sent.append(Sent(place, lines, when))
 
-    def save(self, place: Place) -> None:
+    def save(self, place: RecordingPlace) -> None:
         """Saves the state that the program answers. What was printed before it has to be written first."""
         engine, begun = self.engine, time.monotonic()
         saved = self.answer()

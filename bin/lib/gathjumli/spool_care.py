@@ -15,8 +15,8 @@ HELD = "held"
 MOST_SHOWN = 40
 
 
-class Refused(Exception):
-    """What is not done to a file; the text says why."""
+class NotDone(Exception):
+    """A command that is not carried out; the text says why."""
 
 
 class SpoolCare:
@@ -30,7 +30,7 @@ class SpoolCare:
         """Shows the last files, of all users or of one."""
         name = rest.upper()
         if name and name not in self.users:
-            raise Refused(f"there is no user {rest}")
+            raise NotDone(f"there is no user {rest}")
         found = [item for item in self.printouts.all if name in ("", item.user)]
         for printout in found[-MOST_SHOWN:]:
             reply(f"{printout.name} {printout.lines} lines, {self.state(printout)}")
@@ -51,13 +51,13 @@ class SpoolCare:
     def named(self, rest: str, *wanted: str) -> Printout:
         """The file of this name, which is to be in one of these states."""
         if not self.printouts.folder:
-            raise Refused("files are only reported, and not kept: --printouts FOLDER")
+            raise NotDone("files are only reported, and not kept: --printouts FOLDER")
         name = rest.removesuffix(".txt").upper() + ".txt"
         found = next((item for item in self.printouts.all if item.name == name), None)
         if not found:
-            raise Refused(f"there is no file {rest}" if rest else "the name of a file is missing")
+            raise NotDone(f"there is no file {rest}" if rest else "the name of a file is missing")
         if (state := self.state(found)) not in wanted:
-            raise Refused(f"{name} is {state if state not in UNWRITTEN else 'not written yet'}")
+            raise NotDone(f"{name} is {state if state not in UNWRITTEN else 'not written yet'}")
         return found
 
     def hold(self, rest: str, reply: Callable[[str], None]) -> None:

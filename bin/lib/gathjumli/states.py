@@ -22,7 +22,7 @@ from gathjumli.state_files import (
     write_state,
 )
 
-from gathjumli.replaying import Place, reached
+from gathjumli.replaying import RecordingPlace, reached
 from gathjumli.strays import SESSION, forget_states, state_paths
 
 if TYPE_CHECKING:
@@ -170,7 +170,9 @@ class States:
 
     # --- on the way through a recording ---
 
-    def save_on_way(self, saved: SavedState | None, place: Place, notes: dict[str, Any]) -> None:
+    def save_on_way(
+        self, saved: SavedState | None, place: RecordingPlace, notes: dict[str, Any]
+    ) -> None:
         """Saves the state at a place which the recording has no mark for: the state itself says where that is."""
         name = f"state-{place.lines}"
         way = [place.bytes, place.lines, place.sum, place.until.decode()]
@@ -204,7 +206,7 @@ class States:
             state = read_state(path)
             state.file.close()
             *way, until = state.notes[WAY]
-            place = Place(*way, until.encode())
+            place = RecordingPlace(*way, until.encode())
             found = reached(self.recording.path, place)
         except (Failure, OSError, KeyError, TypeError, ValueError, AttributeError):
             # another kind of state, or none
