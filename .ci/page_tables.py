@@ -562,6 +562,15 @@ async def try_operators(check: Callable, folder: str) -> None:
     check("an operator's page", findings == wanted, *map(str, findings))
     page.close()
     check("which goes", not operated.outlets and not pages.all)
+    page = OperatorPage(pages, "192.0.2.1", Outbox())
+    await page.take({"is": "open", "token": pages.token, "since": 2000})
+    operated.outlets[0].show_past([(1.9, "OLD"), (2.0, "SEEN"), (2.1, "NEW")])
+    await asyncio.sleep(0.01)
+    texts = [message.get("text") for message in page.outbox.messages]
+    check(
+        "one that is back sees what it has not seen", texts == [None, None, "NEW"], *map(str, texts)
+    )
+    page.close()
 
 
 # the same of a host with the name cp.example.org: host, origin, whether it is encrypted, and the status

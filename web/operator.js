@@ -11,6 +11,8 @@ const PAGE_INS = /^PAGE INS (\d+)/;
 const COLOURS = ["#2f6f8f", "#8a3b12", "#1d6b3a", "#6b3fa0", "#a0792f", "#3f5fa0", "#a03f6b", "#4f7f2f", "#7f4f4f", "#2f7f7f", "#5f5f2f", "#9f5f2f"];
 
 let token = location.hash.slice(1);
+// of the last event that was shown: earlier ones are not shown again
+let lastTime = 0;
 let connection = null;
 let before = null;
 let looked = null;
@@ -27,13 +29,18 @@ const OBEYED = {
     find("open").hidden = true;
     document.body.classList.add("is-on");
   },
-  happens: (message) => say("came", message.text, message.time),
+  happens(message) {
+    lastTime = Math.max(lastTime, message.time);
+    say("came", message.text, message.time);
+  },
   answer: (message) => say("answer", message.text),
   end: (message) => message.how === 1 && say("note", "not done"),
   state: showState,
   frames: showFrames,
   refused(message) {
-    if (!document.body.classList.contains("is-on")) {
+    // also if the installation has another token since it was started again
+    if (message.what === "open" || !document.body.classList.contains("is-on")) {
+      document.body.classList.remove("is-on");
       connection.end();
       connection = null;
       find("open").hidden = false;
@@ -44,7 +51,7 @@ const OBEYED = {
 };
 
 function open() {
-  connection = new Connection("/operator/socket", () => ({ is: "open", token }), (message) => OBEYED[message.is]?.(message), (isThere, seconds) => {
+  connection = new Connection("/operator/socket", () => ({ is: "open", token, since: lastTime }), (message) => OBEYED[message.is]?.(message), (isThere, seconds) => {
     find("link").hidden = isThere;
     find("link").textContent = isThere ? "" : `no connection; the next try is in ${seconds} s`;
   });

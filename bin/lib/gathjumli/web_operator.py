@@ -30,6 +30,8 @@ class PageOutlet:
     def __init__(self, page: Any, loop: Any) -> None:
         self.page = page
         self.loop = loop
+        # what the page has seen already, in milliseconds
+        self.since = 0
 
     def put(self, text: Any, prefix: Any = None) -> None:
         self.put_at(time.time(), text)
@@ -37,10 +39,11 @@ class PageOutlet:
     def show_past(self, lines: list[tuple[float, str]]) -> None:
         """Shows lines of before, each with its time."""
         for when, text in lines:
-            self.put_at(when, text)
+            if milliseconds(when) > self.since:
+                self.put_at(when, text)
 
     def put_at(self, when: float, text: str) -> None:
-        message = {"is": "happens", "time": round(when * 1000), "text": plain(text)}
+        message = {"is": "happens", "time": milliseconds(when), "text": plain(text)}
         try:
             self.loop.call_soon_threadsafe(self.page.put, message)
         except RuntimeError:
@@ -95,6 +98,8 @@ class OperatorPage:
                 await asyncio.sleep(1)
                 raise Refused("the token is wrong")
             if not self.is_known:
+                since = message.get("since")
+                self.outlet.since = since if type(since) is int else 0
                 self.open()
             if kind == "command":
                 self.command(
@@ -142,6 +147,11 @@ class OperatorPage:
         # the loop may have ended
         with contextlib.suppress(RuntimeError):
             self.pages.loop.call_soon_threadsafe(self.put, message)
+
+
+def milliseconds(when: float) -> int:
+    """A time as browsers have it."""
+    return round(when * 1000)
 
 
 class OperatorPages:
