@@ -11,12 +11,12 @@ import time
 
 from installation import Site, make_site, on, read, run, write_text
 
-# seconds after which a program that does not answer is killed in these tests
-HUNG_AFTER = 2
+# seconds after which a program that does not answer is killed in these tests; on a busy host a stand-in takes ten to begin
+HUNG_AFTER = 15
 # seconds after which the manager of these tests wants a sign of life
 WATCHDOG = 4
 # how long a test waits for what has to come
-PATIENCE = 30
+PATIENCE = 60
 
 
 @contextlib.contextmanager
@@ -77,21 +77,21 @@ def try_hung_program(check: Callable, site: Site) -> None:
 
 
 def try_slow_program(check: Callable, site: Site) -> None:
-    """A replay that takes longer than a program may hang is none that hangs, and a program that nobody asks is none either."""
+    """A replay that takes longer than a program may hang is none that hangs."""
 
     async def lines() -> None:
         alice = await on(site)
-        for count in range(30):
+        for count in range(60):
             alice.type(f"STORE G1 {count:08X}")
             await alice.until("STORED")
         alice.go()
 
-    site.online("--hung-after", "1", "--state-every", "0")
+    words = ["--hung-after", str(HUNG_AFTER), "--state-every", "0"]
+    site.online(*words)
     run(lines())
-    time.sleep(2.5)
     site.kill(is_all=True)
-    os.environ["PEOPLE_SLOW"] = "0.1"
-    site.online("--hung-after", "1", "--state-every", "0")
+    os.environ["PEOPLE_SLOW"] = str(1.5 * HUNG_AFTER / 60)
+    site.online(*words)
     del os.environ["PEOPLE_SLOW"]
     check("a long replay is left alone", "it is killed" not in "".join(site.findings))
     check("it is suspended", site.stop() == 0, *site.findings)
