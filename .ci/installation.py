@@ -222,14 +222,15 @@ run = asyncio.run
 
 class StandIn:
     """Takes parts of a script as the program does, for users who type LOGON, LOGOFF, #CP, BEGIN, STORE, DISPLAY of a register,
-    MSG, and three that no program has: PRINT prints a file of a line, LIST one of so many, and DIE kills the program.
+    MSG, CLOSE, and four that no program has: PRINT prints a file of a line, LIST one of so many, FILL adds so many to an open one, and DIE
+    kills the program.
     """
 
     def __init__(self, directory: str, has_slices: bool) -> None:
         self.has_slices = has_slices
         with open(directory) as file:
             self.users = {
-                item.split()[1]: {"mode": "OFF", "G1": 0}
+                item.split()[1]: {"mode": "OFF", "G1": 0, "open": 0}
                 for item in file
                 if item.startswith("USER ")
             }
@@ -279,7 +280,7 @@ class StandIn:
             user["mode"] = "ON" if words == ["LOGON"] else "OFF"
             self.say(name, "LOGON OK" if words == ["LOGON"] else "NOT LOGGED ON")
         elif words == ["LOGOFF"]:
-            user.update({"mode": "OFF", "G1": 0})
+            user.update({"mode": "OFF", "G1": 0, "open": 0})
             self.say(name, "LOGOFF OK")
         elif words[:1] == ["BEGIN"]:
             user["mode"] = "RUNS"
@@ -296,6 +297,11 @@ class StandIn:
                 [f"== PRT {len(self.files) + 1:04} {name}", f"09 {' '.join(words[1:])}"]
             )
             self.closed += [f"> {self.files[-1][0]}", f"> |{self.files[-1][1]}"]
+        elif words[:1] == ["FILL"]:
+            user["open"] += int(words[1])
+        elif words[:1] == ["CLOSE"]:
+            user["open"] *= words[1] != "00E"
+            self.say(name, "NO FILE")
         elif words == ["DIE"]:
             os.kill(os.getpid(), signal.SIGKILL)
         elif words[:1] == ["LIST"]:
@@ -312,6 +318,11 @@ class StandIn:
         state = json.dumps([self.users, self.files]).encode()
         sys.stdout.buffer.write(b"> STATE %d\n%s> DONE\n" % (len(state), state))
         sys.stdout.flush()
+
+    def holds(self) -> None:
+        """Answers HOLDS."""
+        lines = [f"> HOLDS {name} 0 {user['open']}" for name, user in self.users.items()]
+        print("\n".join([*lines, "> DONE"]), flush=True)
 
     def restore(self) -> None:
         """Takes the bytes of a state, or has no memory for it while there is the file that PEOPLE_NO_MEMORY names."""
@@ -344,9 +355,10 @@ def stand_in(words: list[str]) -> None:
         lines = [item for item in findings if not item.startswith("> ")] + program.last_lines()
         sys.stdout.write("".join(f"{line}\n" for line in lines))
         return
+    asked = {b"SAVE\n": program.save, b"STATE\n": program.restore, b"HOLDS\n": program.holds}
     while (size := sys.stdin.buffer.readline()) not in (b"", b"END\n"):
-        if size in (b"SAVE\n", b"STATE\n"):
-            program.save() if size == b"SAVE\n" else program.restore()
+        if size in asked:
+            asked[size]()
             continue
         time.sleep(float(os.environ.get("PEOPLE_SLOW", "0")))
         findings = program.part(sys.stdin.buffer.read(int(size)))

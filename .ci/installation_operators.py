@@ -172,6 +172,31 @@ def try_limits(check: Callable, site: object) -> None:
     check("it is suspended", site.stop() == 0)
     check("it is an event like any other", read(site.record).count(b"LINE ALICE #CP LOGOFF\n") == 1)
 
+    async def fill() -> list:
+        """What ALICE is shown who fills a file that she does not close, and goes on after she was stopped."""
+        alice, bob = await on(site), await on(site, "BOB", "BUILDER")
+        alice.type("STORE G1 7", "FILL 9000")
+        while not (await alice.line()).startswith(
+            "YOUR MACHINE IS STOPPED, AND YOUR FILES ARE CLOSED: 1 MB ARE WRITTEN"
+        ):
+            pass
+        alice.type("DISPLAY G1")
+        await alice.until("GPR 1 = 00000007")
+        bob.type("DISPLAY G1")
+        await bob.until("GPR 1 = 00000000")
+        alice.type("LOGOFF")
+        return (await alice.rest())[-1:]
+
+    site.online("--quota", "1")
+    shown = run(fill())
+    check("whose open files are too long is only stopped", shown == ["LOGOFF OK"], *shown)
+    check(
+        "within ten seconds the operator knows whose they are",
+        site.await_message("ALICE is stopped, and his files are closed: 1 MB are written"),
+        *site.findings,
+    )
+    check("it is suspended after that", site.stop() == 0)
+
     async def stay() -> object:
         alice = await on(site)
         alice.type("BEGIN 100")
@@ -203,12 +228,12 @@ def try_limits(check: Callable, site: object) -> None:
 class SomeMachines:
     """An engine whose program has memory as users' machines print, and its installation."""
 
-    def __init__(self, printing: dict[str, int], is_freed: bool) -> None:
+    def __init__(self, printing: dict[str, int], is_freed: bool, is_told: bool) -> None:
         from gathjumli.limits import Limits, Watch
         from gathjumli.users import User
 
         self.users = {name: User(name) for name in ("A", "B", "C", "D", "E", "F")}
-        self.printing, self.is_freed = printing, is_freed
+        self.printing, self.is_freed, self.is_told = printing, is_freed, is_told
         self.held = dict.fromkeys(self.users, 0)
         self.engine = self.machines = self
         self.devices = {name: {"00E": "printer", "009": "console"} for name in self.users}
@@ -227,6 +252,11 @@ class SomeMachines:
 
     def memory(self) -> int:
         return (10 << 20) + sum(self.held.values())
+
+    def tell(self) -> None:
+        """What the program says of open files."""
+        for user in self.users.values():
+            user.open = self.held[user.name] if self.is_told else 0
 
     async def give(self, part: object) -> None:
         name, text = part.typed[0]
@@ -247,27 +277,35 @@ class SomeMachines:
                 self.held[name] += count << 20
         for name in ("B", "C"):
             self.users[name].written += 900
+        self.tell()
         self.watch.look_at_users()
         self.watch.look_at_memory()
         await asyncio.sleep(0)
         await asyncio.sleep(0)
 
 
-# whose machines take how many megabytes a second, whether a close frees them, and whether the first begins again each time; who is stopped
-# and who is logged off in thirty seconds
+# whose machines take how many megabytes a second, whether a close frees them, whether the program says whose they are, and whether the
+# first begins again each time; who is stopped and who is logged off in thirty seconds
 RELIEFS = {
-    "one who prints": (({"A": 3}, True, False), ["A"], []),
-    "one who prints, and others who compute": (({"A": 3, "D": 0, "E": 0}, True, False), ["A"], []),
-    "one whose files stay": (({"A": 3}, False, False), ["A"], []),
-    "one who begins again": (({"A": 3}, False, True), ["A"], ["A"]),
+    "one who prints": (({"A": 3}, True, True, False), ["A"], []),
+    "one who prints, and others who compute": (
+        ({"A": 3, "D": 0, "E": 0}, True, True, False),
+        ["A"],
+        [],
+    ),
+    "one of whose files nothing is said": (({"A": 3}, True, False, False), ["A"], []),
+    "one whose files stay": (({"A": 3}, False, True, False), ["A"], []),
+    "one who begins again": (({"A": 3}, False, True, True), ["A"], ["A"]),
 }
 
 
 def try_relief(check: Callable) -> None:
     """At the bound of memory the one who took it is stopped, and logged off only if he goes on; nobody else is, whoever types."""
 
-    async def tried(printing: dict[str, int], is_freed: bool, is_stubborn: bool) -> tuple:
-        some = SomeMachines(printing, is_freed)
+    async def tried(
+        printing: dict[str, int], is_freed: bool, is_told: bool, is_stubborn: bool
+    ) -> tuple:
+        some = SomeMachines(printing, is_freed, is_told)
         for _ in range(30):
             await some.second()
             some.users["A"].is_running |= is_stubborn and not some.users["A"].is_forced
@@ -276,10 +314,7 @@ def try_relief(check: Callable) -> None:
 
     for what, (given, stopped, forced) in RELIEFS.items():
         found = run(tried(*given))
-        # others whose machines run may be stopped before him, since nobody says who has the memory
-        holds = "A" in found[0] and set(found[0]) <= set(given[0]) and found[1] == forced
-        holds = holds and (found[0] == stopped or len(given[0]) > 1)
-        check(f"memory of {what}", holds, *map(str, found))
+        check(f"memory of {what}", found[:2] == (stopped, forced), *map(str, found))
 
 
 def try_waiting_printout(check: Callable, site: object) -> None:

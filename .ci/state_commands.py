@@ -3,6 +3,7 @@ from __future__ import annotations
 
 from collections.abc import Callable
 import os
+import re
 import subprocess
 
 from broken import example
@@ -204,11 +205,13 @@ def type_states(check: Check, repository: str, folder: str) -> None:
 
 
 def refuse_words(check: Check, program: str, one_machine: str, folder: str) -> None:
-    """What the programs answer to SAVE and STATE that cannot be done."""
+    """What the programs answer to SAVE, STATE and HOLDS, also if that cannot be done."""
     write(f"{folder}/directory", b"USER A PW 8K\n")
     cases = {
         "a machine of its own is saved": ([one_machine, "--follow", "8K"], b"SAVE\n", 0, b"> REFUSED 0\n", b""),
         "a machine of its own goes on": ([one_machine, "--follow", "8K"], b"STATE\n1\nx", 1, b"", b"fault: state Refused\n"),
+        "what a machine of its own holds": ([one_machine, "--follow", "8K"], b"HOLDS\nEND\n", 0, b"> HOLDS BARE 0 0\n> DONE\n", b""),
+        "a word that is no request": ([program, "--follow", f"{folder}/directory"], b"HOLD\n", 3, b"", b"fault: file Device 1\n"),
         "a state of no bytes": ([program, "--follow", f"{folder}/directory"], b"STATE\n0\n", 1, b"", b"fault: state Refused\n"),
         "a state that is cut": ([program, "--follow", f"{folder}/directory"], b"STATE\n9\nx", 3, b"", b"fault: file Device 1\n"),
         "a state without a size": ([program, "--follow", f"{folder}/directory"], b"STATE\nx\n", 3, b"", b"fault: file Device 1\n"),
@@ -271,6 +274,25 @@ def refuse_long_sizes(check: Check, program: str, folder: str) -> None:
         check(what, found == wanted, *found)
 
 
+def tell_open_files(check: Check, program: str, examples: str) -> None:
+    """Before a file is closed its entries are told as what its user holds: as many as its listing, or the deck that it becomes, has."""
+
+    def held_before(name: str, close: bytes) -> list[str]:
+        part = read(f"{examples}/{name}/script").partition(close)[0]
+        requests = b"%d\n%sHOLDS\nEND\n" % (len(part), part)
+        _, out, _ = asked([program, "--follow", f"{examples}/{name}/directory"], requests)
+        return [line for line in out.decode("latin-1").splitlines() if line.startswith("> HOLDS ")]
+
+    listing = read(f"{examples}/card-listing-of-a-user/transcript").partition(b"== PRT 0002 BARE\n")
+    found = held_before("card-listing-of-a-user", b"LINE BARE CLOSE 00E\n")
+    wanted = ["> HOLDS BARE 0 %d" % listing[2].count(b"\n")]
+    check("what is held by a printer", found == wanted, *found, *wanted)
+    cards = re.search(rb"CARDS ([0-9]+)", read(f"{examples}/cards-for-another/transcript"))[1]
+    found = held_before("cards-for-another", b"LINE A #CP CLOSE 00D\n")
+    wanted = ["> HOLDS A %s 0" % cards.decode(), "> HOLDS B 0 0"]
+    check("what is held by a punch", found == wanted, *found, *wanted)
+
+
 def try_commands(check: Check, repository: str, programs: tuple[str, str], folder: str) -> None:
     os.makedirs(folder)
     for name, place in EXAMPLES.items():
@@ -279,5 +301,6 @@ def try_commands(check: Check, repository: str, programs: tuple[str, str], folde
     refuse_states(check, f"{repository}/bin/vm370", f"{folder}/refused")
     type_states(check, repository, f"{folder}/typed")
     refuse_words(check, *programs, folder)
+    tell_open_files(check, programs[0], f"{repository}/examples/users")
     refuse_volumes(check, programs[0], f"{folder}/volumes")
     refuse_long_sizes(check, programs[0], folder)

@@ -35,6 +35,9 @@ DEAL_SECONDS = 0.02
 MOST_LINES = 1000
 # lines that wait go before turns, but no longer than this
 LINES_SECONDS = 0.01
+# how often it is asked what users hold by files that they have not closed, and about how many bytes an entry takes
+OPEN_FILES_SECONDS = 1.0
+ENTRY_BYTES = 144
 # how often others get their turn after lines were done: whoever has typed more is known then
 TURNS_OF_LOOP = 4
 LACKS = re.compile("= ([A-Z0-9]+) FRAMES")
@@ -76,6 +79,9 @@ class Engine:
         self.waiting = collections.deque()
         # when somebody was shown something last, and how long lines went before turns
         self.shown = self.lines_seconds = 0.0
+        # when the program was last asked what users hold, and how many parts it had done then
+        self.looked_at_files = 0.0
+        self.looked_after = 0
         # comments that the recording is to have
         self.marks = collections.deque()
         self.loop = asyncio.get_running_loop()
@@ -166,7 +172,22 @@ class Engine:
         for _, result in results:
             self.printouts.put(result.files)
         self.lines_seconds += time.monotonic() - begun
+        self.look_at_open_files()
         return results, [done for _, done in given]
+
+    def look_again(self) -> None:
+        """Has what users hold asked once more if something was done since it was."""
+        if self.parts != self.looked_after:
+            self.woken.set()
+
+    def look_at_open_files(self) -> None:
+        """Asks what users hold by files that they have not closed, if that was not asked lately."""
+        now = time.monotonic()
+        if now < self.looked_at_files + OPEN_FILES_SECONDS:
+            return
+        self.looked_at_files, self.looked_after = now, self.parts
+        for name, entries in self.answered(lambda: self.program.held()).items():
+            self.users[name].open = entries * ENTRY_BYTES
 
     def deal(self) -> list[tuple[Part, PartResult]]:
         """Deals turns in short parts, so that whoever types waits for no more than one of them. If lines went before them for
@@ -219,9 +240,13 @@ class Engine:
             self.recording.add(part.lines)
 
     def asked(self, part: Part) -> PartResult:
-        """What comes of a part. A program that has died is started again and asked once more; what kills it twice ends all."""
+        """What comes of a part."""
+        return self.answered(lambda: self.program.do(part.lines))
+
+    def answered(self, ask: Callable[[], Any]) -> Any:
+        """What the program answers. One that has died is started again and asked once more; what kills it twice ends all."""
         try:
-            return self.checked(self.program.do, part.lines)
+            return self.checked(ask)
         except Died as death:
             if self.is_stopping:
                 raise
@@ -232,7 +257,7 @@ class Engine:
             if not self.is_whole:
                 raise
             self.notify("the program goes on")
-            return self.checked(self.program.do, part.lines)
+            return self.checked(ask)
 
     def notes(self) -> dict[str, Any]:
         """What is noted with a state, while no part is under way."""

@@ -25,6 +25,7 @@ OF_USERS = {
         "bytes that the user and his guests wrote since LOGON",
         False,
     ),
+    "open": ("user_open_file_bytes", "what the user's open files take of the program", False),
     "files": ("user_files_closed", "files that the user closed for the operator", False),
     "unwritten": ("user_files_not_written", "closed files of the user that wait", False),
 }
@@ -130,6 +131,7 @@ def user_figures(user: Any, files: int, unwritten: int) -> dict[str, Any]:
         "running": user.is_running,
         "from": place_of(user),
         "written": user.written,
+        "open": user.open,
         "typed": user.typed,
         "shown": user.shown,
         "files": files,

@@ -78,6 +78,8 @@ class Answers:
         self.events: list[str] = []
         self.files: list[tuple[str, list[bytes]]] = []
         self.states: list[tuple[str, str]] = []
+        # how many entries the open files of each user have, if that was asked for
+        self.held: dict[str, int] = {}
         self.is_idle = False
         # the pieces of a state that have arrived, and how many bytes are missing
         self.pieces: list[bytes] = []
@@ -131,6 +133,9 @@ class Answers:
             self.files.append((text_of(line[2:]), []))
         elif word in STATES:
             self.states.append((text_of(word), text_of(rest)))
+        elif word == b"HOLDS":
+            name, *counts = text_of(rest).split(" ")
+            self.held[name] = sum(map(int, counts))
         elif word == b"IDLE":
             self.is_idle = True
         elif word == b"STATE":
@@ -141,10 +146,12 @@ class Answers:
             return answer
         return None
 
-    def done(self) -> PartResult | SavedState:
+    def done(self) -> PartResult | SavedState | dict[str, int]:
         """The answer that ends here."""
         if self.is_state:
             return SavedState(self.pieces)
+        if self.held:
+            return self.held
         files = [(heading, b"".join(pieces)) for heading, pieces in self.files]
         return PartResult(self.events, files, self.states, self.is_idle)
 
@@ -236,6 +243,14 @@ class Program:
         """Asks for the state where all that was given will have led; the answer is awaited later."""
         self.expect()
         self.write(b"SAVE\n")
+
+    def held(self) -> dict[str, int]:
+        """How many entries the open files of each user have."""
+        self.expect()
+        self.write(b"HOLDS\n")
+        while self.awaited > 1:
+            self.answer()
+        return self.answer()
 
     def restore(self, size: int, pieces: Iterable[bytes]) -> None:
         """Has it go on from a state of so many bytes. It comes before the first part."""

@@ -33,6 +33,8 @@ class Watch:
         # what the program has grown by for each user, and who was already made to take no more
         self.grown: dict[str, float] = {}
         self.relieved: set[str] = set()
+        # how many bytes one may write who was stopped for what he has written
+        self.bounds: dict[str, int] = {}
         # the task of one who is being stopped
         self.relief: Any = None
         self.bound = installation.limits.memory
@@ -46,6 +48,7 @@ class Watch:
     async def run(self) -> None:
         while True:
             await asyncio.sleep(SECONDS)
+            self.engine.look_again()
             self.look_at_users()
             self.look_at_memory()
             self.look_at_disk()
@@ -60,9 +63,22 @@ class Watch:
         ]
 
     def look_at_users(self) -> None:
-        for user in self.candidates():
-            if user.written > self.limits.user:
-                self.installation.force(user, f"{self.limits.user // MEGABYTE} MB are written")
+        """A user who has written too much is logged off. If some of that is in files that he has not closed, his machine is stopped and
+        these are closed, which loses nothing; only if he writes more than that he is logged off.
+        """
+        candidates = self.candidates()
+        self.bounds = {
+            user.name: self.bounds[user.name] for user in candidates if user.name in self.bounds
+        }
+        for user in candidates:
+            bound = max(self.bounds.get(user.name, 0), self.limits.user)
+            if self.relief or user.written + user.open <= bound:
+                continue
+            reason = f"{self.limits.user // MEGABYTE} MB are written"
+            if user.open and user.name not in self.bounds:
+                self.begin_relief(user, reason)
+            else:
+                self.installation.force(user, reason)
 
     def look_at_memory(self) -> None:
         """If the program has too much memory, one user is made to take no more: his machine is stopped and his printer and punch files
@@ -83,15 +99,14 @@ class Watch:
         if user.name in self.relieved and self.holds(user) >= self.limits.memory // STEP:
             self.installation.force(user, reason)
         else:
-            self.relief = asyncio.ensure_future(self.relieve(user, reason))
-            self.relief.add_done_callback(self.end_relief)
+            self.begin_relief(user, reason)
         self.bound = memory + self.limits.memory // STEP
 
     def holds(self, user: Any) -> float:
-        """About how many bytes of the program are of a user, as far as it is known: what the program has grown by while his machine
-        ran, since LOGON or since his files were closed. The program does not yet say what is in open files.
+        """About how many bytes of the program are of a user: what it says of his open files, or if it is more, what it has grown by while
+        his machine ran, since LOGON or since his files were closed.
         """
-        return self.grown.get(user.name, 0.0)
+        return max(user.open, self.grown.get(user.name, 0.0))
 
     def note_growth(self, memory: int, candidates: list) -> None:
         """Has those whose machines ran be the ones by whom the program grew, or if none ran those who wrote, as much as they did."""
@@ -106,6 +121,10 @@ class Watch:
             self.grown[name] = self.grown.get(name, 0.0) + growth * share / sum(shares.values())
         self.ran = {user.name for user in candidates if user.is_running}
         self.before = {user.name: user.written for user in candidates}
+
+    def begin_relief(self, user: Any, reason: str) -> None:
+        self.relief = asyncio.ensure_future(self.relieve(user, reason))
+        self.relief.add_done_callback(self.end_relief)
 
     async def relieve(self, user: Any, reason: str) -> None:
         """Stops a user's machine and closes his files, by lines as he could type them."""
@@ -122,6 +141,9 @@ class Watch:
             await self.engine.give(typed_line(user.name, line))
         self.relieved.add(user.name)
         self.grown[user.name] = 0.0
+        user.open = 0
+        if user.written > self.limits.user:
+            self.bounds[user.name] = user.written + self.limits.user // STEP
 
     def end_relief(self, task: asyncio.Future) -> None:
         self.relief = None

@@ -39,6 +39,8 @@ class User:
         self.is_forced = False
         # bytes that he typed, and his guests printed, since LOGON
         self.written = 0
+        # about how many bytes of the program his open files take, as it said last
+        self.open = 0
         # lines that were typed and shown at his terminal since the start of the command
         self.typed = self.shown = 0
 
@@ -66,6 +68,6 @@ class User:
         if not self.is_on:
             self.lines.clear()
         if state == "OFF":
-            self.written = 0
+            self.written = self.open = 0
             self.is_forced = False
         self.terminal.turn(self.is_on, self.is_running)
