@@ -57,7 +57,8 @@ class Backup:
         try:
             # between two parts
             sources = await engine.loop.run_in_executor(engine.thread, self.open_all)
-        except (OSError, Failure) as reason:
+        except (OSError, Failure, RuntimeError) as reason:
+            # the engine may have stopped meanwhile
             reply(f"no backup is made: {reason_text(reason)}")
             end(False)
             return

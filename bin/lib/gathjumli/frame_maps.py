@@ -10,7 +10,7 @@ import subprocess
 import threading
 import time
 
-from gathjumli.cli import Failure, ask_build
+from gathjumli.cli import Failure, ask_build, reason_text
 from gathjumli.state_files import StateFile, read_state
 
 SECONDS_BETWEEN_LOOKS = 0.5
@@ -40,20 +40,25 @@ class FrameMap:
         self.thread.start()
 
     def find(self, size: int, reply: Callable, end: Callable, is_wanted: Callable) -> None:
+        """Finds the frames; whatever fails, whoever has asked is told."""
+        try:
+            status, lines = self.found(size, reply, is_wanted)
+        except (Failure, OSError) as reason:
+            status, lines = 1, [f"the frames are not found: {reason_text(reason)}"]
+        for line in lines:
+            reply(line)
+        end(not status)
+
+    def found(self, size: int, reply: Callable, is_wanted: Callable) -> tuple[int, list[str]]:
+        """The status of bin/framemap, and what it prints."""
         # a build would take minutes in silence
         if ask_build("tell", "frame_map").endswith("not built"):
-            reply(NOT_BUILT)
-            end(False)
-            return
+            return 1, [NOT_BUILT]
         place, state = self.last_state()
         with contextlib.ExitStack() as files:
             if state:
                 files.enter_context(state.file)
-            script = self.script(place, size)
-            status, lines = self.run(script, state, reply, is_wanted)
-        for line in lines:
-            reply(line)
-        end(not status)
+            return self.run(self.script(place, size), state, reply, is_wanted)
 
     def last_state(self) -> tuple[int, StateFile | None]:
         """The last state that can be read, and from which byte of the recording it goes on. Its file stays open, as others follow."""
