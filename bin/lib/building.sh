@@ -415,14 +415,17 @@ compile() {
     say "compiling $program_crate without proof: about two minutes"
     held=$room/held
     mkfifo -- "$held"
-    trying=
+    trying= reporting=
     trap 'stop_compiling 129' HUP
     trap 'stop_compiling 130' INT
     trap 'stop_compiling 143' TERM
     try_held > "$room/log" 2>&1 < /dev/null &
     trying=$!
+    report_seconds &
+    reporting=$!
     # waits until the program opens the pipe, or rt has ended
     exec 5> "$held"
+    kill "$reporting" 2> /dev/null || true
     made=$(find "$room" -type f -name program -perm -100)
     [ -z "$made" ] || cp -- "$made" "$room/copied"
     kill "$trying" 2> /dev/null || true
@@ -436,6 +439,15 @@ compile() {
     rm -f -- "$compiled/$program_crate"-*
     mv -f -- "$room/copied" "$program"
     rm -rf -- "$room"
+}
+
+# reports every ten seconds how long a compilation has taken; nobody waits for its sleep
+report_seconds() {
+    seconds=0
+    while sleep 10 > /dev/null 2>&1 < /dev/null; do
+        seconds=$((seconds + 10))
+        say "compiling $program_crate: $seconds seconds"
+    done
 }
 
 # runs the program by rt try on words that make it open the pipe, and lets go of who waits at the pipe
@@ -500,6 +512,7 @@ stop_compilers() {
 # stop_compiling STATUS: ends what is under way
 stop_compiling() {
     [ -z "$trying" ] || kill "$trying" 2> /dev/null || true
+    [ -z "$reporting" ] || kill "$reporting" 2> /dev/null || true
     rm -rf -- "$room"
     exit "$1"
 }

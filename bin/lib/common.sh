@@ -10,7 +10,8 @@ root=$(dirname -- "$(dirname -- "$(readlink -f -- "$0")")")
 # what messages begin with
 name=${0##*/}
 
-# Statuses of the commands themselves, which no program of the repository has.
+# That of the programs for a file that failed, and those of the commands themselves, which no program of the repository has.
+file_failed=3
 not_built=70
 no_kit=71
 not_writable=72
@@ -33,17 +34,30 @@ fail() {
     exit "$status"
 }
 
+# printing COMMAND..: runs a command that prints. If standard output fails that is reported, but for a reader who has gone.
+printing() {
+    { failure=$("$@" 2>&1 >&3 3>&-); } 3>&1 && return
+    # what follows the last colon, or is in parentheses
+    failure=$(printf '%s\n' "$failure" | sed -n '1s/.*[(:] *\([^():]*\))*$/\1/p')
+    [ -z "$failure" ] || say "$failure"
+    exit "$file_failed"
+}
+
 # the whole usage text
 help() {
-    usage
+    printing usage
     exit 0
 }
 
 # the version, and of a command that runs a program of the repository ($runs) what that program is
 version() {
+    printing print_version
+    exit 0
+}
+
+print_version() {
     echo "$name (Gathjumli) $(cat -- "$root/VERSION")"
     [ -z "${runs-}" ] || describe_program "$runs"
-    exit 0
 }
 
 # refuses the words of the command: what is wrong, and the first lines of the usage text

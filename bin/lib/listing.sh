@@ -43,7 +43,7 @@ play() {
 # which the lines of a list are marks, and ends as the program did.
 finish_listing() {
     [ ! -s "$work/transcript" ] && [ "$ended" -ne 0 ] ||
-        awk -v marker="$marker" -v width="$width" -v ended="$ended" -f "$root/bin/lib/side_by_side.awk" \
+        printing awk -v marker="$marker" -v width="$width" -v ended="$ended" -f "$root/bin/lib/side_by_side.awk" \
             "$work/transcript" "$work/marked"
     while IFS= read -r line; do
         case $line in

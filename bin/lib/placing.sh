@@ -1,7 +1,5 @@
 # What bin/install and bin/package share: which files an installation has, and where. Sourced after bin/lib/building.sh.
 
-# the status for a file that cannot be written
-file_failed=3
 # the programs, and the commands that need a checkout with its sources
 programs="vm370_cli bare370_cli volume_cli frame_map logon_desk_cli"
 of_checkout=" bench bench-against book build plant install package "

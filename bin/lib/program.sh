@@ -4,9 +4,6 @@
 # shellcheck source=bin/lib/building.sh
 . "$root/bin/lib/building.sh"
 
-# the status of the programs for a file that failed
-file_failed=3
-
 # --- words and files, judged before any build ---
 
 # the words of a command over a directory, a script and volumes, or with --follow no script: read_run_arguments MORE_OPTIONS WORD..

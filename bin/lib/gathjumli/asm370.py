@@ -19,6 +19,7 @@ import re
 import sys
 from collections import namedtuple
 
+from gathjumli.cli import FILE_FAILED, give_up_output, output_failure
 
 REFUSED = 74
 # no machine has more storage
@@ -37,6 +38,14 @@ class Fault(Exception):
         super().__init__(text)
         self.text = text
         self.index = index
+
+
+class Follows(Fault):
+    """A statement that uses a name whose own statement is refused: no fault of its own."""
+
+
+class NotYet(Fault):
+    """A name that has no value so far, and perhaps in a later pass."""
 
 
 class Refused(Exception):
@@ -74,23 +83,24 @@ class Origin:
         self.caller = caller
         self.made = made
 
+    def place(self) -> str:
+        """The file and the line."""
+        return f"{self.path}:{self.pieces[0][1]}"
+
     def message(self, fault: Any) -> Any:
         """The lines that tell a fault."""
         index = fault.index or 0
         start, line, column = [
             piece for piece in self.pieces if piece[0] <= index or piece[0] == 0
         ][-1]
-        if self.made is not None:
-            where = f"{self.path}:{line}"
-            lines = [f"{where}: {fault.text}, in: {' '.join(self.made.split())}"]
-        elif fault.index is None:
-            lines = [f"{self.path}:{line}: {fault.text}"]
-        else:
-            lines = [f"{self.path}:{line}:{column + index - start + 1}: {fault.text}"]
+        where = f"{self.path}:{line}"
+        if fault.index is not None:
+            where += f":{column + index - start + 1}"
+        # the column of a statement that a macro made is that of the statement as made
+        made = "" if self.made is None else f", in: {self.made.rstrip()}"
+        lines = [f"{where}: {fault.text}{made}"]
         if self.caller:
-            lines.append(
-                f"{self.caller.path}:{self.caller.pieces[0][1]}: the macro was called here"
-            )
+            lines.append(f"{self.caller.place()}: the macro was called here")
         return lines
 
 
@@ -135,7 +145,10 @@ def operands_end(text: str, start: int) -> Any:
         elif text[at] in " \t" and quoted is None:
             return at
     if quoted is not None:
-        raise Fault("the apostrophe that opens this text has no other that closes it", quoted)
+        raise Fault(
+            "the apostrophe that opens this text has no other that closes it (a line goes on after a comma alone, not by column 72)",
+            quoted,
+        )
     return len(text)
 
 
@@ -292,6 +305,8 @@ class Expander:
     def __init__(self) -> None:
         self.statements = []
         self.faults = []
+        # the names of statements that are refused before they are assembled
+        self.refused = set()
         self.macros = {}
         self.globals = {}
         self.calls = 0
@@ -324,7 +339,9 @@ class Expander:
                 statement = Statement(text, origin)
                 if statement.operation in ("MEXIT", "MEND") and frame.caller:
                     return
+                self.refused.add(statement.name)
                 self.step(frame, statement, depth)
+                self.refused.discard(statement.name)
             except Fault as fault:
                 self.faults.append((origin, fault))
 
@@ -808,10 +825,13 @@ def zoned(text: Any, start: int) -> bytes:
 class Assembler:
     """Statements become bytes. A pass goes over all of them; passes end when no name's value changes any more."""
 
-    def __init__(self, statements: Any) -> None:
+    def __init__(self, statements: Any, refused: set | None = None) -> None:
         self.statements = statements
         self.names = {statement.name for statement in statements}
         self.symbols = {}
+        # the names of statements that were refused before, and of those that are in a pass
+        self.lost = refused or set()
+        self.refused = set()
         self.faults = []
         self.forms = {
             "R1,R2": self.form_rr, "R1": self.form_r, "I": self.form_i, "M1,R2": self.form_rr, "R2": self.form_br,
@@ -827,9 +847,9 @@ class Assembler:
 
     def go(self) -> None:
         for _ in range(30):
-            before = self.symbols
+            before = self.symbols, self.refused
             self.one_pass()
-            if self.symbols == before:
+            if (self.symbols, self.refused) == before:
                 return
         raise Refused(
             "some names never keep a value: an EQU, ORG or DS depends on what is defined after it"
@@ -837,6 +857,7 @@ class Assembler:
 
     def one_pass(self) -> None:
         self.before, self.symbols, self.faults = self.symbols, {}, []
+        self.refused_before, self.refused, self.places = self.refused, set(), {}
         self.memory, self.stated = bytearray(), bytearray()
         self.lines, self.entry = [], None
         self.sections, self.highest, self.here_in = {PROGRAM: 0}, {PROGRAM: 0}, PROGRAM
@@ -847,12 +868,19 @@ class Assembler:
             try:
                 self.lay(self.statement)
             except Fault as fault:
-                self.faults.append((self.statement.origin, fault))
+                self.refuse(self.statement, fault)
             self.lines.append((self.statement, self.here_in, *self.made))
         try:
             self.place_literals()
         except Fault as fault:
             self.faults.append((self.statement.origin, fault))
+
+    def refuse(self, statement: Any, fault: Fault) -> None:
+        """Keeps a fault, and the name of the statement, so that no use of it is a fault too."""
+        if statement.name not in self.symbols and not isinstance(fault, NotYet):
+            self.refused.add(statement.name)
+        if not isinstance(fault, Follows):
+            self.faults.append((statement.origin, fault))
 
     def lay(self, statement: Any) -> None:
         operation = statement.operation
@@ -883,8 +911,11 @@ class Assembler:
         if not NAME.fullmatch(name):
             raise Fault(f"{name} is no name: a letter, and then letters and digits", 0)
         if name in self.symbols:
-            raise Fault(f"the name {name} stands before another statement too", 0)
+            raise Fault(
+                f"the name {name} stands before another statement too: {self.places[name]}", 0
+            )
         self.symbols[name] = Symbol(value, length)
+        self.places[name] = self.statement.origin.place()
 
     def here(self) -> Any:
         return self.sections[self.here_in]
@@ -986,6 +1017,8 @@ class Assembler:
             return Value(int(found.group()), None), None
         found = reader.match(NAME)
         if not found:
+            if reader.is_done():
+                raise Fault("a value is missing at the end of the line", at)
             raise Fault(f"no value: {reader.rest()}", at)
         symbol = self.symbol(found.group(), at)
         return symbol.value, symbol.length
@@ -1017,8 +1050,10 @@ class Assembler:
             return self.symbols[name]
         if name in self.before:
             return self.before[name]
+        if name in self.refused_before or name in self.lost:
+            raise Follows(f"the statement of {name} is refused", at)
         if name in self.names:
-            raise Fault(f"the value of {name} is not known here: it hangs on itself", at)
+            raise NotYet(f"the value of {name} is not known here: it hangs on itself", at)
         raise Fault(f"no statement has the name {name}", at)
 
     def absolute(self, reader: Any, lowest: Any, highest: Any, what: str) -> Any:
@@ -1028,9 +1063,7 @@ class Assembler:
         if value.section not in (None, PROGRAM):
             raise Fault(f"{what} is an address of a DSECT", at)
         if not lowest <= value.number <= highest:
-            raise Fault(
-                f"{what} is {value.number}, and {lowest} to {highest} is what it may be", at
-            )
+            raise Fault(f"{what} is {lowest} to {highest}, and not {value.number}", at)
         return value.number
 
     # operands
@@ -1074,17 +1107,13 @@ class Assembler:
         if value.section == PROGRAM and value.number > 4095:
             raise Fault(self.unreached(value), at)
         if not 0 <= value.number <= 4095:
-            raise Fault(f"the displacement is {value.number}, and 0 to 4095 is what it may be", at)
+            raise Fault(f"the displacement is 0 to 4095, and not {value.number}", at)
         return register, value.number
 
     @staticmethod
     def unreached(value: Any) -> str:
-        place = (
-            f"{value.number & 0xFFFFFFFF:X}"
-            if value.section
-            else f"{value.number} ({value.number & 0xFFFFFFFF:X} in hexadecimal)"
-        )
-        return f"the address {place} needs a base: no USING reaches it, and it lies past FFF"
+        place = f"{value.number} ({value.number & 0xFFFFFFFF:X} in hexadecimal)"
+        return f"the address {place} needs a base: no USING reaches it, and it lies past 4095 (FFF)"
 
     def place(self, reader: Any) -> tuple:
         """An address as it is written: its value, its length, and what is in parentheses after it."""
@@ -1147,9 +1176,7 @@ class Assembler:
         elif length is None:
             raise Fault("the length is not known: a number has none, so write it, as X'48'(4)", at)
         if not 0 <= length <= most:
-            raise Fault(
-                f"the length is {length}, and 0 to {most} is what it may be: write another", at
-            )
+            raise Fault(f"the length is 0 to {most}, and not {length}: write another", at)
         if len(inner) == 2:
             return length, *self.written(value, self.inner_number(inner[1], 15, "a register"), at)
         return length, *self.implied(value, at)
@@ -1284,7 +1311,7 @@ class Assembler:
             length = int(found.group())
         most = {"F": 8, "H": 8, "D": 8, "A": 4, "Y": 2, "S": 2, "P": 16, "Z": 16}.get(kind, 65535)
         if not 1 <= length <= most or (kind == "S" and length != 2):
-            raise Fault(f"the length of {kind} is {length}, and 1 to {most} is what it may be", at)
+            raise Fault(f"the length of {kind} is 1 to {most}, and not {length}", at)
         return length
 
     @staticmethod
@@ -1604,10 +1631,10 @@ def assembled(path: str) -> Any:
     """The program of a source: an Assembler that has gone over all of it."""
     expander = Expander()
     expander.go(path)
-    assembler = Assembler(expander.statements)
+    assembler = Assembler(expander.statements, expander.refused)
     assembler.go()
     faults = expander.faults + assembler.faults
-    if faults:
+    if faults or assembler.refused:
         for origin, fault in sorted(
             faults, key=lambda pair: pair[0].pieces[0][1] if pair[0].path == path else 0
         ):
@@ -1772,6 +1799,17 @@ def main(words: list[str]) -> Any:
     return 0
 
 
+def run(words: list[str]) -> int:
+    """The status of a run, also if standard output fails; a reader who has gone is not reported."""
+    try:
+        return main(words)
+    except BrokenPipeError:
+        return FILE_FAILED
+    except OSError as item:
+        print(f"asm370: {output_failure(item)}", file=sys.stderr)
+        return FILE_FAILED
+
+
 if __name__ == "__main__":
     sys.stderr.reconfigure(errors="backslashreplace")
-    sys.exit(main(sys.argv[1:]))
+    sys.exit(give_up_output(run(sys.argv[1:])))

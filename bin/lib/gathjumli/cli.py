@@ -124,20 +124,30 @@ def run(command: Any, usage: Any, crate: Any = None) -> None:
     except BrokenPipeError:
         status = FILE_FAILED
     except OSError as item:
-        say(f"{item.filename}: {item.strerror}" if item.filename else item.strerror)
+        say(output_failure(item))
         status = FILE_FAILED
     except MemoryError:
         say("the host has no more memory")
         status = NO_MEMORY
     except KeyboardInterrupt:
         status = 130
+    sys.exit(give_up_output(status))
+
+
+def output_failure(item: OSError) -> str:
+    """What a file, or standard output, failed with."""
+    return f"{item.filename}: {item.strerror}" if item.filename else str(item.strerror)
+
+
+def give_up_output(status: int) -> int:
+    """Flushes standard output at the end; the status of the command, or that of a failed file."""
     try:
         sys.stdout.flush()
+        return status
     except OSError:
         # nobody reads on, or there is no room: what is left of the output is given up
         os.dup2(os.open(os.devnull, os.O_WRONLY), sys.stdout.fileno())
-        status = status or FILE_FAILED
-    sys.exit(status)
+        return status or FILE_FAILED
 
 
 def read_arguments(words: Any, options: Any, least: Any, most: Any) -> tuple:

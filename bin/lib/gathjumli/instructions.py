@@ -74,13 +74,30 @@ def fields(code: Any) -> dict:
 
 
 def place_of(code: Any, registers: Any) -> Any:
-    """The address of the storage operand of an instruction of forms RX and S, modulo 2^24."""
+    """The address of the storage operand of an instruction of forms RX, RS, SI and S, modulo 2^24."""
     name, form = INSTRUCTIONS[code[0]]
     found = fields(code)
     place = found["d2"] + (registers[found["b2"]] if found["b2"] else 0)
     if form == RX and found["r2"]:
         place += registers[found["r2"]]
     return place & 0xFFFFFF
+
+
+def storage_operands(code: bytes, registers: Any) -> list[int]:
+    """The addresses of an instruction's operands in storage, and of a branch by address, modulo 2^24."""
+    if not code or code[0] not in INSTRUCTIONS or len(code) < length(code[0]):
+        return []
+    form = INSTRUCTIONS[code[0]][1]
+    # SIO, TIO, HIO and TCH name a device
+    if form in (RX, RS, SI) or form == S and code[0] & 0xFC != 0x9C:
+        return [place_of(code, registers)]
+    if form not in (SS, SS2):
+        return []
+    found = fields(code)
+    return [
+        found[displacement] + (registers[found[base]] if found[base] else 0) & 0xFFFFFF
+        for base, displacement in (("b2", "d2"), ("b3", "d3"))
+    ]
 
 
 def under_execute(code: Any, target: Any, registers: Any) -> Any:

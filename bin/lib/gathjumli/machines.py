@@ -22,6 +22,8 @@ UNITS = {
     "PRINTER": "printer",
     "MDISK": "disk",
 }
+# no line of a script, nor a card
+WRONG = b"BAD" + 80 * b"."
 STORAGE = re.compile("([1-9][0-9]{0,6})([KM])")
 
 
@@ -97,6 +99,15 @@ class Machines:
             )
         self.is_built = True
         self.of_nothing = done.stdout
+
+    def check(self, script: bytes) -> None:
+        """Has the program judge a script, of which nothing is done: a line that is surely wrong follows it."""
+        whole = script + b"\n" * (script[-1:] not in (b"", b"\n"))
+        try:
+            self.run(whole + WRONG + b"\n")
+        except ScriptRefused as refused:
+            if refused.line <= whole.count(b"\n"):
+                raise
 
     def run(self, script: Any) -> Any:
         """The transcript of a script, both as bytes."""

@@ -199,6 +199,10 @@ class Session:
             idle += 1
         return new, closed, idle
 
+    def is_running(self) -> bool:
+        """Whether the user's machine runs, so far as the program says it."""
+        return isinstance(self.way, Replaying) or self.user in self.people["running"]
+
     def was_running(self) -> bool:
         """Whether the user's machine ran before the last entry."""
         return self.user in self.entries[-1][3]["running"]

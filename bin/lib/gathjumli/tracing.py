@@ -1,19 +1,24 @@
 """The units of a guest one by one. A script is done again with its runs as single units, and between these the machine is
 asked by DISPLAY; the guest does not notice. What is asked depends on earlier answers, so the script is run until nothing is
-left to ask."""
+left to ask. That is done piece by piece, each with more units than the one before, so that a trace that stops soon is soon there."""
 from __future__ import annotations
 
+import bisect
 from collections.abc import Iterator
 import re
 from typing import Any, NamedTuple
 
 from gathjumli.channels import chained, command_text, status_text
-from gathjumli.instructions import length, place_of, text_of, under_execute
+from gathjumli.instructions import length, place_of, storage_operands, text_of, under_execute
 from gathjumli.machines import parts
 from gathjumli.cli import Failure, REFUSED
 
 
 SLICE = 100
+# how many units the first piece has, and at most the last ones
+FIRST_PIECE, MOST_PIECE = 25, 800
+# how far behind a name an address may be that is shown by it
+FARTHEST = 255
 # if an interruption stores the old PSW, and where its new PSW is
 INTERRUPTIONS = {
     "external": (0x18, 0x58),
@@ -60,17 +65,25 @@ def events_of(script: Any) -> Iterator:
         yield [word.decode("latin-1") for word in words], b"".join(item + b"\n" for item in text)
 
 
-class Expansion:
-    """The steps of a script: turns as the runs and the served devices that they were, and the runs of one user as single
-    units, of which those from `first` on are traced, at most `most`."""
+class Played:
+    """As much of a script as was run: its events, what terminals showed, and how its runs, turns and serves ended."""
 
-    def __init__(self, machines: Any, user: Any, script: Any, first: Any, most: Any) -> None:
+    def __init__(self, machines: Any, user: str, script: bytes) -> None:
+        machines.check(script)
+        self.machines = machines
         self.user = user
-        self.first, self.most = first, most
-        self.units = 0
-        self.is_cut = False
-        self.steps = []
-        findings, _ = parts(machines.run(script))
+        self.events = list(events_of(script))
+        # how many units it was run for, and the events that this is
+        self.bound = 0
+        self.is_whole = False
+        self.reached = []
+
+    def reach(self, units: int) -> None:
+        """Runs as much of the script as so many units of the user can come of."""
+        if self.is_whole or units <= self.bound:
+            return
+        self.bound = units
+        findings, _ = parts(self.machines.run(self.beginning(units)))
         self.printed = printed(findings)
         self.ends = [item.split(" ") for item in findings if item.startswith("= ")]
         if any(end[-1] == "FRAMES" for end in self.ends):
@@ -78,10 +91,45 @@ class Expansion:
                 REFUSED,
                 "an event of the script finds no frame free, also with as many as there may be",
             )
-        for words, text in events_of(script):
+
+    def beginning(self, units: int) -> bytes:
+        """The script up to the event in which the user's machine may do that many units, and of this event as much."""
+        texts = []
+        for number, (words, text) in enumerate(self.events, 1):
+            slices = SLICE if words[0] == "AUTO" else 1
+            is_own = words[0] == "AUTO" or words[:2] == ["RUN", self.user]
+            most = int(words[-1]) * slices if is_own else 0
+            if most > units:
+                self.reached = self.events[:number]
+                words = [*words[:-1], str(-(-units // slices))]
+                return b"".join(texts) + " ".join(words).encode() + b"\n"
+            units -= most
+            texts.append(text)
+        self.is_whole, self.reached = True, self.events
+        return b"".join(texts)
+
+
+class Expansion:
+    """The steps of a script: turns as the runs and the served devices that they were, and the runs of one user as single
+    units, of which those from `first` on are traced, at most `most`."""
+
+    def __init__(self, played: Played, user: str, first: int, most: int) -> None:
+        self.user = user
+        self.first, self.most = first, most
+        self.units = 0
+        self.is_cut = False
+        self.steps = []
+        self.printed = played.printed
+        # what is still to be expanded, the next one last
+        self.ends = played.ends[::-1]
+        for words, text in played.reached:
             if self.is_cut:
                 break
             self.expand(words, text)
+
+    def first_unit(self) -> int:
+        """The place of the first unit that is traced."""
+        return next(place for place, step in enumerate(self.steps) if step.kind == "unit")
 
     def expand(self, words: list[str], text: Any) -> None:
         if words[0] == "RUN":
@@ -95,18 +143,21 @@ class Expansion:
             self.steps.append(Step("line", text, words[1]))
 
     def turn(self) -> None:
-        if self.ends[0] == ["=", "IDLE"]:
-            self.ends.pop(0)
+        if not self.ends:
+            # the script was run no further
             return
-        if self.ends[0][2] != "SERVED":
-            self.run(self.ends[0][1], SLICE)
+        if self.ends[-1] == ["=", "IDLE"]:
+            self.ends.pop()
+            return
+        if self.ends[-1][2] != "SERVED":
+            self.run(self.ends[-1][1], SLICE)
         # A device is served in the turn of the slice before it, or in a turn without a slice: where a turn with a slice
         # serves none, no program is in the line, and none is served in the next one.
-        if self.ends and not self.is_cut and self.ends[0][2:3] == ["SERVED"]:
+        if self.ends and not self.is_cut and self.ends[-1][2:3] == ["SERVED"]:
             self.serve()
 
     def serve(self) -> None:
-        _, user, _, device = self.ends.pop(0)
+        _, user, _, device = self.ends.pop()
         self.add("serve", f"SERVE {user} {device}", user, device)
 
     def add(self, kind: Any, text: Any, user: Any, device: Any = "") -> None:
@@ -114,7 +165,7 @@ class Expansion:
             self.steps.append(Step(kind, text.encode() + b"\n", user, device))
 
     def run(self, user: str, count: int) -> None:
-        _, _, done, reason = self.ends.pop(0)
+        _, _, done, reason = self.ends.pop()
         if user != self.user:
             self.add("run", f"RUN {user} {count}", user)
             return
@@ -226,76 +277,125 @@ class Machine:
 
 
 class Trace:
-    """The lines of a trace."""
+    """The lines of a trace of `most` units from the unit `first` on."""
 
     def __init__(
         self,
-        machine: Any,
-        expansion: Any,
-        devices: Any,
+        machines: Any,
+        user: str,
+        script: bytes,
+        first: int,
+        most: int,
         ranges: Any,
         stop_at: Any,
         stop_on: Any,
         names: Any,
     ) -> None:
-        self.machine = machine
-        self.expansion = expansion
-        self.devices = devices
+        self.machines = machines
+        self.user = user
+        self.played = Played(machines, user, script)
+        self.first, self.most = first, most
+        self.devices = machines.devices[user]
         self.ranges = ranges
         self.stop_at = stop_at
         self.stop_on = stop_on
         self.names = names
-        self.started = {}
+        self.named = sorted(names)
+        # devices with a program that is still to be done, before a piece and so far
+        self.started_before, self.started = {}, {}
+        self.is_stopped = False
+        self.done = 0
 
-    def lines(self) -> Any:
+    def pieces(self) -> Iterator:
+        """The lines, piece by piece."""
+        size = FIRST_PIECE
+        while not self.is_stopped:
+            yield self.piece(min(size, self.most - self.done))
+            size = min(2 * size, MOST_PIECE)
+
+    def piece(self, size: int) -> list:
+        """The lines of so many units more. What is before them was shown with the piece before."""
+        self.expansion = self.expanded(size)
+        self.machine = Machine(self.machines, self.user, self.expansion)
+        begin = self.expansion.first_unit() if self.done else 0
         while True:
-            found = list(self.pass_over())
+            found = list(self.pass_over(begin))
             if not self.machine.learn():
-                return found
+                break
+        self.started_before = self.started
+        self.done += size
+        return found
 
-    def pass_over(self) -> Iterator:
-        """All lines as far as the answers are there."""
-        self.started = {}
+    def expanded(self, size: int) -> Expansion:
+        """The steps of a piece, from as much of the script as it needs."""
+        first = self.first + self.done
+        # one more, which ends the piece
+        units = first + size
+        while True:
+            self.played.reach(units)
+            expansion = Expansion(self.played, self.user, first, size)
+            if expansion.is_cut or self.played.is_whole:
+                return expansion
+            units *= 2
+
+    def end(self) -> str:
+        """The line at the end of a piece, if the trace ends there."""
+        if not self.expansion.is_cut:
+            return "END of the script"
+        if self.done + self.expansion.most == self.most:
+            return f"STOP after {self.most} units"
+        return ""
+
+    def pass_over(self, begin: int) -> Iterator:
+        """All lines from a place on, as far as the answers are there."""
+        self.started = dict(self.started_before)
+        self.is_stopped = True
         unit = self.expansion.first - 1
-        shown = 0
-        for place, step in enumerate(self.machine.steps):
+        shown = self.machine.lines_after(begin)
+        for place in range(begin, len(self.machine.steps)):
+            step = self.machine.steps[place]
             if step.kind == "unit":
                 before = self.machine.psw(place)
-                if (
-                    self.stop_at is not None
-                    and before
-                    and int.from_bytes(before[5:], "big") == self.stop_at
-                ):
+                address = int.from_bytes(before[5:], "big") if before else None
+                if self.stop_at is not None and address == self.stop_at:
                     yield f"STOP at {self.stop_at:06X}"
                     return
                 unit += 1
-                if before and (name := self.names.get(int.from_bytes(before[5:], "big"))):
-                    yield f"AT {name}"
+                if address in self.names:
+                    yield f"AT {self.names[address]}"
                 yield from self.unit(place, unit)
             elif step.kind == "serve":
                 yield f"SERVE {step.user} {step.device}"
                 yield from self.program(place, step)
             else:
-                yield from (
-                    f"{'CARD' if item else 'DO'} {text}"
-                    for item, text in enumerate(text_lines(step))
-                )
-                if typed := LOADING.fullmatch(step.text):
-                    yield from self.loading(place, step.user, typed[1].decode())
+                yield from self.typed(place, step)
             # a typed line's replies come where they are known to end
             if place + 1 in self.machine.trailing:
                 trailing = self.machine.trailing[place + 1]
-                findings = self.machine.findings[shown:trailing]
-                yield from (
-                    f"TOLD {item}"
-                    for item in findings
-                    if not (item.startswith("= ") and step.kind in ("unit", "serve"))
-                )
+                yield from replies(step, self.machine.findings[shown:trailing])
                 shown = trailing
             if step.kind == "unit" and (what := self.stop(place)):
                 yield f"STOP on a change of {what}"
                 return
-        yield f"STOP after {self.expansion.most} units" if self.expansion.is_cut else "END of the script"
+        end = self.end()
+        self.is_stopped = bool(end)
+        if end:
+            yield end
+
+    def typed(self, place: int, step: Step) -> Iterator:
+        """The lines of a step of the script."""
+        for item, text in enumerate(text_lines(step)):
+            yield f"{'CARD' if item else 'DO'} {text}"
+        if found := LOADING.fullmatch(step.text):
+            yield from self.loading(place, step.user, found[1].decode())
+
+    def where(self, address: int) -> str:
+        """An address, and how it is called."""
+        at = bisect.bisect_right(self.named, address) - 1
+        if at < 0 or address - self.named[at] > FARTHEST:
+            return f"@{address:06X}"
+        rest = address - self.named[at]
+        return f"@{address:06X}({self.names[self.named[at]]}{f'+{rest:X}' if rest else ''})"
 
     def stop(self, place: Any) -> Any:
         """What of that on which the trace stops a unit has changed."""
@@ -341,6 +441,8 @@ class Trace:
             shown = f"UNIT {number} {address:06X} {code.hex().upper():<12} {name:<5} {operands:<20}"
             if target:
                 shown += f" > {' '.join(text_of(target)):<20}"
+            places = storage_operands(code, registers) + storage_operands(target, registers)
+            shown += f" {' '.join(map(self.where, places)):<15}"
             yield f"{shown} {changes}".rstrip()
             yield from self.channel(place, target or code, registers, after, kind)
         if kind:
@@ -453,6 +555,12 @@ class Trace:
         if word is None:
             self.machine.storage(place, address, 16 * PREFETCHED)
         return word if word and len(word) == 8 else None
+
+
+def replies(step: Step, findings: list) -> list:
+    """What terminals showed after a step; how a unit or a serve ended its own line says."""
+    is_told = step.kind in ("unit", "serve")
+    return [f"TOLD {item}" for item in findings if not (is_told and item.startswith("= "))]
 
 
 def text_lines(step: Any) -> Any:
