@@ -46,6 +46,7 @@ import installation_strangers
 import installation_strays
 import installation_watchdog
 import page_tables
+import scripts_for_people
 import state_commands
 import typed_lines
 import watching
@@ -161,7 +162,7 @@ def follow(crate: str, words: list[str]) -> tuple[int, bytes]:
     text = tempfile.NamedTemporaryFile()
     words.insert(words.index("--") + 2, text.name)
     script, before, closed = b"", 0, 0
-    while size := sys.stdin.buffer.readline():
+    while (size := sys.stdin.buffer.readline()) not in (b"", b"END\n"):
         part = sys.stdin.buffer.read(int(size))
         notes.write(part)
         if how and how.encode() in part:
@@ -505,6 +506,14 @@ def test_trace(repository: str, work: str) -> None:
     findings = "fault: script Line 2\ntrace370: line 2 is: 'BAD'\ntrace370: a line begins with RUN, LINE, TICK, SERVE, AUTO or DECK, and not with BAD\n"
     check(
         "a refused script is reported", done.status == 1 and done.err == findings, *done.findings()
+    )
+
+
+def test_scripts(repository: str, work: str) -> None:
+    # bare370 says which steps its first build takes
+    Done(repository, "bare370", "8K", "-")
+    scripts_for_people.try_scripts(
+        check, work, lambda command, *words, **given: Done(repository, command, *words, **given)
     )
 
 

@@ -21,6 +21,7 @@ no_marker=75
 not_copied=76
 no_emulator=77
 wrong_image=78
+complained=79
 
 say() {
     printf '%s: %s\n' "$name" "$*" >&2

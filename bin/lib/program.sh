@@ -45,6 +45,30 @@ check_states() {
     states=true
 }
 
+# Chooses what runs the script: where it has a line for people, or an option asks for it, python3 gives it to the program event by
+# event (bin/lib/gathjumli/script_runs.py). A script that can be read only once is copied, so that its lines can be looked at.
+choose_runner() {
+    by_event=${option_quiet-}${option_strict-}
+    if [ -n "${option_follow-}" ]; then
+        [ -z "$by_event" ] || usage_error '--quiet and --strict are not for --follow'
+        return 0
+    fi
+    command -v python3 > /dev/null || {
+        [ -z "$by_event" ] || fail "$no_python" "--quiet and --strict need python3, which is not there"
+        return 0
+    }
+    given_script=$script
+    script_name=$script
+    if [ ! -f "$script" ]; then
+        copied=$(mktemp) || fail "$file_failed" "no copy of $script can be made"
+        trap 'rm -f -- "$copied"' EXIT
+        cat -- "$script" > "$copied" || exit "$file_failed"
+        script=$copied
+        [ "$given_script" != /dev/stdin ] || script_name='standard input'
+    fi
+    ! grep -qaE '^(LOAD( .*)?|AUTO)$' -- "$script" || by_event=true
+}
+
 # the words of a command over one machine: read_bare_arguments MORE_OPTIONS WORD..
 read_bare_arguments() {
     more=$1
@@ -144,18 +168,21 @@ run_program() {
     for word in "$@"; do
         shift
         [ "$word" != - ] || word=/dev/stdin
+        [ -z "${copied-}" ] || [ "$word" != "$given_script" ] || word=$copied
         [ "$is_option$word" = true--unproved ] || set -- "$@" "$word"
         [ "$word" != -- ] || is_option=
     done
     errors=$(mktemp 2> /dev/null) || exec "$program" "$@"
-    trap 'rm -f -- "$errors"' EXIT
+    trap 'rm -f -- "$errors" ${copied:+"$copied"}' EXIT
     # what runs next to a shell has no standard input, unless it is given it
     exec 4<&0
     running=
     trap 'stop_program 129' HUP
     trap 'stop_program 130' INT
     trap 'stop_program 143' TERM
-    if [ -n "${states-}" ]; then
+    if [ -n "${by_event-}" ]; then
+        PYTHONDONTWRITEBYTECODE=1 python3 "$root/bin/lib/run.py" script_runs "$name" "$program" "${script_name-}" "$@" <&4 2> "$errors" &
+    elif [ -n "${states-}" ]; then
         PYTHONDONTWRITEBYTECODE=1 python3 "$root/bin/lib/run.py" "${state_runner-state_runs}" "$name" "$program" "$@" <&4 2> "$errors" &
     elif [ -n "${watches-}" ] && [ -t 2 ] && [ -z "${option_follow-}" ] && command -v python3 > /dev/null; then
         PYTHONDONTWRITEBYTECODE=1 python3 "$root/bin/lib/run.py" watched "$name" "$script" "$program" "$@" <&4 3>&2 2> "$errors" &

@@ -77,7 +77,7 @@ class Users:
         if address.upper() in found:
             return f"addresses are in upper case: {address.upper()}, and not {address}"
         return f"{name} has no device at {address or '(no address)'}: " + (
-            f"there are {', '.join(found)}" if found else "there is none"
+            f"it has {', '.join(found)}" if found else "it has none"
         )
 
 
@@ -144,6 +144,8 @@ def wrong_verb(line: Any, first: Any) -> Any:
         return "a line begins with its first word: no blank stands before it"
     if first.upper().strip() in OPERANDS and first != first.upper():
         return f"first words are in upper case: {first.upper()}, and not {first}"
+    if first == "LOAD":
+        return "LOAD u FILE is taken by bin/vm370 and bin/bare370: u a user, FILE what bin/asm370 wrote"
     return (
         invisible(line)
         or "a line begins with RUN, LINE, TICK, SERVE, AUTO or DECK, and not with " + first
@@ -164,6 +166,8 @@ def wrong_blanks(first: int, words: list[str]) -> str | None:
 
 def wrong_operands(first: Any, words: list[str], users: Any, lines_after: Any) -> Any:
     wanted = OPERANDS[first]
+    if first == "AUTO" and not words:
+        return "AUTO needs a number here: bin/turns fills it in"
     if len(words) != len(wanted) and first != "LINE" or not words:
         return f"{first} is written: {first} {' '.join(wanted)}"
     if wanted[0] == "user" and words[0] not in users.devices:

@@ -1,0 +1,93 @@
+"""The lines that people may write in a script beside those that the program reads: LOAD, and AUTO without a number
+(docs/FORMATS.md, "Lines for people"). Each becomes lines of the program's script; which those are is said here and nowhere else."""
+from __future__ import annotations
+
+from collections.abc import Iterator
+import re
+from typing import NamedTuple
+
+from gathjumli.cli import read_file
+from gathjumli.punching import CARD, cards_of, stores
+
+DECK = re.compile(rb"DECK [^ ]+ ([0-9]{1,7})")
+LOAD = re.compile(rb"LOAD ([^ ]+) (.+)")
+TYPED = re.compile(rb"LINE [^ ]+ (.*)")
+UNTIL_ALL_WAIT = b"AUTO"
+# a card of an object deck: 02 and TXT in EBCDIC, an address, a length, and from column 17 on the bytes
+TEXT_CARD = b"\x02\xe3\xe7\xe3"
+TEXT_AT, LONGEST_TEXT = 16, 56
+
+
+class Wrong(Exception):
+    """What is wrong with a line, and what would be right; the column counts from 1."""
+
+    def __init__(self, line: int, column: int, text: str) -> None:
+        super().__init__(text)
+        self.line, self.column, self.text = line, column, text
+
+
+class Event(NamedTuple):
+    """An event of a script: the number of its line there, that line, and the lines that the program is given."""
+
+    number: int
+    line: bytes
+    given: list[bytes]
+
+    def text(self) -> bytes:
+        return b"".join(item + b"\n" for item in self.given)
+
+    def user(self) -> str:
+        return self.line.split(b" ")[1].decode("latin-1") if b" " in self.line else ""
+
+
+def events_of(script: bytes) -> Iterator[Event]:
+    """The events of a script, each with its cards; comments and empty lines are events of nothing."""
+    lines = script.split(b"\n")
+    lines = lines if lines[-1] else lines[:-1]
+    at = 0
+    while at < len(lines):
+        line, number = lines[at], at + 1
+        deck = DECK.fullmatch(line)
+        cards = lines[at + 1 : at + 1 + int(deck[1])] if deck else []
+        at += 1 + len(cards)
+        load = LOAD.fullmatch(line)
+        yield Event(number, line, loaded(number, *load.groups()) if load else [line, *cards])
+
+
+def loaded(number: int, user: bytes, path: bytes) -> list[bytes]:
+    """The lines by which what bin/asm370 wrote is stored: its script, typed by this user, or the cards of its deck."""
+    column = len(b"LOAD ") + len(user) + 2
+    name = path.decode(errors="surrogateescape")
+    try:
+        data = read_file(name)
+    except OSError as error:
+        raise Wrong(number, column, f"{name}: {error.strerror}") from None
+    is_deck = data[:1] in (b"\0", b"\x02")
+    typed = texts_of_cards(data) if is_deck else typed_lines(data)
+    if not typed:
+        raise Wrong(
+            number,
+            column,
+            f"{name} has no line LINE and no card TXT: bin/asm370 writes both, and a deck has cards of {CARD} bytes",
+        )
+    return [b"LINE " + user + b" " + line for line in typed]
+
+
+def typed_lines(data: bytes) -> list[bytes]:
+    """What the lines of a script type, or nothing if one is another event."""
+    lines = [line for line in data.split(b"\n") if line and not line.startswith(b"*")]
+    found = [TYPED.fullmatch(line) for line in lines]
+    return [match[1] for match in found if match] if all(found) else []
+
+
+def texts_of_cards(data: bytes) -> list[bytes]:
+    """The stores of a deck's cards TXT; a deck that is cut off has none."""
+    if len(data) % CARD:
+        return []
+    found = []
+    for card in cards_of(data):
+        size = int.from_bytes(card[10:12], "big")
+        if card.startswith(TEXT_CARD) and size <= LONGEST_TEXT:
+            place = int.from_bytes(card[5:8], "big")
+            found += stores(place, card[TEXT_AT : TEXT_AT + size])
+    return [line.encode() for line in found]

@@ -1,0 +1,186 @@
+"""Runs a script that has lines for people, or leaves out what people need not see, or ends at the first complaint: script_runs.py
+NAME PROGRAM SCRIPT WORD.., as bin/lib/program.sh calls it. The program is given the script part by part (docs/man/vm370.1), an event each."""
+from __future__ import annotations
+
+import re
+import sys
+from typing import Any
+
+from gathjumli import cli
+from gathjumli.cli import Failure, REFUSED, last, read_arguments, read_file
+from gathjumli.following import Program
+from gathjumli.machines import Machines, SIZE_OPTIONS, ScriptRefused, of_bare, of_directory
+from gathjumli.script_lines import Event, UNTIL_ALL_WAIT, Wrong, events_of
+from gathjumli.state_files import NOBODY, after, restore, save_state, state_of
+from gathjumli.state_runs import ENTRY, OPTIONS as STATE_OPTIONS, Output
+
+# the status of a run that ends at a complaint
+COMPLAINED = 79
+# turns that are given at once, so that what they print is there soon; and at most until all wait
+TURNS, MOST_TURNS = 100, 100000
+IDLE = "= IDLE"
+# how the control program answers a line that it does not do
+COMPLAINT = re.compile(
+    "UNKNOWN COMMAND|BAD OPERAND [0-9]+|(?:ALREADY|NOT) LOGGED ON|ADDRESS PAST STORAGE|NO CONSOLE|LINE LOST|IPL FAILED"
+    "|(?:DEVICE|USER|FILE) NOT FOUND|USER NOT LOGGED ON|NO FILE"
+)
+STORE = re.compile(rb"LINE [^ ]+ +(?:#CP +)?STORE ")
+OPTIONS = STATE_OPTIONS | {"--quiet": None, "--strict": None}
+
+
+class Run:
+    """A script that is given event by event."""
+
+    def __init__(self, program: Program, script: str, is_quiet: bool, is_strict: bool) -> None:
+        self.program = program
+        self.script = script
+        self.is_quiet, self.is_strict = is_quiet, is_strict
+        self.output = Output()
+        self.files: list = []
+        self.states: list = []
+
+    def do(self, event: Event) -> None:
+        if event.line == UNTIL_ALL_WAIT:
+            self.deal_until_all_wait(event)
+        elif event.line.startswith(b"AUTO "):
+            self.deal(int(event.line.split(b" ")[1]))
+        else:
+            for given in typed_one_by_one(event):
+                self.give(event, given)
+
+    def give(self, event: Event, given: bytes) -> list[str]:
+        """Has lines done, and prints what came of them."""
+        result = self.program.do(given)
+        self.files += result.files
+        self.states += result.states
+        self.print_lines([line for line in result.events if self.is_shown(event, given, line)])
+        if self.is_strict and given.startswith(b"LINE "):
+            self.refuse_complaint(event, given, result.events)
+        return result.events
+
+    def is_shown(self, event: Event, given: bytes, line: str) -> bool:
+        if not self.is_quiet:
+            return True
+        is_stored = STORE.match(given) and line == f"{event.user()}: STORED"
+        return line != IDLE and not is_stored
+
+    def print_lines(self, lines: list[str]) -> None:
+        self.output.write("".join(f"{line}\n" for line in lines).encode(errors="surrogateescape"))
+        sys.stdout.flush()
+
+    def refuse_complaint(self, event: Event, given: bytes, lines: list[str]) -> None:
+        """Ends the run if the control program complains of a typed line."""
+        for line in lines:
+            user, _, answer = line.partition(": ")
+            if user == event.user() and COMPLAINT.fullmatch(answer):
+                typed = given.decode(errors="surrogateescape").rstrip("\n")
+                raise Failure(
+                    COMPLAINED, f"{self.script}:{event.number}:1: {typed}: the answer is {answer}"
+                )
+
+    def deal(self, turns: int) -> bool:
+        """Deals turns; whether the last one found nobody ready."""
+        events = []
+        for begun in range(0, turns, TURNS):
+            size = min(TURNS, turns - begun)
+            events = self.give(Event(0, b"AUTO", []), b"AUTO %d\n" % size)
+        return events[-1:] == [IDLE]
+
+    def deal_until_all_wait(self, event: Event) -> None:
+        """Deals turns until nobody is ready; turns in which nothing happens are not shown."""
+        was_quiet, self.is_quiet = self.is_quiet, True
+        for _ in range(0, MOST_TURNS, TURNS):
+            if self.deal(TURNS):
+                self.is_quiet = was_quiet
+                return
+        raise Failure(
+            REFUSED,
+            f"{self.script}:{event.number}:1: somebody does not wait after {MOST_TURNS} turns: write AUTO with a number",
+        )
+
+    def print_files(self) -> None:
+        """Prints closed files as a transcript has them."""
+        for heading, entries in self.files:
+            self.output.write(heading.encode(errors="surrogateescape") + b"\n")
+            self.output.write(ENTRY.sub(b"", entries))
+
+    def finish(self) -> None:
+        sys.stdout.flush()
+        self.program.finish()
+        if self.output.failure:
+            raise self.output.failure
+
+
+def typed_one_by_one(event: Event) -> list[bytes]:
+    """What the program is given at once: each line of a LOAD by itself, all else as it is."""
+    if event.line.startswith(b"LOAD "):
+        return [line + b"\n" for line in event.given]
+    return [event.text()]
+
+
+def judged(machines: Machines, script: bytes, path: str) -> list[Event]:
+    """The events of a script in which no line is wrong; nothing of it is done."""
+    try:
+        events = list(events_of(script))
+    except Wrong as wrong:
+        raise Failure(REFUSED, f"{path}:{wrong.line}:{wrong.column}: {wrong.text}") from None
+    given = [[b"AUTO 1"] if event.line == UNTIL_ALL_WAIT else event.given for event in events]
+    try:
+        machines.check(b"".join(line + b"\n" for lines in given for line in lines))
+    except ScriptRefused as refused:
+        left = refused.line
+        for event, lines in zip(events, given):
+            if left <= len(lines):
+                number = event.number + (left - 1 if event.line == lines[0] else 0)
+                raise Failure(REFUSED, f"fault: script Line {number}") from None
+            left -= len(lines)
+        raise
+    return events
+
+
+def command(words: list[str]) -> None:
+    # the script may be a copy of what has this name
+    program_path, shown, *words = words
+    found, (first, script, *volumes) = read_arguments(words, OPTIONS, 2, 1000)
+    sizes = [
+        word for option in SIZE_OPTIONS for value in found[option] for word in (option, str(value))
+    ]
+    is_bare = cli.name() == "bare370"
+    machines = of_bare(first, volumes) if is_bare else of_directory(first, sizes, volumes)
+    machines.path, machines.is_built = program_path, True
+    given, to = last(found["--state"], None), last(found["--save-state"], None)
+    try:
+        state = given and state_of(given, machines)
+        events = judged(machines, read_file(script), shown)
+        program = Program(machines, *(["--save"] if found["--save"] else []))
+    except BaseException:
+        machines.close()
+        raise
+    run = Run(program, shown, bool(found["--quiet"]), bool(found["--strict"]))
+    try:
+        carry_out(run, events, state)
+        if to:
+            save_state(program, to, machines, after(state.notes if state else NOBODY, run.states))
+        run.print_files()
+        run.finish()
+    finally:
+        program.close()
+        machines.close()
+
+
+def carry_out(run: Run, events: list[Event], state: Any) -> None:
+    """Does the events, from a state if there is one. If it ends early, files that were closed are printed all the same."""
+    if state:
+        restore(run.program, state)
+    try:
+        for event in events:
+            run.do(event)
+    except Failure:
+        run.print_files()
+        sys.stdout.flush()
+        raise
+
+
+if __name__ == "__main__":
+    del sys.argv[0]
+    cli.run(command, "")
