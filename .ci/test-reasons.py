@@ -110,9 +110,15 @@ def difference(run: object, folder: str) -> str | None:
     # a command that drives a program has it reported by the program's own command
     notifier = {"terminal": "vm370"}.get(run.words[0], run.words[0]) if run.fault else run.words[0]
     wanted = f"{notifier}: {run.reason}"
-    is_right = (
-        lines[:1] == [run.fault] and lines[-1] == wanted if run.fault else lines[:1] == [wanted]
-    )
+    place = re.fullmatch("fault: (script|text|directory).*? ([0-9]+)", run.fault)
+    if place:
+        # the file, the line and some column; what follows are later faults
+        pattern = f"[^ ]*{place[1]}[^ :]*:{place[2]}:[0-9]+: {re.escape(run.reason)}"
+        is_right = lines[:1] == [run.fault] and any(re.fullmatch(pattern, line) for line in lines)
+    elif run.fault:
+        is_right = lines[:1] == [run.fault] and lines[-1] == wanted
+    else:
+        is_right = lines[:1] == [wanted]
     if not is_right or done.stdout or done.returncode != (1 if run.fault else 2):
         return "\n    ".join(
             [

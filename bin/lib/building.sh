@@ -158,7 +158,7 @@ build() {
     # shellcheck disable=SC2046
     set -- $(crates_of "$program_crate")
     crates=" $* "
-    count=$#
+    crate_count=$#
     began=$(date +%s)
     progress=$folder/out/building.$$
     places=$(places)
@@ -166,7 +166,7 @@ build() {
     say "without proof it runs in about two minutes, with --unproved or GATHJUMLI_UNPROVED=1 in the environment"
     say "the logs are in $logs"
     prove_all
-    print_progress "building $program_crate, $count of $count"
+    print_progress "building $program_crate, $crate_count of $crate_count"
     (unset CDPATH && cd -- "$folder" && run_once) > "$logs/$program_crate.log" 2>&1 < /dev/null || refuse_build "$program_crate"
     # of what the sources were when it began: an edit that was made meanwhile is seen the next time
     printf '%s\n%s\n' "$now_sources" "$now_kit" > "$mark.$$"
@@ -232,7 +232,7 @@ begin() {
     number=$((number + 1))
     running=$((running + 1))
     begun="$begun$1 "
-    print_progress "proving $1, $number of $count"
+    print_progress "proving $1, $number of $crate_count"
     apart=$(command -v setsid) || apart=
     (
         unset CDPATH
@@ -335,7 +335,7 @@ print_prospects() {
     set -- $unproved
     never_proved=$#
     lines=$(lines_of "$@")
-    say "proving and building $program_crate: $count crates, of which $# were never proved here, up to $places side by side"
+    say "proving and building $program_crate: $crate_count crates, of which $# were never proved here, up to $places side by side"
     if [ -r "$folder/out/took" ] && read -r minutes before < "$folder/out/took"; then
         say "the last time it took $minutes minutes, for $before crates that were never proved before"
     elif [ "$never_proved" -gt 0 ]; then

@@ -95,14 +95,14 @@ read_arguments() {
             case $known in
             *" ${given#--}: "*) set_option "${given#--}" "${word#*=}" ;;
             *" ${given#--} "*) usage_error "$given has no value: $word" ;;
-            *) usage_error "no such option: $given" ;;
+            *) no_such_option "$given" ;;
             esac
             ;;
         true-?*)
             case $word:$known in
             --*:*" ${word#--}: "*) awaited=${word#--} ;;
             --*:*" ${word#--} "*) set_option "${word#--}" true ;;
-            *) usage_error "no such option: $word" ;;
+            *) no_such_option "$word" ;;
             esac
             ;;
         *)
@@ -112,6 +112,12 @@ read_arguments() {
         esac
     done
     [ -z "$awaited" ] || usage_error "no value follows --$awaited"
+}
+
+# no_such_option WORD: refuses it, and names the known option that was perhaps meant
+no_such_option() {
+    meant=$(awk -v "wrong=${1#--}" -v "known=$known" -f "$root/bin/lib/nearest.awk") || meant=
+    usage_error "no such option: $1${meant:+; did you mean $meant?}"
 }
 
 # set_option NAME VALUE: of an option that is known; --save-state is option_save_state

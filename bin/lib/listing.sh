@@ -53,7 +53,7 @@ finish_listing() {
             ;;
         esac
         printf '%s\n' "$line" >&2
-        script=$work/script explain "$line"
+        script_name=$script script=$work/script explain "$line"
     done < "$work/faults"
     exit "$ended"
 }

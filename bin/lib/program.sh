@@ -223,25 +223,25 @@ explain() {
     print_reason "$1"
 }
 
-# print_reason FAULT: what is wrong and what would be right, where python3 is there to find it out
+# print_reason FAULT: what is wrong and what would be right, of this fault and of those after it, where python3 is there to find it out
 print_reason() {
     command -v python3 > /dev/null || return 0
-    set -- "$1" "${directory-}" "${script-}" "${text-}" "${storage-}"
+    set -- "$name" "$program" "$1" "${option_frames-}" "${option_slots-}" "${script_name-}" "${directory-}" "${script-}" "${text-}" "${storage-}"
     number=${first_image-}
     while [ -n "$number" ] && [ "$number" -le "$count" ]; do
         eval "set -- \"\$@\" \"\$path$number\""
         number=$((number + 1))
     done
-    reason=$(PYTHONDONTWRITEBYTECODE=1 python3 "$root/bin/lib/run.py" reasons "$@") || return 0
-    [ -z "$reason" ] || say "$reason"
+    PYTHONDONTWRITEBYTECODE=1 python3 "$root/bin/lib/run.py" faults "$@" >&2 || return 0
 }
 
 # show_line NUMBER FILE: a line, with what cannot be seen of it
 show_line() {
     [ -f "$2" ] || return 0
-    LC_ALL=C awk -v number="$1" -v name="$name" '
+    tr '\000' '\001' < "$2" | LC_ALL=C awk -v number="$1" -v name="$name" '
         NR == number {
             is_found = 1
+            if (/[\001-\010\016-\037]/) { print name ": line " number " is no text, and is not shown"; exit }
             notes = ""
             if (sub(/\r$/, "")) notes = notes ", with a carriage return at its end"
             if ($0 ~ / $/) notes = notes ", with a blank at its end"
@@ -253,5 +253,5 @@ show_line() {
             exit
         }
         END { if (!is_found) print name ": line " number " is not there: the text has " NR " lines" }
-    ' "$2" >&2
+    ' >&2
 }

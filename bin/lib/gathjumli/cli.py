@@ -3,6 +3,7 @@ from __future__ import annotations
 
 from typing import Any
 from collections.abc import Callable
+import difflib
 import os
 import re
 import subprocess
@@ -170,7 +171,7 @@ def read_arguments(words: Any, options: Any, least: Any, most: Any) -> tuple:
             raise Version
         option, given, value = word.partition("=")
         if option not in options:
-            raise UsageError(f"no such option: {option}")
+            raise UsageError(f"no such option: {option}{did_you_mean(option, options)}")
         if given and options[option] is None:
             raise UsageError(f"{option} has no value: {word}")
         if options[option] is None:
@@ -187,6 +188,12 @@ def read_arguments(words: Any, options: Any, least: Any, most: Any) -> tuple:
     if len(paths) > most:
         raise UsageError(f"one argument too many: {paths[most]}")
     return found, paths
+
+
+def did_you_mean(option: str, options: Any) -> str:
+    """The known option that was perhaps meant."""
+    near = difflib.get_close_matches(option, [*options, "--help", "--version"], 1)
+    return f"; did you mean {near[0]}?" if near else ""
 
 
 def read_value(option: Any, value: Any, read: Any) -> Any:

@@ -1,17 +1,12 @@
 """Why a program refuses a text, an image or a boot, in words (docs/FORMATS.md): what is wrong, and what would be right. The programs
-themselves report one fixed line.
-
-    reasons.py FAULT DIRECTORY SCRIPT TEXT STORAGE [IMAGE]..
-
-FAULT is that line; a file that the command does not have is empty, and STORAGE is given only of one machine of its own. What cannot
-be found out is left out."""
+themselves report one fixed line. What cannot be found out is left out."""
 from __future__ import annotations
 
 from typing import Any
 from collections.abc import Iterator
+import contextlib
 import os
 import re
-import sys
 
 from gathjumli.cli import Failure
 from gathjumli.volumes import HEADS, MOST_CYLINDERS, ROOM, is_serial, read_volume
@@ -434,6 +429,15 @@ def minidisks(directory: Any) -> Iterator:
             yield at, words
 
 
+def image_for_text(data: bytes) -> str | None:
+    """What is said of an image that is given as a text."""
+    if data[:4] in (b"CKD1", b"CKD2"):
+        return "this is an image, and no text: bin/vol2text makes the text of it"
+    if data[:4] == b"CKD_":
+        return "this is an image of Hercules, and no text: bin/img2vol makes a volume of it"
+    return None
+
+
 # --- all faults ---
 
 
@@ -455,6 +459,10 @@ def reason(
 ) -> Any:
     """Why, in words, or None where it cannot be found out; the texts are given as bytes."""
     found = find_reason(fault, directory, script, text, is_bare, images)
+    if found:
+        # each byte was a character; a text of UTF-8 is shown as one
+        with contextlib.suppress(UnicodeError):
+            found = found.encode("latin-1").decode()
     return found and "".join(
         item if item.isprintable() or "\udc80" <= item <= "\udcff" else "?"
         for item in found[:MOST_CHARACTERS]
@@ -470,7 +478,7 @@ def find_reason(
             users = bare_user(len(images)) if is_bare else users_of(directory)
             return script_reason(lines_of(script), int(found[2]), users)
         if found:
-            return text_reason(lines_of(text), int(found[2]))
+            return image_for_text(text) or text_reason(lines_of(text), int(found[2]))
         kind, _, rest = fault.removeprefix("fault: ").partition(" ")
         if kind == "directory":
             name, *numbers = rest.split()
@@ -481,14 +489,3 @@ def find_reason(
     except (IndexError, StopIteration, ValueError, OSError):
         # a text that changed meanwhile, or could be read only once
         return None
-
-
-def main(fault: Any, directory: Any, script: Any, text: Any, storage: Any, *images: Any) -> None:
-    sys.stdout.reconfigure(encoding="utf-8", errors="surrogateescape")
-    found = reason(fault, read(directory), read(script), read(text), bool(storage), images)
-    if found:
-        print(found)
-
-
-if __name__ == "__main__":
-    main(*sys.argv[1:])

@@ -9,7 +9,7 @@ from typing import Any
 from gathjumli import cli
 from gathjumli.cli import Failure, REFUSED, last, read_arguments, read_file
 from gathjumli.following import Program
-from gathjumli.machines import Machines, SIZE_OPTIONS, ScriptRefused, of_bare, of_directory
+from gathjumli.machines import Machines, SIZE_OPTIONS, ScriptRefused, of_bare
 from gathjumli.script_lines import Event, UNTIL_ALL_WAIT, Wrong, events_of
 from gathjumli.state_files import NOBODY, after, restore, save_state, state_of
 from gathjumli.state_runs import ENTRY, OPTIONS as STATE_OPTIONS, Output
@@ -146,7 +146,9 @@ def command(words: list[str]) -> None:
         word for option in SIZE_OPTIONS for value in found[option] for word in (option, str(value))
     ]
     is_bare = cli.name() == "bare370"
-    machines = of_bare(first, volumes) if is_bare else of_directory(first, sizes, volumes)
+    # what is wrong with a directory the program says
+    own = Machines("vm370", [*sizes, first], volumes, {}, {})
+    machines = of_bare(first, volumes) if is_bare else own
     machines.path, machines.is_built = program_path, True
     given, to = last(found["--state"], None), last(found["--save-state"], None)
     try:
