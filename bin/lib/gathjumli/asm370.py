@@ -19,6 +19,7 @@ import re
 import sys
 from collections import namedtuple
 
+from gathjumli.asm370_listing import print_listing
 from gathjumli.cli import FILE_FAILED, give_up_output, output_failure
 
 REFUSED = 74
@@ -230,6 +231,8 @@ CONDITIONAL = set(
 MOST_JUMPS = 4096
 MOST_DEPTH = 40
 
+# a line that makes no statement: a comment, the call of a macro, a definition
+SourceLine = namedtuple("SourceLine", "text origin")
 Macro = namedtuple("Macro", "name label positional keywords path lines first takes_lists")
 
 
@@ -313,6 +316,8 @@ class Expander:
         self.has_ended = False
         # the first line after END, if there is one
         self.left_over = None
+        # what a listing shows: statements, and the lines that make none
+        self.shown = []
 
     def go(self, path: Any) -> None:
         frame = Frame(path, read_lines(path))
@@ -335,6 +340,7 @@ class Expander:
                 text, pieces = found
                 origin = Origin(frame.path, pieces, frame.caller)
                 if is_comment(text):
+                    self.note(text, origin)
                     continue
                 statement = Statement(text, origin)
                 if statement.operation in ("MEXIT", "MEND") and frame.caller:
@@ -345,10 +351,20 @@ class Expander:
             except Fault as fault:
                 self.faults.append((origin, fault))
 
+    def note(self, text: str, origin: Origin) -> None:
+        """Has a line of the source shown that makes no statement."""
+        if not origin.caller:
+            self.shown.append(SourceLine(text, origin))
+
     def step(self, frame: Any, statement: Any, depth: Any) -> None:
         if statement.operation == "MACRO":
+            begun = frame.at - 1
             self.define(frame)
+            for at in range(begun, frame.at):
+                place = Origin(frame.path, [(0, at + frame.first, 0)], frame.caller)
+                self.note(frame.lines[at], place)
         elif statement.operation in CONDITIONAL:
+            self.note(statement.text, statement.origin)
             self.condition(frame, statement, depth)
         else:
             self.statement(frame, statement, depth)
@@ -364,9 +380,11 @@ class Expander:
                 " " * len(statement.name) + statement.text[len(statement.name) :], statement.origin
             )
         if statement.operation in self.macros:
+            self.shown.append(SourceLine(statement.text, statement.origin))
             self.call(self.macros[statement.operation], statement, depth)
             return
         self.statements.append(statement)
+        self.shown.append(statement)
         if statement.operation == "END":
             self.has_ended = True
 
@@ -858,6 +876,8 @@ class Assembler:
     def one_pass(self) -> None:
         self.before, self.symbols, self.faults = self.symbols, {}, []
         self.refused_before, self.refused, self.places = self.refused, set(), {}
+        # where each name is used
+        self.uses = {}
         self.memory, self.stated = bytearray(), bytearray()
         self.lines, self.entry = [], None
         self.sections, self.highest, self.here_in = {PROGRAM: 0}, {PROGRAM: 0}, PROGRAM
@@ -912,10 +932,11 @@ class Assembler:
             raise Fault(f"{name} is no name: a letter, and then letters and digits", 0)
         if name in self.symbols:
             raise Fault(
-                f"the name {name} stands before another statement too: {self.places[name]}", 0
+                f"the name {name} stands before another statement too: {self.places[name].place()}",
+                0,
             )
         self.symbols[name] = Symbol(value, length)
-        self.places[name] = self.statement.origin.place()
+        self.places[name] = self.statement.origin
 
     def here(self) -> Any:
         return self.sections[self.here_in]
@@ -1046,6 +1067,7 @@ class Assembler:
         return self.symbol(found.group(), at).length
 
     def symbol(self, name: str, at: int) -> Any:
+        self.uses.setdefault(name, []).append(self.statement.origin)
         if name in self.symbols:
             return self.symbols[name]
         if name in self.before:
@@ -1641,6 +1663,7 @@ def assembled(path: str) -> Any:
             for line in origin.message(fault):
                 print(line, file=sys.stderr)
         raise Refused(None)
+    assembler.shown = expander.shown
     if expander.left_over:
         print(f"asm370: {expander.left_over}: what follows END is not assembled", file=sys.stderr)
     assembler.memory += bytes(-len(assembler.memory) % 8)
@@ -1749,32 +1772,6 @@ def addresses(program: Any) -> Any:
     return found
 
 
-def print_listing(program: Any) -> None:
-    """Of each statement its address, its bytes, eight a line, and its text; then each name with its address and length."""
-    for statement, section, place, data in program.lines:
-        has_place = (
-            data
-            or statement.operation in ("DS", "DC", "ORG", "DSECT", "CSECT", "LTORG")
-            or not statement.operation
-        )
-        address = (
-            f"{place:06X}"
-            if has_place and section == PROGRAM
-            else f"+{place:05X}"
-            if has_place
-            else ""
-        )
-        print(f"{address:6} {data[:8].hex().upper():16} {statement.text.rstrip()}")
-        for start in range(8, len(data), 8):
-            print(f"{place + start:06X} {data[start : start + 8].hex().upper()}")
-    print()
-    for key, symbol in sorted(
-        (str(key if isinstance(key, str) else key[1]), value)
-        for key, value in program.symbols.items()
-    ):
-        print(f"{symbol.value.number:06X} {symbol.length:5d} {key}")
-
-
 def main(words: list[str]) -> Any:
     form, source = words[0], words[-1]
     try:
@@ -1788,7 +1785,7 @@ def main(words: list[str]) -> Any:
         elif form == "volume":
             print_volume(program, words[1])
         else:
-            print_listing(program)
+            print_listing(program, PROGRAM)
         sys.stdout.flush()
     except Refused as refused:
         text = refused.args[0]
