@@ -31,8 +31,9 @@ installed_commands() {
 # the folders below a prefix that others share, a folder after those in it
 shared_folders="share/bash-completion/completions share/bash-completion share/man/man1 share/man share/doc share lib bin"
 
-# place_in PREFIX: copies everything to where it belongs
+# place_in PREFIX [SHOWN]: copies everything to where it belongs; pages name it by SHOWN, if PREFIX is not where it is used
 place_in() {
+    shown=$(printf '%s' "${2-$1}" | sed 's/[&\\,]/\\&/g')
     place=$1/lib/gathjumli
     share=$1/share
     made=
@@ -65,12 +66,16 @@ place_examples() {
     cp -R -- "$root/examples" "$place/" && ln -sf ../lib/gathjumli/examples/run "$1/bin/gathjumli-example"
 }
 
-# the documents, and the man pages with the version
+# the documents, and the man pages with the version and with names as they are installed
 place_pages() {
-    cp -- "$root/README.md" "$root/CHANGELOG.md" "$share/doc/gathjumli/" && cp -- "$root"/docs/*.md "$share/doc/gathjumli/docs/" || return 1
+    cp -- "$root/README.md" "$root/CHANGELOG.md" "$root/CONTRIBUTING.md" "$share/doc/gathjumli/" &&
+        cp -- "$root"/docs/*.md "$root/docs/installation.service" "$share/doc/gathjumli/docs/" || return 1
     for command in $(installed_commands); do
-        page=$root/docs/man/$command.1
-        sed "1s/\$/ \"\" \"Gathjumli $version_number\"/" "$page" > "$share/man/man1/$command.1" || return 1
+        sed -E -e "1s/\$/ \"\" \"Gathjumli $version_number\"/" -e 's,examples/run,gathjumli-example,g' \
+            -e "s,(^|[^/a-zA-Z])examples/(users|machines),\\1$shown/lib/gathjumli/examples/\\2,g" \
+            -e "s,(^|[^/a-zA-Z])docs/,\\1$shown/share/doc/gathjumli/docs/,g" \
+            -e "s,(^|[^/a-zA-Z])bin/lib/,\\1$shown/lib/gathjumli/bin/lib/,g" \
+            -e 's,(^|[^/a-zA-Z])bin/([a-z]),\1\2,g' "$root/docs/man/$command.1" > "$share/man/man1/$command.1" || return 1
     done
 }
 
@@ -84,7 +89,12 @@ _gathjumli() {
     COMPREPLY=()
     case $word in
     -*) mapfile -t COMPREPLY < <(compgen -W "$("$1" --help 2> /dev/null | grep -oE -- '--[a-z][a-z-]*' | sort -u)" -- "$word") ;;
-    *) [ "$1" != gathjumli-example ] || mapfile -t COMPREPLY < <(compgen -W "$("$1" 2> /dev/null | sed -n 's/^    //p')" -- "$word") ;;
+    *)
+        if [ "$1" = gathjumli ] && [ "$COMP_CWORD" -eq 1 ]; then
+            mapfile -t COMPREPLY < <(compgen -W "run bare trace assemble listing example $(sed -n 's/^complete.* gathjumli //p' "${BASH_SOURCE[0]}")" -- "$word")
+        fi
+        [ "$1" != gathjumli-example ] || mapfile -t COMPREPLY < <(compgen -W "$("$1" 2> /dev/null | sed -n 's/^    //p')" -- "$word")
+        ;;
     esac
 }
 END
@@ -94,7 +104,7 @@ END
         echo
     } >> "$completion/gathjumli"
     for command in $(installed_commands) gathjumli-example; do
-        ln -sf gathjumli "$completion/$command" || return 1
+        [ "$command" = gathjumli ] || ln -sf gathjumli "$completion/$command" || return 1
     done
 }
 
