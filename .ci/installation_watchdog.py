@@ -12,11 +12,11 @@ import time
 from installation import Site, make_site, on, read, run, write_text
 
 # seconds after which a program that does not answer is killed in these tests; on a busy host a stand-in takes ten to begin
-HUNG_AFTER = 15
+HUNG_AFTER = 5 if os.getloadavg()[0] < os.cpu_count() else 30
 # seconds after which the manager of these tests wants a sign of life
 WATCHDOG = 4
 # how long a test waits for what has to come
-PATIENCE = 60
+PATIENCE = 90
 
 
 @contextlib.contextmanager
