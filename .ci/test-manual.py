@@ -1,7 +1,8 @@
 #!/usr/bin/env python3
 """Runs the EXAMPLES of each man page as they are printed, and the example of each usage text, over programs that are laid out as
 bin/install does it: those that rt ci has built, or with --unproved those without proof. A page's lines are run one after another in a
-folder of its own, which has the files that the page supposes (GIVEN). What is not run is in NOT_RUN with its reason. The last line is
+folder of its own, which has the files that the page supposes (GIVEN). What is not run is in NOT_RUN with its reason. A
+command that prints is run again with standard output on a full disk, and with a reader who has gone. The last line is
 'N passed, M failed'."""
 from __future__ import annotations
 
@@ -110,7 +111,7 @@ def blocks_of(path: str) -> list[Block]:
 def lay_out(folder: str, argument: str) -> None:
     """The commands and their programs, as an installation has them."""
     shutil.copytree(f"{TOP}/bin", f"{folder}/bin", ignore=shutil.ignore_patterns("__pycache__"))
-    os.symlink(f"{TOP}/examples", f"{folder}/examples")
+    shutil.copytree(f"{TOP}/examples", f"{folder}/examples")
     for name in ("VERSION", "web"):
         os.symlink(f"{TOP}/{name}", f"{folder}/{name}")
     os.mkdir(f"{folder}/programs")
@@ -172,9 +173,24 @@ def faults_of_block(block: Block, page: str, room: str, printed: str) -> tuple[l
             return faults, ""
         done = run(line, room)
         printed = done.stdout.decode("latin-1")
+        if printed and not set(line) & set("|>;&"):
+            faults += faults_of_output(f"{page}: {line}", line, room)
         if done.returncode and not (line in FINDS_NOTHING and not done.stderr):
             faults.append(f"{page}: {line}: status {done.returncode}: {done.stderr.decode()}")
     return faults, printed
+
+
+def faults_of_output(what: str, line: str, room: str) -> list[str]:
+    """What is wrong with a command that prints to a full disk, or to a reader who has gone."""
+    full = run(f"{line} > /dev/full", room)
+    # the shell's own status is that of the reader
+    gone = run(f"{{ {line}; echo $? >&2; }} | true", room)
+    faults = []
+    if full.returncode != 3 or not full.stderr or b"Traceback" in full.stderr:
+        faults.append(f"{what}: on a full disk status {full.returncode}: {full.stderr.decode()}")
+    if b"Traceback" in gone.stderr:
+        faults.append(f"{what}: without a reader: {gone.stderr.decode()}")
+    return faults
 
 
 def faults_of_page(path: str, folder: str, laid_out: str) -> list[str]:

@@ -69,7 +69,8 @@ place_examples() {
 # the documents, and the man pages with the version and with names as they are installed
 place_pages() {
     cp -- "$root/README.md" "$root/CHANGELOG.md" "$root/CONTRIBUTING.md" "$share/doc/gathjumli/" &&
-        cp -- "$root"/docs/*.md "$root/docs/installation.service" "$share/doc/gathjumli/docs/" || return 1
+        cp -- "$root"/docs/*.md "$root/docs/installation.service" "$share/doc/gathjumli/docs/" &&
+        echo '.so man1/vm370.1' > "$share/man/man1/gathjumli-example.1" || return 1
     for command in $(installed_commands); do
         sed -E -e "1s/\$/ \"\" \"Gathjumli $version_number\"/" -e 's,examples/run,gathjumli-example,g' \
             -e "s,(^|[^/a-zA-Z])examples/(users|machines),\\1$shown/lib/gathjumli/examples/\\2,g" \
