@@ -64,7 +64,7 @@ def try_complaints(check: object, work: str, played: object, script: str) -> Non
 
 
 def try_faults(check: object, work: str, played: object, script: str) -> None:
-    done = played(script + "RUN A 1\n")
+    done = played(script + "BAD\n")
     is_right = done.status == 1 and done.err.startswith("fault: script Line 7\n") and not done.out
     check("a wrong line is counted as in the script", is_right, *done.findings())
     for path, reason in (

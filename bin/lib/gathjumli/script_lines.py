@@ -54,6 +54,18 @@ def events_of(script: bytes) -> Iterator[Event]:
         yield Event(number, line, loaded(number, *load.groups()) if load else [line, *cards])
 
 
+def plain(events: list[Event], turns: int) -> tuple[bytes, list[int]]:
+    """The program's script of these events, with so many turns where AUTO has no number, and of each line of it the number of the
+    line that it came of."""
+    lines, numbers = [], []
+    for event in events:
+        given = [b"AUTO %d" % turns] if event.line == UNTIL_ALL_WAIT else event.given
+        is_loaded = given[:1] != [event.line]
+        lines += given
+        numbers += [event.number + (0 if is_loaded else at) for at in range(len(given))]
+    return b"".join(line + b"\n" for line in lines), numbers
+
+
 def loaded(number: int, user: bytes, path: bytes) -> list[bytes]:
     """The lines by which what bin/asm370 wrote is stored: its script, typed by this user, or the cards of its deck."""
     column = len(b"LOAD ") + len(user) + 2

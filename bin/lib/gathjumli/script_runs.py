@@ -10,7 +10,7 @@ from gathjumli import cli
 from gathjumli.cli import Failure, REFUSED, last, read_arguments, read_file
 from gathjumli.following import Program
 from gathjumli.machines import Machines, SIZE_OPTIONS, ScriptRefused, of_bare
-from gathjumli.script_lines import Event, UNTIL_ALL_WAIT, Wrong, events_of
+from gathjumli.script_lines import Event, UNTIL_ALL_WAIT, Wrong, events_of, plain
 from gathjumli.state_files import NOBODY, after, restore, save_state, state_of
 from gathjumli.state_runs import ENTRY, OPTIONS as STATE_OPTIONS, Output
 
@@ -124,17 +124,11 @@ def judged(machines: Machines, script: bytes, path: str) -> list[Event]:
         events = list(events_of(script))
     except Wrong as wrong:
         raise Failure(REFUSED, f"{path}:{wrong.line}:{wrong.column}: {wrong.text}") from None
-    given = [[b"AUTO 1"] if event.line == UNTIL_ALL_WAIT else event.given for event in events]
+    given, numbers = plain(events, 1)
     try:
-        machines.check(b"".join(line + b"\n" for lines in given for line in lines))
+        machines.check(given)
     except ScriptRefused as refused:
-        left = refused.line
-        for event, lines in zip(events, given):
-            if left <= len(lines):
-                number = event.number + (left - 1 if event.line == lines[0] else 0)
-                raise Failure(REFUSED, f"fault: script Line {number}") from None
-            left -= len(lines)
-        raise
+        raise Failure(REFUSED, f"fault: script Line {numbers[refused.line - 1]}") from None
     return events
 
 
