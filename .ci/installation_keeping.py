@@ -3,6 +3,7 @@ from __future__ import annotations
 
 from collections.abc import Callable
 import asyncio
+import glob
 import os
 import subprocess
 import time
@@ -160,15 +161,17 @@ def try_keep(check: Callable, site: Site) -> None:
     prints, journal = f"{site.folder}/prints", f"{site.folder}/journal"
     words = ["--operate", f"{site.folder}/operator", "--printouts", prints, "--journal", journal]
 
-    async def prints_one() -> None:
+    async def prints_one(session: int) -> None:
         alice = await on(site)
         alice.type("PRINT HELLO", "LOGOFF")
         await alice.rest()
+        # an end before that is refused
+        await until_so(lambda: len(glob.glob(f"{prints}/*/PRT*.txt")) > session)
 
     ended = []
-    for _ in range(2):
+    for session in range(2):
         site.online(*words)
-        run(prints_one())
+        run(prints_one(session))
         check("it ends", operator(site, "end").returncode == 0 and site.ended() == 0)
         ended = kept_names(site)
     old, new = (f"{site.folder}/{name}" for name in ended)

@@ -15,7 +15,7 @@ import time
 from gathjumli import web_library
 from gathjumli.decks import Folders
 from gathjumli.users import User
-from installation import BANNER, run, write_text as write
+from installation import BANNER, PATIENCE, run, write_text as write
 from gathjumli.logon import Passwords
 from gathjumli.minidisks import Minidisks
 from gathjumli.web_operator import OperatorPage, OperatorPages
@@ -178,7 +178,7 @@ class Browser:
         """Logs on; all that the browser is reported until that is done or refused."""
         findings, until = (
             await self.send({"is": "logon", "name": name, "password": password}),
-            time.monotonic() + 5,
+            time.monotonic() + PATIENCE,
         )
         while (
             not refusals(findings)
@@ -193,7 +193,7 @@ class Browser:
         """Logs off; all that the browser is reported until nobody is on."""
         findings, until = (
             await self.send({"is": "line", "text": "logoff"}),
-            time.monotonic() + 5,
+            time.monotonic() + PATIENCE,
         )
         # the line of one who has just logged on is read a moment later
         while self.page.user() and time.monotonic() < until:
@@ -271,7 +271,7 @@ async def try_messages(check: Callable, folder: str) -> None:
         }
         check(f"{name}: ALICE is on", holds, *map(str, findings))
         await browser.page.take({**message, "token": browser.page.token})
-        until = time.monotonic() + 5
+        until = time.monotonic() + PATIENCE
         findings = []
         while not findings and time.monotonic() < until:
             await asyncio.sleep(0.002)
