@@ -9,5 +9,5 @@ returns-clause-ok g c =
 
 pub returns-clause-err : goal.returns-clause-err
 returns-clause-err g c =
-    if_err_to c.follow_machine.result (λ failure failed. inr (inr (c.in-Ok.options, _, _, _, _, failed)))
+    if_err_to c.follow_machine.result (λ failure failed. inr (inr (c.in-Ok.options, _, _, _, _, _, failed)))
     c.follow_machine.ensures.err

@@ -9,5 +9,5 @@ returns-clause-ok g c =
 
 pub returns-clause-err : goal.returns-clause-err
 returns-clause-err g c =
-    if_err_to c.run_files.result (λ failure failed. inr (inl (c.in-Ok.options, _, _, failed)))
+    if_err_to c.run_files.result (λ failure failed. inr (inl (c.in-Ok.options, _, _, _, _, failed)))
     c.run_files.ensures.err
