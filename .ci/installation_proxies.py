@@ -241,7 +241,7 @@ def try_guesser(check: Callable, site: Site) -> None:
 
     site.online("--operate", f"{site.folder}/operator")
     run(guess_all())
-    lines = run(rest_of(GUESSER, port, b"LOGON ALICE WONDER\r\n"))
+    lines = run(rest_of(GUESSER, port, b""))
     wanted = "REFUSED: TOO MANY WRONG PASSWORDS FROM YOUR ADDRESS, COME BACK LATER"
     check("a guesser is refused", lines == [wanted], *lines)
     check("another address is not", run(on_from(OTHER, port)) == "LOGON OK", *site.findings)
