@@ -64,6 +64,8 @@ def try_complaints(check: object, work: str, played: object, script: str) -> Non
 
 
 def try_faults(check: object, work: str, played: object, script: str) -> None:
+    with open(f"{work}/turns", "w") as file:
+        file.write("* A script with turns.\nLINE BARE LOGON\nAUTO 2\n")
     done = played(script + "BAD\n")
     is_right = done.status == 1 and done.err.startswith("fault: script Line 7\n") and not done.out
     check("a wrong line is counted as in the script", is_right, *done.findings())
@@ -71,6 +73,7 @@ def try_faults(check: object, work: str, played: object, script: str) -> None:
         (f"{work}/none", "No such file or directory"),
         (work, "Is a directory"),
         (f"{work}/a.asm", "has no line LINE and no card TXT"),
+        (f"{work}/turns", "has lines LINE and comments alone, and not: AUTO 2"),
     ):
         done = played(f"LINE BARE LOGON\nLOAD BARE {path}\n")
         is_right = done.status == 1 and f"{work}/script:2:11: {path}" in done.err

@@ -474,7 +474,27 @@ AUTO 5
 """
 
 
+def try_interruptions() -> None:
+    """An interruption at a machine whose new PSWs are zero is one that its masks let in, whatever else was stored before."""
+    from gathjumli.tracing import interruption
+
+    # of a program (28): operation; and of the timer (18), which only bit 7 of the PSW lets in
+    program = b"\0\0\0\x01\x40\0\0\x02"
+    low = bytearray(0x80)
+    low[0x28 - 0x10 : 0x28 - 8] = program
+    found = interruption(bytes(8), bytes(8), bytes(low), bytes(low), False)
+    check(
+        "an interruption that repeats is of the program", found == ("program", program), f"{found}"
+    )
+    timer = b"\x01\0\0\x80\0\0\x02\0"
+    before = b"\x01\0\0\0\0\0\x02\0"
+    low[0x18 - 0x10 : 0x18 - 8] = timer
+    found = interruption(before, bytes(8), bytes(0x80), bytes(low), False)
+    check("one of the timer is external", found == ("external", timer), f"{found}")
+
+
 def test_trace(repository: str, work: str) -> None:
+    try_interruptions()
     write(f"{work}/script", TRACED)
     kept = f"{PEOPLE}/trace"
     done = Done(repository, "trace370", "--bare", "--range", "300-30F", "64K", f"{work}/script")

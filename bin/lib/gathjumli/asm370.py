@@ -1672,7 +1672,7 @@ def assembled(path: str) -> Any:
 
 def entry_of(program: Any) -> Any:
     if program.entry is None:
-        raise Refused("END names no address to begin at")
+        raise Refused("END names no address to begin at: END BEGIN, say, names the statement BEGIN")
     return program.entry
 
 

@@ -140,7 +140,7 @@ def wrong_verb(line: Any, first: Any) -> Any:
     if first.upper().strip() in OPERANDS and first != first.upper():
         return f"first words are in upper case: {first.upper()}, and not {first}"
     if first == "LOAD":
-        return "LOAD u FILE is taken by bin/vm370 and bin/bare370: u a user, FILE what bin/asm370 wrote"
+        return "bin/vm370 and bin/bare370 take LOAD u FILE: u is a user of the directory, and FILE is what bin/asm370 wrote"
     return (
         invisible(line)
         or "a line begins with RUN, LINE, TICK, SERVE, AUTO or DECK, and not with " + first

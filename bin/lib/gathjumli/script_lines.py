@@ -16,6 +16,8 @@ UNTIL_ALL_WAIT = b"AUTO"
 # a card of an object deck: 02 and TXT in EBCDIC, an address, a length, and from column 17 on the bytes
 TEXT_CARD = b"\x02\xe3\xe7\xe3"
 TEXT_AT, LONGEST_TEXT = 16, 56
+# what a reason shows of a line
+MOST_SHOWN = 40
 
 
 class Wrong(Exception):
@@ -75,6 +77,10 @@ def loaded(number: int, user: bytes, path: bytes) -> list[bytes]:
     except OSError as error:
         raise Wrong(number, column, f"{name}: {error.strerror}") from None
     is_deck = data[:1] in (b"\0", b"\x02")
+    other = None if is_deck else other_line(data)
+    if other:
+        text = other.decode("latin-1")[:MOST_SHOWN]
+        raise Wrong(number, column, f"{name} has lines LINE and comments alone, and not: {text}")
     typed = texts_of_cards(data) if is_deck else typed_lines(data)
     if not typed:
         raise Wrong(
@@ -85,11 +91,22 @@ def loaded(number: int, user: bytes, path: bytes) -> list[bytes]:
     return [b"LINE " + user + b" " + line for line in typed]
 
 
+def lines_of_script(data: bytes) -> list[bytes]:
+    """The lines of a script but for comments."""
+    return [line for line in data.split(b"\n") if line and not line.startswith(b"*")]
+
+
+def other_line(data: bytes) -> bytes | None:
+    """The first line of a script that is another event than a typed line; None if none is, or no line is typed at all."""
+    lines = lines_of_script(data)
+    if not any(TYPED.fullmatch(line) for line in lines):
+        return None
+    return next((line for line in lines if not TYPED.fullmatch(line)), None)
+
+
 def typed_lines(data: bytes) -> list[bytes]:
-    """What the lines of a script type, or nothing if one is another event."""
-    lines = [line for line in data.split(b"\n") if line and not line.startswith(b"*")]
-    found = [TYPED.fullmatch(line) for line in lines]
-    return [match[1] for match in found if match] if all(found) else []
+    """What the lines of a script type."""
+    return [match[1] for line in lines_of_script(data) if (match := TYPED.fullmatch(line))]
 
 
 def texts_of_cards(data: bytes) -> list[bytes]:

@@ -581,7 +581,11 @@ def interruption(before: str, after: Any, old_low: Any, new_low: Any, is_call: A
             continue
         if (
             stays
-            and (stored[5:] != before[5:] or stored[4] != before[4])
+            and (
+                stored[5:] != before[5:]
+                or stored[4] != before[4]
+                or not before[0] & (0x01 if kind == "external" else 0xFE)
+            )
             or kind == "svc"
             and not is_call
         ):
