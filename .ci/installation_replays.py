@@ -36,8 +36,10 @@ def has_state(site: Site) -> bool:
 
 
 def go_on_way(site: Site) -> None:
-    """Starts it, and waits until a state is saved on its way."""
+    """Starts it, and waits until a state is saved on its way; the program takes its time, so that an operator may ask meanwhile."""
+    os.environ["PEOPLE_SLOW"] = "0.0003"
     site.start("--operate", f"{site.folder}/operator", "--state-every", "1")
+    del os.environ["PEOPLE_SLOW"]
     until = time.monotonic() + 60
     while not has_state(site) and time.monotonic() < until:
         time.sleep(0.02)
