@@ -6,7 +6,7 @@ import os
 import re
 import subprocess
 
-from broken import example
+from broken import EXAMPLES as ALL_EXAMPLES, example
 from installation import image_of, read, write
 
 Check = Callable[..., None]
@@ -274,20 +274,22 @@ def refuse_long_sizes(check: Check, program: str, folder: str) -> None:
         check(what, found == wanted, *found)
 
 
-def tell_open_files(check: Check, program: str, examples: str) -> None:
+def tell_open_files(check: Check, program: str) -> None:
     """Before a file is closed its entries are told as what its user holds: as many as its listing, or the deck that it becomes, has."""
 
     def held_before(name: str, close: bytes) -> list[str]:
-        part = read(f"{examples}/{name}/script").partition(close)[0]
+        part = read(f"{ALL_EXAMPLES}/{name}/script").partition(close)[0]
         requests = b"%d\n%sHOLDS\nEND\n" % (len(part), part)
-        _, out, _ = asked([program, "--follow", f"{examples}/{name}/directory"], requests)
+        _, out, _ = asked([program, "--follow", f"{ALL_EXAMPLES}/{name}/directory"], requests)
         return [line for line in out.decode("latin-1").splitlines() if line.startswith("> HOLDS ")]
 
-    listing = read(f"{examples}/card-listing-of-a-user/transcript").partition(b"== PRT 0002 BARE\n")
+    listing = read(f"{ALL_EXAMPLES}/card-listing-of-a-user/transcript").partition(
+        b"== PRT 0002 BARE\n"
+    )
     found = held_before("card-listing-of-a-user", b"LINE BARE CLOSE 00E\n")
     wanted = ["> HOLDS BARE 0 %d" % listing[2].count(b"\n")]
     check("what is held by a printer", found == wanted, *found, *wanted)
-    cards = re.search(rb"CARDS ([0-9]+)", read(f"{examples}/cards-for-another/transcript"))[1]
+    cards = re.search(rb"CARDS ([0-9]+)", read(f"{ALL_EXAMPLES}/cards-for-another/transcript"))[1]
     found = held_before("cards-for-another", b"LINE A #CP CLOSE 00D\n")
     wanted = ["> HOLDS A %s 0" % cards.decode(), "> HOLDS B 0 0"]
     check("what is held by a punch", found == wanted, *found, *wanted)
@@ -301,6 +303,6 @@ def try_commands(check: Check, repository: str, programs: tuple[str, str], folde
     refuse_states(check, f"{repository}/bin/vm370", f"{folder}/refused")
     type_states(check, repository, f"{folder}/typed")
     refuse_words(check, *programs, folder)
-    tell_open_files(check, programs[0], f"{repository}/examples/users")
+    tell_open_files(check, programs[0])
     refuse_volumes(check, programs[0], f"{folder}/volumes")
     refuse_long_sizes(check, programs[0], folder)
