@@ -73,7 +73,7 @@ def try_faults(check: object, work: str, played: object, script: str) -> None:
         (f"{work}/none", "No such file or directory"),
         (work, "Is a directory"),
         (f"{work}/a.asm", "has no line LINE and no card TXT"),
-        (f"{work}/turns", "has lines LINE and comments alone, and not: AUTO 2"),
+        (f"{work}/turns", "may have lines LINE and comments, and no other line: AUTO 2"),
     ):
         done = played(f"LINE BARE LOGON\nLOAD BARE {path}\n")
         is_right = done.status == 1 and f"{work}/script:2:11: {path}" in done.err

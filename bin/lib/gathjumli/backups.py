@@ -21,7 +21,7 @@ from gathjumli.recording import SUM_DIGITS, sync_folder
 CHUNK = 1 << 20
 CONTENTS = "contents"
 # files next to the recording, which may be there
-BESIDE = ("rules", "logmsg", "end-at")
+NEXT_TO_RECORDING = ("rules", "logmsg", "end-at")
 
 
 class Source(NamedTuple):
@@ -76,7 +76,7 @@ class Backup:
             # of states the last ones only save time
             with contextlib.suppress(FileNotFoundError):
                 found.append(source(f"recording.{mark.name}", f"{recording.path}.{mark.name}"))
-        for name in BESIDE:
+        for name in NEXT_TO_RECORDING:
             with contextlib.suppress(FileNotFoundError):
                 found.append(source(f"recording.{name}", f"{recording.path}.{name}"))
         found.append(source("directory", installation.directory))

@@ -106,7 +106,7 @@ def all_faults(texts: Texts, fault: str) -> Iterator[str]:
 
 
 def column_of(line: bytes, text: str) -> int:
-    """Where in a line the word is of which a reason speaks, counted from 1."""
+    """The column of the word that a reason names, counted from 1."""
     shown = line.decode("latin-1")
     word = WORD.search(text.encode(errors="surrogateescape").decode("latin-1"))
     places = [found.start() for found in re.finditer(r"[^ ]+", shown)]

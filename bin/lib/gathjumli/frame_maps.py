@@ -40,7 +40,7 @@ class FrameMap:
         self.thread.start()
 
     def find(self, size: int, reply: Callable, end: Callable, is_wanted: Callable) -> None:
-        """Finds the frames; whatever fails, whoever has asked is told."""
+        """Finds the frames. The answer is what was found, or why nothing was."""
         try:
             status, lines = self.found(size, reply, is_wanted)
         except (Failure, OSError) as reason:

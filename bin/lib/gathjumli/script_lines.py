@@ -80,7 +80,9 @@ def loaded(number: int, user: bytes, path: bytes) -> list[bytes]:
     other = None if is_deck else other_line(data)
     if other:
         text = other.decode("latin-1")[:MOST_SHOWN]
-        raise Wrong(number, column, f"{name} has lines LINE and comments alone, and not: {text}")
+        raise Wrong(
+            number, column, f"{name} may have lines LINE and comments, and no other line: {text}"
+        )
     typed = texts_of_cards(data) if is_deck else typed_lines(data)
     if not typed:
         raise Wrong(

@@ -98,7 +98,7 @@ class Watchdog:
             self.look()
 
     def look(self) -> None:
-        """Kills what hangs, and tells the manager that all else answers."""
+        """Kills what hangs. The manager is told if the programs and the event loop answer."""
         silent = [self.look_at_program(), self.look_at_desk(), self.look_at_loop()]
         if self.installation.stopped.is_set():
             # volumes are being saved: then only the time that this takes of the host says that it goes on

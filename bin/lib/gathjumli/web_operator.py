@@ -13,7 +13,7 @@ from gathjumli.frame_maps import BEING_LOOKED_FOR
 from gathjumli.host import MEGABYTE
 from gathjumli.operating import DONE, plain
 from gathjumli.strangers import WrongTokens
-from gathjumli.web_pages import Refused, is_token, text_in
+from gathjumli.web_pages import Refused, is_token, milliseconds, text_in
 
 
 SECONDS_BETWEEN_STATES = 1
@@ -149,11 +149,6 @@ class OperatorPage:
             self.pages.loop.call_soon_threadsafe(self.put, message)
 
 
-def milliseconds(when: float) -> int:
-    """A time as browsers have it."""
-    return round(when * 1000)
-
-
 class OperatorPages:
     """All pages of operators."""
 
@@ -195,7 +190,7 @@ class OperatorPages:
         found = figures(self.installation)
         memory, recording, printouts = found["memory"], found["recording"], found["printouts"]
         return {
-            "is": "state", "time": round(time.time() * 1000), "users": found["users"], "strangers": found["strangers"],
+            "is": "state", "time": milliseconds(time.time()), "users": found["users"], "strangers": found["strangers"],
             "parts": found["parts"], "busy": found["busy"], "command": memory["command"] // MEGABYTE,
             "program": memory["program"] // MEGABYTE, "most": memory["most"] // MEGABYTE, "lines": recording["lines"],
             "size": recording["bytes"], "begun": recording["begun"], "start": found["start"], "free": recording["free"] // MEGABYTE,

@@ -134,7 +134,7 @@ class UserPage:
     def show(self, text: Any) -> None:
         self.number += 1
         self.size += len(text) + LINE_COST
-        entry = (self.number, round(time.time() * 1000), text)
+        entry = (self.number, milliseconds(time.time()), text)
         self.lines.append(entry)
         self.put({"is": "lines", "lines": [entry]})
 
@@ -375,6 +375,11 @@ class Pages:
         reason = await self.folders.read_in(name, data, user)
         self.notify(f"deck {name} for {user}, from a page: {reason or 'read in'}")
         return reason or "read in"
+
+
+def milliseconds(when: float) -> int:
+    """A time as browsers have it."""
+    return round(when * 1000)
 
 
 def is_token(found: Any, token: Any) -> Any:
