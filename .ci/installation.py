@@ -532,11 +532,12 @@ def try_recordings(check: Callable, folder: str) -> None:
     """What of a recording is whole, what is none, and what another one is of."""
     from gathjumli.cli import Failure
     from gathjumli.recording import Recording, differing, without_passwords
+    from gathjumli.stores import FileStore
 
     path = f"{folder}/some"
     for what, (text, wanted) in ENTRIES.items():
         write(path, BEGINS + text)
-        recording = Recording(path)
+        recording = Recording(FileStore(path))
         found = [entry for _, _, entry in recording.entries()]
         recording.close()
         whole = b"".join(wanted)
@@ -553,13 +554,13 @@ def try_recordings(check: Callable, folder: str) -> None:
     ):
         write(path, text)
         try:
-            Recording(path).close()
+            Recording(FileStore(path)).close()
             check(f"{text} is no recording", False)
         except Failure:
             check(f"{text} is no recording, and stays", read(path) == text)
     for text in (b"", b"* GATHJUMLI", b"* GATHJUMLI RECORDING 1\n* PROGRAM 1\n"):
         write(path, text)
-        Recording(path).close()
+        Recording(FileStore(path)).close()
         check(f"{text} was never begun", read(path) == b"")
     one = [b"* T", b"* PROGRAM 1", b"* DIRECTORY a /x", b"* SIZES 1 2", b"* VOLUME b /y"]
     check("paths may differ", differing(one, [*one[:2], b"* DIRECTORY a /z", *one[3:]]) is None)

@@ -470,9 +470,10 @@ def try_edits(check: Callable, folder: str) -> None:
     """Each edit of a recording is reported by its line, with what can be done, and nothing of the file is lost."""
     from gathjumli.cli import Failure
     from gathjumli.recording import Recording
+    from gathjumli.stores import FileStore
 
     path = f"{folder}/edited"
-    recording = Recording(path)
+    recording = Recording(FileStore(path))
     check("a recording says that it begins", recording.begin(SomeBase()) == f"begins {path}")
     for part in WHOLE:
         recording.add(part)
@@ -483,7 +484,7 @@ def try_edits(check: Callable, folder: str) -> None:
             file.writelines(edit(whole))
         before = read(path)
         try:
-            Recording(path).close()
+            Recording(FileStore(path)).close()
             findings = ["taken"]
         except Failure as failure:
             findings = failure.lines
@@ -491,7 +492,7 @@ def try_edits(check: Callable, folder: str) -> None:
         check(f"an edit of a recording: {what}", holds, *findings)
     with open(path, "wb") as file:
         file.writelines(whole)
-    recording = Recording(path)
+    recording = Recording(FileStore(path))
     findings = recording.begin(SomeBase())
     recording.close()
     check(

@@ -212,8 +212,11 @@ class Decks:
     """What retention needs of an installation that has only decks."""
 
     def __init__(self, folder: str) -> None:
+        from gathjumli.stores import FileStore
+
         self.options = {"record": f"{folder}/recording", "decks": f"{folder}/decks"}
-        self.engine = self.printouts = self.journal = self
+        self.engine = self.printouts = self.journal = self.recording = self
+        self.store = FileStore(f"{folder}/recording")
         self.folder, self.path = None, None
         self.users = {"ALICE": None, "BOB": None, "NONE": None}
         self.findings: list[str] = []

@@ -18,12 +18,13 @@ LAST = 0x77
 def make_long(site: Site) -> None:
     """Has the recording of a session without states be long."""
     from gathjumli.recording import Recording
+    from gathjumli.stores import FileStore
 
     site.online("--state-every", "0")
     run(stored(site, 1))
     if site.stop():
         raise AssertionError("\n".join(site.findings))
-    recording = Recording(site.record)
+    recording = Recording(FileStore(site.record))
     for first in range(0, LINES, 500):
         lines = (f"LINE ALICE STORE G1 {count:08X}\n" for count in range(first, first + 500))
         recording.add("".join(lines).encode())
@@ -92,9 +93,10 @@ def try_other_way(check: Callable, site: Site) -> None:
     for name, data in whole.items():
         write(f"{site.folder}/{name}", data[:-60] + b"X" + data[-59:])
     from gathjumli.recording import Recording
+    from gathjumli.stores import FileStore
     from gathjumli.states import States
 
-    recording = Recording(site.record)
+    recording = Recording(FileStore(site.record))
     states = States(recording, None, 1, print)
     states.find_on_way()
     check("a state that is not whole is none", states.on_way == [], *map(str, states.on_way))
@@ -114,8 +116,9 @@ def try_printed_on_way(check: Callable, site: Site) -> None:
     """What was printed before a state on the way is written, once."""
     make_long(site)
     from gathjumli.recording import Recording
+    from gathjumli.stores import FileStore
 
-    recording = Recording(site.record)
+    recording = Recording(FileStore(site.record))
     recording.add(b"LINE ALICE PRINT FIRST\n")
     recording.add(b"".join(b"LINE ALICE STORE G1 %08X\n" % count for count in range(LINES // 2)))
     recording.close()
@@ -135,9 +138,10 @@ def try_front(check: Callable, site: Site) -> None:
     """A long recording of which the state before the last is old is read from the last one on."""
     from gathjumli import fronts
     from gathjumli.recording import Recording
+    from gathjumli.stores import FileStore
 
     make_long(site)
-    recording = Recording(site.record)
+    recording = Recording(FileStore(site.record))
     recording.mark_state("state-5", "0" * 32)
     for _ in range(40):
         recording.add(b"LINE ALICE DISPLAY G1\n" * 1000)
@@ -148,7 +152,7 @@ def try_front(check: Callable, site: Site) -> None:
     size = os.path.getsize(site.record)
     holds = front and front.place > size - 2000 and len(front.marks) == 1
     check("the front ends at the last state", holds, str(front and front.place), f"{size}")
-    again = Recording(site.record)
+    again = Recording(FileStore(site.record))
     again.close()
     left = [again.weight_since(mark) for mark in again.states]
     check("what is left is known", left == [20 * 40010, 20 * 10], *map(str, left))

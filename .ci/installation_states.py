@@ -714,10 +714,11 @@ def try_unsaved_end(check: Check, site: Site) -> None:
 def try_weights(check: Check, folder: str) -> None:
     """What is left after a state is known as well while the recording is written as when it is read."""
     from gathjumli.recording import Base, Recording
+    from gathjumli.stores import FileStore
 
     os.makedirs(folder)
     write_text(f"{folder}/directory", "USER A PW 8K\n")
-    recording = Recording(f"{folder}/recording")
+    recording = Recording(FileStore(f"{folder}/recording"))
     recording.begin(Base("program", "64 256", f"{folder}/directory", []))
     recording.add(b"LINE A LOGON\nLINE A BEGIN\n")
     recording.mark_state("state-1", "0")
@@ -725,7 +726,7 @@ def try_weights(check: Check, folder: str) -> None:
     recording.add_turns(7)
     recording.settle()
     recording.close()
-    again = Recording(f"{folder}/recording")
+    again = Recording(FileStore(f"{folder}/recording"))
     again.close()
     for what, one in (("written", recording), ("read", again)):
         left = one.weight - one.states[-1].weight
@@ -735,10 +736,11 @@ def try_weights(check: Check, folder: str) -> None:
 def long_recording(folder: str) -> str:
     """A recording of some parts, with cards that look like comments, and three states."""
     from gathjumli.recording import Base, Recording
+    from gathjumli.stores import FileStore
 
     os.makedirs(folder)
     write_text(f"{folder}/directory", "USER A PW 8K\n")
-    recording = Recording(f"{folder}/recording")
+    recording = Recording(FileStore(f"{folder}/recording"))
     recording.begin(Base("program", "64 256", f"{folder}/directory", []))
     for number in range(1, 301):
         recording.add(b"LINE A DISPLAY G%d\n" % (number % 10))
@@ -757,13 +759,14 @@ def try_fronts(check: Check, folder: str) -> None:
     from gathjumli import fronts
     from gathjumli.cli import Failure
     from gathjumli.recording import Recording
+    from gathjumli.stores import FileStore
 
     path, usual = long_recording(folder), fronts.LEAST
 
     def look(least: int) -> Recording | str:
         fronts.LEAST = least
         try:
-            recording = Recording(path)
+            recording = Recording(FileStore(path))
             recording.close()
             return recording
         except Failure as failure:
@@ -793,16 +796,19 @@ def try_fronts(check: Check, folder: str) -> None:
 def try_slow_states(check: Check, folder: str) -> None:
     """States for which everybody waits too long are not saved by the clock, and one that was slow alone changes nothing."""
     from gathjumli.recording import Base, Recording
+    from gathjumli.stores import FileStore
     from gathjumli.spooling import Printouts
     from gathjumli.states import LastState, States
 
     os.makedirs(folder)
     write_text(f"{folder}/directory", "USER A PW 8K\n")
-    recording = Recording(f"{folder}/recording")
+    recording = Recording(FileStore(f"{folder}/recording"))
     recording.begin(Base("program", "64 256", f"{folder}/directory", []))
     said: list[str] = []
     recording.add(b"LINE A LOGON\n")
-    states = States(recording, Printouts(None, said.append, set()), 30, said.append)
+    states = States(
+        recording, Printouts(None, said.append, set(), recording.store), 30, said.append
+    )
     states.goes_on(0.0, 0.0, None)
     for waited in (1.5, 0.2, 1.5):
         states.note(LastState(5 << 20, waited))

@@ -12,7 +12,7 @@ import os
 import sys
 import time
 
-from gathjumli import web_library
+from gathjumli import libraries
 from gathjumli.decks import Folders
 from gathjumli.users import User
 from installation import BANNER, PATIENCE, run, write_text as write
@@ -611,23 +611,25 @@ def try_requests(check: Callable) -> None:
     check("nor does a file name one", not outside and not inline, *outside, *inline)
 
 
-def try_library(check: Callable) -> None:
-    """Where the library is missing the command goes on under the system's Python, or says what to install."""
-    system = web_library.SYSTEM
-    try:
-        sys.modules["websockets"] = None
-        web_library.SYSTEM = sys.executable
-        web_library.need_library()
-        check("a library that is missing", False)
-    except Failure as failure:
-        check(
-            "a library that is missing",
-            "apt-get install python3-websockets" in failure.lines[0],
-            *failure.lines,
-        )
-    finally:
-        del sys.modules["websockets"]
-        web_library.SYSTEM = system
+def try_libraries(check: Callable) -> None:
+    """Where a library is missing the command goes on under the system's Python, or says what to install."""
+    system = libraries.SYSTEM
+    cases = {"websockets": libraries.PAGES, "psycopg": libraries.STORE}
+    for name, library in cases.items():
+        before = sys.modules.get(name)
+        try:
+            sys.modules[name] = None
+            libraries.SYSTEM = sys.executable
+            libraries.need(library)
+            check(f"a library that is missing: {name}", False)
+        except Failure as failure:
+            holds = f"apt-get install python3-{name}" in failure.lines[0]
+            check(f"a library that is missing: {name}", holds, *failure.lines)
+        finally:
+            del sys.modules[name]
+            if before:
+                sys.modules[name] = before
+            libraries.SYSTEM = system
 
 
 def try_pages(check: Callable, folder: str, program: str) -> None:
@@ -635,7 +637,7 @@ def try_pages(check: Callable, folder: str, program: str) -> None:
     os.makedirs(folder)
     write(f"{folder}/PRT0001-ALICE.txt", "ONE\nTWO\n\f3\n")
     try_requests(check)
-    try_library(check)
+    try_libraries(check)
     check("without a certificate nothing is encrypted", tls_of(None, None) is None)
     for words, wrong in ((("c", None), UsageError), ((None, "k"), UsageError), ((f"{folder}/none", f"{folder}/none"), Failure),
                          ((f"{folder}/PRT0001-ALICE.txt", f"{folder}/PRT0001-ALICE.txt"), Failure)):  # fmt: skip

@@ -1,5 +1,8 @@
-"""Tests scripts with lines for people, --quiet and --strict (docs/FORMATS.md, "Lines for people"), over bare370."""
+"""Tests scripts with lines for people, --quiet and --strict (docs/FORMATS.md, "Lines for people"), and what is said of an IPL that
+failed, over bare370."""
 from __future__ import annotations
+
+from gathjumli import loading
 
 # register 1 becomes 5; then the machine waits for nothing
 SOURCE = """ ORG X'100'
@@ -16,6 +19,22 @@ AUTO
 LINE BARE #CP DISPLAY G1
 """
 ENDED = "BARE: STOPPED DISABLED WAIT\n= BARE 2 DISABLEDWAIT\nBARE: GPR 1 = 00000005\n"
+# loads that fail: without a deck, from a card of text, from the rest of that deck, from a blank disk
+FAILED_LOADS = """LINE BARE LOGON
+LINE BARE IPL 00C
+DECK BARE 1
+HELLO WORLD THIS IS A CARD
+LINE BARE #CP IPL 00C
+LINE BARE IPL 00C
+LINE BARE IPL 190
+LINE BARE #CP DISPLAY 0
+"""
+REASONS = {
+    2: "the reader has no deck (intervention required)",
+    5: "in the first card the command word at 8 is D9D3C440 E3C8C9E2, which has a flag that no word may have",
+    6: "the deck has no more cards (unit exception)",
+    7: "the disk's first track has no record 1 (no record found)",
+}
 # sixteen bytes at 100; a card's 48 begin at F0
 STORES = {"stores": 1, "deck": 2}
 
@@ -45,6 +64,31 @@ def try_scripts(check: object, work: str, run: object) -> None:
     check("a quiet run from a pipe", is_right, *done.findings())
     try_complaints(check, work, played, script)
     try_faults(check, work, played, script)
+
+
+def try_loads(check: object, work: str, run: object) -> None:
+    """What is said of an IPL that failed, and that nothing of what was asked for it is in the transcript."""
+    tracks = b"".join(bytes([0, 0, 0, 0, head, 0]) for head in range(19))
+    write(f"{work}/image", b"CKD2WORK01\0\1" + tracks + bytes(4))
+    write(f"{work}/script", FAILED_LOADS)
+    done = run("bare370", "64K", f"{work}/script", f"{work}/image")
+    wanted = "".join(
+        f"bare370: {work}/script:{line}:1: IPL FAILED: {why}\n" for line, why in REASONS.items()
+    )
+    # the first run also says that it builds
+    said = "".join(line for line in done.err.splitlines(True) if ": IPL FAILED: " in line)
+    check("reasons of loads that fail", done.status == 0 and said == wanted, *done.findings())
+    shown = "BARE: 000000 C8C5D3D3 D640E6D6 D9D3C440 E3C8C9E2\n"
+    out = "BARE: LOGON OK\n" + 4 * "BARE: IPL FAILED\n" + shown
+    check("their transcript", done.out == out, *done.findings())
+    kinds = {"00C": "reader", "190": "disk"}
+    advice = [loading.advice([f"#CP IPL {addr}"], kinds) for addr in ("00C", "190", "00D")]
+    is_right = [len(item) for item in advice] == [1, 1, 0] and "DECK" in advice[0][0]
+    check("what an installation says of them", is_right, *map(str, advice))
+    done = run("terminal", "--bare", "64K", given=b"LOGON\nIPL 00C\nIPL 00C\n:undo\n:quit\n")
+    reason = f"IPL FAILED\n({REASONS[2]})\n"
+    out = f"LOGON OK\n{reason}{reason}(taken back: LINE BARE IPL 00C)\n"
+    check("a load that fails at a terminal", done.out == out, *done.findings())
 
 
 def try_complaints(check: object, work: str, played: object, script: str) -> None:

@@ -1,12 +1,13 @@
 #!/usr/bin/env python3
 """Runs the EXAMPLES of each man page as they are printed, and the example of each usage text, over programs that are laid out as
-bin/install does it: those that rt ci has built, or with --unproved those without proof. A page's lines are run one after another in a
-folder of its own, which has the files that the page supposes (GIVEN). What is not run is in NOT_RUN with its reason. A
-command that prints is run again with standard output on a full disk, and with a reader who has gone. The last line is
-'N passed, M failed'."""
+bin/install does it: those that rt ci has built, or with --unproved those without proof; or with --installed over those that the host has
+by its package (.ci/try-package). A page's lines are run one after another in a folder of its own, which has the files that the page
+supposes (GIVEN). What is not run is in NOT_RUN with its reason. A command that prints is run again with standard output on a full disk,
+and with a reader who has gone. The last line is 'N passed, M failed'."""
 from __future__ import annotations
 
 import glob
+import gzip
 import os
 import re
 import shutil
@@ -59,22 +60,67 @@ NOT_RUN = {
     "bin/install ": "it builds; .ci/test-commands runs it over stand-ins",
     "bin/package": "it builds; .ci/try-package runs it",
     "apt-get": "it changes the host; .ci/try-package runs it",
-    "vm370 --version": "it is that of an installation (.ci/test-commands)",
-    "gathjumli-example": "it is that of an installation (.ci/test-commands)",
+    "gathjumli ": "it is that of an installation (.ci/test-commands)",
     "bin/book": "it needs the sources; .ci/test-commands runs it",
     "bin/installation": "it runs until it is ended; .ci/test-people.py runs it",
     "telnet": "it needs an installation that runs; .ci/test-people.py logs on",
     "bin/operator": "it needs an installation that runs; .ci/test-people.py runs it",
+    "bin/store": "it needs servers; .ci/test-stores.py runs it",
     "bin/passwords": "it asks at a terminal; .ci/test-people.py runs it",
     "bin/report": "it needs a recording; .ci/test-people.py runs it",
+    "bin/replay": "it runs until it is interrupted; .ci/test-people.py compares its moments",
     "bin/vm370 --unproved DIRECTORY": "its words are placeholders",
 }
 # a guest of the page's reader may have none of what is looked for
 FINDS_NOTHING = ["bin/trace370 --bare 64K script | grep -E '^(INT|CSW)'"]
+# what a program without proof says first
+UNPROVED = b"not proved; slow"
 # what the first line of a listing begins with, which is not indented more
 LISTED = "     1  "
 # programs of others: a line with one is left out if the host does not have it, and with it the rest of its block
 OTHERS = {"dasdinit": "hercules"}
+
+
+# where a package has its pages, and what its one command calls the others
+INSTALLED_PAGES = "/usr/share/man/man1/gathjumli*.1.gz"
+SUBCOMMANDS = "/usr/lib/gathjumli/bin/lib/subcommands"
+
+
+class Commands:
+    """How a command is typed, and which command a line or a page is about."""
+
+    def __init__(self, is_installed: bool) -> None:
+        self.is_installed = is_installed
+        self.names: dict[str, str] = {}
+        if is_installed:
+            with open(SUBCOMMANDS) as file:
+                self.names = dict(reversed(line.split()) for line in file)
+
+    def typed(self, name: str) -> str:
+        if not self.is_installed:
+            return f"bin/{name}"
+        return name if name == "gathjumli" else f"gathjumli {self.names.get(name, name)}"
+
+    def of_checkout(self, line: str) -> str:
+        """A line of an installed page as a checkout's page has it."""
+        found = re.match("gathjumli ([a-z][a-z0-9-]*)", line)
+        if not self.is_installed or not found:
+            return line
+        words = {word: name for name, word in self.names.items()}
+        return f"bin/{words.get(found[1], found[1])}{line[found.end():]}"
+
+    def pages(self) -> dict[str, str]:
+        """The text of each page, by the name of its command in a checkout."""
+        if not self.is_installed:
+            paths = sorted(glob.glob(f"{TOP}/docs/man/*.1"))
+            return {os.path.basename(path)[:-2]: open(path).read() for path in paths}
+        found = {}
+        for path in sorted(glob.glob(INSTALLED_PAGES)):
+            page = os.path.basename(path)[: -len(".1.gz")]
+            name = self.of_checkout(page.replace("-", " ", 1)).removeprefix("bin/")
+            with gzip.open(path, "rt") as file:
+                found[name] = file.read()
+        return found
 
 
 def unescaped(line: str) -> str:
@@ -90,10 +136,9 @@ class Block:
         self.lines: list[str] = []
 
 
-def blocks_of(path: str) -> list[Block]:
+def blocks_of(text: str) -> list[Block]:
     """The blocks of a page's EXAMPLES."""
-    with open(path) as file:
-        text = file.read().partition(".SH EXAMPLES\n")[2].partition("\n.SH ")[0]
+    text = text.partition(".SH EXAMPLES\n")[2].partition("\n.SH ")[0]
     found, before, is_block = [], [], False
     for line in text.split("\n"):
         if line == ".nf":
@@ -128,19 +173,21 @@ def program_of(crate: str, argument: str) -> str:
     return found[0] if found else f"{TOP}/out/unproved/{crate}"
 
 
-def make_room(folder: str, laid_out: str, page: str) -> str:
+def make_room(folder: str, laid_out: str, page: str, commands: Commands) -> str:
     """A folder for a page, with the files that it supposes."""
     room = f"{folder}/{page}"
     os.mkdir(room)
-    shutil.copytree(f"{laid_out}/examples/", f"{room}/examples", symlinks=True)
-    os.symlink(f"{laid_out}/bin", f"{room}/bin")
+    if not commands.is_installed:
+        shutil.copytree(f"{laid_out}/examples/", f"{room}/examples", symlinks=True)
+        os.symlink(f"{laid_out}/bin", f"{room}/bin")
     for name, text in GIVEN.get(page, {}).items():
         with open(f"{room}/{name}", "w") as file:
             file.write(text)
     for name in IMAGES.get(page, []):
         with open(f"{room}/{name}.text", "w") as file:
             file.write(TEXT)
-        run(f"bin/mkvol {name} {name}.text && bin/vol2img {name}.3330 {name}", room)
+        mkvol, vol2img = map(commands.typed, ("mkvol", "vol2img"))
+        run(f"{mkvol} {name} {name}.text && {vol2img} {name}.3330 {name}", room)
     return room
 
 
@@ -150,12 +197,15 @@ def run(line: str, room: str) -> subprocess.CompletedProcess:
     )
 
 
-def is_left_out(line: str) -> bool:
+def is_left_out(line: str, commands: Commands) -> bool:
+    line = commands.of_checkout(line)
     other = next((name for name in OTHERS if line.startswith(name)), None)
     return any(map(line.startswith, NOT_RUN)) or bool(other and not shutil.which(other))
 
 
-def faults_of_block(block: Block, page: str, room: str, printed: str) -> tuple[list[str], str]:
+def faults_of_block(
+    block: Block, page: str, room: str, printed: str, commands: Commands
+) -> tuple[list[str], str]:
     """What of a block is wrong, and what its last line printed."""
     named = re.search(r"in the file ([\w.]+):", block.before)
     if not block.lines[0].startswith(LISTED):
@@ -169,13 +219,15 @@ def faults_of_block(block: Block, page: str, room: str, printed: str) -> tuple[l
         return [] if printed == text else [f"{page}: printed {printed!r}, not {text!r}"], ""
     faults = []
     for line in block.lines:
-        if is_left_out(line):
+        if is_left_out(line, commands):
             return faults, ""
         done = run(line, room)
         printed = done.stdout.decode("latin-1")
         if printed and not set(line) & set("|>;&"):
             faults += faults_of_output(f"{page}: {line}", line, room)
-        if done.returncode and not (line in FINDS_NOTHING and not done.stderr):
+        said = [item for item in done.stderr.splitlines() if not item.endswith(UNPROVED)]
+        finds_nothing = commands.of_checkout(line) in FINDS_NOTHING and not said
+        if done.returncode and not finds_nothing:
             faults.append(f"{page}: {line}: status {done.returncode}: {done.stderr.decode()}")
     return faults, printed
 
@@ -193,26 +245,27 @@ def faults_of_output(what: str, line: str, room: str) -> list[str]:
     return faults
 
 
-def faults_of_page(path: str, folder: str, laid_out: str) -> list[str]:
-    page = os.path.basename(path)[:-2]
-    room = make_room(folder, laid_out, page)
+def faults_of_page(
+    page: str, text: str, folder: str, laid_out: str, commands: Commands
+) -> list[str]:
+    room = make_room(folder, laid_out, page, commands)
     faults, printed = [], ""
-    for block in blocks_of(path):
-        new, printed = faults_of_block(block, page, room, printed)
+    for block in blocks_of(text):
+        new, printed = faults_of_block(block, page, room, printed, commands)
         faults += new
-    ended = re.search(r"last line is (.*)\. The", open(path).read())
+    ended = re.search(r"last line is (.*)\. The", text)
     if ended and printed.splitlines()[-1] != ended[1]:
         faults.append(f"{page}: the last line is {printed.splitlines()[-1]}, not {ended[1]}")
-    return faults + faults_of_usage(page, room)
+    return faults + faults_of_usage(page, room, commands)
 
 
-def faults_of_usage(page: str, room: str) -> list[str]:
+def faults_of_usage(page: str, room: str, commands: Commands) -> list[str]:
     """What is wrong with the example of the usage text, after those of the page."""
-    text = run(f"bin/{page} --help", room).stdout.decode()
+    text = run(f"{commands.typed(page)} --help", room).stdout.decode()
     example = re.search("^example: (.*)", text, re.M)
     if not example:
         return [f"{page}: its usage text has no example"]
-    if is_left_out(example[1]):
+    if is_left_out(example[1], commands):
         return []
     done = run(example[1], room)
     if done.returncode:
@@ -222,13 +275,14 @@ def faults_of_usage(page: str, room: str) -> list[str]:
 
 def main(argument: str) -> int:
     os.environ.pop("GATHJUMLI_UNPROVED", None)
-    faults = {}
+    faults, commands = {}, Commands(argument == "--installed")
     with tempfile.TemporaryDirectory() as folder:
         laid_out = f"{folder}/laid-out"
         os.mkdir(laid_out)
-        lay_out(laid_out, argument)
-        for path in sorted(glob.glob(f"{TOP}/docs/man/*.1")):
-            faults[path] = faults_of_page(path, folder, laid_out)
+        if not commands.is_installed:
+            lay_out(laid_out, argument)
+        for page, text in commands.pages().items():
+            faults[page] = faults_of_page(page, text, folder, laid_out, commands)
     for fault in sum(faults.values(), []):
         print(f"FAILED: {fault}")
     failed = sum(map(bool, faults.values()))
@@ -237,6 +291,6 @@ def main(argument: str) -> int:
 
 
 if __name__ == "__main__":
-    if sys.argv[1:] not in ([], ["--built"], ["--unproved"]):
+    if sys.argv[1:] not in ([], ["--built"], ["--unproved"], ["--installed"]):
         sys.exit(__doc__)
     sys.exit(main((sys.argv[1:] or [""])[0]))

@@ -28,6 +28,7 @@ os.environ.pop("GATHJUMLI_UNPROVED", None)
 PEOPLE = f"{TOP}/.ci/people"
 RECORDING = f"{PEOPLE}/recording"
 sys.path[:0] = [f"{TOP}/bin/lib", f"{TOP}/.ci"]
+import any_moment
 import broken
 import closed_files
 import desk
@@ -55,15 +56,17 @@ if TYPE_CHECKING:
     from desk import Account
 
 COMMANDS = (
-    "terminal trace370 turns deck2script printouts img2vol vol2img vol2text framepicture trackpicture installation operator "
-    "report"
+    "terminal trace370 replay turns deck2script printouts img2vol vol2img vol2text framepicture trackpicture installation operator "
+    "report store"
 ).split()
 PROGRAMS = ["bare370_cli", "frame_map", "logon_desk_cli", "vm370_cli"]
 BUILDING = ["terminal", "trace370", "turns"]
 # words before a file that is not there
-WORDS = {"installation": ["--record", "r"], "report": ["none"]} | {
-    item: ["--bare", "8K"] for item in BUILDING
-}
+WORDS = {
+    "installation": ["--record", "r"],
+    "report": ["none"],
+    "store": ["postgresql://x/y", "create", "plant"],
+} | {item: ["--bare", "8K"] for item in BUILDING}
 WORDS |= {name: ["o"] for name in ("img2vol", "vol2img", "printouts")}
 # of a file for the operator; a card that looks like one has blanks after it
 HEADING = re.compile(b"^== P(?:RT|UN) [0-9]{4} [A-Z0-9]+\n", re.M)
@@ -275,12 +278,8 @@ def test_words(repository: str, work: str) -> None:
     for command, cases in wrong.items():
         for words in cases:
             done = Done(repository, command, *words)
-            findings = (
-                ("usage: ", "--help says more") if words else ("usage: ", "example: ", "statuses")
-            )
-            is_reported = all(item in done.err for item in findings) and (
-                "statuses" in findings or "statuses" not in done.err
-            )
+            findings = ["usage: ", "--help says more", *([] if words else [" is missing\n"])]
+            is_reported = all(item in done.err for item in findings) and "statuses" not in done.err
             check(
                 f"{command} {words[:4]} is answered at once",
                 done.status == 2 and is_reported and not done.out,
@@ -523,7 +522,7 @@ def test_trace(repository: str, work: str) -> None:
     )
     write(f"{work}/bad", "LINE BARE LOGON\nBAD\n")
     done = Done(repository, "trace370", "--bare", "64K", f"{work}/bad")
-    findings = "fault: script Line 2\ntrace370: line 2 is: 'BAD'\ntrace370: a line begins with RUN, LINE, TICK, SERVE, AUTO or DECK, and not with BAD\n"
+    findings = "fault: script Line 2\ntrace370: line 2 is: 'BAD'\ntrace370: a line begins with RUN, LINE, TICK, SERVE, AUTO, DECK or LOAD, and not with BAD\n"
     check(
         "a refused script is reported", done.status == 1 and done.err == findings, *done.findings()
     )
@@ -643,10 +642,10 @@ def test_waiting(repository: str, work: str) -> None:
 
 
 def test_instructions(repository: str, work: str) -> None:
-    """Each instruction of docs/MACHINE.md has its name, and its text is what the assembler takes."""
+    """Each instruction of docs/INSTRUCTIONS.md has its name, and its text is what the assembler takes."""
     from gathjumli.instructions import INSTRUCTIONS, text_of
 
-    page = read(f"{TOP}/docs/MACHINE.md").decode()
+    page = read(f"{TOP}/docs/INSTRUCTIONS.md").decode()
     rows = re.findall(r"^\| ?([0-9A-F, ]+?) ?\| ?([A-Z, ]+?) ?\|[^|]+\|[^|]*\|[^|]*\|", page, re.M)
     stated = {}
     for codes, names in rows:
@@ -655,7 +654,9 @@ def test_instructions(repository: str, work: str) -> None:
     stated = {code: name for code, name in stated.items() if re.fullmatch("[0-9A-F]{2}", code)}
     other = sorted(map(str, set(stated.items()) ^ set(known.items())))
     check(
-        "the instructions are those of docs/MACHINE.md", stated == known and len(known) > 90, *other
+        "the instructions are those of docs/INSTRUCTIONS.md",
+        stated == known and len(known) > 90,
+        *other,
     )
     codes = [bytes([code, 0x24, 0x68, 0xAC, 0x13, 0x57]) for code in sorted(INSTRUCTIONS)]
     codes = [code[: (2, 4, 4, 6)[code[0] >> 6]] for code in codes]
@@ -1397,6 +1398,11 @@ def try_over_programs(repository: str, folder: str) -> None:
     installation_states.try_over_program(check, command, program, f"{folder}/states")
     installation_strangers.try_floods(check, installation.make_site(command, f"{folder}/floods"))
 
+    def run(name: str, *words: str, **given: object) -> Done:
+        return Done(repository, name, *words, **given)
+
+    scripts_for_people.try_loads(check, folder, run)
+
 
 def try_states(repository: str, folder: str) -> None:
     """Scripts that are broken off, states that are spoiled, and the commands for states."""
@@ -1407,6 +1413,7 @@ def try_states(repository: str, folder: str) -> None:
     broken.try_spoiled(check, programs[0], broken.STATES, 1)
     typed_lines.try_typed(check, programs[0], 50)
     closed_files.try_closed(check, programs[0], 300)
+    any_moment.try_moments(check, programs[0], 20)
 
 
 def main() -> None:

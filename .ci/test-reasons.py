@@ -2,7 +2,7 @@
 """Tests that each faulty text, image or argument of .ci/reasons.txt is answered by a line that says what is wrong. The commands are laid
 out as bin/install does it, with stand-ins that report the program's line of the table; with --built the programs that rt ci has built
 report it, with --unproved those that run without proof. Each script, directory and text of a volume that the tables of
-.ci/transcripts refuse has some reason too. The last line is 'N passed, M failed'."""
+.ci/transcripts refuse has some reason too. With programs files fail too (.ci/failing_files.py). The last line is 'N passed, M failed'."""
 from __future__ import annotations
 
 from collections.abc import Iterator
@@ -17,13 +17,16 @@ import tempfile
 sys.dont_write_bytecode = True
 TOP = os.path.dirname(os.path.dirname(os.path.realpath(__file__)))
 sys.path[:0] = [f"{TOP}/.ci", f"{TOP}/bin/lib"]
+import failing_files
 from program_runs import bytes_of, text_of
 from gathjumli.reasons import reason
 
 TABLE = f"{TOP}/.ci/reasons.txt"
-PROGRAMS = ["vm370_cli", "bare370_cli", "volume_cli", "frame_map"]
-# how many runs the table has at least, and how many texts the others refuse
-FEWEST, FEWEST_REFUSED = 60, 220
+PROGRAMS = ["vm370_cli", "bare370_cli", "volume_cli", "frame_map", "logon_desk_cli"]
+# how many runs the table has at least, how many of them name file, line and column, and how many texts the others refuse
+FEWEST, FEWEST_PLACED, FEWEST_REFUSED = 90, 70, 220
+# a reason after file, line and column
+PLACED = re.compile("[a-z]+:[0-9]+:[0-9]+: ")
 STAND_IN = '#!/bin/sh\nprintf "%s\\n" "$FAULT" >&2\nexit 1\n'
 
 
@@ -110,11 +113,11 @@ def difference(run: object, folder: str) -> str | None:
     # a command that drives a program has it reported by the program's own command
     notifier = {"terminal": "vm370"}.get(run.words[0], run.words[0]) if run.fault else run.words[0]
     wanted = f"{notifier}: {run.reason}"
-    place = re.fullmatch("fault: (script|text|directory).*? ([0-9]+)", run.fault)
+    place = PLACED.match(run.reason)
     if place:
-        # the file, the line and some column; what follows are later faults
-        pattern = f"[^ ]*{place[1]}[^ :]*:{place[2]}:[0-9]+: {re.escape(run.reason)}"
-        is_right = lines[:1] == [run.fault] and any(re.fullmatch(pattern, line) for line in lines)
+        # what follows are later faults
+        wanted = run.reason
+        is_right = lines[:1] == [run.fault] and wanted in lines
     elif run.fault:
         is_right = lines[:1] == [run.fault] and lines[-1] == wanted
     else:
@@ -155,13 +158,18 @@ def main(argument: object) -> int:
     with tempfile.TemporaryDirectory() as folder:
         lay_out(folder, argument)
         failed = [item for item in (difference(run, folder) for run in runs) if item]
+        cases = failing_files.try_files(folder, f"{folder}/failing") if argument else []
+    failed += [f"{case}: {what}" for case, what in cases if what]
+    placed = sum(bool(PLACED.match(run.reason)) for run in runs)
     refused = list(refused_texts())
     failed += [item for item in map(without_reason, refused) if item]
-    if len(runs) < FEWEST or len(refused) < FEWEST_REFUSED:
-        failed.append(f"there are {len(runs)} runs and {len(refused)} refused texts")
+    if len(runs) < FEWEST or placed < FEWEST_PLACED or len(refused) < FEWEST_REFUSED:
+        failed.append(
+            f"there are {len(runs)} runs, {placed} with a place, and {len(refused)} refused texts"
+        )
     for entry in failed:
         print(f"FAILED: {entry}")
-    print(f"{len(runs) + len(refused) - len(failed)} passed, {len(failed)} failed")
+    print(f"{len(runs) + len(refused) + len(cases) - len(failed)} passed, {len(failed)} failed")
     return 1 if failed else 0
 
 

@@ -7,8 +7,10 @@
 
 # the repository, or the folder of an installation by bin/install, which is laid out alike
 root=$(dirname -- "$(dirname -- "$(readlink -f -- "$0")")")
-# what messages begin with
-name=${0##*/}
+# the command as it was typed, which is another one if bin/gathjumli runs this one; and what messages begin with
+typed=${GATHJUMLI_TYPED:-$0}
+unset GATHJUMLI_TYPED
+name=${typed##*/}
 
 # That of the programs for a file that failed, and those of the commands themselves, which no program of the repository has.
 file_failed=3
@@ -46,8 +48,62 @@ printing() {
 
 # the whole usage text
 help() {
-    printing usage
+    printing installed_usage
     exit 0
+}
+
+# the usage text, in an installation with the names that things have there
+installed_usage() {
+    case $root in
+    */lib/gathjumli) usage | as_installed ;;
+    *) usage ;;
+    esac
+}
+
+# the text of standard input with the names of this installation
+as_installed() { sed -E "$(installed_names "${root%/lib/gathjumli}")"; }
+
+# the commands that are installed, of a checkout or an installation: these need no sources
+installed_commands() {
+    for command in "$root"/bin/*; do
+        [ -f "$command" ] || continue
+        case " bench bench-against book build plant install package " in
+        *" ${command##*/} "*) ;;
+        *) echo "${command##*/}" ;;
+        esac
+    done
+}
+
+# subcommand NAME: what bin/gathjumli calls a command
+subcommand() {
+    awk -v "name=$1" '$2 == name { $0 = $1; found = 1; print; exit } END { if (!found) print name }' "$root/bin/lib/subcommands"
+}
+
+# page COMMAND: the name of its man page in an installation
+page() {
+    if [ "$1" = gathjumli ]; then
+        echo gathjumli
+    else
+        echo "gathjumli-$(subcommand "$1")"
+    fi
+}
+
+# command_names: what sed does to a text so that it names commands as an installation has them
+command_names() {
+    before='(^|[^/a-zA-Z])'
+    printf '%s\n' 's,examples/run,gathjumli example,g' "s,${before}bin/gathjumli,\\1gathjumli,g"
+    for command in $(installed_commands); do
+        printf '%s\n' "s,docs/man/$command[.]1,man $(page "$command"),g"
+        printf '%s\n' "s,${before}bin/$command([^a-z0-9-]|\$),\\1gathjumli $(subcommand "$command")\\2,g"
+    done
+}
+
+# installed_names PREFIX: the same, also of what is installed below this folder
+installed_names() {
+    below=$(printf '%s' "$1" | sed 's/[&\\,]/\\&/g')
+    command_names
+    printf '%s\n' "s,${before}examples/(users|machines),\\1$below/lib/gathjumli/examples/\\2,g" \
+        "s,${before}docs/,\\1$below/share/doc/gathjumli/docs/,g" "s,${before}bin/lib/,\\1$below/lib/gathjumli/bin/lib/,g"
 }
 
 # the version, and of a command that runs a program of the repository ($runs) what that program is
@@ -65,7 +121,7 @@ print_version() {
 usage_error() {
     say "$@"
     {
-        usage | sed '/^$/,$d'
+        installed_usage | sed '/^$/,$d'
         echo "$name --help says more"
     } >&2
     exit 2

@@ -1,8 +1,7 @@
 # What bin/install and bin/package share: which files an installation has, and where. Sourced after bin/lib/building.sh.
 
-# the programs, and the commands that need a checkout with its sources
+# the programs
 programs="vm370_cli bare370_cli volume_cli frame_map logon_desk_cli"
-of_checkout=" bench bench-against book build plant install package "
 version_number=$(cat -- "$root/VERSION")
 
 # Builds all programs, and says in $proof_of_all whether they are proved.
@@ -17,23 +16,12 @@ build_all() {
     done
 }
 
-# the commands that are installed
-installed_commands() {
-    for command in "$root"/bin/*; do
-        [ -f "$command" ] || continue
-        case $of_checkout in
-        *" ${command##*/} "*) ;;
-        *) echo "${command##*/}" ;;
-        esac
-    done
-}
-
 # the folders below a prefix that others share, a folder after those in it
 shared_folders="share/bash-completion/completions share/bash-completion share/man/man1 share/man share/doc share lib bin"
 
 # place_in PREFIX [SHOWN]: copies everything to where it belongs; pages name it by SHOWN, if PREFIX is not where it is used
 place_in() {
-    shown=$(printf '%s' "${2-$1}" | sed 's/[&\\,]/\\&/g')
+    shown=${2-$1}
     place=$1/lib/gathjumli
     share=$1/share
     made=
@@ -54,58 +42,66 @@ place_programs() {
     done
 }
 
+# the commands, of which only one is where the shell finds it
 place_commands() {
     cp -- "$root/VERSION" "$place/" && cp -R -- "$root/bin/lib" "$place/bin/" && rm -rf -- "$place/bin/lib/__pycache__" "$place/bin/lib/gathjumli/__pycache__" &&
         cp -R -- "$root/web" "$place/" || return 1
     for command in $(installed_commands); do
-        cp -- "$root/bin/$command" "$place/bin/" && ln -sf "../lib/gathjumli/bin/$command" "$1/bin/$command" || return 1
+        cp -- "$root/bin/$command" "$place/bin/" || return 1
     done
+    ln -sf ../lib/gathjumli/bin/gathjumli "$1/bin/gathjumli"
 }
 
 place_examples() {
-    cp -R -- "$root/examples" "$place/" && ln -sf ../lib/gathjumli/examples/run "$1/bin/gathjumli-example"
+    cp -R -- "$root/examples" "$place/"
 }
 
-# the documents, and the man pages with the version and with names as they are installed
+# the documents and the man pages, with names as they are installed
 place_pages() {
-    cp -- "$root/README.md" "$root/CHANGELOG.md" "$root/CONTRIBUTING.md" "$share/doc/gathjumli/" &&
-        cp -- "$root"/docs/*.md "$root/docs/installation.service" "$share/doc/gathjumli/docs/" &&
-        echo '.so man1/vm370.1' > "$share/man/man1/gathjumli-example.1" || return 1
+    cp -- "$root/CHANGELOG.md" "$root/CONTRIBUTING.md" "$share/doc/gathjumli/" &&
+        cp -- "$root/docs/replay.png" "$share/doc/gathjumli/docs/" || return 1
+    for page in README.md docs/installation.service $(cd -- "$root" && ls docs/*.md); do
+        sed -E "$(command_names)" "$root/$page" > "$share/doc/gathjumli/$page" || return 1
+    done
+    names=$(page_names && installed_names "$shown")
     for command in $(installed_commands); do
-        sed -E -e "1s/\$/ \"\" \"Gathjumli $version_number\"/" -e 's,examples/run,gathjumli-example,g' \
-            -e "s,(^|[^/a-zA-Z])examples/(users|machines),\\1$shown/lib/gathjumli/examples/\\2,g" \
-            -e "s,(^|[^/a-zA-Z])docs/,\\1$shown/share/doc/gathjumli/docs/,g" \
-            -e "s,(^|[^/a-zA-Z])bin/lib/,\\1$shown/lib/gathjumli/bin/lib/,g" \
-            -e 's,(^|[^/a-zA-Z])bin/([a-z]),\1\2,g' "$root/docs/man/$command.1" > "$share/man/man1/$command.1" || return 1
+        sed -E -e "1s/.*/.TH $(page "$command" | tr a-z A-Z) 1 \"\" \"Gathjumli $version_number\"/" -e "3s/^$command /$(page "$command") /" \
+            -e "$names" "$root/docs/man/$command.1" > "$share/man/man1/$(page "$command").1" || return 1
     done
 }
 
-# what bash completes: the options of each command, as its usage text names them, and files
+# what sed does to a man page so that it names others as they are installed
+page_names() {
+    for command in $(installed_commands); do
+        printf '%s\n' "s,(^|[^a-z0-9-])$command[(]1[)],\\1$(page "$command")(1),g"
+    done
+}
+
+# what bash completes: commands, the options of each as its usage text names them, examples, and files
 place_completion() {
-    completion=$share/bash-completion/completions
-    cat > "$completion/gathjumli" <<'END'
-# completes the options of the commands of Gathjumli, and files
+    cat > "$share/bash-completion/completions/gathjumli" <<END
+# completes the commands of Gathjumli, their options, and files
 _gathjumli() {
-    local word=${COMP_WORDS[COMP_CWORD]}
+    local word=\${COMP_WORDS[COMP_CWORD]}
     COMPREPLY=()
-    case $word in
-    -*) mapfile -t COMPREPLY < <(compgen -W "$("$1" --help 2> /dev/null | grep -oE -- '--[a-z][a-z-]*' | sort -u)" -- "$word") ;;
-    *)
-        if [ "$1" = gathjumli ] && [ "$COMP_CWORD" -eq 1 ]; then
-            mapfile -t COMPREPLY < <(compgen -W "run bare trace assemble listing example $(sed -n 's/^complete.* gathjumli //p' "${BASH_SOURCE[0]}")" -- "$word")
-        fi
-        [ "$1" != gathjumli-example ] || mapfile -t COMPREPLY < <(compgen -W "$("$1" 2> /dev/null | sed -n 's/^    //p')" -- "$word")
-        ;;
+    if [ "\$COMP_CWORD" -eq 1 ]; then
+        mapfile -t COMPREPLY < <(compgen -W "$(subcommands)" -- "\$word")
+        return
+    fi
+    case \$word in
+    -*) mapfile -t COMPREPLY < <(compgen -W "\$("\$1" "\${COMP_WORDS[1]}" --help 2> /dev/null | grep -oE -- '--[a-z][a-z-]*' | sort -u)" -- "\$word") ;;
+    *) [ "\${COMP_WORDS[1]}" != example ] || mapfile -t COMPREPLY < <(compgen -W "\$("\$1" example 2> /dev/null | sed -n 's/^    //p')" -- "\$word") ;;
     esac
 }
+complete -o default -F _gathjumli gathjumli
 END
-    {
-        printf 'complete -o default -F _gathjumli'
-        printf ' %s' $(installed_commands) gathjumli-example
-        echo
-    } >> "$completion/gathjumli"
-    for command in $(installed_commands) gathjumli-example; do
-        [ "$command" = gathjumli ] || ln -sf gathjumli "$completion/$command" || return 1
+}
+
+# the words that follow gathjumli
+subcommands() {
+    printf 'example'
+    for command in $(installed_commands); do
+        [ "$command" = gathjumli ] || printf ' %s' "$(subcommand "$command")"
     done
 }
 
@@ -120,6 +116,7 @@ remove_from() {
         gathjumli) rm -f -- "$link" ;;
         esac
     done
+    rm -f -- "$1"/share/man/man1/gathjumli-*.1
     rm -rf -- "$1/lib/gathjumli" "$1/share/doc/gathjumli" "$1/share/bash-completion/completions/gathjumli"
     for folder in $made; do
         rmdir -- "$1/$folder" 2> /dev/null || true

@@ -66,7 +66,8 @@ choose_runner() {
         script=$copied
         [ "$given_script" != /dev/stdin ] || script_name='standard input'
     fi
-    ! grep -qaE '^(LOAD( .*)?|AUTO)$' -- "$script" || by_event=true
+    # why an IPL fails is reported too
+    ! grep -qaE '^(LOAD( .*)?|AUTO|LINE [^ ]+ +(#CP +)?IPL .*)$' -- "$script" || by_event=true
 }
 
 # the words of a command over one machine: read_bare_arguments MORE_OPTIONS WORD..

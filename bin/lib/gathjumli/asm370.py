@@ -725,7 +725,7 @@ def quotient(left: Any, right: Any) -> Any:
 
 # --- instructions ---
 
-# the operations of docs/MACHINE.md by the form of their operands, with their codes
+# the operations of docs/INSTRUCTIONS.md by the form of their operands, with their codes
 FORMS = {
     "R1,R2": "SSK 08 ISK 09 LPR 10 LNR 11 LTR 12 LCR 13 NR 14 CLR 15 OR 16 XR 17 LR 18 CR 19 AR 1A SR 1B MR 1C DR 1D "
     "ALR 1E SLR 1F BALR 05 BCTR 06 MVCL 0E CLCL 0F",
@@ -918,7 +918,9 @@ class Assembler:
     @staticmethod
     def unknown(operation: Any) -> str:
         if operation in ABSENT:
-            return f"this machine has no {operation} (docs/MACHINE.md); DC X'..' stores any bytes"
+            return (
+                f"this machine has no {operation} (docs/INSTRUCTIONS.md); DC X'..' stores any bytes"
+            )
         if operation.startswith("."):
             return f"{operation.lower()} is a directive of GNU as, and none of this notation (docs/man/asm370.1)"
         return f"no instruction and no macro has the name {operation}"
@@ -1154,7 +1156,10 @@ class Assembler:
         return value, length, inner
 
     def inner_number(self, at: Any, highest: Any, what: str) -> Any:
-        return self.absolute(Reader(self.statement.text, at, self.statement.end), 0, highest, what)
+        """A number from 0 on within parentheses, or any number if there is no highest one."""
+        lowest, highest = (-(1 << 31), 1 << 31) if highest is None else (0, highest)
+        reader = Reader(self.statement.text, at, self.statement.end)
+        return self.absolute(reader, lowest, highest, what)
 
     def indexed(self, reader: Any) -> tuple:
         """D(X,B): index, base and displacement."""
@@ -1190,15 +1195,20 @@ class Assembler:
     def long(self, reader: Any, most: Any) -> tuple:
         """D(L,B): length, base and displacement."""
         at = reader.at
+        length_at = at
         value, length, inner = self.place(reader)
         if len(inner) > 2 or (len(inner) == 2 and inner[1] is None):
             raise Fault("D(L,B) has a length and a base", at)
         if inner and inner[0] is not None:
-            length = self.inner_number(inner[0], most, "the length")
+            length_at = inner[0]
+            length = self.inner_number(length_at, None, "a length")
         elif length is None:
             raise Fault("the length is not known: a number has none, so write it, as X'48'(4)", at)
-        if not 0 <= length <= most:
-            raise Fault(f"the length is 0 to {most}, and not {length}: write another", at)
+        if length < 0:
+            raise Fault(f"a length is 0 to {most}, and not {length}", length_at)
+        if length > most:
+            more = f"write another {self.statement.operation} for the rest"
+            raise Fault(f"a length is at most {most}, and not {length}: {more}", length_at)
         if len(inner) == 2:
             return length, *self.written(value, self.inner_number(inner[1], 15, "a register"), at)
         return length, *self.implied(value, at)

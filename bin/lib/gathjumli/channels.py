@@ -1,4 +1,4 @@
-"""Channel words as text (docs/MACHINE.md, "Channel" and "Devices")."""
+"""Channel words as text (docs/CHANNELS.md)."""
 from __future__ import annotations
 
 from typing import Any

@@ -24,6 +24,7 @@ from gathjumli.recording import (
     without_passwords,
 )
 from gathjumli.state_files import is_state
+from gathjumli.stores import FileStore
 from gathjumli.strays import forget_states, state_paths
 
 DIRECTORY = "directory"
@@ -37,8 +38,9 @@ class Checkpoint:
     """Where the images of a session come to when it ends: a folder next to the recording, until they are in their places. Each
     start has another one, since a program whose command was killed may still write to its own."""
 
-    def __init__(self, record: Any, directory: Any, volumes: Any) -> None:
-        self.record = record
+    def __init__(self, store: FileStore, directory: Any, volumes: Any) -> None:
+        self.store = store
+        self.record = store.record
         self.directory = directory
         self.volumes = volumes
         self.folder = ""
@@ -109,6 +111,12 @@ class Checkpoint:
         for path in self.paths():
             sync_file(path)
         sync_folder(os.path.join(self.folder, DIRECTORY))
+        for path in [
+            *self.paths(),
+            os.path.join(self.folder, DIRECTORY),
+            *[self.state()] * bool(digits),
+        ]:
+            self.store.keep(path)
         sums = [*([digits] * bool(digits)), *map(sum_of_file, self.paths())]
         words = " ".join([os.path.basename(self.folder), *sums])
         return (SAVED_KEEPING if digits else SAVED) + words.encode(errors="surrogateescape")
@@ -138,6 +146,7 @@ class Checkpoint:
             self.leave_beginning(aside)
             os.replace(self.record, os.path.join(aside, "recording"))
         sync_folder(self.record)
+        self.store.turn(aside, self.volumes)
         self.forget()
         return aside
 
@@ -175,6 +184,7 @@ class Checkpoint:
             os.replace(path, os.path.join(aside, name))
         os.replace(self.record, os.path.join(aside, "recording"))
         sync_folder(self.record)
+        self.store.turn(aside, self.volumes)
         return aside
 
     def replace(

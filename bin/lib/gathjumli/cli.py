@@ -13,6 +13,8 @@ import tempfile
 ROOT = os.path.dirname(
     os.path.dirname(os.path.dirname(os.path.dirname(os.path.realpath(__file__))))
 )
+# the command as it was typed, which is another one if bin/gathjumli runs this one
+TYPED = os.environ.pop("GATHJUMLI_TYPED", None)
 # set where programs run without proof (bin/lib/building.sh)
 UNPROVED = "GATHJUMLI_UNPROVED"
 
@@ -49,7 +51,28 @@ def reason_text(reason: Exception) -> str:
 
 
 class UsageError(Exception):
-    """Wrong words; the text says which, and is empty where there are none at all."""
+    """Wrong words; the text says which."""
+
+
+class Missing(UsageError):
+    """A word is missing after so many: the usage text has its name. Options map a name to how its value is read."""
+
+    def __init__(self, given: int, options: dict[str, Any]) -> None:
+        super().__init__("a word is missing")
+        self.given, self.options = given, options
+
+    def text(self, usage: str) -> str:
+        """The name of the missing word, as the line of the usage text has it to which the options belong."""
+        lines = re.findall(r"^(?:usage:|      ) (\{command\} .*)", usage, re.M)
+        chosen = [line for line in lines if set(line.split()) & set(sys.argv[1:])] or lines[:1]
+        names, words = [], re.sub(r"\[[^]]*\](?:\.\.\.)?", "", chosen[0]).split()[1:]
+        while words:
+            word = words.pop(0)
+            if not word.startswith("--"):
+                names.append(word)
+            elif self.options.get(word) is not None:
+                words.pop(0)
+        return f"{names[self.given]} is missing" if self.given < len(names) else str(self)
 
 
 class Help(Exception):
@@ -61,7 +84,11 @@ class Version(Exception):
 
 
 def name() -> Any:
-    return os.path.basename(sys.argv[0])
+    return os.path.basename(typed())
+
+
+def typed() -> str:
+    return TYPED or sys.argv[0]
 
 
 def say(text: Any) -> None:
@@ -93,12 +120,21 @@ def print_version(crate: str) -> None:
         print(ask_build("tell", crate))
 
 
+def usage_text(usage: str) -> str:
+    """The usage text, in an installation with the names that things have there."""
+    text = usage.format(command=typed())
+    if not ROOT.endswith("/lib/gathjumli"):
+        return text
+    words = [os.path.join(ROOT, "bin", "lib", "built"), name(), "names"]
+    return subprocess.run(words, input=text, stdout=subprocess.PIPE, text=True).stdout or text
+
+
 def perform(command: Any, usage: Any, crate: Any) -> None:
     """What the words of a command ask for."""
     try:
         command(sys.argv[1:])
     except Help:
-        print(usage.format(command=sys.argv[0]), end="")
+        print(usage_text(usage), end="")
     except Version:
         print_version(crate)
 
@@ -112,11 +148,9 @@ def run(command: Any, usage: Any, crate: Any = None) -> None:
         sys.stdout.flush()
         status = 0
     except UsageError as item:
-        findings = usage.format(command=sys.argv[0])
-        if str(item):
-            say(item)
-            findings = findings.partition("\n\n")[0] + f"\n{name()} --help says more\n"
-        print(findings, end="", file=sys.stderr)
+        say(item.text(usage) if isinstance(item, Missing) else item)
+        print(usage_text(usage).partition("\n\n")[0], file=sys.stderr)
+        print(f"{name()} --help says more", file=sys.stderr)
         status = WRONG_USE
     except Failure as item:
         for line in item.lines:
@@ -184,7 +218,7 @@ def read_arguments(words: Any, options: Any, least: Any, most: Any) -> tuple:
             value if options[option] is None else read_value(option, value, options[option])
         )
     if len(paths) < least:
-        raise UsageError("a word is missing" if paths else "")
+        raise Missing(len(paths), options)
     if len(paths) > most:
         raise UsageError(f"one argument too many: {paths[most]}")
     return found, paths

@@ -10,6 +10,7 @@ import re
 import time
 from typing import Any
 
+from gathjumli import loading
 from gathjumli.checkpoints import changed_volume
 from gathjumli.figures import Waits
 from gathjumli.following import Died, NotFollowed, PartResult, Program, is_out_of_memory
@@ -340,6 +341,9 @@ class Engine:
             name, colon, text = event.partition(": ")
             if colon and name in self.users:
                 printed.setdefault(name, []).append(text)
+                if text == loading.FAILED:
+                    typed = [str(line) for who, line in part.typed if who == name]
+                    printed[name] += loading.advice(typed, self.machines.devices[name])
             elif part.typed and (absent := LACKS.fullmatch(event)):
                 printed.setdefault(absent[1], []).append(NO_ROOM)
         return printed

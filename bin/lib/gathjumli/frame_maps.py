@@ -66,6 +66,7 @@ class FrameMap:
         beginning = [recording.beginning] * bool(recording.beginning)
         for mark in reversed([*beginning, *recording.states]):
             with contextlib.suppress(Failure, OSError):
+                recording.store.have(self.engine.states.path(mark.name))
                 state = read_state(self.engine.states.path(mark.name))
                 if state.sum == mark.sum:
                     return mark.place, state

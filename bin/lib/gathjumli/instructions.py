@@ -1,4 +1,4 @@
-"""Instructions as bin/asm370 takes them: the table of docs/MACHINE.md, and the text of an instruction's bytes."""
+"""Instructions as bin/asm370 takes them: the table of docs/INSTRUCTIONS.md, and the text of an instruction's bytes."""
 from __future__ import annotations
 
 from typing import Any

@@ -127,6 +127,19 @@ class Machines:
         raise failure(done.returncode, findings)
 
 
+def refused_line(
+    machines: Machines, whole: bytes, number: int, script: bytes, line: int
+) -> Failure:
+    """The failure that a refused line is: its number among the lines that people wrote, and in the script of the program."""
+    shown = whole.split(b"\n")[number - 1].decode(errors="surrogateescape")
+    return Failure(
+        REFUSED,
+        f"fault: script Line {number}",
+        f"line {number} is: {shown!r}",
+        *machines.reason(script, line),
+    )
+
+
 def failure(status: Any, findings: Any) -> Any:
     """The failure that a program's end with this status is, and what it reported."""
     if status < 0:

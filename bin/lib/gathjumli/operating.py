@@ -11,7 +11,7 @@ import re
 
 from gathjumli.host import MEGABYTE, memory_of
 from gathjumli.backups import Backup
-from gathjumli.cli import Failure, read_file, write_whole
+from gathjumli.cli import Failure, read_file
 from gathjumli.ending import Ending, room_trouble
 from gathjumli.spool_care import NotDone, SpoolCare
 from gathjumli.figures import Data, figures, metrics
@@ -57,6 +57,7 @@ class Operator:
     def __init__(self, installation: Any, framemap: Any) -> None:
         self.installation = installation
         self.engine = installation.engine
+        self.store = self.engine.recording.store
         self.frames = FrameMap(self.engine, framemap)
         self.backup = Backup(installation)
         self.care = SpoolCare(self.engine.printouts, self.engine.users)
@@ -137,6 +138,8 @@ class Operator:
         reply(f"the session began {recording.begun_at()} UTC, {age(recording.seconds())} ago; "
               f"its recording has {recording.lines} lines, {recording.size() / MEGABYTE:.1f} MB, "
               f"and its disk {recording.free() // MEGABYTE} MB free")  # fmt: skip
+        for text in self.store.about():
+            reply(text)
         printouts = engine.printouts
         waiting = printouts.unwritten()
         trouble = f": {printouts.trouble}" if printouts.trouble else ""
@@ -155,6 +158,8 @@ class Operator:
         """Who is on and what the program does, or how far it is in the recording."""
         engine, strangers = self.engine, self.installation.desk.strangers
         who = f"{len(self.on())} on, {strangers} about to log on, {engine.parts} parts"
+        if self.store.follows:
+            return f"{len(self.on())} on at another host; nobody can log on here"
         if not engine.is_whole:
             is_ready, share = self.installation.is_ready, 100 * engine.progress.share()
             how = f"{who}; the program is started again" if is_ready else "nobody can log on yet"
@@ -278,7 +283,7 @@ class Operator:
         now = datetime.datetime.now()
         when = now.replace(hour=hour, minute=minute, second=0, microsecond=0)
         when += datetime.timedelta(days=1) * (when <= now)
-        write_whole(self.ending_path, f"{how}{when:{MINUTE}}\n".encode())
+        self.store.write(self.ending_path, f"{how}{when:{MINUTE}}\n".encode())
         self.plan_end(how, when)
         reply(self.ending[0])
 
@@ -294,7 +299,7 @@ class Operator:
                 self.plan_end(how, when)
                 self.notify(self.ending[0])
                 return
-        os.unlink(self.ending_path)
+        self.store.forget(self.ending_path)
         self.notify(f"the session was to end at {text}, which is past: it goes on")
 
     def plan_end(self, how: str, when: Any) -> None:
@@ -310,8 +315,7 @@ class Operator:
         for planned in self.ending[1:]:
             planned.cancel()
         self.ending = []
-        with contextlib.suppress(FileNotFoundError):
-            os.unlink(self.ending_path)
+        self.store.forget(self.ending_path)
 
 
 def wrong_folder(folder: str) -> str:

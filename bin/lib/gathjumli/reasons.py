@@ -140,10 +140,13 @@ def wrong_verb(line: Any, first: Any) -> Any:
     if first.upper().strip() in OPERANDS and first != first.upper():
         return f"first words are in upper case: {first.upper()}, and not {first}"
     if first == "LOAD":
-        return "bin/vm370 and bin/bare370 take LOAD u FILE: u is a user of the directory, and FILE is what bin/asm370 wrote"
+        return (
+            "bin/vm370, bin/bare370 and bin/trace370 take LOAD u FILE: u is a user, and FILE is what bin/asm370 wrote;"
+            " for other commands bin/turns writes the lines that it types"
+        )
     return (
         invisible(line)
-        or "a line begins with RUN, LINE, TICK, SERVE, AUTO or DECK, and not with " + first
+        or "a line begins with RUN, LINE, TICK, SERVE, AUTO, DECK or LOAD, and not with " + first
     )
 
 

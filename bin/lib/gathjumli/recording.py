@@ -1,10 +1,8 @@
 """The recording of an installation: the script of all that the program accepted (docs/INSTALLATION.md)."""
 from __future__ import annotations
 
-from collections.abc import Iterator
+from collections.abc import Callable, Iterator
 import calendar
-import errno
-import fcntl
 import hashlib
 import os
 import re
@@ -13,6 +11,7 @@ from typing import Any, NamedTuple
 
 from gathjumli.fronts import Front, front_of
 from gathjumli.machines import statements
+from gathjumli.stores import FileStore
 from gathjumli.cli import Failure, REFUSED
 
 TITLE = b"* GATHJUMLI RECORDING 1"
@@ -164,19 +163,13 @@ class Recording:
     """A recording that goes on. Nobody else may write it meanwhile. Each part is followed by a stamp: the time, and the sum of all
     bytes before."""
 
-    def __init__(self, path: Any) -> None:
-        self.path = path
+    def __init__(self, store: FileStore) -> None:
+        self.path = store.record
+        self.store = store
         self.turns = 0
         self.stamped = self.written = time.monotonic()
         self.reset()
-        # it has all that was typed, perhaps a password at a wrong place
-        self.file = open(
-            path, "ab", buffering=0, opener=lambda path, flags: os.open(path, flags, 0o600)
-        )
-        try:
-            fcntl.flock(self.file, fcntl.LOCK_EX | fcntl.LOCK_NB)
-        except BlockingIOError:
-            raise Failure(REFUSED, f"another installation goes on with {path}") from None
+        store.open()
         self.look()
 
     def reset(self) -> None:
@@ -223,12 +216,7 @@ class Recording:
         with open(self.path, "rb") as file:
             if front:
                 self.take_front(front, file)
-            size = file.tell()
-            for entry in entries_of(file):
-                size += len(entry)
-                self.judge(entry)
-                self.count(entry)
-                self.note(entry)
+            size = file.tell() + self.take_entries(file)
             file.seek(size)
             torn = file.read()
         if STAMPED.search(torn):
@@ -237,7 +225,26 @@ class Recording:
             # not even its first lines were written: nothing was done
             size, self.base, self.lines, self.bytes, self.sum = 0, [], 0, 0, hashlib.sha256()
         self.cut = len(torn)
-        self.file.truncate(size)
+        self.store.cut(size)
+
+    def take_entries(self, file: Any) -> int:
+        """Takes all entries that are whole, from where a file is; how many bytes these are."""
+        size = 0
+        for entry in entries_of(file):
+            size += len(entry)
+            self.judge(entry)
+            self.count(entry)
+            self.note(entry)
+        return size
+
+    def take_more(self) -> bool:
+        """Waits until another engine has added to the recording, and takes that; whether there was more."""
+        if not self.store.await_more():
+            return False
+        with open(self.path, "rb") as file:
+            file.seek(self.bytes)
+            self.take_entries(file)
+        return True
 
     def take_front(self, front: Front, file: Any) -> None:
         """Takes what a front says, and goes to its end."""
@@ -341,10 +348,9 @@ class Recording:
         """Begins it on this base, or goes on if it has the same. What it says about that is for the operator."""
         wanted = base.lines()
         if self.base:
-            if differs := differing(self.base, wanted):
-                anew = "start with --without-machines" if self.beginning else "move the file away"
-                advice = f"put back what it is of, or {anew}: then a session begins anew"
-                raise Failure(REFUSED, f"{self.path}: {differs}", advice)
+            self.refuse_others(wanted)
+            if self.store.follows:
+                return f"follows {self.path}, of which {self.lines} lines are here"
             cut = f"; {self.cut} bytes after the last whole line are cut" if self.cut else ""
             findings = f"goes on from {self.lines} lines of {self.path}, until {self.until.decode()} UTC{cut}"
             # a full disk is found here, and not when somebody types
@@ -358,9 +364,16 @@ class Recording:
                 self.begun = begun_now()
             self.base = wanted
             self.put(b"".join(item + b"\n" for item in wanted) + self.begun, is_stamped=True)
-        os.fdatasync(self.file.fileno())
+        self.store.settle()
         sync_folder(self.path)
         return findings
+
+    def refuse_others(self, wanted: list[bytes]) -> None:
+        """Refuses to go on with another program, directory, volume or other sizes than those that the recording is of."""
+        if differs := differing(self.base, wanted):
+            anew = "start with --without-machines" if self.beginning else "move the file away"
+            advice = f"put back what it is of, or {anew}: then a session begins anew"
+            raise Failure(REFUSED, f"{self.path}: {differs}", advice)
 
     def volume_sums(self) -> list:
         """The sums of the volumes when the session began."""
@@ -378,35 +391,45 @@ class Recording:
         return time.time() - calendar.timegm(time.strptime(self.begun_at(), "%Y-%m-%d %H:%M:%S"))
 
     def size(self) -> Any:
-        return os.fstat(self.file.fileno()).st_size
+        return self.store.size()
 
     def free(self) -> Any:
         """The bytes that are free on its disk."""
-        found = os.fstatvfs(self.file.fileno())
-        return found.f_bavail * found.f_frsize
+        return self.store.free()
 
     def aside(self) -> str:
         """The folder to which it goes when the session ends."""
         return f"{self.path}.{self.name()}"
 
-    def entries(self, state: StateMark | None = None) -> Iterator:
-        """What was done until now, or since a state: each entry with the number of its line, and the time of the stamp that follows it."""
+    def entries(
+        self, state: StateMark | None = None, at_end: Callable[[], None] | None = None
+    ) -> Iterator:
+        """What was done until now, or since a state: each entry with the number of its line, and the time of the stamp that follows it.
+        With at_end, which is called at the end, it goes on while another engine adds to the recording.
+        """
         number, waiting, when = 1, [], self.begun.removeprefix(BEGUN)[:19]
         if state:
             number, when = state.lines + 1, state.until
+        place, is_more = state.place if state else 0, True
         with open(self.path, "rb") as file:
-            file.seek(state.place if state else 0)
-            for entry in entries_of(file):
-                stamp = stamp_in(entry)
-                if stamp:
-                    when = stamp[1]
-                elif not entry.startswith(b"*"):
-                    waiting.append((number, entry))
-                if stamp or len(waiting) >= MOST_UNSTAMPED:
-                    yield from ((line, when, text) for line, text in waiting)
-                    waiting = []
-                number += entry.count(b"\n")
-        yield from ((line, when, text) for line, text in waiting)
+            while is_more:
+                file.seek(place)
+                for entry in entries_of(file):
+                    place += len(entry)
+                    stamp = stamp_in(entry)
+                    if stamp:
+                        when = stamp[1]
+                    elif not entry.startswith(b"*"):
+                        waiting.append((number, entry))
+                    if stamp or len(waiting) >= MOST_UNSTAMPED:
+                        yield from ((line, when, text) for line, text in waiting)
+                        waiting = []
+                    number += entry.count(b"\n")
+                yield from ((line, when, text) for line, text in waiting)
+                waiting, is_more = [], False
+                if at_end:
+                    at_end()
+                    is_more = self.take_more()
 
     def weight_since(self, mark: StateMark | None) -> int:
         """About how much was done since a mark, or since the beginning."""
@@ -452,17 +475,12 @@ class Recording:
             self.count(stamp)
             self.stamped, self.until = time.monotonic(), stamp[2:21]
             data += stamp
-        try:
-            is_whole = not data or self.file.write(data) == len(data)
-        except OSError as error:
-            raise OSError(error.errno, error.strerror, self.path) from None
-        if not is_whole:
-            raise OSError(errno.ENOSPC, os.strerror(errno.ENOSPC), self.path)
+        self.store.append(data)
 
     def settle(self) -> None:
         """What was added is on the disk now."""
         self.put(self.turns_line())
-        os.fdatasync(self.file.fileno())
+        self.store.settle()
 
     def mark(self, line: bytes) -> None:
         """Adds a comment line, and has it on the disk."""
@@ -494,7 +512,7 @@ class Recording:
         return text + stamp_of(sum_digits(hashlib.sha256(text)))
 
     def close(self) -> None:
-        self.file.close()
+        self.store.close()
 
 
 def stamp_of(digits: bytes) -> bytes:

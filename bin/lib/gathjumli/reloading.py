@@ -34,7 +34,7 @@ class Reload:
         self.take_rules()
 
     def all(self) -> list[str]:
-        """Reads all again; what could not be read."""
+        """Reads all again, and has the store keep it; what could not be read."""
         steps = {"journal": self.installation.journal.reopen, "certificate": self.take_certificate,
                  "passwords": self.take_passwords, "rules": self.take_rules}  # fmt: skip
         troubles = []
@@ -43,6 +43,13 @@ class Reload:
                 step()
             except (Failure, OSError) as reason:
                 troubles.append(f"{what} not read again: {reason_text(reason)}")
+        for path in (
+            self.path,
+            self.installation.directory,
+            self.installation.options["passwords"],
+        ):
+            if path and self.installation.store.is_within(path):
+                self.installation.store.keep_soon(path)
         return troubles
 
     def do(self) -> None:

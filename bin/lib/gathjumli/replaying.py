@@ -109,7 +109,7 @@ class Replay:
             self.reader.close()
 
     def go(self) -> bool:
-        for number, when, entry in self.engine.recording.entries(self.mark):
+        for number, when, entry in self.engine.recording.entries(self.mark, self.take_all):
             if self.engine.is_stopping:
                 return False
             part = part_of(entry)
@@ -119,9 +119,12 @@ class Replay:
                 self.ask_for_state(number - 1 + entry.count(b"\n"), when)
             if len(self.sent) >= AHEAD:
                 self.take_first()
+        return not self.sent
+
+    def take_all(self) -> None:
+        """Waits until all that was given is answered, or the engine is stopped."""
         while self.sent and not self.engine.is_stopping:
             self.take_first()
-        return not self.sent
 
     def take_first(self) -> None:
         """Waits for what is answered next."""

@@ -7,19 +7,17 @@ from typing import Any
 import asyncio
 import collections
 import contextlib
-import glob
 import os
 import re
-import shutil
 import stat
 import time
 
 from gathjumli.decks import OPEN_FOLDER, in_thread
 from gathjumli.journal import DATE_AND_TIME, Journal
+from gathjumli.stores import SESSION
 
 SECONDS_BETWEEN_LOOKS = 3600
 DAY = 24 * 3600
-SESSION = re.compile(r"[0-9]{4}-[0-9]{2}-[0-9]{2}-[0-9]{6}")
 # also those that an operator had printed again
 PRINTOUT = re.compile(r"(PRT|PUN)[0-9]{4,}-[A-Z0-9]+(-[0-9]+)?\.txt")
 # the folders of decks that were dealt with
@@ -52,9 +50,9 @@ class Retention:
     def remove_old(self, limit: float) -> None:
         """Removes what is of before a time, and says how much that was. What cannot be removed is reported once, and stays."""
         installation = self.installation
-        record, folder = installation.options["record"], installation.engine.printouts.folder
+        folder, store = installation.engine.printouts.folder, installation.engine.recording.store
         removed: collections.Counter = collections.Counter()
-        works = [("ended recording", ended_recordings(record, limit)), ("deck", self.decks(limit))]
+        works = [("ended recording", store.ended(limit)), ("deck", self.decks(limit))]
         if folder:
             works.append(("printout", old_printouts(folder, limit)))
         for what, removals in works:
@@ -99,18 +97,6 @@ def opened_folder(opened: contextlib.ExitStack, path: str, within: int | None) -
     handle = os.open(path, OPEN_FOLDER, dir_fd=within)
     opened.callback(os.close, handle)
     return handle
-
-
-def ended_recordings(record: str, limit: float) -> Iterator[Callable[[], None]]:
-    """Removes the folders of sessions that ended before a time."""
-    for path in sorted(glob.glob(f"{glob.escape(record)}.*")):
-        is_session = SESSION.fullmatch(path.removeprefix(f"{record}."))
-        recording = os.path.join(path, "recording")
-        # without a recording its end is under way
-        if not is_session or os.path.islink(path) or not os.path.isfile(recording):
-            continue
-        if os.stat(recording).st_mtime < limit:
-            yield lambda: shutil.rmtree(path)
 
 
 def old_printouts(folder: str, limit: float) -> Iterator[Callable[[], None]]:

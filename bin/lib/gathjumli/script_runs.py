@@ -2,16 +2,24 @@
 NAME PROGRAM SCRIPT WORD.., as bin/lib/program.sh calls it. The program is given the script part by part (docs/man/vm370.1), an event each."""
 from __future__ import annotations
 
+import os
 import re
 import sys
 from typing import Any
 
-from gathjumli import cli
+from gathjumli import cli, loading
 from gathjumli.cli import Failure, REFUSED, last, read_arguments, read_file
 from gathjumli.following import Program
-from gathjumli.machines import Machines, SIZE_OPTIONS, ScriptRefused, of_bare
+from gathjumli.machines import (
+    Machines,
+    SIZE_OPTIONS,
+    ScriptRefused,
+    of_bare,
+    refused_line,
+    stated,
+)
 from gathjumli.script_lines import Event, UNTIL_ALL_WAIT, Wrong, events_of, plain
-from gathjumli.state_files import NOBODY, after, restore, save_state, state_of
+from gathjumli.state_files import NOBODY, StateFile, after, restore, save_state, state_of
 from gathjumli.state_runs import ENTRY, OPTIONS as STATE_OPTIONS, Output
 
 # the status of a run that ends at a complaint
@@ -31,13 +39,18 @@ OPTIONS = STATE_OPTIONS | {"--quiet": None, "--strict": None}
 class Run:
     """A script that is given event by event."""
 
-    def __init__(self, program: Program, script: str, is_quiet: bool, is_strict: bool) -> None:
-        self.program = program
+    def __init__(
+        self, program: Program, machines: Machines, script: str, is_quiet: bool, is_strict: bool
+    ) -> None:
+        self.program, self.machines = program, machines
         self.script = script
         self.is_quiet, self.is_strict = is_quiet, is_strict
         self.output = Output()
         self.files: list = []
         self.states: list = []
+        # what was given so far, and what the program began with
+        self.given: list[bytes] = []
+        self.begun: StateFile | None = None
 
     def do(self, event: Event) -> None:
         if event.line == UNTIL_ALL_WAIT:
@@ -51,12 +64,41 @@ class Run:
     def give(self, event: Event, given: bytes) -> list[str]:
         """Has lines done, and prints what came of them."""
         result = self.program.do(given)
+        self.given.append(given)
         self.files += result.files
         self.states += result.states
         self.print_lines([line for line in result.events if self.is_shown(event, given, line)])
+        if f"{event.user()}: {loading.FAILED}" in result.events:
+            self.say_why_not_loaded(event, given)
         if self.is_strict and given.startswith(b"LINE "):
             self.refuse_complaint(event, given, result.events)
         return result.events
+
+    def say_why_not_loaded(self, event: Event, given: bytes) -> None:
+        """Says why an IPL failed: another program is led to the same place and asked there."""
+        found = loading.IPL.fullmatch(given)
+        if not found:
+            return
+        # it is done again there, so not yet
+        before = b"".join(self.given[:-1])
+        other = Program(self.machines)
+        try:
+            if self.begun:
+                restore(other, self.begun)
+            if before:
+                other.do(before)
+            answers = other.do(loading.questions(given)).events
+        except (Failure, ScriptRefused):
+            return
+        finally:
+            other.close()
+        kind = self.devices()[event.user()].get(found[2].decode(), "")
+        why = loading.reason(event.user(), kind, answers)
+        cli.say(f"{self.script}:{event.number}:1: {loading.FAILED}: {why}")
+
+    def devices(self) -> dict[str, dict[str, str]]:
+        """What is at each address of each user, which the program has accepted."""
+        return self.machines.devices or stated(read_file(self.machines.before[-1]))[1]
 
     def is_shown(self, event: Event, given: bytes, line: str) -> bool:
         if not self.is_quiet:
@@ -118,8 +160,9 @@ def typed_one_by_one(event: Event) -> list[bytes]:
     return [event.text()]
 
 
-def judged(machines: Machines, script: bytes, path: str) -> list[Event]:
-    """The events of a script in which no line is wrong; nothing of it is done."""
+def judged(machines: Machines, script: bytes, path: str, is_explained: bool = False) -> list[Event]:
+    """The events of a script in which no line is wrong; nothing of it is done. Why one is refused the command of the program says, or
+    this does if it is to be explained."""
     try:
         events = list(events_of(script))
     except Wrong as wrong:
@@ -128,7 +171,10 @@ def judged(machines: Machines, script: bytes, path: str) -> list[Event]:
     try:
         machines.check(given)
     except ScriptRefused as refused:
-        raise Failure(REFUSED, f"fault: script Line {numbers[refused.line - 1]}") from None
+        number = numbers[refused.line - 1]
+        if is_explained:
+            raise refused_line(machines, script, number, given, refused.line) from None
+        raise Failure(REFUSED, f"fault: script Line {number}") from None
     return events
 
 
@@ -139,7 +185,7 @@ def command(words: list[str]) -> None:
     sizes = [
         word for option in SIZE_OPTIONS for value in found[option] for word in (option, str(value))
     ]
-    is_bare = cli.name() == "bare370"
+    is_bare = os.path.basename(program_path).startswith("bare370")
     # what is wrong with a directory the program says
     own = Machines("vm370", [*sizes, first], volumes, {}, {})
     machines = of_bare(first, volumes) if is_bare else own
@@ -152,7 +198,7 @@ def command(words: list[str]) -> None:
     except BaseException:
         machines.close()
         raise
-    run = Run(program, shown, bool(found["--quiet"]), bool(found["--strict"]))
+    run = Run(program, machines, shown, bool(found["--quiet"]), bool(found["--strict"]))
     try:
         carry_out(run, events, state)
         if to:
@@ -168,6 +214,7 @@ def carry_out(run: Run, events: list[Event], state: Any) -> None:
     """Does the events, from a state if there is one. If it ends early, files that were closed are printed all the same."""
     if state:
         restore(run.program, state)
+        run.begun = state
     try:
         for event in events:
             run.do(event)

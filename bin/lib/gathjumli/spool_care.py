@@ -43,7 +43,11 @@ class SpoolCare:
             return printout.state
         if os.path.lexists(self.place(printout)):
             return printout.state
-        return "held" if os.path.lexists(self.place(printout, HELD)) else "removed"
+        if os.path.lexists(self.place(printout, HELD)):
+            return "held"
+        # the host that went on with the session before has written it
+        is_kept = printout.name in self.printouts.store.kept(self.printouts.folder)
+        return "in the store" if is_kept else "removed"
 
     def place(self, printout: Printout, *inner: str) -> str:
         return os.path.join(self.printouts.folder, *inner, printout.name)
@@ -77,7 +81,7 @@ class SpoolCare:
     def purge(self, rest: str, reply: Callable[[str], None]) -> None:
         printout = self.named(rest, "written", "held")
         is_held = self.state(printout) == "held"
-        os.unlink(self.place(printout, *[HELD] * is_held))
+        self.printouts.store.forget(self.place(printout, *[HELD] * is_held))
         reply(f"{printout.name} is removed")
 
     def reprint(self, rest: str, reply: Callable[[str], None]) -> None:

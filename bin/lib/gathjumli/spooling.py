@@ -8,6 +8,7 @@ import threading
 
 from gathjumli.printout_lines import HEADING
 from gathjumli.printing import Printing
+from gathjumli.stores import FileStore
 
 # files that are not written yet have so many bytes at most; of further ones the next start makes the pages
 MOST_WAITING = 1 << 28
@@ -34,8 +35,9 @@ class Printouts:
     """Writes printouts one after another in a thread, and notes in the recording which are written. One that cannot be written
     waits, and those after it. Without a folder printouts are only reported."""
 
-    def __init__(self, folder: Any, notify: Any, noted: Any) -> None:
+    def __init__(self, folder: Any, notify: Any, noted: Any, store: FileStore) -> None:
         self.folder = folder
+        self.store = store
         self.notify = notify
         # how to note that a file is written, and the names of those that are noted
         self.note = lambda name: None
@@ -46,6 +48,8 @@ class Printouts:
         self.size = 0
         self.trouble = ""
         self.is_closing = False
+        # a standby writes none: its engine does, and notes which are written
+        self.is_held = store.follows
         self.changed = threading.Condition()
         self.thread = None
         if folder:
@@ -61,7 +65,11 @@ class Printouts:
             with self.changed:
                 self.all.append(printout)
                 self.decide(printout, is_replay)
+                if self.is_held:
+                    self.drop_noted()
                 while is_replay and self.size > MOST_WAITING // 2 and not self.trouble:
+                    if self.is_held:
+                        break
                     self.changed.wait(1)
 
     def decide(self, printout: Any, is_replay: Any) -> None:
@@ -82,6 +90,20 @@ class Printouts:
             return
         printout.body = b""
 
+    def drop_noted(self) -> None:
+        """Has those wait no more that another engine has written."""
+        for printout in [item for item in self.waiting if item.name in self.noted]:
+            self.waiting.remove(printout)
+            self.size -= len(printout.body)
+            printout.state, printout.body = WRITTEN, b""
+
+    def release(self) -> None:
+        """Writes what the engine before has not."""
+        with self.changed:
+            self.is_held = False
+            self.drop_noted()
+            self.changed.notify_all()
+
     def write_all(self) -> None:
         """Writes what waits, until it is closed."""
         printing = Printing()
@@ -93,6 +115,7 @@ class Printouts:
                 is_new = not os.path.exists(path)
                 if is_new:
                     printing.write(path, printout.heading, printout.body)
+                self.store.keep(path)
             except OSError as error:
                 self.wait_after(printout, error.strerror)
                 continue
@@ -110,9 +133,10 @@ class Printouts:
     def first(self) -> Any:
         """The printout that is to be written next, or None at the end."""
         with self.changed:
-            while not self.waiting and not self.is_closing:
+            while (not self.waiting or self.is_held) and not self.is_closing:
                 self.changed.wait()
-            return None if not self.waiting or self.is_closing and self.trouble else self.waiting[0]
+            is_over = self.is_closing and (self.trouble or self.is_held)
+            return None if not self.waiting or is_over else self.waiting[0]
 
     def wait_after(self, printout: Any, reason: Any) -> None:
         """Waits a while after a failure, which is reported once."""
@@ -131,7 +155,7 @@ class Printouts:
     def settle(self, seconds: Any = SECONDS_TO_FINISH) -> None:
         """Waits until all is written, unless something cannot be."""
         with self.changed:
-            self.changed.wait_for(lambda: not self.waiting or self.trouble, seconds)
+            self.changed.wait_for(lambda: not self.waiting or self.trouble or self.is_held, seconds)
 
     def close(self) -> None:
         """Ends the thread; what still waits is written by the next start."""

@@ -77,7 +77,8 @@ class States:
             self.reading, self.last = reading, LastState(state.size, 0.0)
 
     def is_due(self, seconds: float) -> bool:
-        return not self.is_off and self.slow < SLOW_ONES and seconds >= self.due
+        is_free = not self.recording.store.is_keeping
+        return not self.is_off and self.slow < SLOW_ONES and seconds >= self.due and is_free
 
     def can_save(self, seconds: float) -> bool:
         """Whether a state may be saved now, which else is tried again soon. A printout that waits would be lost with what is before
@@ -120,6 +121,7 @@ class States:
         except OSError as error:
             self.report(error.strerror)
             return ""
+        self.recording.store.keep_soon(self.path(name))
         self.trouble = ""
         return digits
 
@@ -238,6 +240,7 @@ class States:
         states = self.recording.states[-MOST_STATES:]
         for mark in reversed([*beginning, *states, *self.on_way]):
             try:
+                self.recording.store.have(self.path(mark.name))
                 state = read_state(self.path(mark.name))
                 if (state.sum, state.base) != (mark.sum, self.base()):
                     raise Failure(0, f"{state.path} is another one than the recording says")

@@ -1,11 +1,15 @@
--- Events of a single machine turn it on or off only by a line.
-use Rattle.std.proofs.Common.{◌≡◌, ◌∙◌, ℕ, zero, suc, [], ◌∷◌, ap, refl, sym}
+-- Events of a single machine turn it on or off only by a line, and number what they start.
+use Rattle.std.proofs.Common.{◌≡◌, ◌∙◌, ℕ, zero, suc, List, [], ◌∷◌, ap, refl, sym}
 use Rattle.s370_channel.specs.Reading.{as_reached}
-use Rattle.bare_installation.specs.Bare.{Bare}
-use Rattle.bare_installation.specs.Life.{IsDone, IsRun, IsService}
-use Rattle.machine_devices.specs.Life.{Units, Serve as Serves}
+use Rattle.s370_subchannels.specs.Subchannels.{next_start}
+use Rattle.bare_installation.specs.Bare.{Bare, bare}
+use Rattle.bare_installation.specs.Life.{EachIsLife, IsApplied, IsDone, IsRun, IsService}
+use Rattle.bare_installation.specs.Life.{own as own_events}
+use Rattle.machine_devices.specs.Events.{user_of}
+use Rattle.machine_devices.specs.Life.{Units, Serve as Serves, Lives}
 use Rattle.machine_devices.specs.Turned.{OnlyLinesTurn}
 use Rattle.machine_devices.specs.UserDirectory.{is_logged_on}
+use Rattle.machine_devices.specs.Working.{AllWorkSince, StartsAreNumbered}
 use Rattle.machine_devices.specs.declared.event.Event.{Event}
 use Rattle.machine_devices.specs.declared.event.Event.TheVariants as events
 use Rattle.machine_devices.specs.declared.reply.Ended.{Ended}
@@ -15,8 +19,8 @@ use Rattle.machine_panel.specs.Run.{MachineRun}
 use Rattle.machine_panel.specs.declared.machine.Mode.{Mode}
 use Rattle.machine_panel.specs.declared.machine.Mode.TheVariants.{Off, Stopped, Running}
 use Rattle.session_script.specs.Script.{EventValue, Run, Serve}
-use Rattle.sessions.specs.Installed.{as_said}
-use Rattle.sessions.specs.Queued.{TurnsItsOwn}
+use Rattle.sessions.specs.Installed.{as_said, subchannels_at}
+use Rattle.sessions.specs.Queued.{StartsItsOwn, TurnsItsOwn}
 use Rattle.sessions.specs.Schedule.{is_on, is_user_on, user_said}
 use Rattle.sessions.proofs.Told.{user_same}
 use Rattle.bare370.specs.Goes.{Alone, HasHappened, machine_goes, own, seen_in}
@@ -86,3 +90,39 @@ module _ (law : OnlyLinesTurn) where
     serves = λ old one device reply new h. at_all old new
         (serve_event h.event one device old.machine reply new.machine h.named h.applied.does);
   }
+
+-- ---- devices
+
+-- what an event does is a life of its own
+once : EachIsLife → (old new : Bare) (event : Event) (reply : Reply) → IsApplied old event reply new
+    → Lives as_reached (own_events old (record { event = event; reply = reply; left = new } ∷ [])) old.equipped
+    new.equipped
+once law old new event reply h = law old new (record { event = event; reply = reply; left = new } ∷ []) (h, refl)
+
+numbered_at : EachIsLife → StartsAreNumbered → (old new : Alone) (event : Event) (reply : Reply)
+    → IsApplied old.machine event reply new.machine → (user : ℕ) → user ≡ own →
+    AllWorkSince (next_start (subchannels_at (seen_in old) user)) (subchannels_at (seen_in old) user)
+    (subchannels_at (seen_in new) user)
+numbered_at life law old new event reply h zero e =
+    law as_reached (own_events old.machine (record { event = event; reply = reply; left = new.machine } ∷ []))
+    old.machine.equipped new.machine.equipped (once life old.machine new.machine event reply h)
+numbered_at life law old new event reply h (suc user) e = absurd (cc)
+
+no_other : (old new : Alone) (user : ℕ) → (user ≡ own → ⊥)
+    → subchannels_at (seen_in new) user ≡ subchannels_at (seen_in old) user
+no_other old new zero other = absurd (other refl)
+no_other old new (suc user) other = refl
+
+named_own : (said : EventValue) (event : Event) → user_of event ≡ own → as_said event ≡ said → user_said said ≡ own
+named_own said event e named = sym (user_same event ∙ ap user_said named) ∙ e
+
+-- A single machine starts no device but its own.
+pub starts_its_own : EachIsLife → StartsAreNumbered → StartsItsOwn machine_goes
+starts_its_own life law = record {
+  users = λ old said reply new h.
+      ap (λ (addresses : List ℕ). record { name = bare; devices = addresses } ∷ []) h.addresses;
+  others = λ old said reply new h user other. no_other old new user
+      (λ e. other (e ∙ sym (named_own said h.event h.own h.named)));
+  own = λ old said reply new h. numbered_at life law old new h.event reply h.applied (user_said said)
+      (named_own said h.event h.own h.named);
+}

@@ -1,6 +1,7 @@
 -- What the program does with its files.
-use Rattle.std.specs.Prelude.{◌≡◌, ◌⊎◌, ◌++◌, ℕ, ◌*◌, Bool, true, false, List, [], map, replicate}
-use Rattle.std.specs.Prelude.{Option}
+use Rattle.std.specs.Prelude.{◌≡◌, ◌⊎◌, ◌++◌, ◌≤◌, ℕ, ◌*◌, Bool, true, false, codes, List, []}
+use Rattle.std.specs.Prelude.{length, map, replicate, Option, Some}
+use Rattle.clap.specs.Words.{all_of}
 use Rattle.s370_store.specs.Memory.{memory_of}
 use Rattle.s370_subchannels.specs.declared.subchannel.Subchannel.{Subchannel}
 use Rattle.ckd_volume.specs.Unit.{volume_of}
@@ -11,13 +12,16 @@ use Rattle.machine_devices.specs.declared.attaching.AttachError.{AttachError}
 use Rattle.machine_devices.specs.declared.attaching.AttachError.TheVariants as attaching
 use Rattle.sessions.specs.declared.schedule.Detail.{Detail}
 use Rattle.sessions.specs.declared.schedule.Detail.TheVariants.{Whole, Terminals}
+use Rattle.programs.specs.Arguments.{IsUnbegun, asks_to_follow, is_taken, rows_named, texts_of}
 use Rattle.programs.specs.Opened.{Adds, AddsFront, AreImagesAt, Deed, opens}
 use Rattle.programs.specs.Parts.{FailureCounts}
 use Rattle.programs.specs.Runs.{IsFailedFollowing, IsFailedRun, IsFollowing, IsRun, saved_of}
 use Rattle.programs.specs.Unread.{IsUnread}
 use Rattle.programs.specs.declared.faults.Failure.{Failure}
 use Rattle.programs.specs.declared.faults.Failure.TheVariants as failures
+use Rattle.bare370.specs.FollowOptions.{IsNamed as IsFollowNamed, command_of as follow_command_of}
 use Rattle.bare370.specs.Goes.{Alone, addresses_of, disks_from, machine_goes, usual_places}
+use Rattle.bare370.specs.Options.{IsNamed, command_of, gives_script, storage_named}
 use Rattle.bare370.specs.declared.arguments.BareOptions.{BareOptions}
 use Rattle.bare370.specs.declared.follow_arguments.MachineFollowOptions.{MachineFollowOptions}
 
@@ -152,31 +156,106 @@ IsFailedWholeFollowing Gives remaining count options deeds_old deeds_new reader_
 
 -- ---- the program
 
--- a whole run or a whole following, by some options, whatever standard input had and standard
--- output has
-abbrev pub IsWholeProgram : {F : Type 0} → (List ℕ → F → Type 0) → (F → Option (List ℕ))
-    → Option (List Deed) → Option (List Deed) → Type 0
-IsWholeProgram Gives remaining deeds_old deeds_new =
-    ((options : BareOptions) × (writer_old : Option (List ℕ)) × (writer_new : Option (List ℕ))
-    × IsWholeRun Gives remaining options deeds_old deeds_new writer_old writer_new)
-    ⊎ ((options : MachineFollowOptions) × (reader_old : Option (List ℕ))
-    × (reader_new : Option (List ℕ)) × (writer_old : Option (List ℕ))
-    × (writer_new : Option (List ℕ))
-    × IsWholeFollowing Gives remaining options deeds_old deeds_new reader_old reader_new writer_old
-    writer_new)
+-- a script was played by the options that these words name, whatever standard output has
+pub record IsRunNamed {F : Type 0} (words : List (List ℕ)) (Gives : List ℕ → F → Type 0)
+    (remaining : F → Option (List ℕ)) (deeds_old deeds_new : Option (List Deed)) : Type 0 where
+  pub options : BareOptions
+  pub named : IsNamed (rows_named (command_of (codes "bare370")) words) options
+  pub writer_old : Option (List ℕ)
+  pub writer_new : Option (List ℕ)
+  pub whole : IsWholeRun Gives remaining options deeds_old deeds_new writer_old writer_new
 
--- the words were no use of the program, or memory was refused, and no file was asked for; or a run
--- or a following has failed
-abbrev pub IsFailedProgram : {F : Type 0} → (List ℕ → F → Type 0) → (F → Option (List ℕ))
+-- the parts of a script were followed by the options that these words name, whatever standard input
+-- and output have
+pub record IsFollowingNamed {F : Type 0} (words : List (List ℕ)) (Gives : List ℕ → F → Type 0)
+    (remaining : F → Option (List ℕ)) (deeds_old deeds_new : Option (List Deed)) : Type 0 where
+  pub options : MachineFollowOptions
+  pub named : IsFollowNamed (rows_named (follow_command_of (codes "bare370")) words) options
+  pub reader_old : Option (List ℕ)
+  pub reader_new : Option (List ℕ)
+  pub writer_old : Option (List ℕ)
+  pub writer_new : Option (List ℕ)
+  pub whole : IsWholeFollowing Gives remaining options deeds_old deeds_new reader_old reader_new
+      writer_old writer_new
+
+-- what these words ask for was done
+abbrev pub IsWholeProgram : {F : Type 0} → List (List ℕ) → (List ℕ → F → Type 0)
+    → (F → Option (List ℕ)) → Option (List Deed) → Option (List Deed) → Type 0
+IsWholeProgram words Gives remaining deeds_old deeds_new =
+    ((asks_to_follow words ≡ false) × IsRunNamed words Gives remaining deeds_old deeds_new)
+    ⊎ ((asks_to_follow words ≡ true) × IsFollowingNamed words Gives remaining deeds_old deeds_new)
+
+-- these words name no options of a run
+abbrev pub IsMisused : List (List ℕ) → Type 0
+IsMisused words = (pages : ℕ) → is_taken (command_of (codes "bare370")) words ≡ true →
+    gives_script (rows_named (command_of (codes "bare370")) words) ≡ true →
+    storage_named (rows_named (command_of (codes "bare370")) words) ≡ Some pages →
+    length (texts_of (all_of (codes "VOLUME") (rows_named (command_of (codes "bare370")) words)))
+    ≤ 16 → ⊥
+
+-- these words name no options of a following
+abbrev pub IsMisusedToFollow : List (List ℕ) → Type 0
+IsMisusedToFollow words = (pages : ℕ) → is_taken (follow_command_of (codes "bare370")) words ≡ true →
+    storage_named (rows_named (follow_command_of (codes "bare370")) words) ≡ Some pages →
+    length
+    (texts_of (all_of (codes "VOLUME") (rows_named (follow_command_of (codes "bare370")) words)))
+    ≤ 16 → ⊥
+
+-- a run by the options that these words name has failed
+pub record IsFailedRunNamed {F : Type 0} (words : List (List ℕ)) (Gives : List ℕ → F → Type 0)
+    (remaining : F → Option (List ℕ)) (count : F → ℕ) (deeds_old deeds_new : Option (List Deed))
+    (failure : Failure) : Type 0 where
+  pub options : BareOptions
+  pub named : IsNamed (rows_named (command_of (codes "bare370")) words) options
+  pub writer_old : Option (List ℕ)
+  pub writer_new : Option (List ℕ)
+  pub failed_old : ℕ
+  pub failed_new : ℕ
+  pub failed : IsFailedWholeRun Gives remaining count options deeds_old deeds_new writer_old
+      writer_new failed_old failed_new failure
+
+-- a following by the options that these words name has failed
+pub record IsFailedFollowingNamed {F : Type 0} (words : List (List ℕ))
+    (Gives : List ℕ → F → Type 0) (remaining : F → Option (List ℕ)) (count : F → ℕ)
+    (deeds_old deeds_new : Option (List Deed)) (failure : Failure) : Type 0 where
+  pub options : MachineFollowOptions
+  pub named : IsFollowNamed (rows_named (follow_command_of (codes "bare370")) words) options
+  pub reader_old : Option (List ℕ)
+  pub reader_new : Option (List ℕ)
+  pub writer_old : Option (List ℕ)
+  pub writer_new : Option (List ℕ)
+  pub counts : FailureCounts
+  pub failed : IsFailedWholeFollowing Gives remaining count options deeds_old deeds_new reader_old
+      reader_new writer_old writer_new counts failure
+
+-- no file was asked for, since memory was refused or the words name no options; or a run has failed
+abbrev pub IsFailedToRun : {F : Type 0} → List (List ℕ) → (List ℕ → F → Type 0)
+    → (F → Option (List ℕ)) → (F → ℕ) → Option (List Deed) → Option (List Deed) → Failure → Type 0
+IsFailedToRun words Gives remaining count deeds_old deeds_new failure =
+    (IsUnbegun (IsMisused words) failure × (deeds_new ≡ deeds_old))
+    ⊎ IsFailedRunNamed words Gives remaining count deeds_old deeds_new failure
+
+-- no file was asked for, since memory was refused or the words name no options; or a following has
+-- failed
+abbrev pub IsFailedToFollow : {F : Type 0} → List (List ℕ) → (List ℕ → F → Type 0)
+    → (F → Option (List ℕ)) → (F → ℕ) → Option (List Deed) → Option (List Deed) → Failure → Type 0
+IsFailedToFollow words Gives remaining count deeds_old deeds_new failure =
+    (IsUnbegun (IsMisusedToFollow words) failure × (deeds_new ≡ deeds_old))
+    ⊎ IsFailedFollowingNamed words Gives remaining count deeds_old deeds_new failure
+
+-- what these words ask for has failed
+abbrev pub IsFailedProgram : {F : Type 0} → List (List ℕ) → (List ℕ → F → Type 0)
+    → (F → Option (List ℕ)) → (F → ℕ) → Option (List Deed) → Option (List Deed) → Failure → Type 0
+IsFailedProgram words Gives remaining count deeds_old deeds_new failure =
+    ((asks_to_follow words ≡ false)
+    × IsFailedToRun words Gives remaining count deeds_old deeds_new failure)
+    ⊎ ((asks_to_follow words ≡ true)
+    × IsFailedToFollow words Gives remaining count deeds_old deeds_new failure)
+
+-- no words were read, and no file was asked for, or what some words ask for has failed
+abbrev pub IsFailedToRead : {F : Type 0} → (List ℕ → F → Type 0) → (F → Option (List ℕ))
     → (F → ℕ) → Option (List Deed) → Option (List Deed) → Failure → Type 0
-IsFailedProgram Gives remaining count deeds_old deeds_new failure =
+IsFailedToRead Gives remaining count deeds_old deeds_new failure =
     (((failure ≡ failures.Usage) ⊎ (failure ≡ failures.Memory)) × (deeds_new ≡ deeds_old))
-    ⊎ ((options : BareOptions) × (writer_old : Option (List ℕ)) × (writer_new : Option (List ℕ))
-    × (failed_old : ℕ) × (failed_new : ℕ)
-    × IsFailedWholeRun Gives remaining count options deeds_old deeds_new writer_old writer_new
-    failed_old failed_new failure)
-    ⊎ ((options : MachineFollowOptions) × (reader_old : Option (List ℕ))
-    × (reader_new : Option (List ℕ)) × (writer_old : Option (List ℕ))
-    × (writer_new : Option (List ℕ)) × (counts : FailureCounts)
-    × IsFailedWholeFollowing Gives remaining count options deeds_old deeds_new reader_old reader_new
-    writer_old writer_new counts failure)
+    ⊎ ((words : List (List ℕ))
+    × IsFailedProgram words Gives remaining count deeds_old deeds_new failure)

@@ -10,10 +10,13 @@ ghost use Rattle.machine_devices.specs.Devices.{AreAttached, can_attach, devices
 ghost use Rattle.bare370.specs.Goes.{addresses_of, disks_from, first_disk, machine_goes};
 ghost use Rattle.bare370.specs.Goes.{usual_places};
 
-use bare_installation::{BARE, Bare, printed_lines_do_not_matter};
+use bare_installation::{BARE, Bare, each_is_life, printed_lines_do_not_matter};
 use ckd_volume::{Arm, Sense, Unit, Volume};
 use machine_channels::AttachedDisk;
-use machine_devices::{AttachError, Event, FileNote, Places, Reply, SeenDevices, only_lines_turn};
+use machine_devices::{
+    AttachError, Event, FileNote, Places, Reply, SeenDevices, only_lines_turn,
+    what_works_has_a_program,
+};
 use machine_panel::Mode;
 use s370_num::DevAddr;
 use s370_store::PlainStorage;
@@ -183,9 +186,11 @@ impl Installation for OneMachine {
     fn one_by_saved() {}
 
     /// States that an event turns no machine on or off but that of the user whom it names, and a run
-    /// or a serve none.
+    /// or a serve none; and that it starts no device but that user's.
     fn events_turn_their_own() {
         only_lines_turn();
+        what_works_has_a_program();
+        each_is_life();
     }
 
     /// States that lines that were printed before do not matter to what follows.

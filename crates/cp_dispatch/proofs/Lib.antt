@@ -1,5 +1,5 @@
 pub mod Places
 pub mod Fair
-pub mod Queues
 pub mod LineCodes
 pub mod Who
+pub mod Queues

@@ -37,10 +37,10 @@ pub record IsQueue (queue : List ℕ) (most : ℕ) : Type 0 where
   pub once : IsDistinct same_user queue
   pub below : (user : ℕ) → list_any (same_user user) queue ≡ true → user < most
 
--- in a queue are those of whom this is true, each once
-pub record HasJust (is : ℕ → Bool) (queue : List ℕ) (most : ℕ) : Type 0 where
-  pub who : (user : ℕ) → list_any (same_user user) queue ≡ is user
-  pub each_once : IsQueue queue most
+-- in a line are those of whom this is true, each once
+pub record HasJust {X : Type 0} (same : X → X → Bool) (is : X → Bool) (line : List X) : Type 0 where
+  pub who : (one : X) → list_any (same one) line ≡ is one
+  pub once : IsDistinct same line
 
 -- both lines are fair
 pub record IsFairPolicy : Type 0 where

@@ -11,6 +11,7 @@ pub mod Beside
 pub mod Answered
 mod OneLife
 mod OneReply
+mod Started
 mod Working
 mod Turned
 pub mod SameEvent

@@ -1,6 +1,6 @@
 -- The devices of a machine stay, and each that works has a program, event by event.
-use Rattle.std.proofs.Common.{◌≡◌, ℕ, zero, suc, Bool, true, false, List, [], ◌∷◌, Option, Some, None, refl, sym, ap}
-use Rattle.std.proofs.Common.{subst, ◌∙◌}
+use Rattle.std.proofs.Common.{◌≡◌, ◌≤◌, inl, inr, ℕ, zero, suc, Bool, true, false, List, [], ◌∷◌, Option, Some, None}
+use Rattle.std.proofs.Common.{refl, sym, ap, subst, ◌∙◌, arith}
 use Rattle.std.specs.Prelude.{if◌then◌else◌, ◌==◌, IsSome, is_some, map, slice_get}
 use Rattle.unit_record.specs.Console.{has_room, wants_attention}
 use Rattle.unit_record.specs.declared.output.Target.{Target}
@@ -67,55 +67,116 @@ use Rattle.machine_devices.specs.Lines.{typed_at, typed_where, was_reset}
 use Rattle.machine_devices.specs.Loading.{is_good, left_by}
 use Rattle.machine_devices.specs.Serve.{Serves, console_over, program_over}
 use Rattle.machine_devices.specs.Spooling.{is_punch, open_files}
-use Rattle.machine_devices.specs.Working.{AllGoOnHavingPrograms, AllHavePrograms, DevicesStay, HasProgram}
-use Rattle.machine_devices.specs.Working.{NoneWorksAtFirst, WorksWithProgram}
+use Rattle.machine_devices.specs.Working.{AllGoOnHavingPrograms, AllHavePrograms, AllWorkSince, DeliveriesChangeNone}
+use Rattle.machine_devices.specs.Working.{DevicesStay, HasProgram, NoneWorksAtFirst, StartsAreNumbered}
+use Rattle.machine_devices.specs.Working.{WorksWithProgram}
 use Rattle.machine_devices.specs.UserDirectory.{UserDirectory}
+use Rattle.machine_devices.proofs.Started.{all_changed, all_later, all_reset, all_same, changed_twice, latest_reset}
+use Rattle.machine_devices.proofs.Started.{latest_same, next_higher}
 
 abbrev addresses_in : List Subchannel → List ℕ
 addresses_in list = map (λ (s : Subchannel). s.address) list
 
--- the same devices, and where all have programs all go on having them
+-- the same devices, where all have programs all go on having them, and starts get the next number or a higher one
 record Stays (xs ys : List Subchannel) : Type 0 where
   addresses : addresses_in ys ≡ addresses_in xs
   good : AllHavePrograms xs → AllHavePrograms ys
+  later : next_start xs ≤ next_start ys
+  since : (number : ℕ) → number ≤ next_start xs → AllWorkSince number xs ys
 
 stays_same : (xs : List Subchannel) → Stays xs xs
-stays_same xs = record { addresses = refl; good = λ h. h }
+stays_same xs = record {
+  addresses = refl;
+  good = λ h. h;
+  later = omega arith;
+  since = λ number h. all_same number xs;
+}
 
 stays_on : (xs ys zs : List Subchannel) → Stays xs ys → Stays ys zs → Stays xs zs
-stays_on xs ys zs a b = record { addresses = b.addresses ∙ a.addresses; good = λ h. b.good (a.good h) }
+stays_on xs ys zs a b = record {
+  addresses = b.addresses ∙ a.addresses;
+  good = λ h. b.good (a.good h);
+  later = omega (arith, a.later, b.later);
+  since = λ number h. all_later number xs ys zs (a.since number h) (b.since number (omega (arith, h, a.later)));
+}
 
 -- ---- one device is changed
 
-changed_by : (b : Bool) (change : Subchannel → Subchannel) (s : Subchannel) (ss rest : List Subchannel)
-    → (change s).address ≡ s.address → (HasProgram s.state → HasProgram (change s).state) → Stays ss rest
-    → Stays (s ∷ ss) (if b then change s ∷ ss else s ∷ rest)
-changed_by true change s ss rest a g r =
-    record { addresses = ap (λ (x : ℕ). x ∷ addresses_in ss) a; good = λ h. (g h.0, h.1) }
-changed_by false change s ss rest a g r =
-    record { addresses = ap (λ (xs : List ℕ). s.address ∷ xs) r.addresses; good = λ h. (h.0, r.good h.1) }
+addresses_by : (b : Bool) (change : Subchannel → Subchannel) (s : Subchannel) (ss rest : List Subchannel)
+    → (change s).address ≡ s.address → addresses_in rest ≡ addresses_in ss
+    → addresses_in (if b then change s ∷ ss else s ∷ rest) ≡ addresses_in (s ∷ ss)
+addresses_by true change s ss rest a r = ap (λ (x : ℕ). x ∷ addresses_in ss) a
+addresses_by false change s ss rest a r = ap (λ (xs : List ℕ). s.address ∷ xs) r
 
-changed_stays : (device : ℕ) (change : Subchannel → Subchannel) → ((s : Subchannel) → (change s).address ≡ s.address)
+changed_addresses : (device : ℕ) (change : Subchannel → Subchannel)
+    → ((s : Subchannel) → (change s).address ≡ s.address) → (list : List Subchannel)
+    → addresses_in (changed device change list) ≡ addresses_in list
+changed_addresses device change a [] = refl
+changed_addresses device change a (s ∷ ss) =
+    addresses_by (s.address == device) change s ss (changed device change ss) (a s)
+    (changed_addresses device change a ss)
+
+good_by : (b : Bool) (change : Subchannel → Subchannel) (s : Subchannel) (ss rest : List Subchannel)
+    → (HasProgram s.state → HasProgram (change s).state) → (AllHavePrograms ss → AllHavePrograms rest)
+    → AllHavePrograms (s ∷ ss) → AllHavePrograms (if b then change s ∷ ss else s ∷ rest)
+good_by true change s ss rest g r h = (g h.0, h.1)
+good_by false change s ss rest g r h = (h.0, r h.1)
+
+changed_good : (device : ℕ) (change : Subchannel → Subchannel)
     → ((s : Subchannel) → HasProgram s.state → HasProgram (change s).state) → (list : List Subchannel)
-    → Stays list (changed device change list)
-changed_stays device change a g [] = stays_same []
-changed_stays device change a g (s ∷ ss) =
-    changed_by (s.address == device) change s ss (changed device change ss) (a s) (g s)
-    (changed_stays device change a g ss)
+    → AllHavePrograms list → AllHavePrograms (changed device change list)
+changed_good device change g [] h = tt
+changed_good device change g (s ∷ ss) h =
+    good_by (s.address == device) change s ss (changed device change ss) (g s) (changed_good device change g ss) h
 
-state_stays : (device : ℕ) (state : DeviceState) → HasProgram state → (list : List Subchannel)
+-- a change of a device that starts nothing
+record StartsNothing (change : Subchannel → Subchannel) : Type 0 where
+  address : (s : Subchannel) → (change s).address ≡ s.address
+  number : (s : Subchannel) → (change s).last_start ≡ s.last_start
+  good : (s : Subchannel) → HasProgram s.state → HasProgram (change s).state
+  worked : (s : Subchannel) → works (change s).state ≡ true → works s.state ≡ true
+
+changed_stays : (device : ℕ) (change : Subchannel → Subchannel) → StartsNothing change → (list : List Subchannel)
+    → Stays list (changed device change list)
+changed_stays device change c list = record {
+  addresses = changed_addresses device change c.address list;
+  good = changed_good device change c.good list;
+  later = (let same = latest_same device change c.number list in omega (arith, same));
+  since = λ number h. all_changed number device change c.address (λ s e. inl (c.worked s e, c.number s)) list;
+}
+
+state_stays : (device : ℕ) (state : DeviceState) → HasProgram state → works state ≡ false → (list : List Subchannel)
     → Stays list (with_state device state list)
-state_stays device state p list = changed_stays device (in_state state) (λ s. refl) (λ s h. p) list
+state_stays device state p w list = changed_stays device (in_state state) (record {
+  address = λ s. refl;
+  number = λ s. refl;
+  good = λ s h. p;
+  worked = λ s e. absurd (cc);
+}) list
 
 gives_stays : (device : ℕ) (gives : Bool) (list : List Subchannel) → Stays list (with_attention device gives list)
-gives_stays device gives list = changed_stays device (that_gives gives) (λ s. refl) (λ s h. h) list
+gives_stays device gives list = changed_stays device (that_gives gives) (record {
+  address = λ s. refl;
+  number = λ s. refl;
+  good = λ s h. h;
+  worked = λ s e. e;
+}) list
+
+-- the device works on a program, and its start has this number
+abbrev starting : ℕ → ℕ → Subchannel → Subchannel
+starting caw number s = last_started number (in_state (Working caw) s)
 
 begun_stays : (device caw : ℕ) → IsSome (caw_of caw) → (list : List Subchannel) → Stays list (begun device caw list)
 begun_stays device caw p list =
-    stays_on list (with_state device (Working caw) list) (begun device caw list)
-    (state_stays device (Working caw) p list)
-    (changed_stays device (last_started (next_start list)) (λ s. refl) (λ s h. h)
-    (with_state device (Working caw) list))
+    let number = next_start list in
+    subst (Stays list)
+    (sym (changed_twice device (in_state (Working caw)) (last_started number) (λ s. refl) list))
+    (record {
+      addresses = changed_addresses device (starting caw number) (λ s. refl) list;
+      good = changed_good device (starting caw number) (λ s h. p) list;
+      later = next_higher device (starting caw number) list (λ s. refl);
+      since = λ n h. all_changed n device (starting caw number) (λ s. refl) (λ s e. inr h) list;
+    })
 
 withdrawn_has : (gives : Bool) → HasProgram (withdrawn gives)
 withdrawn_has true = tt
@@ -124,6 +185,19 @@ withdrawn_has false = tt
 ended_has : (gives : Bool) (csw : ℕ) → HasProgram (ended gives csw)
 ended_has true csw = tt
 ended_has false csw = tt
+
+withdrawn_works : (gives : Bool) → works (withdrawn gives) ≡ false
+withdrawn_works true = refl
+withdrawn_works false = refl
+
+ended_works : (gives : Bool) (csw : ℕ) → works (ended gives csw) ≡ false
+ended_works true csw = refl
+ended_works false csw = refl
+
+attending_works : (state : DeviceState) → works (attending state) ≡ works state
+attending_works Idle = refl
+attending_works (Working caw) = refl
+attending_works (Pending csw) = refl
 
 attending_has : (state : DeviceState) → HasProgram state → HasProgram (attending state)
 attending_has Idle h = tt
@@ -150,36 +224,47 @@ found_has device [] t e h = absurd (subst IsNone e tt)
 found_has device (s ∷ ss) t e h =
     found_by (s.address == device) s t (found device ss) (λ later. found_has device ss t later h.1) h.0 e
 
+-- attention at a device, whatever its state
+abbrev attentive : Subchannel → Subchannel
+attentive s = in_state (attending s.state) s
+
+attentive_by : (b : Bool) (s t : Subchannel) (ss rest more : List Subchannel) (later : Option Subchannel)
+    → (later ≡ Some s → rest ≡ more) → (if b then Some t else later) ≡ Some s
+    → (if b then in_state (attending s.state) t ∷ ss else t ∷ rest) ≡ (if b then attentive t ∷ ss else t ∷ more)
+attentive_by true s t ss rest more later h e = cc
+attentive_by false s t ss rest more later h e = ap (λ (l : List Subchannel). t ∷ l) (h e)
+
+attentive_at : (device : ℕ) (s : Subchannel) (list : List Subchannel) → found device list ≡ Some s
+    → with_state device (attending s.state) list ≡ changed device attentive list
+attentive_at device s [] e = absurd (cc)
+attentive_at device s (t ∷ ts) e =
+    attentive_by (t.address == device) s t ts (with_state device (attending s.state) ts) (changed device attentive ts)
+    (found device ts) (attentive_at device s ts) e
+
 attended_stays : (o : Option Subchannel) (device : ℕ) (list : List Subchannel) → found device list ≡ o
     → Stays list (attended_by o device list)
 attended_stays None device list e = stays_same list
 attended_stays (Some s) device list e =
     let between = with_state device (attending s.state) list in
-    let gives = gives_stays device true between in
-    record {
-      addresses = gives.addresses ∙ (changed_stays_addresses device (attending s.state) list);
-      good = λ h. gives.good ((state_stays device (attending s.state)
-          (attending_has s.state (found_has device list s e h)) list).good h);
-    }
-  where
-    address_by : (b : Bool) (t : Subchannel) (ts rest : List Subchannel) (state : DeviceState)
-        → addresses_in rest ≡ addresses_in ts
-        → addresses_in (if b then in_state state t ∷ ts else t ∷ rest) ≡ addresses_in (t ∷ ts)
-    address_by true t ts rest state r = refl
-    address_by false t ts rest state r = ap (λ (xs : List ℕ). t.address ∷ xs) r
-
-    changed_stays_addresses : (device : ℕ) (state : DeviceState) (list : List Subchannel)
-        → addresses_in (with_state device state list) ≡ addresses_in list
-    changed_stays_addresses device state [] = refl
-    changed_stays_addresses device state (t ∷ ts) =
-        address_by (t.address == device) t ts (with_state device state ts) state
-        (changed_stays_addresses device state ts)
+    let attends : Stays list between = subst (Stays list) (sym (attentive_at device s list e))
+    (changed_stays device attentive (record {
+      address = λ t. refl;
+      number = λ t. refl;
+      good = λ t. attending_has t.state;
+      worked = λ t e. sym (attending_works t.state) ∙ e;
+    }) list) in
+    stays_on list between (with_attention device true between) attends (gives_stays device true between)
 
 reset_stays : (list : List Subchannel) → Stays list (reset_list list)
 reset_stays [] = stays_same []
 reset_stays (s ∷ ss) =
     let rest = reset_stays ss in
-    record { addresses = ap (λ (xs : List ℕ). s.address ∷ xs) rest.addresses; good = λ h. (tt, rest.good h.1) }
+    record {
+      addresses = ap (λ (xs : List ℕ). s.address ∷ xs) rest.addresses;
+      good = λ h. (tt, rest.good h.1);
+      later = (let same = latest_reset (s ∷ ss) in omega (arith, same));
+      since = λ number h. all_reset number (s ∷ ss);
+    }
 
 reset_has : (list : List Subchannel) → AllHavePrograms (reset_list list)
 reset_has [] = tt
@@ -189,8 +274,8 @@ ends_stays : (o : Option Subchannel) (device key : ℕ) (ending : Ending) (list 
     → Stays list (program_ended_at o device key ending list)
 ends_stays None device key ending list = stays_same list
 ends_stays (Some s) device key ending list =
-    state_stays device (ended s.attention (status_word key ending)) (ended_has s.attention (status_word key ending))
-    list
+    let csw = status_word key ending in
+    state_stays device (ended s.attention csw) (ended_has s.attention csw) (ended_works s.attention csw) list
 
 ended_stays : (device key : ℕ) (ending : Ending) (list : List Subchannel)
     → Stays list (program_ended device key ending list)
@@ -218,13 +303,14 @@ test_stays : (device : ℕ) (state : DeviceState) (d : Devices)
     → Stays d.subchannels (test_answered device state d).left.subchannels
 test_stays device Idle d = stays_same d.subchannels
 test_stays device (Working caw) d = stays_same d.subchannels
-test_stays device (Pending csw) d = state_stays device Idle tt d.subchannels
+test_stays device (Pending csw) d = state_stays device Idle tt refl d.subchannels
 
 halt_stays : (device : ℕ) (gives : Bool) (state : DeviceState) (d : Devices)
     → Stays d.subchannels (halt_answered device gives state d).left.subchannels
 halt_stays device gives Idle d = stays_same d.subchannels
 halt_stays device gives (Pending csw) d = stays_same d.subchannels
-halt_stays device gives (Working caw) d = state_stays device (withdrawn gives) (withdrawn_has gives) d.subchannels
+halt_stays device gives (Working caw) d =
+    state_stays device (withdrawn gives) (withdrawn_has gives) (withdrawn_works gives) d.subchannels
 
 device_stays : (operation : IoOperation) (device : ℕ) (o : Option Subchannel) (d : Devices)
     → Stays d.subchannels (device_answered operation device o d).left.subchannels
@@ -260,7 +346,7 @@ instructed_stays c = let r = (unit c.processor).ran in followed_stays r.stop (re
 unit_stays : (l : Next) (c : Core) → Stays c.subchannels (unit_at l c).subchannels
 unit_stays (Stops reason) c = stays_same c.subchannels
 unit_stays (Accepts taken) c = stays_same c.subchannels
-unit_stays (AcceptsStatus status) c = state_stays status.device Idle tt c.subchannels
+unit_stays (AcceptsStatus status) c = state_stays status.device Idle tt refl c.subchannels
 unit_stays Instructs c = instructed_stays (configured c)
 
 looked_stays : (l : Next) (c : Core) (rest : Run) → Stays c.subchannels rest.core.subchannels
@@ -507,6 +593,23 @@ go_on_having reads events first last l h = (lives reads events first last l).goo
 -- The devices of a machine stay.
 pub devices_stay : DevicesStay
 devices_stay reads events first last l = (lives reads events first last l).addresses
+
+-- A device that is started gets the next number or a higher one.
+pub are_numbered : StartsAreNumbered
+are_numbered reads events first last l =
+    (lives reads events first last l).since (next_start first.machine.core.subchannels) (omega arith)
+
+-- What is delivered changes no subchannel.
+pub deliveries_change_none : DeliveriesChangeNone
+deliveries_change_none reads [] first last d l = ap (λ (e : Equipped). e.machine.core.subchannels) l
+deliveries_change_none reads (Units count ∷ events) first last d l = absurd d
+deliveries_change_none reads (Serve device ∷ events) first last d l = absurd d
+deliveries_change_none reads (Line world typed ∷ events) first last d l = absurd d
+deliveries_change_none reads (Tick ∷ events) first last d l = absurd d
+deliveries_change_none reads (Deck deck ∷ events) first last d l =
+    deliveries_change_none reads events l.0 last d l.2 ∙ ap (λ (e : Equipped). e.machine.core.subchannels) l.1
+deliveries_change_none reads (Message text ∷ events) first last d l =
+    deliveries_change_none reads events l.0 last d l.2 ∙ ap (λ (e : Equipped). e.machine.core.subchannels) l.1
 
 -- ---- what is served
 

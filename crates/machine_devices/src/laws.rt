@@ -3,8 +3,9 @@ ghost use Rattle.machine_devices.specs.Forgotten.{PrintedLinesDoNotMatter};
 ghost use Rattle.machine_devices.specs.OneLife.{LinesAreOne, LivesAreApart, LivesAreOne};
 ghost use Rattle.machine_devices.specs.OneReply.{OutcomesAreOne};
 ghost use Rattle.machine_devices.specs.Turned.{OnlyLinesTurn};
-ghost use Rattle.machine_devices.specs.Working.{AllGoOnHavingPrograms, DevicesStay};
-ghost use Rattle.machine_devices.specs.Working.{NoneWorksAtFirst, WorksWithProgram};
+ghost use Rattle.machine_devices.specs.Working.{AllGoOnHavingPrograms, DeliveriesChangeNone};
+ghost use Rattle.machine_devices.specs.Working.{DevicesStay, NoneWorksAtFirst};
+ghost use Rattle.machine_devices.specs.Working.{StartsAreNumbered, WorksWithProgram};
 ghost use Rattle.machine_devices.specs.Written.{ClosedFilesStay, WrittenFilesDoNotMatter};
 ghost use Rattle.machine_devices.specs.Attention.{AttentionAgreesAtFirst, AttentionGoesOnAgreeing};
 
@@ -28,11 +29,16 @@ pub fn a_life_comes_to_one_end()
 
 /// States that a device that works has a program, and that the devices of a machine stay, whatever
 /// happens to it.
+///
+/// A device that is started gets the next number, or a higher one if others are started before it;
+/// decks and messages start and end nothing.
 pub fn what_works_has_a_program()
     ensures first { NoneWorksAtFirst }
     ensures later { AllGoOnHavingPrograms }
     ensures served { WorksWithProgram }
     ensures devices { DevicesStay }
+    ensures numbered { StartsAreNumbered }
+    ensures delivered { DeliveriesChangeNone }
 {}
 
 /// States that no event but a typed line turns a machine on or off.

@@ -47,6 +47,7 @@ pub use event::Event;
 pub use files::{ClosedFiles, FileKind, FileNote, deck_line};
 pub use laws::{
     a_life_comes_to_one_end, attention_agrees, only_lines_turn, printed_lines_do_not_matter,
+    what_works_has_a_program, written_files_do_not_matter,
 };
 pub use line::{LineOutcome, TypedLine};
 pub use places::{AttachedDevice, Places};

@@ -1,4 +1,5 @@
 pub mod Rules
+pub mod Asked
 pub mod Texts
 pub mod Imaged
 pub mod Framed

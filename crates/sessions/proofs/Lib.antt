@@ -22,6 +22,7 @@ pub mod Told
 pub mod Whole
 pub mod Fair
 mod Queued
+mod Served
 mod Started
 pub mod Restored
 pub mod Runs

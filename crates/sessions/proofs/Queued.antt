@@ -8,7 +8,7 @@ use Rattle.std.proofs.lemmas.Bool.{cases_lt}
 use Rattle.std.proofs.lemmas.Bool.Decides.{eqb_tells, nat_tests}
 use Rattle.cp_dispatch.specs.Policy.{HasJust, IsFairPolicy, same_user}
 use Rattle.cp_dispatch.specs.Turns.{StandsWithin}
-use Rattle.cp_dispatch.proofs.Who.{came, dealt, nobody, stays, went}
+use Rattle.cp_dispatch.proofs.Who.{Tells, came, dealt, nobody, stays, went}
 use Rattle.session_script.specs.Script.{Run, Serve}
 use Rattle.sessions.specs.Fair.{HasDealt, StaysReady, slices}
 use Rattle.sessions.specs.Installed.{Installation, Installed}
@@ -27,23 +27,16 @@ both was is user b before after others u = elim (eqb_tells u user) [
   | inr not ↦ others u not.1
 ]
 
-turned : (was is : ℕ → Bool) (user : ℕ) (queue : List ℕ) (most : ℕ) (a b : Bool) → was user ≡ a → is user ≡ b
-    → (is user ≡ true → user < most) → ((u : ℕ) → (u ≡ user → ⊥) → is u ≡ was u) → HasJust was queue most
-    → HasJust is (queue_with user a b queue) most
-turned was is user queue most false false before after small others h =
-    stays was is queue most (both was is user false before after others) h
-turned was is user queue most false true before after small others h =
-    came was is user queue most (small after) after others h
-turned was is user queue most true false before after small others h = went was is user queue most after others h
-turned was is user queue most true true before after small others h =
-    stays was is queue most (both was is user true before after others) h
-
--- who is on is one of the users
-is_one : (s : Installed) (most : ℕ) → length s.machines ≡ most → (user : ℕ) → is_user_on s user ≡ true → user < most
-is_one s most many user on = elim (cases_lt user most) [
-  | inl less ↦ less
-  | inr past ↦ (let off = off_past s user (omega (arith, many, past)) in absurd (cc))
-]
+turned : (was is : ℕ → Bool) (user : ℕ) (queue : List ℕ) (a b : Bool) → was user ≡ a → is user ≡ b
+    → ((u : ℕ) → (u ≡ user → ⊥) → is u ≡ was u) → HasJust same_user was queue
+    → HasJust same_user is (queue_with user a b queue)
+turned was is user queue false false before after others h =
+    stays same_user eqb_tells was is queue (both was is user false before after others) h
+turned was is user queue false true before after others h =
+    came same_user eqb_tells was is user queue after others h
+turned was is user queue true false before after others h = went same_user eqb_tells was is user queue after others h
+turned was is user queue true true before after others h =
+    stays same_user eqb_tells was is queue (both was is user true before after others) h
 
 -- ---- at first
 
@@ -59,25 +52,23 @@ and_none : (b c : Bool) → c ≡ false → (b && c) ≡ false
 and_none true c e = e
 and_none false c e = refl
 
-first_on : (s : Installed) → length s.machines ≡ length s.users → (n : ℕ) → n ≤ length s.users
-    → HasJust (on_below s n) (first_queue s n) (length s.users)
-first_on s many zero few = nobody (on_below s 0) (length s.users)
+first_on : (s : Installed) (n : ℕ) → HasJust same_user (on_below s n) (first_queue s n)
+first_on s zero = nobody same_user eqb_tells (on_below s 0)
     (λ user. and_none (is_user_on s user) (nat_lt user 0) (grind (arith, nat_tests)))
-first_on s many (suc n) few =
+first_on s (suc n) =
     let less : nat_lt n (suc n) ≡ true = grind (arith, nat_tests) in
     let past : nat_lt n n ≡ false = grind (arith, nat_tests) in
-    turned (on_below s n) (on_below s (suc n)) n (first_queue s n) (length s.users) false (is_user_on s n)
+    turned (on_below s n) (on_below s (suc n)) n (first_queue s n) false (is_user_on s n)
     (and_none (is_user_on s n) (nat_lt n n) past) (and_left (is_user_on s n) (nat_lt n (suc n)) less)
-    (λ on. omega (arith, few))
     (λ u other. (let same : nat_lt u (suc n) ≡ nat_lt u n = grind (arith, nat_tests) in
     ap (λ (b : Bool). is_user_on s u && b) same))
-    (first_on s many n (omega (arith, few)))
+    (first_on s n)
 
 -- A session begins with those who are on in its queue.
 pub begins : BeginsWithWhoIsOn
 begins s many = record {
   machines = many;
-  on = stays (on_below s (length s.users)) (is_user_on s) (first_queue s (length s.users)) (length s.users)
+  on = stays same_user eqb_tells (on_below s (length s.users)) (is_user_on s) (first_queue s (length s.users))
       (λ user. elim (cases_lt user (length s.users)) [
         | inl less ↦ (let is : nat_lt user (length s.users) ≡ true = grind (arith, nat_tests) in
             sym (and_left (is_user_on s user) (nat_lt user (length s.users)) is))
@@ -85,7 +76,7 @@ begins s many = record {
             let is : nat_lt user (length s.users) ≡ false = grind (arith, nat_tests) in
             off ∙ sym (and_none (is_user_on s user) (nat_lt user (length s.users)) is))
       ])
-      (first_on s many (length s.users) (omega arith));
+      (first_on s (length s.users));
 }
 
 -- ---- whatever is done
@@ -98,8 +89,7 @@ module _ {W : Type 0} (i : Installation W) (law : TurnsItsOwn i) where
       → QueueIsWhoIsOn (i.seen old) queue → QueueIsWhoIsOn (i.seen new) queue
   same_on old new queue users machines same h = record {
     machines = machines ∙ (h.machines ∙ sym users);
-    on = subst (λ (n : ℕ). HasJust (is_user_on (i.seen new)) queue n) (sym users)
-        (stays (is_user_on (i.seen old)) (is_user_on (i.seen new)) queue (length (i.seen old).users) same h.on);
+    on = stays same_user eqb_tells (is_user_on (i.seen old)) (is_user_on (i.seen new)) queue same h.on;
   }
 
   one_step : (act : Act) (entry : Entry W) (old new : Scene W) → IsDone i act entry old new
@@ -108,15 +98,12 @@ module _ {W : Type 0} (i : Installation W) (law : TurnsItsOwn i) where
       let user = user_said said in
       let was = is_user_on (i.seen old.world) in
       let is = is_user_on (i.seen step.left) in
-      let most = length (i.seen old.world).users in
       let many = law.users old.world said step.reply step.left d.happened in
       let queue = queue_with user (was user) (is user) old.lines.users in
-      let on : HasJust is queue most = turned was is user old.lines.users most (was user) (is user) refl refl
-      (is_one (i.seen step.left) most (many.1 ∙ h.machines) user)
-      (law.others old.world said step.reply step.left d.happened) h.on in
       let whole : QueueIsWhoIsOn (i.seen step.left) queue = record {
         machines = many.1 ∙ (h.machines ∙ sym many.0);
-        on = subst (λ (n : ℕ). HasJust is queue n) (sym many.0) on;
+        on = turned was is user old.lines.users (was user) (is user) refl refl
+            (law.others old.world said step.reply step.left d.happened) h.on;
       } in
       subst (λ (s : Scene W). QueueIsWhoIsOn (i.seen s.world) s.lines.users) (sym d.left) whole
   one_step (Applies said) (Dealt step) old new d h = absurd d
@@ -127,8 +114,8 @@ module _ {W : Type 0} (i : Installation W) (law : TurnsItsOwn i) where
       let many = law.users old.world (Run d.user slice_units) step.reply step.left d.happened in
       let moved : QueueIsWhoIsOn (i.seen old.world) d.queue = record {
         machines = h.machines;
-        on = dealt (is_user_on (i.seen old.world)) (ready_in (i.seen old.world)) old.lines.users (Some d.user) d.queue
-            (length (i.seen old.world).users) d.dealt h.on;
+        on = dealt same_user eqb_tells (is_user_on (i.seen old.world)) (ready_in (i.seen old.world)) old.lines.users
+            (Some d.user) d.queue d.dealt h.on;
       } in
       let whole = same_on old.world step.left d.queue many.0 many.1
       (law.runs old.world d.user slice_units step.reply step.left d.happened) moved in
@@ -163,34 +150,36 @@ rest_of : (a b : Bool) → a ≡ false → (a || b) ≡ true → b ≡ true
 rest_of true b none e = absurd (cc)
 rest_of false b none e = e
 
-stands : (user : ℕ) (queue : List ℕ) → list_any (same_user user) queue ≡ true
-    → StandsWithin user queue (length queue)
-stands user [] e = absurd (cc)
-stands user (x ∷ queue) e = elim (eqb_tells user x) [
-  | inl same ↦ record {
+stands : {X : Type 0} (same : X → X → Bool) → Tells same → (one : X) (queue : List X)
+    → list_any (same one) queue ≡ true → StandsWithin one queue (length queue)
+stands same tells one [] e = absurd (cc)
+stands {X} same tells one (x ∷ queue) e = elim (tells one x) [
+  | inl is ↦ record {
     before = [];
     after = queue;
-    split = ap (λ (n : ℕ). n ∷ queue) (sym same.1);
+    split = ap (λ (y : X). y ∷ queue) (sym is.1);
     near = omega arith;
   }
-  | inr not ↦ (let rest : list_any (same_user user) queue ≡ true =
-      rest_of (eqb user x) (list_any (same_user user) queue) not.0 e in
-      let s = stands user queue rest in
+  | inr not ↦ (let rest : list_any (same one) queue ≡ true =
+      rest_of (same one x) (list_any (same one) queue) not.0 e in
+      let s = stands same tells one queue rest in
       record {
         before = x ∷ s.before;
         after = s.after;
-        split = ap (λ (l : List ℕ). x ∷ l) s.split;
+        split = ap (λ (l : List X). x ∷ l) s.split;
         near = omega (arith, s.near);
       })
 ]
 
+-- Whoever is in a line has fewer before him than there are.
+pub stands_within : {X : Type 0} (same : X → X → Bool) → Tells same → (one : X) (queue : List X) (bound : ℕ)
+    → list_any (same one) queue ≡ true → length queue ≤ bound → StandsWithin one queue bound
+stands_within same tells one queue bound e enough =
+    let here = stands same tells one queue e in
+    record { before = here.before; after = here.after; split = here.split; near = omega (arith, here.near, enough) }
+
 -- Of as many slices as users are on, each who stays ready has one.
 pub slices_reach_all : IsFairPolicy → {W : Type 0} (i : Installation W) → SlicesReachAll i
 slices_reach_all fair i user all old new entries done queue on ready enough =
-    let here = stands user old.lines.users (queue.on.who user ∙ on) in
-    slices_are_fair fair i user all old new entries done ready (record {
-      before = here.before;
-      after = here.after;
-      split = here.split;
-      near = omega (arith, here.near, enough);
-    })
+    slices_are_fair fair i user all old new entries done ready
+    (stands_within same_user eqb_tells user old.lines.users (slices all) (queue.on.who user ∙ on) enough)

@@ -2,6 +2,7 @@
 ghost use Rattle.std.specs.Prelude.{◌≡◌, ◌<◌, ◌≤◌, ◌⊎◌, Bool, true, false, Err, IfOk, IfSome};
 ghost use Rattle.std.specs.Prelude.{OnErr, OnOk, length, slice_get};
 ghost use Rattle.std.specs.Option.{option_map};
+ghost use Rattle.s370_subchannels.specs.Subchannels.{AreAscending};
 ghost use Rattle.session_script.specs.Script.{IsOfDevice, IsOfUser};
 ghost use Rattle.session_script.specs.Users.{devices_of, has_device};
 ghost use Rattle.user_names.specs.Users.{name_of};
@@ -9,7 +10,7 @@ ghost use Rattle.machine_devices.specs.Dropped.{AreDropped, outputs_of};
 ghost use Rattle.sessions.specs.Continuing.{IsToGoOn, but_printed};
 ghost use Rattle.sessions.specs.Installed.{Installation as Goings, as_said, machine_at};
 ghost use Rattle.sessions.specs.Installed.{names_of, subchannels_at, user_at};
-ghost use Rattle.sessions.specs.Queued.{TurnsItsOwn};
+ghost use Rattle.sessions.specs.Queued.{StartsItsOwn, TurnsItsOwn};
 ghost use Rattle.sessions.specs.Saved.{AppendsState, IsOneBySaved, KeepsBase};
 ghost use Rattle.sessions.specs.Schedule.{ready_in};
 
@@ -75,7 +76,8 @@ pub trait Installation {
     /// Returns the subchannels of a user's machine.
     fn subchannels(&self, user: UserNo) -> &[Subchannel]
         requires { user < length ((goes).seen self.now).users }
-        ensures { result.now ≡ subchannels_at ((goes).seen self.now) user };
+        ensures list { result.now ≡ subchannels_at ((goes).seen self.now) user }
+        ensures order { AreAscending result.now };
 
     /// Returns a user's console, reader, punch and printer, with their files.
     fn devices(&self, user: UserNo) -> SeenDevices<'_>
@@ -159,9 +161,10 @@ pub trait Installation {
             (λ made. ((goes).seen made).users ≡ ((goes).seen self).users) };
 
     /// States that an event turns no machine on or off but that of the user whom it names, and a run
-    /// or a serve none.
+    /// or a serve none; and that it starts no device but that user's.
     fn events_turn_their_own()
-        ensures { TurnsItsOwn (goes) };
+        ensures turns { TurnsItsOwn (goes) }
+        ensures starts { StartsItsOwn (goes) };
 
     /// States that bytes are those of one state of a base, and that no event changes the base.
     fn one_by_saved()

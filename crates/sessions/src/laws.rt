@@ -1,7 +1,8 @@
 //! What follows for the users of a session, and for one that goes on from a saved state.
 ghost use Rattle.sessions.specs.Fair.{ServesAreFair, SlicesAreFair};
 ghost use Rattle.sessions.specs.OneTranscript.{HaveOneReply, TranscriptsAreOne};
-ghost use Rattle.sessions.specs.Queued.{BeginsWithWhoIsOn, KeepsWhoIsOn, SlicesReachAll};
+ghost use Rattle.sessions.specs.Queued.{BeginsWithWhatWorks, BeginsWithWhoIsOn, KeepsWhatWorks};
+ghost use Rattle.sessions.specs.Queued.{KeepsWhoIsOn, ServesReachAll, SlicesReachAll};
 ghost use Rattle.sessions.specs.Runs.{GoesOn, RestoredContinue, RunsAreASession};
 
 use crate::installation::Installation;
@@ -27,6 +28,19 @@ pub fn queue_has_who_is_on<I: Installation>()
     ensures first { BeginsWithWhoIsOn }
     ensures stays { KeepsWhoIsOn I.goes }
     ensures slices { SlicesReachAll I.goes }
+{
+    is_fair();
+    I::events_turn_their_own();
+}
+
+/// States that the serve queue has the programs of the devices that work, each once, and no other:
+/// when a session begins, and after whatever is done.
+///
+/// So, of as many successive serves as devices work, each program that stays waiting has one.
+pub fn serve_queue_has_what_works<I: Installation>()
+    ensures first { BeginsWithWhatWorks }
+    ensures stays { KeepsWhatWorks I.goes }
+    ensures serves { ServesReachAll I.goes }
 {
     is_fair();
     I::events_turn_their_own();

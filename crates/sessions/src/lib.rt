@@ -47,7 +47,8 @@ pub use follow::{Follower, Part, parts_are_a_session};
 pub use installation::{Installation, Refused};
 pub use joining::starts_are_in_order;
 pub use laws::{
-    a_transcript_is_one, queue_has_who_is_on, restored_sessions_go_on, sessions_are_fair,
+    a_transcript_is_one, queue_has_who_is_on, restored_sessions_go_on, serve_queue_has_what_works,
+    sessions_are_fair,
 };
 pub use schedule::Detail;
 pub use transcript::cuts_back;

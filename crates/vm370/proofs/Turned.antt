@@ -1,4 +1,5 @@
--- Events of a system turn no machine on or off but that of the user whom they name, and only by a line.
+-- Events of a system turn no machine on or off but that of the user whom they name, and only by a line; and they
+-- start no device but that user's.
 use Rattle.std.proofs.Common.{◌≡◌, ◌∙◌, ◌==◌, inl, inr, ℕ, Bool, true, false, List, [], ◌∷◌, ◌++◌, Option, Some}
 use Rattle.std.proofs.Common.{None, ap, refl, sym, subst}
 use Rattle.std.proofs.Common.{length, map}
@@ -11,6 +12,7 @@ use Rattle.cp_directory.specs.Users.{DirectoryUser}
 use Rattle.machine_devices.specs.Events.{user_of}
 use Rattle.machine_devices.specs.Life.{Event as Local, Units, Serve as Serves, Line as Types, Tick, Deck, Message}
 use Rattle.machine_devices.specs.Turned.{HasNoLine, OnlyLinesTurn}
+use Rattle.machine_devices.specs.Working.{AreDeliveries, DeliveriesChangeNone, StartsAreNumbered}
 use Rattle.machine_devices.specs.UserDirectory.{is_logged_on}
 use Rattle.machine_devices.specs.declared.event.Event.{Event}
 use Rattle.machine_devices.specs.declared.event.Event.TheVariants as events
@@ -24,10 +26,10 @@ use Rattle.machine_panel.specs.declared.machine.Mode.{Mode}
 use Rattle.machine_panel.specs.declared.machine.Mode.TheVariants.{Off, Stopped, Running}
 use Rattle.session_script.specs.Script.{EventValue, Run, Serve}
 use Rattle.sessions.specs.Installed.{as_said}
-use Rattle.sessions.specs.Queued.{TurnsItsOwn}
+use Rattle.sessions.specs.Queued.{StartsItsOwn, TurnsItsOwn}
 use Rattle.sessions.specs.Schedule.{is_on, is_user_on, user_said}
 use Rattle.sessions.proofs.Told.{user_same}
-use Rattle.vm370.specs.Goes.{HasHappened, known_user, seen_in, system_goes}
+use Rattle.vm370.specs.Goes.{HasHappened, known_user, known_users, seen_in, system_goes}
 
 -- ---- what is no line
 
@@ -134,3 +136,45 @@ module _ (law : OnlyLinesTurn) where
         (no_line_if (user_of h.event == user) (local_event old h.event reply.ended)
         (serve_part old h.event one device reply.ended h.named));
   }
+
+-- ---- devices
+
+deliveries_if : (b : Bool) (events : List Local) → AreDeliveries events → AreDeliveries (if b then events else [])
+deliveries_if true events h = h
+deliveries_if false events h = tt
+
+delivers : (old : SystemView) (step : SystemStep) (what : Delivery) → AreDeliveries (coming old step what ∷ [])
+delivers old step (deliveries.Deck number) = tt
+delivers old step (deliveries.Message line) = tt
+
+comes_delivered : (user : ℕ) (old : SystemView) (step : SystemStep) (delivered : Option Delivered)
+    → AreDeliveries (comes_to user old step delivered)
+comes_delivered user old step None = tt
+comes_delivered user old step (Some delivered) =
+    deliveries_if (delivered.to == user) (coming old step delivered.what ∷ []) (delivers old step delivered.what)
+
+others_part : (b : Bool) (events more : List Local) → b ≡ false → AreDeliveries more
+    → AreDeliveries ((if b then events else []) ++ more)
+others_part true events more e h = absurd (cc)
+others_part false events more e h = h
+
+-- Events of a system start no device but their own user's.
+pub starts_its_own : StartsAreNumbered → DeliveriesChangeNone → StartsItsOwn system_goes
+starts_its_own numbered none = record {
+  users = λ old said reply new h. ap known_users h.step.directory;
+  others = λ old said reply new h user other.
+      (let step : SystemStep = record { event = h.event; reply = reply; seen = new } in
+      let named : user_of h.event ≡ user_said said = user_same h.event ∙ ap user_said h.named in
+      let apart : (user_of h.event == user) ≡ false = elim (eqb_tells (user_of h.event) user) [
+        | inl same ↦ absurd (other (sym same.1 ∙ named))
+        | inr not ↦ not.0
+      ] in
+      none as_reached (local user old step) (user_at old user) (user_at new user)
+      (others_part (user_of h.event == user) (local_event old h.event reply.ended)
+      (comes_to user old step reply.delivered) apart (comes_delivered user old step reply.delivered))
+      (h.step.replied.applied user));
+  own = λ old said reply new h.
+      (let step : SystemStep = record { event = h.event; reply = reply; seen = new } in
+      let user = user_said said in
+      numbered as_reached (local user old step) (user_at old user) (user_at new user) (h.step.replied.applied user));
+}

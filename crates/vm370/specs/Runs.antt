@@ -1,5 +1,6 @@
 -- What the program does with its files.
-use Rattle.std.specs.Prelude.{◌≡◌, ◌⊎◌, ℕ, Bool, true, false, List, [], ◌∷◌, ◌++◌, map, Option, Ok}
+use Rattle.std.specs.Prelude.{◌≡◌, ◌⊎◌, ℕ, Bool, true, false, codes, List, [], ◌∷◌, ◌++◌, map}
+use Rattle.std.specs.Prelude.{Option, Ok}
 use Rattle.std.specs.Str.Lossy.{utf8_lossy}
 use Rattle.s370_num.specs.Host.{IsCounted}
 use Rattle.s370_num.specs.declared.host.HostFault.TheVariants as hosts
@@ -15,6 +16,7 @@ use Rattle.cp_directory.specs.Users.{DirectoryUser}
 use Rattle.sessions.specs.Session.{IsRead}
 use Rattle.sessions.specs.declared.schedule.Detail.{Detail}
 use Rattle.sessions.specs.declared.schedule.Detail.TheVariants.{Whole, Terminals}
+use Rattle.programs.specs.Arguments.{IsUnbegun, asks_to_follow}
 use Rattle.programs.specs.Opened.{Adds, AddsFront, AreImagesAt, Deed, Opens, opens}
 use Rattle.programs.specs.Parts.{FailureCounts}
 use Rattle.programs.specs.Runs.{IsFailedFollowing, IsFailedRun, IsFollowing, IsRun, saved_of}
@@ -23,7 +25,10 @@ use Rattle.programs.specs.Unread.{IsUnread}
 use Rattle.programs.specs.declared.faults.Failure.{Failure}
 use Rattle.programs.specs.declared.faults.Failure.TheVariants as failures
 use Rattle.vm370.specs.BootFaults.{refusal_status, refusal_text}
+use Rattle.vm370.specs.FollowOptions.{IsNamed as IsFollowNamed, gives_directory}
+use Rattle.vm370.specs.FollowOptions.{is_taken as is_follow_taken, rows_named as follow_rows_named}
 use Rattle.vm370.specs.Goes.{system_goes}
+use Rattle.vm370.specs.Options.{IsNamed, IsSized, gives_paths, is_taken, rows_named}
 use Rattle.vm370.specs.declared.arguments.Options.{Options}
 use Rattle.vm370.specs.declared.follow_arguments.SystemFollowOptions.{SystemFollowOptions}
 
@@ -207,31 +212,102 @@ IsFailedWholeFollowing Gives remaining count options deeds_old deeds_new reader_
 
 -- ---- the program
 
--- a whole run or a whole following, by some options, whatever standard input had and standard
--- output has
-abbrev pub IsWholeProgram : {F : Type 0} → (List ℕ → F → Type 0) → (F → Option (List ℕ))
-    → Option (List Deed) → Option (List Deed) → Type 0
-IsWholeProgram Gives remaining deeds_old deeds_new =
-    ((options : Options) × (writer_old : Option (List ℕ)) × (writer_new : Option (List ℕ))
-    × IsWholeRun Gives remaining options deeds_old deeds_new writer_old writer_new)
-    ⊎ ((options : SystemFollowOptions) × (reader_old : Option (List ℕ))
-    × (reader_new : Option (List ℕ)) × (writer_old : Option (List ℕ))
-    × (writer_new : Option (List ℕ))
-    × IsWholeFollowing Gives remaining options deeds_old deeds_new reader_old reader_new writer_old
-    writer_new)
+-- a script was played by the options that these words name, whatever standard output has
+pub record IsRunNamed {F : Type 0} (words : List (List ℕ)) (Gives : List ℕ → F → Type 0)
+    (remaining : F → Option (List ℕ)) (deeds_old deeds_new : Option (List Deed)) : Type 0 where
+  pub options : Options
+  pub named : IsNamed (rows_named (codes "vm370") words) options
+  pub writer_old : Option (List ℕ)
+  pub writer_new : Option (List ℕ)
+  pub whole : IsWholeRun Gives remaining options deeds_old deeds_new writer_old writer_new
 
--- the words were no use of the program, or memory was refused, and no file was asked for; or a run
--- or a following has failed
-abbrev pub IsFailedProgram : {F : Type 0} → (List ℕ → F → Type 0) → (F → Option (List ℕ))
+-- the parts of a script were followed by the options that these words name, whatever standard input
+-- and output have
+pub record IsFollowingNamed {F : Type 0} (words : List (List ℕ)) (Gives : List ℕ → F → Type 0)
+    (remaining : F → Option (List ℕ)) (deeds_old deeds_new : Option (List Deed)) : Type 0 where
+  pub options : SystemFollowOptions
+  pub named : IsFollowNamed (follow_rows_named (codes "vm370") words) options
+  pub reader_old : Option (List ℕ)
+  pub reader_new : Option (List ℕ)
+  pub writer_old : Option (List ℕ)
+  pub writer_new : Option (List ℕ)
+  pub whole : IsWholeFollowing Gives remaining options deeds_old deeds_new reader_old reader_new
+      writer_old writer_new
+
+-- what these words ask for was done
+abbrev pub IsWholeProgram : {F : Type 0} → List (List ℕ) → (List ℕ → F → Type 0)
+    → (F → Option (List ℕ)) → Option (List Deed) → Option (List Deed) → Type 0
+IsWholeProgram words Gives remaining deeds_old deeds_new =
+    ((asks_to_follow words ≡ false) × IsRunNamed words Gives remaining deeds_old deeds_new)
+    ⊎ ((asks_to_follow words ≡ true) × IsFollowingNamed words Gives remaining deeds_old deeds_new)
+
+-- these words name no options of a run
+abbrev pub IsMisused : List (List ℕ) → Type 0
+IsMisused words = (sizes : SystemSizes) → is_taken (codes "vm370") words ≡ true →
+    gives_paths (rows_named (codes "vm370") words) ≡ true →
+    IsSized (rows_named (codes "vm370") words) sizes → ⊥
+
+-- these words name no options of a following
+abbrev pub IsMisusedToFollow : List (List ℕ) → Type 0
+IsMisusedToFollow words = (sizes : SystemSizes) → is_follow_taken (codes "vm370") words ≡ true →
+    gives_directory (follow_rows_named (codes "vm370") words) ≡ true →
+    IsSized (follow_rows_named (codes "vm370") words) sizes → ⊥
+
+-- a run by the options that these words name has failed
+pub record IsFailedRunNamed {F : Type 0} (words : List (List ℕ)) (Gives : List ℕ → F → Type 0)
+    (remaining : F → Option (List ℕ)) (count : F → ℕ) (deeds_old deeds_new : Option (List Deed))
+    (failure : Failure) : Type 0 where
+  pub options : Options
+  pub named : IsNamed (rows_named (codes "vm370") words) options
+  pub writer_old : Option (List ℕ)
+  pub writer_new : Option (List ℕ)
+  pub failed_old : ℕ
+  pub failed_new : ℕ
+  pub failed : IsFailedWholeRun Gives remaining count options deeds_old deeds_new writer_old
+      writer_new failed_old failed_new failure
+
+-- a following by the options that these words name has failed
+pub record IsFailedFollowingNamed {F : Type 0} (words : List (List ℕ))
+    (Gives : List ℕ → F → Type 0) (remaining : F → Option (List ℕ)) (count : F → ℕ)
+    (deeds_old deeds_new : Option (List Deed)) (failure : Failure) : Type 0 where
+  pub options : SystemFollowOptions
+  pub named : IsFollowNamed (follow_rows_named (codes "vm370") words) options
+  pub reader_old : Option (List ℕ)
+  pub reader_new : Option (List ℕ)
+  pub writer_old : Option (List ℕ)
+  pub writer_new : Option (List ℕ)
+  pub counts : FailureCounts
+  pub failed : IsFailedWholeFollowing Gives remaining count options deeds_old deeds_new reader_old
+      reader_new writer_old writer_new counts failure
+
+-- no file was asked for, since memory was refused or the words name no options; or a run has failed
+abbrev pub IsFailedToRun : {F : Type 0} → List (List ℕ) → (List ℕ → F → Type 0)
+    → (F → Option (List ℕ)) → (F → ℕ) → Option (List Deed) → Option (List Deed) → Failure → Type 0
+IsFailedToRun words Gives remaining count deeds_old deeds_new failure =
+    (IsUnbegun (IsMisused words) failure × (deeds_new ≡ deeds_old))
+    ⊎ IsFailedRunNamed words Gives remaining count deeds_old deeds_new failure
+
+-- no file was asked for, since memory was refused or the words name no options; or a following has
+-- failed
+abbrev pub IsFailedToFollow : {F : Type 0} → List (List ℕ) → (List ℕ → F → Type 0)
+    → (F → Option (List ℕ)) → (F → ℕ) → Option (List Deed) → Option (List Deed) → Failure → Type 0
+IsFailedToFollow words Gives remaining count deeds_old deeds_new failure =
+    (IsUnbegun (IsMisusedToFollow words) failure × (deeds_new ≡ deeds_old))
+    ⊎ IsFailedFollowingNamed words Gives remaining count deeds_old deeds_new failure
+
+-- what these words ask for has failed
+abbrev pub IsFailedProgram : {F : Type 0} → List (List ℕ) → (List ℕ → F → Type 0)
+    → (F → Option (List ℕ)) → (F → ℕ) → Option (List Deed) → Option (List Deed) → Failure → Type 0
+IsFailedProgram words Gives remaining count deeds_old deeds_new failure =
+    ((asks_to_follow words ≡ false)
+    × IsFailedToRun words Gives remaining count deeds_old deeds_new failure)
+    ⊎ ((asks_to_follow words ≡ true)
+    × IsFailedToFollow words Gives remaining count deeds_old deeds_new failure)
+
+-- no words were read, and no file was asked for, or what some words ask for has failed
+abbrev pub IsFailedToRead : {F : Type 0} → (List ℕ → F → Type 0) → (F → Option (List ℕ))
     → (F → ℕ) → Option (List Deed) → Option (List Deed) → Failure → Type 0
-IsFailedProgram Gives remaining count deeds_old deeds_new failure =
+IsFailedToRead Gives remaining count deeds_old deeds_new failure =
     (((failure ≡ failures.Usage) ⊎ (failure ≡ failures.Memory)) × (deeds_new ≡ deeds_old))
-    ⊎ ((options : Options) × (writer_old : Option (List ℕ)) × (writer_new : Option (List ℕ))
-    × (failed_old : ℕ) × (failed_new : ℕ)
-    × IsFailedWholeRun Gives remaining count options deeds_old deeds_new writer_old writer_new
-    failed_old failed_new failure)
-    ⊎ ((options : SystemFollowOptions) × (reader_old : Option (List ℕ))
-    × (reader_new : Option (List ℕ)) × (writer_old : Option (List ℕ))
-    × (writer_new : Option (List ℕ)) × (counts : FailureCounts)
-    × IsFailedWholeFollowing Gives remaining count options deeds_old deeds_new reader_old reader_new
-    writer_old writer_new counts failure)
+    ⊎ ((words : List (List ℕ))
+    × IsFailedProgram words Gives remaining count deeds_old deeds_new failure)

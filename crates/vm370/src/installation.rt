@@ -11,7 +11,9 @@ ghost use Rattle.vm370.specs.Goes.{known_users, seen_in, system_goes};
 
 use cp_core::{CpError, System, one_by_saved, printed_lines_do_not_matter};
 use cp_directory::{MinidiskStatement, User, UserDevices};
-use machine_devices::{Event, FileNote, Reply, SeenDevices, only_lines_turn};
+use machine_devices::{
+    Event, FileNote, Reply, SeenDevices, only_lines_turn, what_works_has_a_program,
+};
 use machine_panel::Mode;
 use s370_num::DevAddr;
 use s370_subchannels::Subchannel;
@@ -184,9 +186,10 @@ impl Installation for SharedMachines {
     }
 
     /// States that an event turns no machine on or off but that of the user whom it names, and a run
-    /// or a serve none.
+    /// or a serve none; and that it starts no device but that user's.
     fn events_turn_their_own() {
         only_lines_turn();
+        what_works_has_a_program();
     }
 
     /// States that lines that were printed before do not matter to what follows.

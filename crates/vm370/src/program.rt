@@ -4,8 +4,9 @@
 //!
 //! The transcript goes to standard output. A failure is one line on standard error, and its kind is
 //! the exit status; of an image that is not saved a second line has the path.
-ghost use Rattle.std.specs.Prelude.{IfErr, OnOk};
-ghost use Rattle.vm370.specs.Runs.{IsFailedProgram, IsWholeProgram};
+ghost use Rattle.std.specs.Prelude.{ℕ, IfErr, List, OnOk, map, string_bytes};
+ghost use Rattle.vm370.specs.Runs.{IsFailedProgram, IsFailedToFollow, IsFailedToRead};
+ghost use Rattle.vm370.specs.Runs.{IsFollowingNamed, IsWholeProgram};
 
 use crate::arguments::arguments;
 use crate::follow_arguments::follow_arguments;
@@ -52,18 +53,35 @@ fn run<R: AllocGlobal + Env + Input + Print + Eprint, F: FileStore>(
     files: &mut F,
     is_watched: bool,
 ) -> Result<(), Failure>
-    ensures ok { OnOk result
-        (IsWholeProgram F.gives F.File.remaining (F.deeds files.old) (F.deeds files.new)) }
+    ensures ok { OnOk result ((words : List (List ℕ))
+        × IsWholeProgram words F.gives F.File.remaining (F.deeds files.old) (F.deeds files.new)) }
     ensures err { IfErr result
-        (IsFailedProgram F.gives F.File.remaining F.File.HostFile.failures (F.deeds files.old)
+        (IsFailedToRead F.gives F.File.remaining F.File.HostFile.failures (F.deeds files.old)
         (F.deeds files.new)) }
 {
-    let alloc = rt.alloc();
     let words = words(rt, PROGRAM)?;
-    if asks_to_follow(words.as_slice()) {
-        return follow(rt, files, words.as_slice());
+    obey(rt, files, words.as_slice(), is_watched)
+}
+
+/// Does what these words of the command line ask.
+fn obey<R: AllocGlobal + Input + Print + Eprint, F: FileStore>(
+    rt: &R,
+    files: &mut F,
+    words: &[String],
+    is_watched: bool,
+) -> Result<(), Failure>
+    ensures ok { OnOk result
+        (IsWholeProgram (map string_bytes words.now) F.gives F.File.remaining (F.deeds files.old)
+        (F.deeds files.new)) }
+    ensures err { IfErr result
+        (IsFailedProgram (map string_bytes words.now) F.gives F.File.remaining
+        F.File.HostFile.failures (F.deeds files.old) (F.deeds files.new)) }
+{
+    if asks_to_follow(words) {
+        return follow(rt, files, words);
     }
-    let options = match arguments(alloc, PROGRAM, words.as_slice()) {
+    let alloc = rt.alloc();
+    let options = match arguments(alloc, PROGRAM, words) {
         Ok(options) => options,
         Err(error) => return Err(wrong_use(rt, &error, USAGE_NOTE)),
     };
@@ -79,10 +97,11 @@ fn follow<R: AllocGlobal + Input + Print + Eprint, F: FileStore>(
     words: &[String],
 ) -> Result<(), Failure>
     ensures ok { OnOk result
-        (IsWholeProgram F.gives F.File.remaining (F.deeds files.old) (F.deeds files.new)) }
+        (IsFollowingNamed (map string_bytes words.now) F.gives F.File.remaining
+        (F.deeds files.old) (F.deeds files.new)) }
     ensures err { IfErr result
-        (IsFailedProgram F.gives F.File.remaining F.File.HostFile.failures (F.deeds files.old)
-        (F.deeds files.new)) }
+        (IsFailedToFollow (map string_bytes words.now) F.gives F.File.remaining
+        F.File.HostFile.failures (F.deeds files.old) (F.deeds files.new)) }
 {
     let alloc = rt.alloc();
     let options = match follow_arguments(alloc, PROGRAM, words) {

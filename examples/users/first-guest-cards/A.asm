@@ -10,7 +10,7 @@ NEXT     LA    1,READ
          ST    1,CAW
          SIO   READER
 READS    TIO   READER
-         BC    2,READS             condition code 2: the reader works
+         BC    2,READS             mask 2, condition code 2: it works
          TM    CSW+4,X'01'         unit exception: no card was left
          BO    PRINT
          PACK  PACKED,CARD(3)

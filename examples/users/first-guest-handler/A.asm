@@ -27,7 +27,7 @@ PRINT    CVD   2,PACKED
 *        starts the channel program at register 1 on the device at register 3, and waits for its end
 DOIO     ST    1,CAW
          SIO   0(3)
-         BC    7,BAD               any condition code but 0: it was not started
+         BC    7,BAD               mask 7, codes 1 to 3: it was not started
          LPSW  WAIT
 ENDED    BR    14                  an interruption of a device leads here
 BAD      LPSW  FAILED

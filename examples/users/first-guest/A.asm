@@ -12,7 +12,7 @@ ADD      AR    2,1
          OI    DIGITS+2,X'F0'      which becomes a digit
          SIO   PRINTER             the channel program begins
 WORKS    TIO   PRINTER
-         BC    2,WORKS             condition code 2: the printer works
+         BC    2,WORKS             mask 2, condition code 2: it works
          LPSW  DONE
 WRITE    CCW   X'09',LINE,0,7      write a line of seven bytes, then space one line
 DONE     PSW   X'00020000',0       bit 14: the machine waits, for nothing

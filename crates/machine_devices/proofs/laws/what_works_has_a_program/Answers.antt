@@ -1,4 +1,5 @@
-use Rattle.machine_devices.proofs.Working.{devices_stay, go_on_having, none_works, works_with}
+use Rattle.machine_devices.proofs.Working.{are_numbered, deliveries_change_none, devices_stay, go_on_having}
+use Rattle.machine_devices.proofs.Working.{none_works, works_with}
 use Rattle.machine_devices.proofs.laws.what_works_has_a_program.Goals as goal
 
 pub returns-clause-first : goal.returns-clause-first
@@ -12,3 +13,9 @@ returns-clause-served c = works_with
 
 pub returns-clause-devices : goal.returns-clause-devices
 returns-clause-devices c = devices_stay
+
+pub returns-clause-numbered : goal.returns-clause-numbered
+returns-clause-numbered c = are_numbered
+
+pub returns-clause-delivered : goal.returns-clause-delivered
+returns-clause-delivered c = deliveries_change_none

@@ -1,5 +1,9 @@
-use Rattle.vm370.proofs.Turned.{turns_its_own}
+use Rattle.vm370.proofs.Turned.{starts_its_own, turns_its_own}
 use Rattle.vm370.proofs.installation.SharedMachinesInstallation.events_turn_their_own.Goals as goal
 
-pub returns : goal.returns
-returns c = turns_its_own c.only_lines_turn.ensures
+pub returns-clause-turns : goal.returns-clause-turns
+returns-clause-turns c = turns_its_own c.only_lines_turn.ensures
+
+pub returns-clause-starts : goal.returns-clause-starts
+returns-clause-starts c =
+    let law = c.what_works_has_a_program.ensures in starts_its_own law.numbered law.delivered

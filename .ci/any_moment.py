@@ -1,0 +1,349 @@
+"""Random moments of runs, as bin/replay has them, compared with runs from the beginning: field by field, and with what DISPLAY says. Called
+by .ci/test-people.py --built."""
+from __future__ import annotations
+
+from collections.abc import Callable
+import http.client
+import os
+import random
+import tempfile
+import threading
+from typing import Any
+
+from gathjumli.cli import Failure
+from gathjumli.following import SavedState
+from gathjumli.machines import Machines, of_directory
+from gathjumli.moment_page import MomentPage
+from gathjumli.moment_search import REGISTER, Search, WORD, Wanted
+from gathjumli.moments import Moments
+from gathjumli.recorded_files import beginning_of, script_of, stands_on
+from gathjumli.recording import BEGINNING, Base
+from gathjumli.replay_server import ReplayServer, RunAnswers
+from gathjumli.run_index import Run, UNITS_AT_ONCE, entries_of
+from gathjumli.script_lines import events_of
+from gathjumli.state_files import NOBODY, TITLE, write_state
+from gathjumli.state_programs import StateProgram
+from gathjumli.state_view import StateView
+
+EXAMPLES = f"{os.path.dirname(os.path.dirname(os.path.realpath(__file__)))}/examples/users"
+NAMES = ("two-tasks", "ipl-from-cards", "more-pages-than-frames", "frames-out", "two-users-chat")
+PARTS = "ready serves volumes users frames slots pins order page_ins tables".split()
+# a loop that adds the word at 204 to register 1, and stores the sum at 200
+LOOP = "5A1002045010020047F00100"
+DIRECTORY = (
+    "USER A PW 64K\nCONSOLE 009 3215\nMDISK 190 3330 0 2 WORK01 W\n"
+    "USER B PW 32K\nMDISK 191 3330 2 1 WORK01 R\n"
+)
+LONG = f"""LINE A LOGON
+LINE A STORE 100 {LOOP}
+LINE A STORE 204 00000001
+LINE A BEGIN 100
+RUN A {4 * UNITS_AT_ONCE + 7}
+LINE B LOGON
+LINE B STORE 100 {LOOP}
+LINE B STORE 204 00000010
+LINE B BEGIN 100
+AUTO 1000
+"""
+# AUTO without a number: what it deals, and where nobody is ready
+WAITING = f"""AUTO
+LINE A LOGON
+LINE A STORE 100 {LOOP}
+LINE A STORE 108 82000300
+LINE A STORE 300 0002000000000BAD
+LINE A BEGIN 100
+AUTO
+AUTO
+LINE A DISPLAY PSW
+"""
+
+
+def image(serial: bytes, cylinders: int) -> bytes:
+    """The image of a volume with one record."""
+    track = bytes(5) + b"\1" + bytes([0, 0, 0, 0, 1, 0, 0, 4]) + b"DATA"
+    blank = (bytes(5) + b"\0") * (19 * cylinders - 1)
+    head = b"CKD2" + serial + cylinders.to_bytes(2, "big")
+    return head + track + blank + (1).to_bytes(4, "big")
+
+
+def machines_of(program: str, directory: str, sizes: list[str], volumes: list[str]) -> Machines:
+    found = of_directory(directory, sizes, volumes)
+    found.path, found.is_built = program, True
+    return found
+
+
+def view_from_beginning(
+    moments: Moments, event: int, unit: int, program: StateProgram
+) -> StateView:
+    """A moment that a program is led to from the beginning, in one way."""
+    place = moments.place_of(event, unit)
+    for part in filter(None, [*moments.between(0, 0, 0, place), place.rest]):
+        program.do(part)
+    return moments.run.view_of(program)
+
+
+def differing(one: StateView, other: StateView) -> list[str]:
+    """The parts in which two states differ, but for the entries of closed files, which a state keeps part by part."""
+    found = [
+        part for part in PARTS if part != "users" and getattr(one, part) != getattr(other, part)
+    ]
+    for name, user in one.users.items():
+        other_user = other.users[name]
+        found += [
+            f"{name} {key}" for key in user if key != "closed" and user[key] != other_user[key]
+        ]
+    return found
+
+
+def displayed(program: StateProgram, view: StateView, user: str) -> list[str]:
+    """What DISPLAY says otherwise than a state. Nothing is said of a page for which there is no frame."""
+    found = view.users[user]
+    words = [view.storage_of(user, 0x200 + 4 * word, 4).hex().upper() for word in range(4)]
+    wanted = {f"G{number}": f"{value:08X}" for number, value in enumerate(found["general"])}
+    wanted |= {"X0": f"{found['control'][0]:08X}", "200": " ".join(words)}
+    wanted["PSW"] = f"{found['psw']['address']:06X}"
+    lines = [f"LINE {user} #CP DISPLAY {name}\n" for name in wanted]
+    answers = program.do("".join(lines).encode()).events
+    return [
+        f"{name}: {answer}, and not {text}"
+        for (name, text), answer in zip(wanted.items(), answers)
+        if not answer.endswith((text, " FRAMES"))
+    ]
+
+
+def try_moment(check: Callable, name: str, moments: Moments, event: int, unit: int) -> None:
+    view = moments.moment(event, unit).view
+    program = StateProgram(moments.run.machines)
+    try:
+        other = view_from_beginning(moments, event, unit, program)
+        found = differing(view, other)
+        check(
+            f"{name}: the moment {event}.{unit} is that of a run from the beginning",
+            not found,
+            *found,
+        )
+        for user, state in view.users.items():
+            if state["mode"] != "off":
+                wrong = displayed(program, view, user)
+                check(
+                    f"{name}: DISPLAY says of {user} at {event}.{unit} what the state does",
+                    not wrong,
+                    *wrong,
+                )
+    finally:
+        program.close()
+
+
+def try_spoilt(check: Callable, name: str, moments: Moments, chance: random.Random) -> None:
+    """States that are cut, longer or spoilt are refused."""
+    run = moments.run
+    data = b"".join(moments.moment(len(run.steps), 0).view.state.data(run.pieces))
+    cuts = [data[: chance.randrange(len(data))] for _ in range(20)]
+    for spoilt in (*cuts, data[:-1], data + b"\0", b"\2" + data[1:], b""):
+        try:
+            StateView([spoilt], run.machines.users, run.pieces)
+            check(
+                f"{name}: a state of {len(spoilt)} bytes in place of {len(data)} is refused", False
+            )
+        except Failure:
+            check(f"{name}: a spoilt state is refused", True)
+    for size in (9, 4096):
+        pieces = [data[at : at + size] for at in range(0, len(data), size)]
+        whole = StateView(pieces, run.machines.users, run.pieces)
+        check(f"{name}: a state that arrives in pieces of {size}", whole.state.size == len(data))
+
+
+def try_ways(check: Callable, name: str, moments: Moments, event: int, unit: int) -> None:
+    """A unit forward and back again leads to where it began."""
+    for user in moments.run.users:
+        to = moments.go(event, unit, user, "unit+")
+        is_own = moments.owner_of(event) == user and unit < moments.units_of(event)
+        if is_own:
+            check(f"{name}: back from {to}", moments.go(*to, user, "unit-") == (event, unit))
+        check(f"{name}: on from {event}.{unit}", to >= (event, unit))
+
+
+def searched(moments: Moments, kind: str, number: int, where: tuple[int, int]) -> dict[str, Any]:
+    search = Search(moments, Wanted("A", kind, number), lambda: True)
+    return search.back(*where, is_strict=False, after=None)
+
+
+def try_search(check: Callable, moments: Moments) -> None:
+    """What changed a word or a register last, a long time ago and lately: A's loop is done by the runs of three units."""
+    run = moments.run
+    last = next(at for at in range(len(run.steps)) if run.steps[at].kind == "RUN")
+    for unit in (5, 2 * UNITS_AT_ONCE + 3, 4 * UNITS_AT_ONCE + 1):
+        found = searched(moments, WORD, 0x200, (last, unit))
+        # of each three units the second stores
+        wanted = last, unit - (unit + 1) % 3
+        check(
+            f"the word changed last before unit {unit}",
+            (found.get("event"), found.get("unit")) == wanted,
+            found,
+        )
+        found = searched(moments, REGISTER, 1, (last, unit))
+        wanted = last, unit - (unit + 2) % 3
+        check(
+            f"the register changed last before unit {unit}",
+            (found.get("event"), found.get("unit")) == wanted,
+            found,
+        )
+    found = searched(moments, WORD, 0x204, (len(run.steps), 0))
+    check("a word that was typed long ago", found.get("event") == 3, found)
+    found = searched(moments, WORD, 0x300, (len(run.steps), 0))
+    check("a word that nobody changed", "event" not in found, found)
+
+
+def try_going_on(check: Callable, program: str, folder: str) -> None:
+    """A recording that began with the machines of the session before."""
+    path = f"{folder}/going on"
+    machines = machines_of(program, f"{folder}/directory", [], [f"{folder}/volume"])
+    before = StateProgram(machines)
+    try:
+        before.do(b"LINE A LOGON\nLINE A STORE 200 0000CAFE\n")
+        before.ask_for_state()
+        saved = SavedState(list(before.arriving()))
+        before.answer()
+    finally:
+        before.close()
+    digits = write_state(f"{path}.{BEGINNING}", [TITLE], NOBODY, saved)
+    base = Base("1-2 0", "64 256", f"{folder}/directory", [f"{folder}/volume"]).lines()
+    with open(path, "wb") as file:
+        file.write(b"".join(line + b"\n" for line in base) + b"* BEGUN 2026-11-30 04:00:00 UTC\n")
+        file.write(b"* STATE begin %s\nLINE A STORE 204 01\nAUTO 1\n" % digits.encode())
+    events = entries_of(list(events_of(script_of(path)[0])))
+    run = Run(machines, events, beginning_of(path), lambda share: None)
+    moments = Moments(run)
+    try:
+        for event, wanted in ((0, "0000CAFE00"), (1, "0000CAFE01"), (2, "0000CAFE01")):
+            found = moments.moment(event, 0).view.storage_of("A", 0x200, 5).hex().upper()
+            check(f"the moment {event} of a session that goes on", found == wanted, found)
+    finally:
+        moments.close()
+        machines.close()
+
+
+def asked(port: int, path: str, heads: list[tuple[str, str]]) -> tuple[int, bytes]:
+    """The status and the bytes of an answer."""
+    connection = http.client.HTTPConnection("127.0.0.1", port, timeout=60)
+    try:
+        connection.putrequest("GET", path, skip_host=True)
+        for name, value in heads:
+            connection.putheader(name, value)
+        connection.endheaders()
+        answer = connection.getresponse()
+        return answer.status, answer.read()
+    finally:
+        connection.close()
+
+
+def try_server(check: Callable, moments: Moments) -> None:
+    """Who may ask the server of a run, and for what."""
+    with ReplayServer(0) as server:
+        port = server.server_address[1]
+        server.take(RunAnswers(moments, MomentPage(moments, None, "script", [])))
+        threading.Thread(target=server.serve_forever, daemon=True).start()
+        own = ("Host", f"127.0.0.1:{port}")
+        origin = ("Origin", f"http://127.0.0.1:{port}")
+        run, moment = "/data/run", "/data/moment?user=A&event=3&unit=0&since=before"
+        search = "/data/search?user=A&event=3&unit=0&way=back&what="
+        for what, status, path, heads in (
+            ("its page", 200, "/", [own]),
+            ("its page by another name of the host", 200, "/", [("Host", f"localhost:{port}")]),
+            ("the run", 200, run, [own, origin, ("Sec-Fetch-Site", "same-origin")]),
+            ("a moment", 200, moment, [own]),
+            ("the line of time", 200, "/data/line?from=0&to=9&columns=4", [own]),
+            ("a search", 200, f"{search}word&of=200", [own]),
+            ("another host", 421, run, [("Host", f"example.org:{port}")]),
+            ("another port", 421, run, [("Host", "127.0.0.1:1")]),
+            ("no host", 421, run, []),
+            ("two hosts", 421, run, [own, own]),
+            ("another origin", 403, run, [own, ("Origin", "http://example.org")]),
+            ("no origin", 403, run, [own, ("Origin", "null")]),
+            ("a page of another site", 403, run, [own, ("Sec-Fetch-Site", "cross-site")]),
+            ("a file that is not of the page", 404, "/user.html", [own]),
+            ("a way out of its folder", 404, "/../VERSION", [own]),
+            ("no user", 400, "/data/moment?event=3", [own]),
+            ("no number", 400, "/data/moment?user=A&event=-3", [own]),
+            ("a number that is too large", 400, f"/data/moment?user=A&event={9 ** 99}", [own]),
+            ("no moment", 400, "/data/moment?user=A&since=3.x", [own]),
+            ("a moment after all", 200, "/data/moment?user=A&event=99999999&unit=7", [own]),
+            ("no register", 400, f"{search}gpr&of=16", [own]),
+            ("an address past storage", 200, f"{search}word&of=FFFFFFFF", [own]),
+        ):
+            found = asked(port, path, heads)
+            check(f"the server of a run gives {status} for {what}", found[0] == status, *found)
+        server.shutdown()
+
+
+def try_run(check: Callable, name: str, machines: Machines, script: bytes, count: int) -> None:
+    chance = random.Random(name)
+    run = Run(machines, entries_of(list(events_of(script))), None, lambda share: None)
+    moments = Moments(run)
+    try:
+        for _ in range(count):
+            event = chance.randrange(len(run.steps) + 1)
+            unit = chance.randrange(moments.units_of(event) + 1)
+            where = moments.ordered(event, unit)
+            try_moment(check, name, moments, *where)
+            try_ways(check, name, moments, *where)
+        try_spoilt(check, name, moments, chance)
+        if name == "long":
+            check("a long run has states within it", any(mark.unit for mark in run.marks))
+            try_search(check, moments)
+            try_server(check, moments)
+    finally:
+        moments.close()
+        machines.close()
+
+
+def try_recording(check: Callable, program: str, folder: str) -> None:
+    """A copy of a recording that is being written: its files are found by their sums, and what is not whole is left out."""
+    base = Base("1-2 0", "64 256", f"{folder}/directory", [f"{folder}/volume"]).lines()
+    begun = b"* BEGUN 2026-11-30 04:00:00 UTC\n* 2026-11-30 04:00:00 UTC\n"
+    script = b"LINE A LOGON\n* 2026-11-30 04:01:00 UTC\nAUTO 2\nLINE B LOGON\n* 2026-11-30 04:02:00 UTC\n"
+    with open(f"{folder}/recording", "wb") as file:
+        file.write(b"".join(line + b"\n" for line in base) + begun + script + b"DECK A 2\nONE\nTW")
+    sizes, directory, volumes = stands_on(
+        f"{folder}/recording", {"--directory": [], "--volume": []}
+    )
+    events, times = script_of(f"{folder}/recording")
+    machines = machines_of(program, directory, sizes, volumes)
+    run = Run(machines, entries_of(list(events_of(events))), None, lambda share: None)
+    moments = Moments(run)
+    try:
+        texts = [run.steps[event].kind for event in range(len(run.steps))]
+        check("the events of a recording", texts == ["LINE", "IDLE", "IDLE", "LINE"], texts)
+        page = MomentPage(moments, None, "recording", times)
+        clock = [page.when(event)[11:16] for event in (0, 1, 3, 4)]
+        check("the times of a recording", clock == ["04:01", "04:02", "04:02", "04:02"], clock)
+        shown = page.look((4, 0), "B", 0, (3, 0))
+        check("its console", ["LOGON", "LOGON OK"] == [line[1] for line in shown["console"]], shown)
+    finally:
+        moments.close()
+        machines.close()
+
+
+def try_moments(check: Callable, program: str, count: int) -> None:
+    """So many random moments of each of some runs."""
+    for name in NAMES:
+        example = f"{EXAMPLES}/{name}"
+        sizes: list[str] = []
+        if os.path.exists(f"{example}/sizes"):
+            with open(f"{example}/sizes") as file:
+                frames, slots = file.read().split()
+                sizes = ["--frames", frames, "--slots", slots]
+        with open(f"{example}/script", "rb") as file:
+            script = file.read()
+        try_run(check, name, machines_of(program, f"{example}/directory", sizes, []), script, count)
+    with tempfile.TemporaryDirectory() as folder:
+        with open(f"{folder}/directory", "w") as file:
+            file.write(DIRECTORY)
+        with open(f"{folder}/volume", "wb") as file:
+            file.write(image(b"WORK01", 3))
+        machines = machines_of(program, f"{folder}/directory", [], [f"{folder}/volume"])
+        try_run(check, "long", machines, LONG.encode(), count)
+        machines = machines_of(program, f"{folder}/directory", [], [f"{folder}/volume"])
+        try_run(check, "waiting", machines, WAITING.encode(), count)
+        try_recording(check, program, folder)
+        try_going_on(check, program, folder)

@@ -1,0 +1,146 @@
+"""Each command with a folder in place of each file that it reads or writes, with standard output on a full disk and without a reader,
+and with a full disk in place of the file that it writes: it says so, and shows no traceback. .ci/test-reasons.py calls it."""
+from __future__ import annotations
+
+from collections.abc import Iterator
+import os
+import subprocess
+
+SECONDS = 60
+FILE_FAILED = 3
+# a source that cannot be read, and a reader who has gone
+REFUSED_SOURCE, SIGPIPE = 74, -13
+TEXTS = {
+    "d": "USER A PW 8K\nMDISK 191 3330 0 1 WORK01 R\n",
+    "s": "LINE A LOGON\nLINE A DISPLAY 0\n",
+    "b": "LINE BARE LOGON\nLINE BARE STORE 100 47F00100\nLINE BARE BEGIN 100\nRUN BARE 2\n",
+    "a.asm": " ORG X'100'\nBEGIN LA 1,5\n END BEGIN\n",
+    "text": "VOLUME WORK01 1\nREC 0 0 0000000001 - C1\n",
+    "frames": "FREE FRAMES 64 OF 64\nFREE SLOTS 256 OF 256\nPAGE INS 0\n",
+    "tracks": "VOLUME WORK01 CYLINDERS 1\nBLANK TRACKS 19\n",
+    "transcript": "== PRT 0001 A\n09 HELLO\n",
+}
+# commands that print, with their words; those with a dot before them are files
+PRINTING = (
+    "vm370 .d .s .i",
+    "vm370 --quiet .d .s .i",
+    "vm370-listing .d .s .i",
+    "framemap .d .s .i",
+    "bare370 8K .b",
+    "bare370-listing 8K .b",
+    "trackmap .i",
+    "vol2text .i",
+    "vol2text --data 0,0,1 .i",
+    "asm370 .a.asm",
+    "asm370 --deck .a.asm",
+    "asm370 --listing .a.asm",
+    "asm370 --volume WORK01 .a.asm",
+    "deck2script .deck",
+    "framepicture .frames",
+    "framepicture --text .frames",
+    "trackpicture .tracks",
+    "trackpicture --text .tracks",
+    "turns --bare 8K .b",
+    "trace370 --bare 8K .b",
+)
+# those that write a file, here >NAME, or below a folder
+WRITING = (
+    "mkvol >out .text",
+    "img2vol --serial WORK01 >out .h",
+    "vol2img >out .i",
+    "printouts >out .transcript",
+    "bare370 --save 8K .b >i",
+    "vm370 --save-state >out .d .s .i",
+)
+
+
+class Place:
+    """A folder with the files, and the commands laid out as an installation has them."""
+
+    def __init__(self, laid_out: str, folder: str) -> None:
+        self.laid_out, self.folder = laid_out, folder
+        os.mkdir(folder)
+        os.mkdir(f"{folder}/folder")
+        for name, text in TEXTS.items():
+            with open(f"{folder}/{name}", "w") as file:
+                file.write(text)
+        with open(f"{folder}/deck", "wb") as file:
+            file.write(80 * b"\xc1")
+        self.run("mkvol >i .text")
+        self.run("vol2img >h .i")
+
+    def words(self, line: str, replaced: str = "", by: str = "") -> list[str]:
+        """The words of a line, with another file in place of one."""
+        name, *words = line.split(" ")
+        found = [by if word == replaced else word.lstrip(".>") for word in words]
+        return [f"{self.laid_out}/bin/{name}", *found]
+
+    def run(
+        self, line: str, replaced: str = "", by: str = "", redirected: str = ""
+    ) -> tuple[int, str]:
+        """The status of a command and what it says on standard error."""
+        words = self.words(line, replaced, by)
+        if redirected:
+            words = ["sh", "-c", f'"$@" {redirected}', "sh", *words]
+        done = subprocess.run(
+            words, cwd=self.folder, stdin=subprocess.DEVNULL, capture_output=True, timeout=SECONDS
+        )
+        return done.returncode, done.stderr.decode(errors="replace")
+
+
+def wrong(done: tuple[int, str], statuses: tuple[int, ...], *texts: str) -> str:
+    """What is wrong with how a command ended, if anything: its status, a traceback, or that none of these texts is in what it says."""
+    status, said = done
+    if "Traceback" in said:
+        return "a traceback"
+    if status not in statuses:
+        return f"status {status}: {said}"
+    return "" if not texts or any(text in said for text in texts) else f"it says {said!r}"
+
+
+def folders(place: Place) -> Iterator[tuple[str, str]]:
+    """Each file of each command replaced by a folder."""
+    for line in (*PRINTING, *WRITING):
+        for word in line.split(" "):
+            if word.startswith((".", ">")) and not line.startswith(f"printouts {word}"):
+                done = place.run(line, word, "folder")
+                statuses = (FILE_FAILED, REFUSED_SOURCE)
+                yield f"{line}: a folder for {word}", wrong(done, statuses, "folder", "directory")
+
+
+def outputs(place: Place) -> Iterator[tuple[str, str]]:
+    """Standard output, and each file that is written, on a full disk; and a reader who has gone."""
+    for line in PRINTING:
+        done = place.run(line, redirected="> /dev/full")
+        full = "No space left on device"
+        yield f"{line}: a full disk", wrong(done, (FILE_FAILED,), full, "fault: file")
+        # a shell has its reader's status, so only what is said counts
+        done = place.run(line, redirected="| true")
+        yield f"{line}: no reader", wrong(done, (0,))
+    for line in WRITING:
+        # an image that is saved is read first, and /dev/full has no end
+        if ">out" in line and not line.startswith("printouts"):
+            word = next(word for word in line.split(" ") if word.startswith(">"))
+            done = place.run(line, word, "/dev/full")
+            yield f"{line}: a full disk for {word}", wrong(done, (1, 2, FILE_FAILED))
+
+
+def others(place: Place) -> Iterator[tuple[str, str]]:
+    """A file and a device in place of a folder, a folder in place of a socket."""
+    for line, text in (
+        ("printouts .text .transcript", "text is no folder"),
+        ("printouts /dev/full .transcript", "/dev/full is no folder"),
+        ("operator .folder status", "folder"),
+        ("passwords .folder ALICE", "folder"),
+        ("report .folder out.html", "folder"),
+        ("terminal .folder", "folder"),
+        ("installation --record .folder .d .i", "folder"),
+        ("installation --record r --journal .folder .d .i", "folder"),
+    ):
+        yield line, wrong(place.run(line), (FILE_FAILED,), text)
+
+
+def try_files(laid_out: str, folder: str) -> list[tuple[str, str]]:
+    """Each case with what is wrong, if anything."""
+    place = Place(laid_out, folder)
+    return [*folders(place), *outputs(place), *others(place)]

@@ -1,0 +1,347 @@
+#!/usr/bin/env python3
+"""Tries the page of bin/replay in Chromium, over a pipe: nothing else is needed than Debian's chromium. Three runs: an interruption, a channel
+program that changes itself, and two users out of frames. With GATHJUMLI_UNPROVED=1 the programs are those without proof.
+.ci/try-replay.py [--built] [--pictures FOLDER]; with --built the program is that which the gate has built. The last line is
+'N passed, M failed'."""
+from __future__ import annotations
+
+from collections.abc import Iterator
+import base64
+import contextlib
+import json
+import os
+import select
+import shutil
+import socket
+import subprocess
+import sys
+import tempfile
+import time
+
+TOP = os.path.dirname(os.path.dirname(os.path.realpath(__file__)))
+EXAMPLES = os.path.join(TOP, "examples", "users")
+SIZES = {"wide": 1500, "narrow": 420}
+HEIGHT = 1000
+SECONDS_TO_ANSWER = 60
+QUIET = {"stdout": subprocess.DEVNULL, "stderr": subprocess.DEVNULL}
+OPTIONS = (
+    "--headless=new --no-sandbox --disable-gpu --disable-dev-shm-usage --hide-scrollbars --no-first-run "
+    "--disable-background-networking --remote-debugging-pipe"
+).split()
+
+passed = failed = 0
+# where the commands are
+place = TOP
+
+
+def check(what: str, holds: object, *findings: object) -> None:
+    global passed, failed
+    if holds:
+        passed += 1
+        return
+    failed += 1
+    print(f"FAILED: {what}", *findings, sep="\n    ")
+
+
+class Browser:
+    """Chromium with one page, driven by the DevTools protocol."""
+
+    def __init__(self, folder: str) -> None:
+        (asked, self.out), (self.answers, answered) = os.pipe(), os.pipe()
+        words = ["chromium", *OPTIONS, f"--user-data-dir={folder}", "about:blank"]
+        places = f'exec 3<&{asked} 4>&{answered}; exec "$@"'
+        self.process = subprocess.Popen(
+            ["sh", "-c", places, "sh", *words], pass_fds=(asked, answered), **QUIET
+        )
+        os.close(asked)
+        os.close(answered)
+        self.left, self.number, self.session = b"", 0, ""
+        self.faults: list = []
+        targets = self.send("Target.getTargets")["targetInfos"]
+        target = next(one["targetId"] for one in targets if one["type"] == "page")
+        self.session = self.send("Target.attachToTarget", targetId=target, flatten=True)[
+            "sessionId"
+        ]
+        for part in ("Page", "Runtime", "Log", "Accessibility", "Inspector"):
+            self.send(f"{part}.enable")
+        self.resize("wide")
+        self.shade("light")
+
+    def resize(self, name: str) -> None:
+        size = {"width": SIZES[name], "height": HEIGHT}
+        self.send("Emulation.setDeviceMetricsOverride", **size, deviceScaleFactor=1, mobile=False)
+
+    def shade(self, name: str) -> None:
+        features = [{"name": "prefers-color-scheme", "value": name}]
+        self.send("Emulation.setEmulatedMedia", features=features)
+
+    def send(self, method: str, **params: object) -> dict:
+        self.number += 1
+        message = {"id": self.number, "method": method, "params": params}
+        message |= {"sessionId": self.session} if self.session else {}
+        os.write(self.out, json.dumps(message).encode() + b"\0")
+        while True:
+            answer = self.next()
+            if answer.get("id") == self.number:
+                if "error" in answer:
+                    raise RuntimeError(answer["error"])
+                return answer["result"]
+            if answer.get("method") in ("Runtime.exceptionThrown", "Log.entryAdded"):
+                self.faults.append(answer["params"])
+
+    def next(self) -> dict:
+        while b"\0" not in self.left:
+            is_there = select.select([self.answers], [], [], SECONDS_TO_ANSWER)[0]
+            data = os.read(self.answers, 1 << 20) if is_there else b""
+            if not data:
+                raise EOFError("Chromium has ended, or does not answer")
+            self.left += data
+        one, _, self.left = self.left.partition(b"\0")
+        found = json.loads(one)
+        if found.get("method") == "Inspector.targetCrashed":
+            raise EOFError("the page has crashed in Chromium: has the host memory?")
+        return found
+
+    def js(self, text: str) -> object:
+        found = self.send(
+            "Runtime.evaluate", expression=text, returnByValue=True, awaitPromise=True
+        )
+        if "exceptionDetails" in found:
+            raise RuntimeError(found["exceptionDetails"])
+        return found["result"].get("value")
+
+    def until(self, text: str, seconds: float = 60) -> bool:
+        end = time.monotonic() + seconds
+        while time.monotonic() < end:
+            with contextlib.suppress(RuntimeError):
+                if self.js(text):
+                    return True
+            time.sleep(0.05)
+        return False
+
+    def press(self, key: str, is_shift: bool = False) -> bool:
+        """Presses a key that leads to another moment; whether it does."""
+        before = self.js("location.hash")
+        self.strike(key, is_shift)
+        return self.until(f"location.hash !== {json.dumps(before)}", 20)
+
+    def strike(self, key: str, is_shift: bool = False) -> None:
+        text = {"text": key} if len(key) == 1 else {}
+        words = {"key": key, "modifiers": 8 if is_shift else 0}
+        self.send("Input.dispatchKeyEvent", type="keyDown", **words, **text)
+        self.send("Input.dispatchKeyEvent", type="keyUp", **words)
+
+    def open(self, port: int, place: str = "") -> bool:
+        self.send("Page.navigate", url="about:blank")
+        self.send("Page.navigate", url=f"http://127.0.0.1:{port}/{place}")
+        return self.until("document.getElementById('where').textContent")
+
+    def text(self, name: str) -> str:
+        return str(self.js(f"document.getElementById('{name}').textContent"))
+
+    def at(self, text: str) -> bool:
+        return self.until(f"document.getElementById('where').textContent.startsWith('{text}')", 20)
+
+    def picture(self, path: str) -> None:
+        with open(path, "wb") as file:
+            data = self.send("Page.captureScreenshot", format="png")["data"]
+            file.write(base64.b64decode(data))
+
+    def close(self) -> None:
+        self.process.terminate()
+        self.process.wait()
+
+
+def free_port() -> int:
+    with socket.socket() as found:
+        found.bind(("127.0.0.1", 0))
+        return found.getsockname()[1]
+
+
+@contextlib.contextmanager
+def served(*words: str) -> Iterator[int]:
+    """The page of a run, at a port."""
+    port = free_port()
+    words = (os.path.join(place, "bin", "replay"), "--port", str(port), *words)
+    server = subprocess.Popen(words, stderr=subprocess.PIPE, text=True)
+    try:
+        said = ""
+        while "the page is at" not in said and (line := server.stderr.readline()):
+            said += line
+        check("it says where the page is", f":{port}/" in said, said)
+        yield port
+    finally:
+        server.terminate()
+        server.wait()
+
+
+class Looks:
+    """The pictures of the page that are kept, if a folder is given."""
+
+    def __init__(self, browser: Browser, folder: str | None) -> None:
+        self.browser, self.folder = browser, folder
+
+    def take(self, name: str) -> None:
+        """Looks at the page in light and in the dark, wide and narrow; nothing is wider than the window."""
+        browser = self.browser
+        for size, width in SIZES.items():
+            browser.resize(size)
+            for shade in ("light", "dark"):
+                wanted = "true" if shade == "dark" else "false"
+                has = "document.documentElement.classList.contains('dark')"
+                browser.js(f"if ({has} !== {wanted}) document.getElementById('shade').click()")
+                time.sleep(0.3)
+                wide = browser.js("document.documentElement.scrollWidth")
+                check(f"{name} is no wider than a {size} window", wide <= width, wide)
+                if self.folder:
+                    browser.picture(os.path.join(self.folder, f"{name}-{size}-{shade}.png"))
+        browser.resize("wide")
+        browser.js("document.getElementById('shade').click()")
+
+
+# --- an interruption ---
+
+
+def try_keys(browser: Browser, port: int) -> None:
+    opened = browser.open(port, "#event=18&unit=20&user=A&address=400")
+    where = browser.text("where")
+    check("a bookmark opens its moment", opened and "event 18 of 34, unit 20 of 45" in where, where)
+    here = "document.querySelector('#code .is-here').textContent"
+    check("the next instruction is shown", "THREES" in browser.js(here))
+    check("a key leads a unit on", browser.press("ArrowRight"))
+    check("what it changed is marked", browser.js("document.querySelectorAll('.new').length"))
+    check("a unit forward", browser.at("event 18 of 34, unit 21 of 45"))
+    check("a unit back", browser.press("ArrowLeft") and browser.at("event 18 of 34, unit 20"))
+    check("an event back", browser.press("PageUp") and browser.at("event 18 of 34, next"))
+    check("an event forward", browser.press("PageDown") and browser.at("event 19 of 34"))
+    check("the end", browser.press("End") and "the end" in browser.text("where"))
+    check("the start", browser.press("Home") and browser.at("event 0 of 34"))
+    forward = browser.press("ArrowRight", is_shift=True)
+    check("an event of his forward", forward and browser.at("event 1 of 34"))
+
+
+def try_searches(browser: Browser, port: int) -> None:
+    browser.open(port, "#event=27&unit=0&user=A&address=380")
+    browser.js("document.querySelector('[data-word=\"000404\"]').click()")
+    found = "document.getElementById('found').textContent"
+    check("who changed a word last", browser.until(f"/moments in/.test({found})"))
+    check("it is the unit that did", browser.at("event 24 of 34, unit 44"), browser.text("found"))
+    done = "document.querySelector('#code .is-done').textContent"
+    check("its instruction is shown", "ST    5,COUNT2" in browser.js(done))
+    check("who changed it before", browser.press("b") and browser.at("event 24 of 34, unit 41"))
+    check("who changes it next", browser.press("f") and browser.at("event 24 of 34, unit 44"))
+    browser.js("history.back()")
+    check("the browser's own way back", browser.at("event 24 of 34, unit 41"))
+    browser.js("what.value = 'psw'; of.value = '10A'; of.blur()")
+    check("until an address", browser.press("b"), browser.text("found"))
+
+
+def try_reading(browser: Browser) -> None:
+    """What a screen reader gets."""
+    nodes = browser.send("Accessibility.getFullAXTree")["nodes"]
+    roles = [
+        (node.get("role", {}).get("value"), node.get("name", {}).get("value", ""))
+        for node in nodes
+        if not node.get("ignored")
+    ]
+    for role, name in (
+        ("tablist", "Users"), ("slider", "Events"), ("region", "Storage"), ("log", "What the console has shown"),
+        ("search", ""), ("table", "General registers"), ("button", "Unit ▷"), ("textbox", "Address"),
+    ):  # fmt: skip
+        check(f"a screen reader finds {role} {name}", (role, name) in roles)
+    nameless = [
+        role for role, name in roles if role in ("button", "textbox", "slider") and not name
+    ]
+    check("all that can be used has a name", not nameless, nameless)
+    browser.js("document.querySelector('#words button[tabindex=\"0\"]').focus()")
+    first = browser.js("document.activeElement.dataset.word")
+    browser.strike("ArrowDown")
+    check(
+        "a key leads from word to word", browser.js("document.activeElement.dataset.word") != first
+    )
+
+
+def try_interruption(browser: Browser, looks: Looks) -> None:
+    example = f"{EXAMPLES}/two-tasks"
+    words = "--source", f"{example}/A.asm", f"{example}/directory", f"{example}/script"
+    with served(*words) as port:
+        try_keys(browser, port)
+        try_searches(browser, port)
+        browser.open(port, "#event=20&unit=0&user=A&address=0")
+        check("a tick is no unit", browser.press("PageDown") and browser.at("event 21 of 34"))
+        check(
+            "the interruption", browser.press("ArrowRight") and browser.at("event 21 of 34, unit 1")
+        )
+        changed = browser.js("document.getElementById('changes').textContent")
+        check("the old PSW is marked as changed", "00001" in str(changed), changed)
+        try_reading(browser)
+        looks.take("interruption")
+
+
+# --- a channel program that changes itself ---
+
+
+def try_channel_program(browser: Browser, looks: Looks) -> None:
+    example = f"{EXAMPLES}/ipl-from-cards"
+    with served(f"{example}/directory", f"{example}/script") as port:
+        browser.open(port)
+        browser.js("what.value = 'word'; of.value = '8'; of.blur()")
+        check("the words that the first card brings", browser.press("f"), browser.text("found"))
+        browser.js("document.getElementById('address').value = '0'")
+        words = browser.text("words")
+        check("they are in storage", words.startswith("000000"), words[:60])
+        looks.take("channel-program")
+
+
+# --- two users out of frames ---
+
+
+def try_frames(browser: Browser, looks: Looks) -> None:
+    example = f"{EXAMPLES}/frames-out"
+    with open(f"{example}/sizes") as file:
+        frames, slots = file.read().split()
+    sizes = "--frames", frames, "--slots", slots
+    with served(*sizes, f"{example}/directory", f"{example}/script") as port:
+        browser.open(port)
+        check("the end is there", browser.press("End"))
+        check("who has which frame", "16 of 16" in browser.text("frames-note"))
+        browser.js("document.querySelectorAll('#people button')[1].click()")
+        check("the other user", browser.until("location.hash.includes('user=B')"))
+        looks.take("frames")
+
+
+def install_built(folder: str) -> None:
+    """Has the commands run the program that was built, as if they were installed."""
+    global place
+    place = folder
+    for name in ("bin", "web"):
+        shutil.copytree(f"{TOP}/{name}", f"{folder}/{name}")
+    shutil.copy(f"{TOP}/VERSION", folder)
+    os.mkdir(f"{folder}/programs")
+    shutil.copy(f"{TOP}/crates/vm370_cli/out/vm370_cli", f"{folder}/programs")
+    with open(f"{folder}/programs/vm370_cli.built", "w") as file:
+        file.write("sources 0\nkit 0\nproved\n")
+
+
+def main() -> None:
+    pictures = sys.argv[sys.argv.index("--pictures") + 1] if "--pictures" in sys.argv else None
+    if not shutil.which("chromium"):
+        print("no chromium: the page is not tried")
+        return
+    with tempfile.TemporaryDirectory(ignore_cleanup_errors=True) as folder:
+        if "--built" in sys.argv:
+            install_built(f"{folder}/installed")
+        browser = Browser(f"{folder}/browser")
+        try:
+            looks = Looks(browser, pictures)
+            try_interruption(browser, looks)
+            try_channel_program(browser, looks)
+            try_frames(browser, looks)
+            check("the page reports no fault", not browser.faults, *browser.faults[:3])
+        finally:
+            browser.close()
+    print(f"{passed} passed, {failed} failed")
+    sys.exit(1 if failed else 0)
+
+
+main()

@@ -1,0 +1,257 @@
+"""What a page shows of a moment, as an object for JSON: taken from the state of that moment, and from the lines printed until then."""
+from __future__ import annotations
+
+from bisect import bisect_left
+from collections.abc import Iterator
+from typing import Any
+
+from gathjumli.cli import Failure
+from gathjumli.instructions import INSTRUCTIONS, RS, RX, S, SI, length, place_of, text_of
+from gathjumli.moment_devices import channel_of, devices_of
+from gathjumli.moment_storage import Storage, line_text
+from gathjumli.moments import Moment, Moments
+from gathjumli.printout_lines import PAGE_LENGTH, entries_in, page_text
+from gathjumli.sources import Source
+from gathjumli.state_view import BLOCK, StateView
+
+INSTRUCTIONS_SHOWN = 16
+MOST_LINES = 400
+MOST_ENTRIES = 200
+MOST_FILES = 20
+# below a typed line that was not obeyed
+NO_FRAME = "(no frame is free: nothing was done)"
+# frames and slots of which it is said which page they have
+MOST_PLACES = 4096
+
+
+class MomentPage:
+    """What the page shows of the moments of a run."""
+
+    def __init__(
+        self, moments: Moments, source: Source | None, title: str, times: list[tuple[int, str]]
+    ) -> None:
+        self.moments, self.run, self.source = moments, moments.run, source
+        self.title = title
+        # the times of a recording, each with how many lines were done by then
+        self.times = times
+
+    def about(self) -> dict[str, Any]:
+        """What there is of the run."""
+        pages = self.run.machines.users
+        return {
+            "title": self.title,
+            "users": [{"name": user, "pages": pages[user]} for user in self.run.users],
+            "events": len(self.run.steps),
+            "source": bool(self.source),
+        }
+
+    def look(
+        self, where: tuple[int, int], user: str, address: int, since: tuple[int, int]
+    ) -> dict[str, Any]:
+        """A moment of a user. What differs from the moment `since` is said."""
+        # the earlier one first: a program goes on from there
+        made = {at: self.moments.moment(*at) for at in sorted({where, since})}
+        moment, old = made[where], made[since].view if since != where else None
+        storage = Storage(moment.view, old, user)
+        now, before = moment.view.users[user], (old or moment.view).users[user]
+        found = {"event": moment.event, "unit": moment.unit, "since": ".".join(map(str, since))}
+        found |= self.what_is_next(moment.event) | {"when": self.when(moment.event)}
+        found |= self.processor(now, before)
+        found |= self.instructions(now, before, storage, self.moments.is_unit(since, where, user))
+        found |= self.storage(storage, now, address)
+        found |= {"devices": devices_of(now, storage), "console": self.console(user, moment)}
+        found |= channel_of(now, storage)
+        return found | {"files": self.files(moment.event, user, now)} | system_of(moment.view)
+
+    def what_is_next(self, event: int) -> dict[str, Any]:
+        steps = self.run.steps
+        found: dict[str, Any] = {"next": None}
+        if event < len(steps):
+            step = steps[event]
+            found["next"] = {
+                "text": step.text,
+                "user": step.user,
+                "units": step.units,
+                "reason": step.reason,
+                "dealt": step.is_dealt,
+            }
+        return found
+
+    def when(self, event: int) -> str:
+        """The time of an event in a recording, or nothing."""
+        entries, steps = self.run.entries, self.run.steps
+        line = (
+            entries[steps[event].entry].number
+            if event < len(steps)
+            else len(entries) and entries[-1].number
+        )
+        place = bisect_left(self.times, (line,))
+        return self.times[min(place, len(self.times) - 1)][1] if self.times else ""
+
+    def processor(self, now: dict[str, Any], before: dict[str, Any]) -> dict[str, Any]:
+        return {
+            "mode": now["mode"],
+            "psw": psw_of(now["psw"]),
+            "old psw": psw_of(before["psw"]),
+            "registers": numbers(now["general"], before["general"]),
+            "control": numbers(now["control"], before["control"]),
+            "pending": [kind for kind, is_set in now["pending"].items() if is_set],
+        }
+
+    # --- instructions ---
+
+    def instructions(
+        self, now: dict[str, Any], before: dict[str, Any], storage: Storage, is_unit: bool
+    ) -> dict[str, Any]:
+        """The next instructions, and that which led here by one unit, as it stood then."""
+        address = now["psw"]["address"]
+        then = Storage(storage.old, None, storage.user)
+        return {
+            "code": self.following(address, now["general"], storage),
+            "done": self.instruction(before["psw"]["address"], then) if is_unit else None,
+            "listing": self.source.around(address) if self.source else [],
+        }
+
+    def following(self, at: int, registers: list[int], storage: Storage) -> list[dict[str, Any]]:
+        """The next instructions, as they stand one after another."""
+        found: list[dict[str, Any]] = []
+        while len(found) < INSTRUCTIONS_SHOWN and (row := self.instruction(at, storage)):
+            found.append(row)
+            at += len(row["code"]) // 2
+        if found:
+            place = operand_of(bytes.fromhex(found[0]["code"]), registers)
+            if place is not None:
+                found[0] |= {"operand": place, "there": storage.at(place, 4).hex().upper()}
+        return found
+
+    def instruction(self, at: int, storage: Storage) -> dict[str, Any] | None:
+        code = storage.at(at, 6)
+        if len(code) < 2 or len(code) < length(code[0]):
+            return None
+        code = code[: length(code[0])]
+        name, operands = text_of(code)
+        row = {"address": at, "code": code.hex().upper(), "name": name, "operands": operands}
+        return row | ({"source": self.source.text_at(at)} if self.source else {})
+
+    def storage(self, storage: Storage, now: dict[str, Any], address: int) -> dict[str, Any]:
+        rows = storage.rows(address)
+        key = now["keys"][(rows[0][0] if rows else 0) // BLOCK]
+        return {
+            "storage": rows,
+            "size": storage.size,
+            "changed": storage.changed(),
+            "key": key,
+            "pages": [int(page != 0) for page in storage.table],
+        }
+
+    # --- paper ---
+
+    def console(self, user: str, moment: Moment) -> list[list]:
+        """What the user's terminal has shown, the last lines of it: with the event of each, and whether it was typed."""
+        run, event = self.run, moment.event
+        end = bisect_left(self.moments.printed_in, event)
+        shown: list[list] = [[event, line.text, 0] for line in moment.lines if line.user == user]
+        shown.reverse()
+        while end and len(shown) < MOST_LINES:
+            end -= 1
+            line = run.lines[end]
+            if line.user == user:
+                shown.append([line.event, line.text, 0])
+        typed = run.steps.lanes[user].others["LINE"]
+        last = bisect_left(typed, event)
+        for place in typed[max(0, last - MOST_LINES) : last]:
+            step = run.steps[place]
+            shown.append([place, step.text.split(" ", 2)[2] if step.text.count(" ") > 1 else "", 1])
+            shown += [[place, NO_FRAME, 0]] if step.reason == "FRAMES" else []
+        shown.sort(key=lambda item: (item[0], -item[2]))
+        return shown[-MOST_LINES:]
+
+    def files(self, event: int, user: str, now: dict[str, Any]) -> list[dict[str, Any]]:
+        """What the user printed and punched: closed files, and what is open."""
+        found = [
+            file_of(heading.removeprefix("== "), place, heading[3:6], entries_in(body))
+            for place, heading, body in self.run.files
+            if place < event and heading.endswith(f" {user}")
+        ][-MOST_FILES:]
+        printer, punch = now["printer"]["entries"], now["punch"]["entries"]
+        if printer:
+            lines = [f"{code:02X} {line_text(data)}" for code, data in printer]
+            found.append(file_of("printer, open", None, "PRT", lines))
+        if punch:
+            cards = [line_text(data) for _, data in punch]
+            found.append(file_of("punch, open", None, "PUN", cards))
+        return found
+
+
+def file_of(title: str, event: int | None, kind: str, entries: list[str]) -> dict[str, Any]:
+    """A file as it is shown: the pages of the last entries, or the last cards."""
+    shown = entries[-MOST_ENTRIES:]
+    try:
+        text = page_text(kind, shown, PAGE_LENGTH)
+    except Failure:
+        # characters of a guest that no printer has
+        text = "\n".join(shown)
+    more = len(entries) - len(shown)
+    return {"title": title, "event": event, "kind": kind, "text": text, "more": more}
+
+
+def operand_of(code: bytes, registers: list[int]) -> int | None:
+    """The address of the first storage operand, as trace370 computes it for channel instructions and EX."""
+    form = INSTRUCTIONS[code[0]][1] if code[0] in INSTRUCTIONS else ""
+    if form in (RX, S, RS, SI):
+        return place_of(code, registers)
+    return None
+
+
+def psw_of(psw: dict[str, Any]) -> dict[str, Any]:
+    """The fields of a PSW, and its two words."""
+    bits = psw["ec"] << 3 | psw["machine check"] << 2 | psw["wait"] << 1 | psw["problem"]
+    first = psw["system mask"] << 24 | psw["key"] << 20 | bits << 16
+    second = (psw["cc"] << 4 | psw["program mask"]) << 24 | psw["address"]
+    return psw | {"words": [f"{first:08X}", f"{second:08X}"]}
+
+
+def numbers(now: list[int], before: list[int]) -> list[list[str]]:
+    """Registers, and what those were that have changed."""
+    return [
+        [f"{value:08X}", f"{old:08X}" if old != value else ""] for value, old in zip(now, before)
+    ]
+
+
+# --- what all users have in common ---
+
+
+def system_of(view: StateView) -> dict[str, Any]:
+    return {
+        "frames": places_of(view.frames),
+        "slots": places_of(view.slots),
+        "pins": [place for place, is_pinned in enumerate(view.pins) if is_pinned],
+        "page ins": view.page_ins,
+        "volumes": volumes_of(view),
+    }
+
+
+def places_of(owners: list) -> dict[str, Any]:
+    """How many frames or slots there are, and which pages the used ones have."""
+    used = [[place, *owner] for place, owner in enumerate(owners) if owner]
+    return {"count": len(owners), "full": len(used), "used": used[:MOST_PLACES]}
+
+
+def volumes_of(view: StateView) -> list[dict[str, Any]]:
+    """Each volume's cylinders: how full, and whose."""
+    found = []
+    for number, volume in enumerate(view.volumes):
+        owners: list = [None] * len(volume["cylinders"])
+        for name, disk in own_disks(view, number):
+            for at in range(disk["count"]):
+                has_arm = int(at == disk["cylinder"])
+                owner = [name, f"{disk['address']:03X}", int(disk["writable"]), has_arm]
+                owners[disk["start"] + at] = owner
+        found.append({"serial": volume["serial"], "fill": volume["cylinders"], "owners": owners})
+    return found
+
+
+def own_disks(view: StateView, volume: int) -> Iterator[tuple[str, dict[str, Any]]]:
+    """The minidisks on a volume, each with its user."""
+    for name, user in view.users.items():
+        yield from ((name, disk) for disk in user["minidisks"] if disk["volume"] == volume)

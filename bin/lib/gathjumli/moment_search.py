@@ -1,0 +1,264 @@
+"""Searches in a run: the moment at which the next instruction is at an address, or at which a register or a word of storage is another one.
+Forward, a program goes unit by unit and is asked by DISPLAY after each. Back, states are compared first, and only what is between two of
+them is gone through."""
+from __future__ import annotations
+
+from bisect import bisect_left
+from collections.abc import Iterator
+import time
+from typing import Any, NamedTuple
+
+from gathjumli.cli import Failure, REFUSED
+from gathjumli.following import Program
+from gathjumli.moments import Moment, Moments
+from gathjumli.run_steps import Step
+from gathjumli.state_view import PAGE, StateView
+
+ADDRESS, REGISTER, WORD = "psw", "gpr", "word"
+KINDS = (ADDRESS, REGISTER, WORD)
+# units whose answers are asked for at once
+UNITS_AT_ONCE = 4_000
+# events of others that are done at once
+MOST_PARTS = 20_000
+MOST_SECONDS = 60.0
+NO_FRAME = "the search finds no frame for what it asks about: look unit by unit"
+
+Where = tuple[int, int]
+
+
+class Wanted(NamedTuple):
+    """What is looked for: whose, of which kind, and which address or register."""
+
+    user: str
+    kind: str
+    number: int
+
+
+class Hit(NamedTuple):
+    """A moment that was found, and what was before it and is then."""
+
+    where: Where
+    old: str
+    new: str
+
+
+class Asked:
+    """What is asked at each moment of a search, by DISPLAY, and what it was before."""
+
+    def __init__(self, wanted: Wanted) -> None:
+        self.wanted = wanted
+        user, kind, number = wanted
+        row = f"{number & 0xFFFFF0:06X}"
+        asked = {ADDRESS: "PSW", REGISTER: f"G{number}", WORD: row}[kind]
+        heads = {ADDRESS: "PSW ", REGISTER: f"GPR {number} = ", WORD: f"{row} "}
+        self.head = f"{user}: {heads[kind]}"
+        self.question = f"LINE {user} #CP DISPLAY {asked}\n".encode()
+        self.before = ""
+        self.units = 0
+        self.is_late = False
+
+    def value(self, line: str) -> str:
+        """The part of an answer that is looked at; nothing if it is none, as of a machine that is off."""
+        if not line.startswith(self.head):
+            return ""
+        text = line.removeprefix(self.head)
+        if self.wanted.kind == ADDRESS:
+            return text[11:17]
+        return (
+            text if self.wanted.kind == REGISTER else text.split(" ")[self.wanted.number >> 2 & 3]
+        )
+
+    def start(self, program: Program) -> None:
+        # the answer is the last line
+        self.before = self.value((program.do(self.question).events or [""])[-1])
+
+    def judge(self, places: list[Where], events: list[str]) -> Iterator[Hit]:
+        """The hits. The answer to a question is the line after that which ends a run or a serve of the user, or the last line."""
+        self.units += len(places)
+        end = f"= {self.wanted.user} "
+        answers = [after for line, after in zip(events, events[1:]) if line.startswith(end)]
+        answers = events[-1:] if len(places) == 1 else answers
+        if len(answers) != len(places) or any(line.startswith("= ") for line in answers):
+            raise Failure(REFUSED, NO_FRAME)
+        for place, line in zip(places, answers):
+            value = self.value(line)
+            if self.is_hit(value):
+                yield Hit(place, self.before, value)
+            # a machine that is off has none
+            self.before = value or self.before
+
+    def is_hit(self, value: str) -> bool:
+        if self.wanted.kind == ADDRESS:
+            return bool(value) and int(value, 16) == self.wanted.number
+        return bool(value and self.before) and value != self.before
+
+
+class Search:
+    """One search; another one that is begun ends it."""
+
+    def __init__(self, moments: Moments, wanted: Wanted, is_wanted: Any) -> None:
+        self.moments, self.run, self.steps = moments, moments.run, moments.steps
+        self.wanted = wanted
+        self.asked = Asked(wanted)
+        self.begun = time.monotonic()
+        # whether anybody still waits for it
+        self.is_wanted = is_wanted
+
+    def forward(self, event: int, unit: int) -> dict[str, Any]:
+        """The next hit after a moment."""
+        moment = self.moments.moment(event, unit)
+        return self.answer(self.scan(moment, (event, unit), None, is_last=False))
+
+    def back(self, event: int, unit: int, is_strict: bool, after: int | None) -> dict[str, Any]:
+        """The last hit until a moment, or before it. A change that was undone before the next state may be passed over: the answer
+        says from which event on there may be one, and all units since that event `after` are looked at if it is given.
+        """
+        end = (event, unit)
+        if is_strict or self.wanted.kind == ADDRESS:
+            end = self.moments.before(event, unit)
+        if self.wanted.kind == ADDRESS or after is not None:
+            return self.answer(self.all_units(end, after or 0))
+        place = self.mark_until(end)
+        now, last = self.value_in(self.moments.moment(*end).view), place
+        while place >= 0 and self.value_at(place) == now:
+            place -= 1
+        if place < 0:
+            return self.answer(None) | {"unsure": 0}
+        mark = self.run.marks[place]
+        until = end if place == last else self.where(place + 1)
+        hit = self.scan(mark, (mark.event, mark.unit), until, is_last=True)
+        return self.answer(hit) | ({} if place == last else {"unsure": until[0]})
+
+    def all_units(self, end: Where, after: int) -> Hit | None:
+        """The last hit before a moment, from state to state back until an event."""
+        place = self.mark_until(end)
+        while True:
+            mark = self.run.marks[place]
+            hit = self.scan(mark, self.where(place), end, is_last=True)
+            if hit or place == 0 or self.asked.is_late or mark.event <= after:
+                return hit
+            end = self.where(place)
+            place -= 1
+
+    # --- values ---
+
+    def where(self, place: int) -> Where:
+        mark = self.run.marks[place]
+        return mark.event, mark.unit
+
+    def mark_until(self, end: Where) -> int:
+        """The last state before a moment, or that at the beginning."""
+        places = [(mark.event, mark.unit) for mark in self.run.marks]
+        return max(0, bisect_left(places, end) - 1)
+
+    def value_at(self, place: int) -> Any:
+        """The register or the page with the word in a state: pages that are one have one number."""
+        user, kind, number = self.wanted
+        state, index = self.run.marks[place].state, self.run.users.index(user)
+        if kind == REGISTER:
+            return state.general[index][number]
+        table = state.table(self.run.pieces, index)
+        page = table[number // PAGE] if number // PAGE < len(table) else 0
+        content = self.run.pieces.piece(page, PAGE) if page else bytes(PAGE)
+        return content[number % PAGE & ~3 :][:4]
+
+    def value_in(self, view: StateView) -> Any:
+        user, kind, number = self.wanted
+        if kind == REGISTER:
+            return view.users[user]["general"][number]
+        return view.storage_of(user, number & ~3, 4)
+
+    def answer(self, hit: Hit | None) -> dict[str, Any]:
+        seconds = round(time.monotonic() - self.begun, 3)
+        found = {"seconds": seconds, "units": self.asked.units, "late": self.asked.is_late}
+        if not hit:
+            return found
+        event, unit = self.moments.ordered(*hit.where)
+        return found | {"event": event, "unit": unit, "old": hit.old, "new": hit.new}
+
+    # --- going over moments ---
+
+    def scan(self, start: Any, first: Where, end: Where | None, is_last: bool) -> Hit | None:
+        """Goes over moments one by one, and asks at each; the first hit, or the last one."""
+        program = self.program_at(start)
+        found = None
+        try:
+            self.asked.start(program)
+            for places, part in self.parts_between(first, end):
+                for found in self.asked.judge(places, program.do(part).events):
+                    if not is_last:
+                        return found
+                if time.monotonic() - self.begun > MOST_SECONDS or not self.is_wanted():
+                    self.asked.is_late = True
+                    return found
+            return found
+        finally:
+            program.close()
+
+    def program_at(self, start: Any) -> Program:
+        """A program at a moment or at a state."""
+        state = start.view.state if isinstance(start, Moment) else start.state
+        program = self.moments.fresh()
+        program.restore(state.size, state.data(self.run.pieces))
+        return program
+
+    def parts_between(self, first: Where, end: Where | None) -> Iterator[tuple[list[Where], bytes]]:
+        """What the program is given from a moment to another one, and which moments the questions in it are of. What other users do
+        changes neither registers nor storage of this one, so nothing is asked then."""
+        places: list[Where] = []
+        text: list[bytes] = []
+        for where, step, stop in self.events_between(first, end):
+            is_typed = step.kind in ("LINE", "TICK")
+            for asked, part in self.parts_of(where, step, stop):
+                if places and (is_typed or len(places) >= UNITS_AT_ONCE) or len(text) >= MOST_PARTS:
+                    yield places, b"".join(text)
+                    places, text = [], []
+                places += asked
+                text.append(part)
+            if is_typed and places:
+                yield places, b"".join(text)
+                places, text = [], []
+        if places:
+            yield places, b"".join(text)
+
+    def events_between(
+        self, first: Where, end: Where | None
+    ) -> Iterator[tuple[Where, Step, int | None]]:
+        """The events from a moment to another one: where each begins, and after which unit it ends, if it is cut."""
+        event, unit = first
+        stop = end or (len(self.steps), 0)
+        while (event, unit) < stop and event < len(self.steps):
+            yield (event, unit), self.steps[event], (stop[1] if stop[0] == event else None)
+            event, unit = event + 1, 0
+
+    def parts_of(
+        self, where: Where, step: Step, stop: int | None
+    ) -> Iterator[tuple[list[Where], bytes]]:
+        """What the program is given for an event, part by part, and the moments of the questions in each."""
+        event, unit = where
+        question = self.asked.question
+        if step.user != self.wanted.user or step.kind == "DECK":
+            if stop is None and step.kind != "IDLE":
+                yield [], self.text_of(step, unit)
+            return
+        if step.kind != "RUN":
+            yield [(event + 1, 0)], self.text_of(step, unit) + question
+            return
+        last = step.units if stop is None else stop
+        one = f"RUN {step.user} 1\n".encode() + question
+        while unit < last:
+            count = min(UNITS_AT_ONCE, last - unit)
+            yield [(event, unit + number + 1) for number in range(count)], one * count
+            unit += count
+        if stop is None and step.reason != "COUNT":
+            # that which ends it, as a wait, is an attempt of one unit more
+            yield [(event + 1, 0)], one
+
+    def text_of(self, step: Step, unit: int) -> bytes:
+        """The lines by which an event is done, or the rest of it."""
+        if step.kind == "RUN":
+            count = int(step.text.split(" ")[2]) - unit
+            return f"RUN {step.user} {count}\n".encode()
+        if step.kind == "SERVE":
+            return step.text.encode() + b"\n"
+        return self.run.entries[step.entry].text
