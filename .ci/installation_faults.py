@@ -272,6 +272,8 @@ def try_two_logons(check: Callable, program: str) -> None:
         engine = GivenParts({"A": user}, slowly)
         desk, findings = desk_of(engine, program)
         ends = asyncio.Event()
+        # the second guess may have to wait until it is time
+        ticking = asyncio.create_task(desk.work())
         one, other = (Streams(b"LOGON A SECRET\n", ends.wait) for _ in range(2))
         serving = [asyncio.create_task(desk.serve(one, one))]
         await until_so(lambda: engine.parts)
@@ -281,6 +283,7 @@ def try_two_logons(check: Callable, program: str) -> None:
         await until_so(lambda: user.is_on)
         ends.set()
         await asyncio.wait(serving, timeout=10)
+        ticking.cancel()
         await desk.shut()
         return engine.parts, findings, one.written, other.written
 

@@ -1,7 +1,6 @@
 //! A copied channel program.
 use s370_store::Page;
 use s370_walk::{Ccw, CcwLocation};
-use std::alloc::{AllocError, AllocFailed};
 
 /// A copied word, and the addresses that serve its bytes.
 #[derive(Drop)]
@@ -30,25 +29,4 @@ pub enum CopyError {
     Memory,
     /// A page that the program needs, and that is not present.
     Absent(Page),
-}
-
-impl From<AllocError> for CopyError {
-    /// Returns the error that memory was refused.
-    fn from(_: AllocError) -> Self {
-        CopyError::Memory
-    }
-}
-
-impl<T: Drop> From<AllocFailed<T>> for CopyError {
-    /// Returns the error that memory was refused.
-    fn from(_: AllocFailed<T>) -> Self {
-        CopyError::Memory
-    }
-}
-
-impl From<Page> for CopyError {
-    /// Returns the error that this page is absent.
-    fn from(page: Page) -> Self {
-        CopyError::Absent(page)
-    }
 }

@@ -1,4 +1,6 @@
 //! Why the queues refuse.
+ghost use Rattle.std.specs.Prelude.{◌≡◌};
+ghost use Rattle.cp_spool.specs.Saved.{restore_error};
 
 use saved_bytes::RestoreError;
 use thiserror::Error;
@@ -18,6 +20,8 @@ pub enum SpoolError {
 }
 
 impl From<SpoolError> for RestoreError {
+    ghost from_gives = { λ error restore. restore ≡ restore_error error };
+
     /// Returns `Memory` for refused memory, else `Malformed`: no state names such a user or file.
     fn from(error: SpoolError) -> RestoreError {
         match error {
