@@ -205,12 +205,16 @@ def type_states(check: Check, repository: str, folder: str) -> None:
 
 
 def refuse_words(check: Check, program: str, one_machine: str, folder: str) -> None:
-    """What the programs answer to SAVE, STATE and HOLDS, also if that cannot be done."""
+    """What the programs answer to SAVE, VIEW, STATE and HOLDS, also if that cannot be done."""
     write(f"{folder}/directory", b"USER A PW 8K\n")
     cases = {
         "a machine of its own is saved": ([one_machine, "--follow", "8K"], b"SAVE\n", 0, b"> REFUSED 0\n", b""),
         "a machine of its own goes on": ([one_machine, "--follow", "8K"], b"STATE\n1\nx", 1, b"", b"fault: state Refused\n"),
         "what a machine of its own holds": ([one_machine, "--follow", "8K"], b"HOLDS\nEND\n", 0, b"> HOLDS BARE 0 0\n> DONE\n", b""),
+        "a machine of its own is viewed": ([one_machine, "--follow", "8K"], b"VIEW 0\n", 0, b"> REFUSED 0\n", b""),
+        "a user who is not there is viewed": ([program, "--follow", f"{folder}/directory"], b"VIEW 01\nEND\n", 0, b"> REFUSED 0\n", b""),
+        "a user of no number is viewed": ([program, "--follow", f"{folder}/directory"], b"VIEW A\n", 3, b"", b"fault: file Device 1\n"),
+        "a user of three digits is viewed": ([program, "--follow", f"{folder}/directory"], b"VIEW 000\n", 3, b"", b"fault: file Device 1\n"),
         "a word that is no request": ([program, "--follow", f"{folder}/directory"], b"HOLD\n", 3, b"", b"fault: file Device 1\n"),
         "a state of no bytes": ([program, "--follow", f"{folder}/directory"], b"STATE\n0\n", 1, b"", b"fault: state Refused\n"),
         "a state that is cut": ([program, "--follow", f"{folder}/directory"], b"STATE\n9\nx", 3, b"", b"fault: file Device 1\n"),

@@ -72,6 +72,7 @@ machine_goes = record {
   is_spent = λ a. false;
   has_states = false;
   IsSaved = λ a bytes. ⊥;
+  IsUserSaved = λ a user bytes. ⊥;
   HasSameBase = λ a b. Unit {0};
   GoesOnAs = GoesOnAs;
 }

@@ -176,6 +176,11 @@ impl Installation for OneMachine {
         Ok(false)
     }
 
+    /// Returns false and appends nothing: a machine of its own has no states.
+    fn save_user(&self, _user: UserNo, _out: &mut Vec<u8>) -> Result<bool, AllocError> {
+        Ok(false)
+    }
+
     /// Returns `Malformed`: a machine of its own has no states.
     fn restore(self, _input: &mut Input<'_>) -> Result<OneMachine, RestoreError> {
         Err(RestoreError::Malformed)

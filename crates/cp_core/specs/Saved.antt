@@ -1,12 +1,12 @@
 -- The bytes of a system in a saved state, and what a system that is restored has of the one in
 -- whose place it is.
-use Rattle.std.specs.Prelude.{◌≡◌, ℕ, List, Bool, ◌++◌, length, map}
+use Rattle.std.specs.Prelude.{◌≡◌, ℕ, List, Bool, ◌++◌, Some, length, map, slice_get}
 use Rattle.saved_bytes.specs.Codes.{each, flag, number}
 use Rattle.ckd_saved.specs.Saved.{volume_bytes}
 use Rattle.ckd_volume.specs.Volume.{VolumeFormat}
 use Rattle.cp_directory.specs.Users.{DirectoryUser}
-use Rattle.cp_frames.specs.Layout.{Pool}
-use Rattle.cp_frames.specs.Saved.{pool_bytes}
+use Rattle.cp_frames.specs.Layout.{Pool, bytes_of}
+use Rattle.cp_frames.specs.Saved.{pool_bytes, storage_bytes, supply_bytes}
 use Rattle.cp_resident.specs.Reuse.{ReuseValue, kept_none}
 use Rattle.cp_spool.specs.Queues.{QueuesValue, UserFiles, files_of}
 use Rattle.cp_spool.specs.Saved.{files_bytes}
@@ -114,6 +114,19 @@ pub record IsSaved (view : SystemView) (bytes : List ℕ) : Type 0 where
   pub parts : SavedSystem
   pub seen : view ≡ view_of parts view.directory view.kept
   pub code : bytes ≡ system_bytes parts
+
+-- the bytes of one user, after which come those of the frames and of his storage
+abbrev pub user_part_bytes : Pool → ℕ → SavedUser → List ℕ
+user_part_bytes pool user saved = user_bytes saved
+    ++ (supply_bytes pool.supply ++ storage_bytes (bytes_of pool user))
+
+-- the bytes are those of what is saved of one user of this system, of its frames and of his storage
+pub record IsUserSaved (view : SystemView) (user : ℕ) (bytes : List ℕ) : Type 0 where
+  pub parts : SavedSystem
+  pub seen : view ≡ view_of parts view.directory view.kept
+  pub saved : SavedUser
+  pub is : slice_get parts.users user ≡ Some saved
+  pub code : bytes ≡ user_part_bytes parts.pool user saved
 
 -- ---- what bytes say
 

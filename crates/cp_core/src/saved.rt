@@ -3,14 +3,16 @@
 //! Bytes are those of one system of a directory, but for the programs that it keeps
 //! ([`one_by_saved`]). A system that is restored keeps its invariant whatever the bytes are.
 //! Nothing else is proved of it: save it again, and compare.
-ghost use Rattle.std.specs.Prelude.{◌≡◌, ◌++◌, ℕ, IfOk, List, OnOk, length, map, option_copied};
+ghost use Rattle.std.specs.Prelude.{◌≡◌, ◌<◌, ◌++◌, ℕ, IfOk, List, OnOk, length, map};
+ghost use Rattle.std.specs.Prelude.{option_copied};
 ghost use Rattle.std.specs.Prelude.{true};
 ghost use Rattle.saved_bytes.specs.Codes.{each, number};
 ghost use Rattle.ckd_saved.specs.Saved.{volume_bytes};
 ghost use Rattle.cp_volumes.specs.Saved.{disk_bytes};
 ghost use Rattle.cp_volumes.specs.Shared.{AreThere, placements_of, volume_or_none};
 ghost use Rattle.machine_devices.specs.Saved.{note_bytes};
-ghost use Rattle.cp_core.specs.Saved.{AreAlike, HasSameBase, IsOneBySaved, IsSaved, base_of};
+ghost use Rattle.cp_core.specs.Saved.{AreAlike, HasSameBase, IsOneBySaved, IsSaved, IsUserSaved};
+ghost use Rattle.cp_core.specs.Saved.{base_of};
 ghost use Rattle.cp_core.specs.Saved.{devices_part_bytes, lists_bytes, saved_user, seat_bytes};
 
 use crate::system::System;
@@ -24,6 +26,7 @@ use machine_devices::saved::{note_of, put_note};
 use s370_num::StorageKey;
 use saved_bytes::{Input, RestoreError, put_flag, put_number, put_one, put_zero};
 use std::alloc::{AllocError, Global};
+use user_names::UserNo;
 
 /// Appends the addresses, volumes, extents, arms and senses of these minidisks, but not their
 /// cylinders, each minidisk after a byte of 1, and then a byte of 0.
@@ -352,6 +355,23 @@ impl System {
         frames.save(out)?;
         put_notes(out, files)?;
         put_flag(out, *is_spent)
+    }
+
+    /// Appends what a state has of one user: his machine, devices, files, minidisks and storage
+    /// keys, and after them the frames and his storage, as [`System::save`] writes them.
+    ///
+    /// # Errors
+    ///
+    /// `AllocError` if memory is refused; `out` may have a part of it then.
+    pub fn save_user(&self, user: UserNo, out: &mut Vec<u8>) -> Result<(), AllocError>
+        requires { user < length self.now.users }
+        ensures { OnOk result
+            ((bytes : List ℕ) × IsUserSaved self.now user bytes
+            × (out.new.items ≡ out.old.items ++ bytes)) }
+    {
+        self.users[user.index()].save(&self.queues, out)?;
+        self.frames.save_supply(out)?;
+        self.frames.save_storage(user, out)
     }
 
     /// Reads a state from the input into this system, to which no event was applied, and returns

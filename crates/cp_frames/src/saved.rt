@@ -142,7 +142,11 @@ impl Frames {
 
     /// Appends the pages in frames and slots, the pins, the order of frames and the number of
     /// page-ins.
-    fn save_supply(&self, out: &mut Vec<u8>) -> Result<(), AllocError>
+    ///
+    /// # Errors
+    ///
+    /// `AllocError` if memory is refused; `out` may have a part of it then.
+    pub fn save_supply(&self, out: &mut Vec<u8>) -> Result<(), AllocError>
         ensures { OnOk result (out.new.items ≡ out.old.items ++ supply_bytes self.now.supply) }
     {
         // Exhaustive: a new field fails to compile here. What is left out follows from what is
@@ -183,7 +187,11 @@ impl Frames {
     }
 
     /// Appends the size of a user's storage and the content of each of its pages.
-    fn save_storage(&self, user: UserNo, out: &mut Vec<u8>) -> Result<(), AllocError>
+    ///
+    /// # Errors
+    ///
+    /// `AllocError` if memory is refused; `out` may have a part of it then.
+    pub fn save_storage(&self, user: UserNo, out: &mut Vec<u8>) -> Result<(), AllocError>
         ensures { OnOk result (out.new.items ≡ out.old.items
             ++ storage_bytes (bytes_of self.now user)) }
     {

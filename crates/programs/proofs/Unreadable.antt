@@ -10,7 +10,7 @@ use Rattle.s370_num.specs.declared.host.HostFault.{HostFault}
 use Rattle.std.proofs.lemmas.Bool.{cases_Bool}
 use Rattle.text_words.specs.Numbers.{decimal_of, is_digit, number_from}
 use Rattle.programs.specs.Requests.{FailsToRead, GivesLine, HasNoEnd, IsAsked, IsBadLine, IsFramed, IsMalformed}
-use Rattle.programs.specs.Requests.{IsNoRequest, IsUnframed, IsUnsized}
+use Rattle.programs.specs.Requests.{IsNoRequest, IsUnframed, IsUnsized, IsViewLine}
 use Rattle.programs.specs.declared.requests.FollowRequest.{FollowRequest}
 use Rattle.programs.specs.declared.requests.FollowRequest.TheVariants as requests
 
@@ -72,19 +72,23 @@ and_second : (a b : Bool) → (a && b) ≡ true → b ≡ true
 and_second true b e = e
 and_second false b e = absurd (cc)
 
--- A size has at most nine digits, and no LF.
-size_is : (digits : List ℕ) (m : ℕ) → decimal_of 9 digits ≡ Some m → (length digits ≤ 9) × HasNoEnd digits
-size_is digits m e =
-    let test = nat_le 1 (length digits) && nat_le (length digits) 9 in
+-- A number of at most so many digits has no more, and no LF.
+digits_are : (most : ℕ) (digits : List ℕ) (m : ℕ) → decimal_of most digits ≡ Some m
+    → (length digits ≤ most) × HasNoEnd digits
+digits_are most digits m e =
+    let test = nat_le 1 (length digits) && nat_le (length digits) most in
     elim (cases_Bool test) [
       | inl is ↦ (
-        le_of (length digits) 9 (and_second (nat_le 1 (length digits)) (nat_le (length digits) 9) is),
+        le_of (length digits) most (and_second (nat_le 1 (length digits)) (nat_le (length digits) most) is),
         number_no_end digits 0 m
             (subst (λ (b : Bool). (if b then number_from 0 digits else None) ≡ Some m) is e),
       )
       | inr not ↦ (let none : None ≡ Some m =
           subst (λ (b : Bool). (if b then number_from 0 digits else None) ≡ Some m) not e in absurd (cc))
     ]
+
+size_is : (digits : List ℕ) (m : ℕ) → decimal_of 9 digits ≡ Some m → (length digits ≤ 9) × HasNoEnd digits
+size_is = digits_are 9
 
 -- ---- words
 
@@ -99,6 +103,38 @@ hold_line = ((λ e. cc), ((λ e. cc), ((λ e. cc), ((λ e. cc), ((λ e. cc), tt)
 
 stop_line : HasNoEnd (codes "END")
 stop_line = ((λ e. cc), ((λ e. cc), ((λ e. cc), tt)))
+
+-- a line that asks for the state of a user is short, and has no LF
+view_line : (line : List ℕ) (user : ℕ) → IsViewLine line user → (length line ≤ 9) × HasNoEnd line
+view_line line user v =
+    let digits = digits_are 2 v.0 user v.1 in
+    let short = digits.0 in (
+      subst (λ (l : List ℕ). length l ≤ 9) (sym v.2) (omega (arith, short)),
+      subst HasNoEnd (sym v.2) ((λ e. cc), ((λ e. cc), ((λ e. cc), ((λ e. cc), ((λ e. cc), digits.1))))),
+    )
+
+-- what is no number however many digits it may have
+no_digits : (most : ℕ) (cs : List ℕ) → number_from 0 cs ≡ None → decimal_of most cs ≡ None
+no_digits most cs none =
+    elim (cases_Bool (nat_le 1 (length cs) && nat_le (length cs) most)) [
+      | inl is ↦ subst (λ (b : Bool). (if b then number_from 0 cs else None) ≡ None) (sym is) none
+      | inr not ↦ subst (λ (b : Bool). (if b then number_from 0 cs else None) ≡ None) (sym not) refl
+    ]
+
+-- it is no number
+view_no_number : (line : List ℕ) (user size : ℕ) → IsViewLine line user → decimal_of 9 line ≡ Some size → ⊥
+view_no_number line user size v e =
+    let none = no_digits 9 (codes "VIEW " ++ v.0) refl in
+    let some : decimal_of 9 (codes "VIEW " ++ v.0) ≡ Some size =
+    subst (λ (w : List ℕ). decimal_of 9 w ≡ Some size) v.2 e in
+    let both : None ≡ Some size = sym none ∙ some in
+    absurd (cc)
+
+-- and no other word
+view_no_word : (line : List ℕ) (user : ℕ) → IsViewLine line user → (word : List ℕ) → (get_or word 0 0 ≡ 86 → ⊥)
+    → word ≡ line → ⊥
+view_no_word line user v word first e =
+    first (ap (λ (l : List ℕ). get_or l 0 0) (e ∙ v.2))
 
 -- each request begins with a short line
 pub record Begins (read : List ℕ) : Type 0 where
@@ -116,6 +152,9 @@ begins read requests.Save e =
     record { line = codes "SAVE"; rest = []; is = e; none = save_line; short = omega arith }
 begins read requests.Holds e =
     record { line = codes "HOLDS"; rest = []; is = e; none = hold_line; short = omega arith }
+begins read (requests.View user) h =
+    let line = view_line h.0 user h.1 in
+    record { line = h.0; rest = []; is = h.2; none = line.1; short = line.0 }
 begins read (requests.State state) h =
     record { line = codes "STATE"; rest = h.0; is = h.2; none = state_line; short = omega arith }
 
@@ -140,26 +179,36 @@ cut_line line none = record {
 whole : (word more : List ℕ) → (word ++ 10 ∷ []) ++ more ≡ word ++ 10 ∷ more
 whole word more = append_assoc word (10 ∷ []) more
 
-bad_word_asked : (word more : List ℕ) → HasNoEnd word → decimal_of 9 word ≡ None
-    → (word ≡ codes "SAVE" → ⊥) → (word ≡ codes "HOLDS" → ⊥) → (word ≡ codes "STATE" → ⊥) → (request : FollowRequest)
-    → IsAsked ((word ++ 10 ∷ []) ++ more) request → ⊥
-bad_word_asked word more none number save hold state (requests.Part part) f =
+-- a line is no word of a request, and does not ask for the state of a user
+pub record IsNoWord (word : List ℕ) : Type 0 where
+  pub save : word ≡ codes "SAVE" → ⊥
+  pub hold : word ≡ codes "HOLDS" → ⊥
+  pub view : (user : ℕ) → IsViewLine word user → ⊥
+  pub state : word ≡ codes "STATE" → ⊥
+
+bad_word_asked : (word more : List ℕ) → HasNoEnd word → decimal_of 9 word ≡ None → IsNoWord word
+    → (request : FollowRequest) → IsAsked ((word ++ 10 ∷ []) ++ more) request → ⊥
+bad_word_asked word more none number words (requests.Part part) f =
     let size = size_is f.digits (length part.items) f.size in
     let same = split_same word f.digits more part.items none size.1 (sym (whole word more) ∙ f.line) in
     let line = same.0 in
     let is = f.size in cc
-bad_word_asked word more none number save hold state requests.Save e =
-    save (split_same word (codes "SAVE") more [] none save_line (sym (whole word more) ∙ e)).0
-bad_word_asked word more none number save hold state requests.Holds e =
-    hold (split_same word (codes "HOLDS") more [] none hold_line (sym (whole word more) ∙ e)).0
-bad_word_asked word more none number save hold state (requests.State s) h =
-    state (split_same word (codes "STATE") more h.0 none state_line (sym (whole word more) ∙ h.2)).0
+bad_word_asked word more none number words requests.Save e =
+    words.save (split_same word (codes "SAVE") more [] none save_line (sym (whole word more) ∙ e)).0
+bad_word_asked word more none number words requests.Holds e =
+    words.hold (split_same word (codes "HOLDS") more [] none hold_line (sym (whole word more) ∙ e)).0
+bad_word_asked word more none number words (requests.View user) h =
+    let line = view_line h.0 user h.1 in
+    let same = (split_same word h.0 more [] none line.1 (sym (whole word more) ∙ h.2)).0 in
+    words.view user (subst (λ (l : List ℕ). IsViewLine l user) (sym same) h.1)
+bad_word_asked word more none number words (requests.State s) h =
+    words.state (split_same word (codes "STATE") more h.0 none state_line (sym (whole word more) ∙ h.2)).0
 
 -- a line that is neither a number nor a word
 pub bad_word : (word more : List ℕ) → HasNoEnd word → decimal_of 9 word ≡ None → (word ≡ codes "END" → ⊥)
-    → (word ≡ codes "SAVE" → ⊥) → (word ≡ codes "HOLDS" → ⊥) → (word ≡ codes "STATE" → ⊥) → IsNoRequest ((word ++ 10 ∷ []) ++ more)
-bad_word word more none number end save hold state = record {
-  asked = λ request asked. bad_word_asked word more none number save hold state request asked;
+    → IsNoWord word → IsNoRequest ((word ++ 10 ∷ []) ++ more)
+bad_word word more none number end words = record {
+  asked = λ request asked. bad_word_asked word more none number words request asked;
   end = λ e. end (split_same word (codes "END") more [] none stop_line (sym (whole word more) ∙ e)).0;
 }
 
@@ -182,6 +231,10 @@ short_part word got size none number less requests.Holds e =
     let no : decimal_of 9 (codes "HOLDS") ≡ Some size = subst (λ (w : List ℕ). decimal_of 9 w ≡ Some size) line number
     in
     cc
+short_part word got size none number less (requests.View user) h =
+    let viewed = view_line h.0 user h.1 in
+    let line = (split_same word h.0 got [] none viewed.1 (sym (whole word got) ∙ h.2)).0 in
+    view_no_number h.0 user size h.1 (subst (λ (w : List ℕ). decimal_of 9 w ≡ Some size) line number)
 short_part word got size none number less (requests.State s) h =
     let line = (split_same word (codes "STATE") got h.0 none state_line (sym (whole word got) ∙ h.2)).0 in
     let no : decimal_of 9 (codes "STATE") ≡ Some size = subst (λ (w : List ℕ). decimal_of 9 w ≡ Some size) line number
@@ -215,6 +268,10 @@ bad_state_asked more unframed requests.Save e =
     let line = (split_same (codes "STATE") (codes "SAVE") more [] state_line save_line e).0 in cc
 bad_state_asked more unframed requests.Holds e =
     no_hold (split_same (codes "STATE") (codes "HOLDS") more [] state_line hold_line e).0
+bad_state_asked more unframed (requests.View user) h =
+    let viewed = view_line h.0 user h.1 in
+    let line = (split_same (codes "STATE") h.0 more [] state_line viewed.1 h.2).0 in
+    view_no_word h.0 user h.1 (codes "STATE") (λ e. omega (arith, e)) line
 bad_state_asked more unframed (requests.State s) h =
     let rest = (split_same (codes "STATE") (codes "STATE") more h.0 state_line state_line h.2).1 in
     unframed s.items (subst (λ (l : List ℕ). IsFramed l s.items) (sym rest) h.1)
@@ -318,12 +375,11 @@ unframed_malformed word read c e (inr f) =
 
 -- A line that is no word and no number, or has too few bytes after it, is no request.
 pub unsized_malformed : (word read : List ℕ) (c : Option (List ℕ)) → HasNoEnd word → (word ≡ codes "END" → ⊥)
-    → (word ≡ codes "SAVE" → ⊥) → (word ≡ codes "HOLDS" → ⊥) → (word ≡ codes "STATE" → ⊥) → IsUnsized word read c
-    → IsMalformed ((word ++ 10 ∷ []) ++ read) c
-unsized_malformed word read c none end save hold state (inl is) =
+    → IsNoWord word → IsUnsized word read c → IsMalformed ((word ++ 10 ∷ []) ++ read) c
+unsized_malformed word read c none end words (inl is) =
     inl (λ more. subst IsNoRequest (sym (append_assoc (word ++ 10 ∷ []) read more))
-    (bad_word word (read ++ more) none is.0 end save hold state))
-unsized_malformed word read c none end save hold state (inr is) =
+    (bad_word word (read ++ more) none is.0 end words))
+unsized_malformed word read c none end words (inr is) =
     inr (is.2.1, cut_part word read is.0 none is.1 is.2.0)
 
 -- A line that did not come is the end of the input.

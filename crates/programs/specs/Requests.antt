@@ -1,4 +1,4 @@
--- What an input asks for: parts of a script, states, what users hold, and the end.
+-- What an input asks for: parts of a script, states, those of users, what users hold, and the end.
 use Rattle.std.specs.Prelude.{◌≡◌, ◌<◌, ◌≤◌, ℕ, List, [], ◌∷◌, ◌++◌, ◌⊎◌, codes, length}
 use Rattle.std.specs.Prelude.{Option, Some, None}
 use Rattle.std.specs.Prelude.{Result, Ok, Err}
@@ -30,12 +30,19 @@ word_line word = word ++ 10 ∷ []
 abbrev pub end_line : List ℕ
 end_line = word_line (codes "END")
 
+-- a line that asks for the state of a user, with his number after the word
+abbrev pub IsViewLine : List ℕ → ℕ → Type 0
+IsViewLine line user = (digits : List ℕ) × (decimal_of 2 digits ≡ Some user)
+    × (line ≡ codes "VIEW " ++ digits)
+
 -- how a request is read: a part of the script with its size before it, the word that asks for the
--- state or for what users hold, or the word that gives a state, and then that with its size
+-- state or for what users hold, the line that asks for the state of a user, or the word that gives
+-- a state, and then that with its size
 abbrev pub IsAsked : List ℕ → FollowRequest → Type 0
 IsAsked read (requests.Part part) = IsFramed read part.items
 IsAsked read requests.Save = read ≡ word_line (codes "SAVE")
 IsAsked read requests.Holds = read ≡ word_line (codes "HOLDS")
+IsAsked read (requests.View user) = (line : List ℕ) × IsViewLine line user × (read ≡ word_line line)
 IsAsked read (requests.State state) = (framed : List ℕ) × IsFramed framed state.items
     × (read ≡ word_line (codes "STATE") ++ framed)
 

@@ -9,8 +9,9 @@
 //! The line `END` asks for the end. The line `SAVE` asks for the state of the session: the answer
 //! is a line with its size, its bytes, and the line `> DONE`. The line `HOLDS` asks what users hold:
 //! the answer is a line for each, with the cards of his punch's open file and the lines of his
-//! printer's, and the line `> DONE`. The line `STATE`, a line with a size
-//! and these bytes let the session go on from that state.
+//! printer's, and the line `> DONE`. The line `VIEW` with the number of a user asks for what the
+//! state has of him, of the frames and of his storage: the answer is as that to `SAVE`. The line
+//! `STATE`, a line with a size and these bytes let the session go on from that state.
 //!
 //! ```text
 //! 13
@@ -22,7 +23,8 @@
 //! > ON A
 //! > DONE
 //! ```
-ghost use Rattle.std.specs.Prelude.{◌≡◌, ◌++◌, ◌∷◌, ℕ, List, [], IfErr, IfOk, OnErr, OnOk, length};
+ghost use Rattle.std.specs.Prelude.{◌≡◌, ◌++◌, ◌∷◌, ◌⊎◌, ℕ, List, [], IfErr, IfOk, OnErr, OnOk};
+ghost use Rattle.std.specs.Prelude.{length};
 ghost use Rattle.std.specs.Prelude.{true};
 ghost use Rattle.std.specs.Io.KnownBytes.{Appends};
 ghost use Rattle.s370_num.specs.Host.{AppendsFront, Counts};
@@ -31,8 +33,8 @@ ghost use Rattle.sessions.specs.Transcript.{ended};
 ghost use Rattle.programs.specs.Parts.{Answers, AnswersPart, InputAccounts, IsAnsweredPartly};
 ghost use Rattle.programs.specs.Parts.{IsBrokenOff, IsCausedBy, IsLeft, IsStateGiven};
 ghost use Rattle.programs.specs.Parts.{IsPartAnsweredPartly, IsRestoredPartly};
-ghost use Rattle.programs.specs.Parts.{IsSavedAs, IsSavedPartly, PartAccounts, done_line};
-ghost use Rattle.programs.specs.Parts.{held_text, idle_lines, news_since};
+ghost use Rattle.programs.specs.Parts.{IsSavedAs, IsToldPartly, IsViewedAs, PartAccounts};
+ghost use Rattle.programs.specs.Parts.{done_line, held_text, idle_lines, news_since, told_state};
 
 use crate::faults::Failure;
 use crate::requests::{FollowRequest, NextRequest, next_input};
@@ -100,8 +102,8 @@ pub fn follow_parts<R: HostReader, W: HostWriter, I: Installation + Drop>(
     Err(Failure::File(1))
 }
 
-/// Does what a request asks: a part, to write the state or what users hold, or to go on from a
-/// state; writes the answer, flushes the writer and returns the follower after it.
+/// Does what a request asks: a part, to write the state, that of a user or what users hold, or to
+/// go on from a state; writes the answer, flushes the writer and returns the follower after it.
 fn answer<W: HostWriter, I: Installation + Drop>(
     alloc: Global,
     follower: Follower<I>,
@@ -132,6 +134,10 @@ fn answer<W: HostWriter, I: Installation + Drop>(
             tell_held(alloc, &follower, writer)?;
             Ok(follower)
         }
+        FollowRequest::View(user) => {
+            view(alloc, &follower, user, writer)?;
+            Ok(follower)
+        }
         FollowRequest::State(state) => restore_state(alloc, follower, &state, writer),
     }
 }
@@ -147,19 +153,65 @@ fn save<W: HostWriter, I: Installation + Drop>(
         × Appends (W.contents writer.old) (W.contents writer.new) answer) }
     ensures flushed { OnOk result (W.held writer.new ≡ []) }
     ensures err { OnErr result
-        (IsSavedPartly I.goes follower.now (W.contents writer.old) (W.contents writer.new)) }
+        (IsToldPartly (IsSavedAs I.goes follower.now) (W.contents writer.old)
+        (W.contents writer.new)) }
     ensures cause { IfErr result (IsCausedBy ⊥ ⊥) }
     ensures why { PartAccounts result (W.HostFile.failures writer.old)
         (W.HostFile.failures writer.new) }
 {
     let mut state = Vec::new(alloc);
-    if !follower.save(&mut state)? {
+    let is_there = follower.save(&mut state)?;
+    tell_state(alloc, is_there, &state, writer)
+}
+
+/// Writes the state of the user of this number as [`save`] writes that of all, or the line `>
+/// REFUSED 0` if there is none, and flushes the writer.
+fn view<W: HostWriter, I: Installation + Drop>(
+    alloc: Global,
+    follower: &Follower<I>,
+    user: u32,
+    writer: &mut W,
+) -> Result<(), Failure>
+    ensures ok { OnOk result ((answer : List ℕ) × IsViewedAs I.goes follower.now user answer
+        × Appends (W.contents writer.old) (W.contents writer.new) answer) }
+    ensures flushed { OnOk result (W.held writer.new ≡ []) }
+    ensures err { OnErr result
+        (IsToldPartly (IsViewedAs I.goes follower.now user) (W.contents writer.old)
+        (W.contents writer.new)) }
+    ensures cause { IfErr result (IsCausedBy ⊥ ⊥) }
+    ensures why { PartAccounts result (W.HostFile.failures writer.old)
+        (W.HostFile.failures writer.new) }
+{
+    let mut state = Vec::new(alloc);
+    let is_there = follower.save_user(user, &mut state)?;
+    tell_state(alloc, is_there, &state, writer)
+}
+
+/// Writes a state, if there is one, between a line with its size and the line `> DONE`, else the
+/// line `> REFUSED 0`, and flushes the writer.
+fn tell_state<W: HostWriter>(
+    alloc: Global,
+    is_there: bool,
+    state: &[u8],
+    writer: &mut W,
+) -> Result<(), Failure>
+    ensures ok { OnOk result (Appends (W.contents writer.old) (W.contents writer.new)
+        (told_state is_there state.now)) }
+    ensures flushed { OnOk result (W.held writer.new ≡ []) }
+    ensures err { OnErr result ((W.contents writer.new ≡ W.contents writer.old)
+        ⊎ AppendsFront (W.contents writer.old) (W.contents writer.new)
+        (told_state is_there state.now)) }
+    ensures cause { IfErr result (IsCausedBy ⊥ ⊥) }
+    ensures why { PartAccounts result (W.HostFile.failures writer.old)
+        (W.HostFile.failures writer.new) }
+{
+    if !is_there {
         write_flushed(writer, b"> REFUSED 0\n")?;
         return Ok(());
     }
     let size = state.len();
     let head = format!(in alloc; "> STATE {size}\n")?;
-    write_all_flushed(writer, head.as_bytes(), &state, b"> DONE\n")?;
+    write_all_flushed(writer, head.as_bytes(), state, b"> DONE\n")?;
     Ok(())
 }
 

@@ -1,11 +1,13 @@
-//! What an input asks for: parts of a script, states, what users hold, and the end.
-ghost use Rattle.std.specs.Prelude.{◌≡◌, IfErr, IfOk, IfSome, OnErr, Some, length, option_map};
+//! What an input asks for: parts of a script, states, those of users, what users hold, and the end.
+ghost use Rattle.std.specs.Prelude.{◌≡◌, ℕ, IfErr, IfNone, IfOk, IfSome, OnErr, Some, length};
+ghost use Rattle.std.specs.Prelude.{option_map};
 ghost use Rattle.std.specs.Io.KnownBytes.{Consumes};
 ghost use Rattle.s370_num.specs.Host.{Counts, ReadsFront};
 ghost use Rattle.text_words.specs.Numbers.{decimal_of};
 ghost use Rattle.programs.specs.Requests.{GivesByte, GivesLine, GivesNext, GivesSized};
 ghost use Rattle.programs.specs.Requests.{FailsToRead, HasNoEnd, IsBadLine, IsMalformed, IsShortOf};
-ghost use Rattle.programs.specs.Requests.{IsUnframed, IsUnsized, ReadAccounts, most_digits};
+ghost use Rattle.programs.specs.Requests.{IsUnframed, IsUnsized, IsViewLine, ReadAccounts};
+ghost use Rattle.programs.specs.Requests.{most_digits};
 
 use s370_num::host::{HostFault, HostReader};
 use std::alloc::Global;
@@ -27,6 +29,8 @@ pub(crate) enum FollowRequest {
     Save,
     /// What users hold by files that they have not closed.
     Holds,
+    /// The state of the user of this number.
+    View(u32),
     /// That the session goes on from a state.
     State(Vec<u8>),
 }
@@ -41,8 +45,8 @@ pub(crate) enum NextRequest {
     Nothing,
 }
 
-/// Reads the next request of an input: a part, for the state, for what users hold, to go on from a
-/// state, or for the end; or that the input has ended.
+/// Reads the next request of an input: a part, for the state, for that of a user, for what users
+/// hold, to go on from a state, or for the end; or that the input has ended.
 pub(crate) fn next_input<R: HostReader>(
     alloc: Global,
     reader: &mut R,
@@ -67,10 +71,24 @@ pub(crate) fn next_input<R: HostReader>(
     if word.as_slice() == b"HOLDS".as_slice() {
         return Ok(NextRequest::Asked(FollowRequest::Holds));
     }
+    if let Some(user) = viewed(&word) {
+        return Ok(NextRequest::Asked(FollowRequest::View(user)));
+    }
     if word.as_slice() == b"STATE".as_slice() {
         return Ok(NextRequest::Asked(FollowRequest::State(next_state(alloc, reader)?)));
     }
     Ok(NextRequest::Asked(FollowRequest::Part(next_sized(alloc, reader, &word)?)))
+}
+
+/// Returns the number of the user for whose state a line asks, if it does.
+fn viewed(line: &[u8]) -> Option<u32>
+    ensures some { IfSome result (IsViewLine line.now) }
+    ensures none { IfNone result ((user : ℕ) → IsViewLine line.now user → ⊥) }
+{
+    match line {
+        [b'V', b'I', b'E', b'W', b' ', digits @ ..] => decimal_of(2, digits),
+        _ => None,
+    }
 }
 
 /// Reads a line with a size, and then as many bytes of a state.

@@ -53,8 +53,8 @@ as_said (events.Deck user cards) = Deck user cards.now
 
 -- How an installation goes on: what is seen of it; what an event that a script says leaves of it,
 -- and what it replies; which event may want memory, and what that may leave; and whether it has
--- ended it. And whether it has states, and as which bytes it is saved; which others are of one base
--- with it, booted from the same; and as which others it goes on.
+-- ended it. And whether it has states, and as which bytes it is saved, and one of its users; which
+-- others are of one base with it, booted from the same; and as which others it goes on.
 pub record Installation (W : Type 0) : Type 1 where
   pub seen : W → Installed
   pub Happens : W → EventValue → Reply → W → Type 0
@@ -63,6 +63,7 @@ pub record Installation (W : Type 0) : Type 1 where
   pub is_spent : W → Bool
   pub has_states : Bool
   pub IsSaved : W → List ℕ → Type 0
+  pub IsUserSaved : W → ℕ → List ℕ → Type 0
   pub HasSameBase : W → W → Type 0
   pub GoesOnAs : W → W → Type 0
 

@@ -1,10 +1,11 @@
 -- Saved states of a script's scenes, and scripts that go on from them.
-use Rattle.std.specs.Prelude.{◌≡◌, ℕ, Bool, true, false, List, [], ◌∷◌, ◌++◌, Some}
+use Rattle.std.specs.Prelude.{◌≡◌, ℕ, Bool, false, List, [], ◌∷◌, ◌++◌, Some}
 use Rattle.cp_dispatch.specs.Saved.{lines_bytes}
 use Rattle.sessions.specs.Continuing.{ContinuesAs}
 use Rattle.sessions.specs.Follow.{HasWholeLines, IsFollowed}
 use Rattle.sessions.specs.Installed.{Installation}
 use Rattle.sessions.specs.Noted.{closed_between}
+use Rattle.sessions.specs.Saved.{AppendsSuch}
 use Rattle.sessions.specs.Schedule.{Scene}
 use Rattle.sessions.specs.declared.files.Telling.{Telling}
 
@@ -22,9 +23,7 @@ pub record IsSceneSaved {W : Type 0} (i : Installation W) (scene : Scene W)
 -- what saving a scene appends: bytes as which it is saved, or nothing, and that only if its
 -- installation has no states
 abbrev pub AppendsScene : {W : Type 0} → Installation W → Scene W → Bool → List ℕ → List ℕ → Type 0
-AppendsScene i scene true old new =
-    (bytes : List ℕ) × IsSceneSaved i scene bytes × (new ≡ old ++ bytes)
-AppendsScene i scene false old new = (i.has_states ≡ false) × (new ≡ old)
+AppendsScene i scene = AppendsSuch (IsSceneSaved i scene) (i.has_states ≡ false)
 
 -- the scene that these bytes restore in the place of another: it is saved as these bytes, is of the
 -- same base, has the same users, and its transcript has the same lines of turns

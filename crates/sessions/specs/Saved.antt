@@ -1,5 +1,5 @@
 -- Saved states of an installation.
-use Rattle.std.specs.Prelude.{◌≡◌, ℕ, Bool, true, false, List, ◌++◌}
+use Rattle.std.specs.Prelude.{◌≡◌, ◌≤◌, ◌⊎◌, ℕ, Bool, true, false, List, ◌++◌, length}
 use Rattle.machine_devices.specs.declared.reply.Reply.{Reply}
 use Rattle.session_script.specs.Script.{EventValue}
 use Rattle.sessions.specs.Installed.{Installation}
@@ -19,8 +19,21 @@ pub record KeepsBase {W : Type 0} (i : Installation W) : Type 0 where
   pub kept : (old new : W) (said : EventValue) (reply : Reply) → i.Happens old said reply new
       → i.HasSameBase old new
 
+-- what is appended: bytes that are such, or nothing, and that only where there are none
+abbrev pub AppendsSuch : (List ℕ → Type 0) → Type 0 → Bool → List ℕ → List ℕ → Type 0
+AppendsSuch IsSuch HasNone true old new = (bytes : List ℕ) × IsSuch bytes × (new ≡ old ++ bytes)
+AppendsSuch IsSuch HasNone false old new = HasNone × (new ≡ old)
+
 -- what saving an installation appends: bytes as which it is saved, or nothing, and that only if it
 -- has no states
 abbrev pub AppendsState : {W : Type 0} → Installation W → W → Bool → List ℕ → List ℕ → Type 0
-AppendsState i world true old new = (bytes : List ℕ) × i.IsSaved world bytes × (new ≡ old ++ bytes)
-AppendsState i world false old new = (i.has_states ≡ false) × (new ≡ old)
+AppendsState i world = AppendsSuch (i.IsSaved world) (i.has_states ≡ false)
+
+-- there is no such user, or there are no states
+abbrev pub HasNoUserSaved : {W : Type 0} → Installation W → W → ℕ → Type 0
+HasNoUserSaved i world user = (length (i.seen world).users ≤ user) ⊎ (i.has_states ≡ false)
+
+-- what saving a user appends: bytes as which he is saved, or nothing, and that only if there are
+-- none
+abbrev pub AppendsUser : {W : Type 0} → Installation W → W → ℕ → Bool → List ℕ → List ℕ → Type 0
+AppendsUser i world user = AppendsSuch (i.IsUserSaved world user) (HasNoUserSaved i world user)

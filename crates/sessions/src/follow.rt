@@ -18,6 +18,7 @@ ghost use Rattle.sessions.specs.Installed.{is_stated, names_of};
 ghost use Rattle.sessions.specs.News.{changed_lines, is_idle, modes_of};
 ghost use Rattle.machine_devices.specs.Dropped.{AreDropped, outputs_of};
 ghost use Rattle.sessions.specs.Runs.{AppendsScene, IsRestored, IsSceneSaved};
+ghost use Rattle.sessions.specs.Saved.{AppendsUser};
 ghost use Rattle.sessions.specs.Schedule.{Scene};
 ghost use Rattle.sessions.specs.Session.{Accounts, at_first};
 ghost use Rattle.sessions.specs.Transcript.{ended};
@@ -228,6 +229,23 @@ impl<I: Installation + Drop> Follower<I> {
             out.truncate(front);
         }
         Ok(has_states)
+    }
+
+    /// Appends what the state has of the user of this number, of the frames and of his storage, and
+    /// returns true; if there is no such user, or there are no states, it appends nothing and
+    /// returns false.
+    ///
+    /// # Errors
+    ///
+    /// `AllocError` if memory is refused; `out` may have a part of it then.
+    pub fn save_user(&self, user: u32, out: &mut Vec<u8>) -> Result<bool, AllocError>
+        ensures { IfOk result
+            (λ is. AppendsUser I.goes self.now.world user is out.old.items out.new.items) }
+    {
+        if user as usize >= self.installation.users() {
+            return Ok(false);
+        }
+        self.installation.save_user(UserNo::new(user as u8), out)
     }
 
     /// Returns the follower that these bytes restore in the place of this one, by which no part has

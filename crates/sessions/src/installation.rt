@@ -11,7 +11,7 @@ ghost use Rattle.sessions.specs.Continuing.{IsToGoOn, but_printed};
 ghost use Rattle.sessions.specs.Installed.{Installation as Goings, as_said, machine_at};
 ghost use Rattle.sessions.specs.Installed.{names_of, subchannels_at, user_at};
 ghost use Rattle.sessions.specs.Queued.{StartsItsOwn, TurnsItsOwn};
-ghost use Rattle.sessions.specs.Saved.{AppendsState, IsOneBySaved, KeepsBase};
+ghost use Rattle.sessions.specs.Saved.{AppendsState, AppendsUser, IsOneBySaved, KeepsBase};
 ghost use Rattle.sessions.specs.Schedule.{ready_in};
 
 use machine_devices::{Event, FileNote, Reply, SeenDevices};
@@ -144,6 +144,17 @@ pub trait Installation {
     /// `AllocError` if memory is refused; `out` may have a part of it then.
     fn save(&self, out: &mut Vec<u8>) -> Result<bool, AllocError>
         ensures { IfOk result (λ is. AppendsState (goes) self.now is out.old.items out.new.items) };
+
+    /// Appends what the state has of one user, of the frames and of his storage, and returns true;
+    /// returns false if there are no states.
+    ///
+    /// # Errors
+    ///
+    /// `AllocError` if memory is refused; `out` may have a part of it then.
+    fn save_user(&self, user: UserNo, out: &mut Vec<u8>) -> Result<bool, AllocError>
+        requires { user < length ((goes).seen self.now).users }
+        ensures { IfOk result
+            (λ is. AppendsUser (goes) self.now user is out.old.items out.new.items) };
 
     /// Restores a state into this installation, which was only booted, without checking that `save`
     /// would write these bytes.

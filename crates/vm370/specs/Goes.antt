@@ -4,7 +4,7 @@ use Rattle.cp_core.specs.Forgotten.{GoesOnAs}
 use Rattle.cp_core.specs.Histories.{IsStep}
 use Rattle.cp_core.specs.Keeps.{IsNoneKept}
 use Rattle.cp_core.specs.Memory.{MayTakeMemory, is_cut_short}
-use Rattle.cp_core.specs.Saved.{AreAlike, IsSaved}
+use Rattle.cp_core.specs.Saved.{AreAlike, IsSaved, IsUserSaved}
 use Rattle.cp_core.specs.Supply.{IsSuppliedInPart}
 use Rattle.machine_devices.specs.Comes.{LineMay}
 use Rattle.s370_subchannels.specs.Programs.{program_of}
@@ -74,6 +74,7 @@ system_goes = record {
   is_spent = λ s. s.is_spent;
   has_states = true;
   IsSaved = IsSaved;
+  IsUserSaved = IsUserSaved;
   HasSameBase = IsOfOneBase;
   GoesOnAs = GoesOnAs;
 }

@@ -172,6 +172,12 @@ impl Installation for SharedMachines {
         Ok(true)
     }
 
+    /// Appends what the state has of one user, of the frames and of his storage, and returns true.
+    fn save_user(&self, user: UserNo, out: &mut Vec<u8>) -> Result<bool, AllocError> {
+        self.system.save_user(user, out)?;
+        Ok(true)
+    }
+
     /// Reads a state from the input, and returns this system with that state.
     fn restore(self, input: &mut Input<'_>) -> Result<SharedMachines, RestoreError> {
         let SharedMachines { system } = self;
