@@ -1414,6 +1414,7 @@ def try_states(repository: str, folder: str) -> None:
     typed_lines.try_typed(check, programs[0], 50)
     closed_files.try_closed(check, programs[0], 300)
     any_moment.try_moments(check, programs[0], 20)
+    watching.try_event_by_event(check, programs, f"{folder}/watched")
 
 
 def main() -> None:

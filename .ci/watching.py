@@ -1,4 +1,5 @@
-"""Tests how a long run is watched at a terminal (bin/lib/gathjumli/watched.py), over programs that print what is reported to them."""
+"""Tests how a long run is watched at a terminal (bin/lib/gathjumli/watched.py), over programs that print what is reported to them; and,
+over built programs, that a terminal is shown each line when its event is over."""
 from __future__ import annotations
 
 from collections.abc import Callable
@@ -35,6 +36,14 @@ COUNTED = {
     ),
     "half a line": ("RUN A 5\n", 1, "= A 5 COU", 0),
 }
+
+# a line, a run that takes most of the time, and another line
+LONG_RUN = """LINE {0} LOGON
+LINE {0} STORE 100 47F00100
+LINE {0} BEGIN 100
+RUN {0} 20000000
+LINE {0} #CP DISPLAY PSW
+"""
 
 
 class Shown:
@@ -128,3 +137,35 @@ def try_watching(check: Callable, folder: str) -> None:
         f"{broken.status}",
         broken.bytes,
     )
+
+
+def try_event_by_event(check: Callable, programs: tuple[str, str], folder: str) -> None:
+    """A terminal is shown what a program prints before a long run while that goes on."""
+    os.makedirs(folder)
+    with open(f"{folder}/directory", "w") as file:
+        file.write("USER A PW 8K\n")
+    for program, user, first in zip(programs, ("A", "BARE"), (f"{folder}/directory", "8K")):
+        with open(f"{folder}/script", "w") as file:
+            file.write(LONG_RUN.format(user))
+        shown, times = at_terminal([program, first, f"{folder}/script"])
+        begin, end = f"{user}: LOGON OK".encode(), f"{user}: PSW ".encode()
+        check(f"what {user}'s terminal shows", begin in shown and end in shown, shown)
+        check(f"{user}'s first line comes before the run", times[0] < times[-1] / 2, *times)
+
+
+def at_terminal(words: list[str]) -> tuple[bytes, list[float]]:
+    """What a program shows at a terminal, and when each piece of it came."""
+    outer, inner = pty.openpty()
+    begun = time.monotonic()
+    with subprocess.Popen(words, stdin=subprocess.DEVNULL, stdout=inner, stderr=inner):
+        os.close(inner)
+        shown, times = b"", []
+        with open(outer, "rb", buffering=0) as terminal:
+            try:
+                while piece := terminal.read(65536):
+                    shown += piece
+                    times.append(time.monotonic() - begun)
+            except OSError:
+                # nobody has the terminal any more
+                pass
+    return shown, times

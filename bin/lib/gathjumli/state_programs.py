@@ -2,7 +2,7 @@
 from __future__ import annotations
 
 from collections.abc import Iterator
-from typing import Any
+from typing import Any, TypeVar
 import queue
 
 from gathjumli.cli import Failure, REFUSED
@@ -10,12 +10,13 @@ from gathjumli.following import Answers, Program
 from gathjumli.machines import ScriptRefused
 from gathjumli.state_files import NO_STATE
 from gathjumli.state_pieces import Pieces
-from gathjumli.state_view import StateView
+from gathjumli.state_view import StateView, UserView
 
 # pieces that wait to be read; then the program waits
 MOST_WAITING = 16
 SECONDS_TO_LOOK = 1.0
 END = b""
+Found = TypeVar("Found", bound=UserView)
 
 
 class ArrivingAnswers(Answers):
@@ -54,10 +55,23 @@ class StateProgram(Program):
 
     def view(self, users: dict[str, int], pieces: Pieces) -> StateView:
         """The state where all that was given has led."""
+        self.ask("SAVE")
+        return self.read(StateView(self.arriving(), users, pieces))
+
+    def user_view(self, name: str, users: dict[str, int], pieces: Pieces) -> UserView:
+        """What that state has of one user."""
+        self.ask(f"VIEW {list(users).index(name)}")
+        return self.read(UserView(self.arriving(), name, users, pieces))
+
+    def ask(self, request: str) -> None:
+        """Asks for a state when all that was given before is answered."""
         while self.awaited:
             self.answer()
-        self.ask_for_state()
-        found = StateView(self.arriving(), users, pieces)
+        self.expect()
+        self.write(f"{request}\n".encode())
+
+    def read(self, found: Found) -> Found:
+        """What was read of a state while it arrived, when the program says that this is all."""
         try:
             self.answer()
         except ScriptRefused:

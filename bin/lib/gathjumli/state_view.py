@@ -1,5 +1,5 @@
-"""What a saved state shows (`SAVE`, docs/man/vm370.1): the machines of all users as the program has them. Bytes are only read here;
-what each means is said where crates write it (the files saved.rt). A byte too many or too few is refused."""
+"""What a saved state shows (`SAVE` and `VIEW`, docs/man/vm370.1): the machines of all users, or that of one, as the program has them.
+Bytes are only read here; what each means is said where crates write it (the files saved.rt). A byte too many or too few is refused."""
 from __future__ import annotations
 
 from collections.abc import Callable, Iterable, Iterator
@@ -147,44 +147,28 @@ class PackedState(NamedTuple):
             yield from self.table(pieces, user)
 
 
-class StateView:
-    """The parts of a state by name. Of volumes there is how full each cylinder is."""
+class UserView:
+    """What a state has of one user, by name, of the frames and of his storage."""
 
-    def __init__(self, arriving: Iterable[bytes], users: dict[str, int], pieces: Pieces) -> None:
-        read = self.read = Reader(arriving)
+    def __init__(
+        self, arriving: Iterable[bytes], name: str, users: dict[str, int], pieces: Pieces
+    ) -> None:
+        self.read = Reader(arriving)
         self.pieces = pieces
-        self.head: list[tuple[int, int]] = []
-        self.ready = read.each(read.number)
-        self.serves = read.each(lambda: (read.number(), read.number()))
-        read.number()
-        self.volumes = read.each(self.volume)
-        self.users = dict(zip(users, read.each(lambda: self.user(users))))
+        self.users: dict[str, Any] = {name: self.user(users)}
+        self.read_supply()
+        # the numbers of his pages
+        self.tables: dict[str, array] = {name: self.storage()}
+        self.read.finish()
+
+    def read_supply(self) -> None:
+        """Reads what the frames and slots have, and in which order frames are taken."""
+        read = self.read
         self.frames = read.each(lambda: read.option(self.pair))
         self.slots = read.each(lambda: read.option(self.pair))
         self.pins = read.small_numbers(len(self.frames), 1)
         self.order = read.each(read.number)
         self.page_ins = read.number()
-        self.cut_head()
-        # the numbers of each user's pages
-        self.tables: dict[str, array] = dict(zip(users, read.each(self.storage)))
-        read.cut()
-        read.each(lambda: (read.number(), read.number(), read.number()))
-        read.flag()
-        read.finish()
-        if not len(users) == len(self.users) == len(self.tables):
-            raise malformed()
-        self.state = self.packed(read.cut())
-
-    def packed(self, tail: bytes) -> PackedState:
-        storages = [self.keep(table.tobytes()) for table in self.tables.values()]
-        general = [tuple(user["general"]) for user in self.users.values()]
-        return PackedState(self.head, storages, tail, self.read.size, general)
-
-    def keep(self, piece: bytes) -> tuple[int, int]:
-        return self.pieces.keep(piece), len(piece)
-
-    def cut_head(self) -> None:
-        self.head.append(self.keep(self.read.cut()))
 
     def page(self, name: str, number: int) -> bytes:
         """A page of a user's storage."""
@@ -199,27 +183,6 @@ class StateView:
 
     def pair(self) -> tuple[int, int]:
         return self.read.number(), self.read.number()
-
-    # --- volumes ---
-
-    def volume(self) -> dict[str, Any]:
-        read = self.read
-        serial = read.bytes().decode("latin-1").strip()
-        read.number()
-        return {"serial": serial, "cylinders": read.each(self.cylinder)}
-
-    def cylinder(self) -> int:
-        """How many bytes of records a cylinder has."""
-        self.cut_head()
-        return sum(self.read.each(self.track))
-
-    def track(self) -> int:
-        read = self.read
-        read.bytes()
-        total = 0
-        while read.flag():
-            total += len(read.bytes()) + len(read.bytes()) + len(read.bytes())
-        return total
 
     # --- users ---
 
@@ -307,3 +270,59 @@ class StateView:
         # they are kept as pages
         read.cut()
         return found
+
+
+class StateView(UserView):
+    """The parts of a state by name. Of volumes there is how full each cylinder is."""
+
+    def __init__(self, arriving: Iterable[bytes], users: dict[str, int], pieces: Pieces) -> None:
+        read = self.read = Reader(arriving)
+        self.pieces = pieces
+        self.head: list[tuple[int, int]] = []
+        self.ready = read.each(read.number)
+        self.serves = read.each(lambda: (read.number(), read.number()))
+        read.number()
+        self.volumes = read.each(self.volume)
+        self.users = dict(zip(users, read.each(lambda: self.user(users))))
+        self.read_supply()
+        self.cut_head()
+        self.tables = dict(zip(users, read.each(self.storage)))
+        read.cut()
+        read.each(lambda: (read.number(), read.number(), read.number()))
+        read.flag()
+        read.finish()
+        if not len(users) == len(self.users) == len(self.tables):
+            raise malformed()
+        self.state = self.packed(read.cut())
+
+    def packed(self, tail: bytes) -> PackedState:
+        storages = [self.keep(table.tobytes()) for table in self.tables.values()]
+        general = [tuple(user["general"]) for user in self.users.values()]
+        return PackedState(self.head, storages, tail, self.read.size, general)
+
+    def keep(self, piece: bytes) -> tuple[int, int]:
+        return self.pieces.keep(piece), len(piece)
+
+    def cut_head(self) -> None:
+        self.head.append(self.keep(self.read.cut()))
+
+    # --- volumes ---
+
+    def volume(self) -> dict[str, Any]:
+        read = self.read
+        serial = read.bytes().decode("latin-1").strip()
+        read.number()
+        return {"serial": serial, "cylinders": read.each(self.cylinder)}
+
+    def cylinder(self) -> int:
+        """How many bytes of records a cylinder has."""
+        self.cut_head()
+        return sum(self.read.each(self.track))
+
+    def track(self) -> int:
+        read = self.read
+        read.bytes()
+        total = 0
+        while read.flag():
+            total += len(read.bytes()) + len(read.bytes()) + len(read.bytes())
+        return total

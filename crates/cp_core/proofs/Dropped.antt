@@ -259,7 +259,8 @@ all_dropped s since k gone past at note from there =
 
 -- ---- a note that is copied out of those of all files
 
-there_at : {X : Type 0} (xs : List X) (k : ℕ) (x : X) → k < length xs → x ≡ get_or xs k x → slice_get xs k ≡ Some x
+-- What is looked up is what is found.
+pub there_at : {X : Type 0} (xs : List X) (k : ℕ) (x : X) → k < length xs → x ≡ get_or xs k x → slice_get xs k ≡ Some x
 there_at [] k x h e = absurd (omega (arith, h))
 there_at (y ∷ ys) zero x h e = ap (λ z. Some z) (sym e)
 there_at (y ∷ ys) (suc k) x h e = there_at ys k x (omega (arith, h)) e

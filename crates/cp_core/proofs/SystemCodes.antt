@@ -1,6 +1,7 @@
 -- Bytes are those of one system, but for the programs that it keeps.
-use Rattle.std.specs.Prelude.{ℕ, ◌≡◌, refl, Bool, List, [], ◌∷◌, ◌++◌, map}
-use Rattle.std.proofs.Common.{sym, ◌∙◌, ap, subst, append_assoc}
+use Rattle.std.specs.Prelude.{ℕ, ◌≡◌, ◌<◌, refl, Bool, List, [], ◌∷◌, ◌++◌, length, map, option_map}
+use Rattle.std.proofs.Common.{sym, ◌∙◌, ap, get_or, subst, append_assoc}
+use Rattle.std.proofs.lemmas.Option.{slice_get-map}
 use Rattle.saved_bytes.specs.Codes.{both, each, flag, number, IsCode}
 use Rattle.saved_bytes.proofs.Codes.{both_code, each_code, flag_code, number_code, of_parts, one_value}
 use Rattle.ckd_saved.specs.Saved.{volume_bytes}
@@ -25,7 +26,8 @@ use Rattle.machine_devices.specs.declared.files.FileNote.{FileNote}
 use Rattle.cp_core.specs.System.{SystemView, placements_among, users_of}
 use Rattle.cp_core.specs.UserMachines.{SeatParts, seat_on, seats_on, user_with}
 use Rattle.cp_core.specs.Saved.{IsOneBySaved, IsSaved, SavedSystem, SavedUser, saved_user, system_bytes, user_bytes}
-use Rattle.cp_core.specs.Saved.{user_of, view_of}
+use Rattle.cp_core.specs.Saved.{IsUserSaved, user_of, user_part_bytes, view_of}
+use Rattle.cp_core.proofs.Dropped.{there_at}
 use Rattle.cp_core.proofs.Systems.{seen}
 
 pub user_code : IsCode user_bytes
@@ -111,6 +113,23 @@ module _ (q : QueuesValue) (seats : List SeatParts) (volumes : List VolumeFormat
         seen_again;
     code = code;
   }
+
+  -- the same, of one of its users
+  pub user_saved_is : (view : SystemView) (user : ℕ) (s : SeatParts) (bytes : List ℕ)
+      → seen (seats_on q seats) volumes pool.storages directory pool.supply files is_spent ≡ view
+      → user < length seats → s ≡ get_or seats user s → bytes ≡ user_part_bytes pool user (saved_user q s)
+      → IsUserSaved view user bytes
+  user_saved_is view user s bytes is within here code =
+      let parts = parts_in q seats volumes pool files is_spent in
+      let whole = saved_is view (system_bytes parts) is refl in
+      let there = ap (option_map (saved_user q)) (there_at seats user s within here) in
+      record {
+        parts = parts;
+        seen = whole.seen;
+        saved = saved_user q s;
+        is = slice_get-map (saved_user q) seats user ∙ there;
+        code = code;
+      }
 
 -- what was appended part by part was appended as a whole
 pub as_whole : (out v u p n f : List ℕ) → ((((out ++ v) ++ u) ++ p) ++ n) ++ f ≡ out ++ ((v ++ u) ++ (p ++ (n ++ f)))
