@@ -9,11 +9,11 @@ ghost use Rattle.logon_desk.specs.Account.{new_account};
 ghost use Rattle.logon_desk.specs.Connection.{gone};
 ghost use Rattle.logon_desk.specs.Desk.{Answers, Closes, Comes, Does, Finishes, IsStep, Keeps};
 ghost use Rattle.logon_desk.specs.Desk.{Opens, Prints};
-ghost use Rattle.logon_desk.specs.Desk.{Takes, Turns, Wakes, account_of, after_decoded, asking};
+ghost use Rattle.logon_desk.specs.Desk.{Takes, Turns, Wakes, account_of, after_decoded};
 ghost use Rattle.logon_desk.specs.Desk.{after_first};
 ghost use Rattle.logon_desk.specs.Desk.{after_line_at, answered, comes_to, connection_at, ended};
 ghost use Rattle.logon_desk.specs.Desk.{farewell};
-ghost use Rattle.logon_desk.specs.Desk.{greeting, guess_waits, is_gone, is_taking, is_turn};
+ghost use Rattle.logon_desk.specs.Desk.{greeting, guess_waits, is_gone, is_taking};
 ghost use Rattle.logon_desk.specs.Desk.{leaving};
 ghost use Rattle.logon_desk.specs.Desk.{logged_on};
 ghost use Rattle.logon_desk.specs.Desk.{logon_line, new_desk, after_pause, same_guess, shown};
@@ -25,7 +25,6 @@ use crate::connection::{Connection, LogonStep, Stage, after_line};
 use crate::guesses::Guesses;
 use crate::output::{DeskAction, JournalEntry, Notice, Outputs};
 use crate::strangers::{busiest, strangers};
-use crate::turns::is_behind;
 use std::alloc::{AllocError, Global};
 use std::marker::Model;
 use std::mem;
@@ -44,9 +43,9 @@ const MOST_TRIES: u8 = 3;
 /// The connections, the users and the names that were guessed at.
 #[derive(Drop)]
 pub struct LogonDesk {
-    connections: Vec<Connection>,
+    pub(crate) connections: Vec<Connection>,
     accounts: Vec<Account>,
-    guesses: Guesses,
+    pub(crate) guesses: Guesses,
 }
 
 impl Model for LogonDesk {
@@ -365,7 +364,7 @@ impl LogonDesk {
     }
 
     /// Moves a connection to a stage; a guess waits from now on.
-    fn come_to(&mut self, connection: usize, stage: Stage, now: u64)
+    pub(crate) fn come_to(&mut self, connection: usize, stage: Stage, now: u64)
         requires within { connection < length self.old.connections }
         requires now { now < 2 ^ 62 }
         ensures { self.new ≡ comes_to self.old connection (connection_at self.old connection) stage
@@ -424,66 +423,6 @@ impl LogonDesk {
             }
             _ => Ok(()),
         }
-    }
-
-    /// Asks the host about the guess that waits at a connection, if it is its turn.
-    fn ask(
-        &mut self,
-        alloc: Global,
-        connection: usize,
-        guess: &Guess,
-        now: u64,
-        out: &mut Outputs,
-    ) -> Result<(), AllocError>
-        requires within { connection < length self.old.connections }
-        requires waits { (connection_at self.old connection).stage ≡ Stage.Waiting guess.now }
-        requires now { now < 2 ^ 62 }
-        ensures { OnOk result (IsStep self.old (Wakes connection now) out.old self.new out.new) }
-    {
-        if self.is_turn(connection, guess, now) {
-            self.ask_host(alloc, connection, guess, now, out)
-        } else {
-            Ok(())
-        }
-    }
-
-    /// Asks the host about the guess of a connection, which holds back the next one.
-    fn ask_host(
-        &mut self,
-        alloc: Global,
-        connection: usize,
-        guess: &Guess,
-        now: u64,
-        out: &mut Outputs,
-    ) -> Result<(), AllocError>
-        requires within { connection < length self.old.connections }
-        requires now { now < 2 ^ 62 }
-        ensures { OnOk result (Does
-            (asking self.old connection (connection_at self.old connection) guess.now now) out.old
-            self.new out.new) }
-    {
-        let address = self.connections[connection].address;
-        self.guesses
-            .ask(alloc, guess.name.as_slice(), address, now)?;
-        let judged = guess.copy(alloc)?;
-        self.come_to(connection, Stage::Judged(judged), now);
-        let asked = guess.copy(alloc)?;
-        out.push(DeskAction::Asks {
-            connection,
-            guess: asked,
-        })
-    }
-
-    /// Returns whether it is the turn of the guess of a connection: none at its name from its
-    /// address is judged or has waited for longer, and the last one was long enough ago.
-    fn is_turn(&self, connection: usize, guess: &Guess, now: u64) -> bool
-        requires { connection < length self.now.connections }
-        ensures { result ≡ is_turn self.now (connection_at self.now connection) guess.now now }
-    {
-        let place = &self.connections[connection];
-        let name = guess.name.as_slice();
-        !self.guesses.hold_back(name, place.address, now)
-            && !is_behind(&self.connections, name, place.address, place.patience.due)
     }
 
     /// Shows a refusal, and lets a guesser try again, or ends his connection at the third one.
