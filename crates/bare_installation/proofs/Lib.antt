@@ -1,3 +1,4 @@
 pub mod Lives
 pub mod Present
 pub mod Forgotten
+mod Dropped

@@ -68,7 +68,7 @@ impl Model for Bare {
     } };
 
     ghost invariant = { λ b. (8192 ≤ length (plain_bytes b.storage))
-        × (b.devices.user < length b.queues.users) };
+        × (b.devices.user < length b.queues.users) × (length b.queues.users ≡ 1) };
 }
 
 impl Bare {
@@ -127,6 +127,7 @@ impl Bare {
     ) -> Bare
         requires size { 8192 ≤ length (plain_bytes storage) }
         requires user { devices.user < length queues.users }
+        requires one { length queues.users ≡ 1 }
         ensures machine { result.equipped.machine ≡ unused (plain_memory storage) subchannels }
         ensures devices { result.equipped.devices ≡ devices_on devices queues }
         ensures disks { result.equipped.disks ≡ disks.items }

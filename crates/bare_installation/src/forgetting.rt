@@ -1,6 +1,8 @@
 //! A single machine that forgets the lines that its console has printed, and the entries of closed
 //! files.
-ghost use Rattle.std.specs.Prelude.{◌≡◌};
+ghost use Rattle.std.specs.Prelude.{◌≡◌, ◌∷◌, []};
+ghost use Rattle.machine_devices.specs.Dropped.{AreDropped, IsDropped, closed_of};
+ghost use Rattle.machine_devices.specs.declared.files.FileNote.{FileNote};
 ghost use Rattle.bare_installation.specs.Forgotten.{EventsGoOn, GoesOnAs, forgotten};
 
 use crate::bare::Bare;
@@ -20,6 +22,7 @@ impl Bare {
     /// A file that the reader still has as a deck keeps its entries.
     pub fn forget_files(&mut self, since: usize)
         ensures on { GoesOnAs self.old self.new }
+        ensures gone { AreDropped since self.new.files (self.new.equipped ∷ []) }
         ensures lines { self.new.equipped.machine.output ≡ self.old.equipped.machine.output }
     {
         for place in since..self.files.len() {
@@ -32,7 +35,14 @@ impl Bare {
     /// Drops the entries of the file of this note.
     fn forget_file(&mut self, note: FileNote)
         ensures on { GoesOnAs self.old self.new }
+        ensures gone { let machines = self.new.equipped ∷ [] in
+            IsDropped machines (closed_of machines note) }
+        ensures stays { let before = self.old.equipped ∷ [] in
+            let after = self.new.equipped ∷ [] in
+            (other : FileNote) → IsDropped before (closed_of before other)
+            → IsDropped after (closed_of after other) }
         ensures lines { self.new.equipped.machine.output ≡ self.old.equipped.machine.output }
+        ensures files { self.new.files ≡ self.old.files }
     {
         match note.kind {
             FileKind::Punch(place) => self.queues.forget_punched(note.user, place),

@@ -1,11 +1,7 @@
 -- Closed files whose entries were dropped, in a system and in its queues.
-use Rattle.std.proofs.Common.{◌≡◌, ◌∙◌, ℕ, zero, suc, ◌+◌, ◌<◌, ◌≤◌, ◌⊎◌, List, [], ◌∷◌, Option, Some, None, ap, get_or}
-use Rattle.std.proofs.Common.{length}
+use Rattle.std.proofs.Common.{◌≡◌, ◌∙◌, ℕ, ◌<◌, ◌≤◌, List, [], ◌∷◌, Option, Some, None, ap, get_or, length}
 use Rattle.std.proofs.Common.{map, refl, subst, sym, inl, inr, arith}
-use Rattle.std.specs.Prelude.{Bool, false, true, IfSome, IsSomeAnd, is_some, ltb, slice_get}
-use Rattle.std.specs.Borrow.{Bor}
-use Rattle.std.specs.Option.{option_copied}
-use Rattle.std.proofs.lemmas.Option.{slice_get_past}
+use Rattle.std.specs.Prelude.{IsSomeAnd, slice_get}
 use Rattle.std.proofs.Math.ListN.{get_or-map}
 use Rattle.std.proofs.lemmas.Bool.{cases_lt}
 use Rattle.std.proofs.lemmas.List.{get_or_default, get_or_past}
@@ -14,16 +10,16 @@ use Rattle.unit_record.specs.Reader.{DeckValue}
 use Rattle.ckd_volume.specs.Volume.{VolumeFormat}
 use Rattle.cp_directory.specs.Users.{DirectoryUser}
 use Rattle.cp_spool.specs.File.{card_of_entry}
-use Rattle.cp_spool.specs.Forgotten.{HasDeck, IsGone, without_entries}
+use Rattle.cp_spool.specs.Forgotten.{HasDeck, IsGone}
 use Rattle.cp_spool.specs.Queues.{QueuesValue, UserFiles, files_of, no_files}
 use Rattle.machine_devices.specs.Devices.{DevicesValue}
-use Rattle.machine_devices.specs.Dropped.{AreDropped, HasDeckIn, IsDropped, closed_by_kind, closed_of, outputs_of}
+use Rattle.machine_devices.specs.Dropped.{HasDeckIn, IsDropped, closed_by_kind, closed_of, outputs_of}
 use Rattle.machine_devices.specs.Equipped.{Equipped, nobody}
 use Rattle.machine_devices.specs.Lent.{DevicesParts, devices_with}
 use Rattle.machine_devices.specs.declared.files.FileKind.{FileKind}
 use Rattle.machine_devices.specs.declared.files.FileKind.TheVariants as kinds
-use Rattle.machine_devices.specs.declared.files.FileNote.{FileNote}
-use Rattle.machine_devices.proofs.Lost.{EachHasLost, HasLost, HaveLost, lost_at}
+use Rattle.machine_devices.proofs.Dropping.{EachNoted, gone_stays}
+use Rattle.machine_devices.proofs.Lost.{EachHasLost, lost_at}
 use Rattle.cp_resident.specs.Reuse.{ReuseValue}
 use Rattle.cp_core.specs.Owners.{AreOwners}
 use Rattle.cp_core.specs.Forgotten.{GoesOnAs}
@@ -134,31 +130,6 @@ module _ (q : QueuesValue) (seats : List SeatParts) (volumes : List VolumeFormat
 
 -- ---- files that were dropped stay so
 
-module _ (olds news : List UserFiles) (lost : EachHasLost olds news) where
-  deck_stays : (cards : List (List ℕ)) → HasDeck olds cards → HasDeck news cards
-  deck_stays cards (reader, place, there) = (
-    reader,
-    place,
-    subst (λ (decks : List DeckValue). IsSomeAnd (slice_get decks place) (λ deck. deck.cards ≡ cards))
-        (sym (lost_at olds news lost reader).decks) there,
-  )
-
-  one_stays : (old new : FileValue) → ((new ≡ old) ⊎ (new ≡ without_entries old)) → IsGone olds (Some old)
-      → IsGone news (Some new)
-  one_stays old new (inr gone) h = inl (ap (λ (f : FileValue). f.entries) gone)
-  one_stays old new (inl same) (inl none) = inl (ap (λ (f : FileValue). f.entries) same ∙ none)
-  one_stays old new (inl same) (inr deck) =
-      inr (subst (λ (f : FileValue). HasDeck news (map card_of_entry f.entries)) (sym same)
-      (deck_stays (map card_of_entry old.entries) deck))
-
-  pub gone_stays : (os ns : List FileValue) → HaveLost os ns → (place : ℕ) → IsGone olds (slice_get os place)
-      → IsGone news (slice_get ns place)
-  gone_stays [] [] h place gone = tt
-  gone_stays [] (n ∷ ns) h place gone = absurd h
-  gone_stays (o ∷ os) [] h place gone = absurd h
-  gone_stays (o ∷ os) (n ∷ ns) h zero gone = one_stays o n h.0 gone
-  gone_stays (o ∷ os) (n ∷ ns) h (suc place) gone = gone_stays os ns h.1 place gone
-
 -- each file of a system that was dropped is dropped in the one whose files have lost more
 pub stays : (q q' : QueuesValue) (seats : List SeatParts) (volumes : List VolumeFormat) (storages : List (List ℕ))
     (directory : List DirectoryUser) (lost : EachHasLost q.users q'.users)
@@ -201,78 +172,10 @@ kept_same q q' (s ∷ seats) = ap (λ (more : List ReuseValue). s.reuse ∷ more
 
 -- ---- one file after another
 
--- each closed file that was noted from the first place on, before the other, is dropped
-abbrev pub Dropped : SystemView → ℕ → ℕ → Type 0
-Dropped s since k = (at : ℕ) (note : FileNote) → since ≤ at → at < k → slice_get s.files at ≡ Some note
-    → IsDropped s.users (closed_of s.users note)
-
 -- so many were dropped, and nothing else has changed
 pub record HasForgotten (first s : SystemView) (since k : ℕ) : Type 0 where
   pub on : GoesOnAs first s
-  pub gone : Dropped s since k
+  pub gone : EachNoted (λ note. IsDropped s.users (closed_of s.users note)) s.files since k
   pub lines : outputs_of s.users ≡ outputs_of first.users
   pub kept : s.kept ≡ first.kept
   pub files : s.files ≡ first.files
-
--- Before the first there is none.
-pub none_yet : (s : SystemView) (since : ℕ) → Dropped s since since
-none_yet s since at note from below there = absurd (omega (arith, from, below))
-
--- Where no file was noted at a place, all before the next are dropped.
-pub none_more : (s : SystemView) (since k : ℕ) → Dropped s since k → slice_get s.files k ≡ None → Dropped s since (k +
-    1)
-none_more s since k gone none at note from below there = elim (cases_lt at k) [
-  | inl before ↦ gone at note from before there
-  | inr past ↦ (let same : at ≡ k = omega (arith, below, past) in
-      let here = subst (λ (n : ℕ). slice_get s.files n ≡ Some note) same there in cc)
-]
-
--- One more file is dropped, and those before it stay so.
-pub one_more : (old new : SystemView) (since k : ℕ) (note : FileNote) → Dropped old since k
-    → ((other : FileNote) → IsDropped old.users (closed_of old.users other)
-    → IsDropped new.users (closed_of new.users other)) → new.files ≡ old.files
-    → slice_get old.files k ≡ Some note → IsDropped new.users (closed_of new.users note) → Dropped new since (k + 1)
-one_more old new since k note gone stays files found one at other from below there =
-    let was : slice_get old.files at ≡ Some other =
-    subst (λ (fs : List FileNote). slice_get fs at ≡ Some other) files there in
-    elim (cases_lt at k) [
-      | inl before ↦ stays other (gone at other from before was)
-      | inr past ↦ (
-          let same : at ≡ k = omega (arith, below, past) in
-          let here : slice_get old.files k ≡ Some other =
-          subst (λ (n : ℕ). slice_get old.files n ≡ Some other) same was in
-          let is : note ≡ other = (let a = found in cc) in
-          subst (λ (n : FileNote). IsDropped new.users (closed_of new.users n)) is one)
-    ]
-
-there_inside : {X : Type 0} (xs : List X) (at : ℕ) (x : X) → slice_get xs at ≡ Some x → at < length xs
-there_inside [] at x e = absurd (cc)
-there_inside (y ∷ ys) zero x e = omega arith
-there_inside (y ∷ ys) (suc at) x e = let rest = there_inside ys at x e in omega arith
-
--- Where all places were gone over, all are dropped.
-pub all_dropped : (s : SystemView) (since k : ℕ) → Dropped s since k → length s.files ≤ k
-    → AreDropped since s.files s.users
-all_dropped s since k gone past at note from there =
-    let inside = there_inside s.files at note there in
-    gone at note from (omega (arith, inside, past)) there
-
--- ---- a note that is copied out of those of all files
-
--- What is looked up is what is found.
-pub there_at : {X : Type 0} (xs : List X) (k : ℕ) (x : X) → k < length xs → x ≡ get_or xs k x → slice_get xs k ≡ Some x
-there_at [] k x h e = absurd (omega (arith, h))
-there_at (y ∷ ys) zero x h e = ap (λ z. Some z) (sym e)
-there_at (y ∷ ys) (suc k) x h e = there_at ys k x (omega (arith, h)) e
-
-past_of : (k n : ℕ) → false ≡ ltb k n → n ≤ k
-past_of k n e = grind arith
-
-within_of : (k n : ℕ) → true ≡ ltb k n → k < n
-within_of k n e = grind arith
-
--- What was looked up and copied is what is there.
-pub looked_up : {X : Type 0} (xs : List X) (k : ℕ) (g : Option (Bor X)) → is_some g ≡ ltb k (length xs)
-    → IfSome g (λ b. b.now ≡ get_or xs k b.now) → slice_get xs k ≡ option_copied g
-looked_up xs k None found at = slice_get_past xs k (past_of k (length xs) found)
-looked_up xs k (Some b) found at = there_at xs k b.now (within_of k (length xs) found) at

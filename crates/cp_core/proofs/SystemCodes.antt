@@ -27,7 +27,7 @@ use Rattle.cp_core.specs.System.{SystemView, placements_among, users_of}
 use Rattle.cp_core.specs.UserMachines.{SeatParts, seat_on, seats_on, user_with}
 use Rattle.cp_core.specs.Saved.{IsOneBySaved, IsSaved, SavedSystem, SavedUser, saved_user, system_bytes, user_bytes}
 use Rattle.cp_core.specs.Saved.{IsUserSaved, user_of, user_part_bytes, view_of}
-use Rattle.cp_core.proofs.Dropped.{there_at}
+use Rattle.machine_devices.proofs.Dropping.{there_at}
 use Rattle.cp_core.proofs.Systems.{seen}
 
 pub user_code : IsCode user_bytes

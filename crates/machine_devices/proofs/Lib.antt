@@ -19,4 +19,5 @@ pub mod DeviceCodes
 pub mod Forgotten
 pub mod Written
 pub mod Lost
+pub mod Dropping
 mod Served

@@ -180,8 +180,8 @@ impl<I: Installation + Drop> Follower<I> {
         ensures on { ContinuesAs I.goes self.old self.new }
         ensures chain { (first : Scene I) → ContinuesAs I.goes first self.old
             → ContinuesAs I.goes first self.new }
-        ensures gone { I.goes.has_states ≡ true → AreDropped files
-            (I.goes.seen self.new.world).files (I.goes.seen self.new.world).machines }
+        ensures gone { AreDropped files (I.goes.seen self.new.world).files
+            (I.goes.seen self.new.world).machines }
         ensures lines { outputs_of (I.goes.seen self.new.world).machines
             ≡ outputs_of (I.goes.seen self.old.world).machines }
     {

@@ -125,13 +125,11 @@ pub trait Installation {
         ensures on { (goes).GoesOnAs self.old self.new }
         ensures seen { (goes).seen self.new ≡ but_printed ((goes).seen self.old) };
 
-    /// Drops the entries of the closed files that have a number but of the first `since`; what
-    /// follows goes on as with them.
-    ///
-    /// An installation that has states keeps such entries only as a deck of a reader.
+    /// Drops the entries of the closed files that have a number but of the first `since`, unless a
+    /// reader has them as a deck; what follows goes on as with them.
     fn forget_files(&mut self, since: usize)
         ensures on { (goes).GoesOnAs self.old self.new }
-        ensures gone { (goes).has_states ≡ true → AreDropped since ((goes).seen self.new).files
+        ensures gone { AreDropped since ((goes).seen self.new).files
             ((goes).seen self.new).machines }
         ensures lines { outputs_of ((goes).seen self.new).machines
             ≡ outputs_of ((goes).seen self.old).machines }

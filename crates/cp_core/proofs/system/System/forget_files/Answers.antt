@@ -1,16 +1,22 @@
 use Rattle.std.proofs.Common.{◌≡◌, ◌∙◌, ◌+◌, List, None, Some, ap, arith, length, refl, subst, sym}
 use Rattle.std.specs.Prelude.{slice_get}
+use Rattle.machine_devices.specs.Dropped.{IsDropped, closed_of}
 use Rattle.machine_devices.specs.declared.files.FileNote.{FileNote}
+use Rattle.machine_devices.proofs.Dropping.{EachNoted, all_noted, looked_up, none_more, none_yet, one_more}
 use Rattle.cp_core.specs.System.{SystemView}
-use Rattle.cp_core.proofs.Dropped.{HasForgotten, all_dropped, looked_up, none_more, none_yet, one_more}
+use Rattle.cp_core.proofs.Dropped.{HasForgotten}
 use Rattle.cp_core.proofs.Forgotten.{steps_go_on}
 use Rattle.cp_core.proofs.system.System.forget_files.Goals as goal
 use Rattle.cp_core.proofs.system.System.forget_files.Goals.{in-Some, in_default}
 
+-- the file of a note is dropped in a system
+abbrev pub Drops : SystemView → FileNote → Type 0
+Drops s note = IsDropped s.users (closed_of s.users note)
+
 pub loop-place-init : goal.loop-place-init
 loop-place-init c = record {
   on = steps_go_on.reflexive c.args.self.now;
-  gone = none_yet c.args.self.now c.args.since;
+  gone = none_yet (Drops c.args.self.now) c.args.self.now.files c.args.since;
   lines = refl;
   kept = refl;
   files = refl;
@@ -36,7 +42,8 @@ loop-place-preserved c =
           let found : slice_get old.files k ≡ Some w.in-Some.note = here ∙ w.in-Some.is in
           let all : HasForgotten first new since (k + 1) = record {
             on = steps_go_on.transitive first old new held.on did.on;
-            gone = one_more old new since k w.in-Some.note held.gone did.stays did.files found did.gone;
+            gone = subst (λ (fs : List FileNote). EachNoted (Drops new) fs since (k + 1)) (sym did.files)
+                (one_more (Drops old) (Drops new) old.files since k w.in-Some.note held.gone did.stays found did.gone);
             lines = did.lines ∙ held.lines;
             kept = did.kept ∙ held.kept;
             files = did.files ∙ held.files;
@@ -46,7 +53,7 @@ loop-place-preserved c =
           let none : slice_get old.files k ≡ None = here ∙ w.in_default.is in
           let all : HasForgotten first old since (k + 1) = record {
             on = held.on;
-            gone = none_more old since k held.gone none;
+            gone = none_more (Drops old) old.files since k held.gone none;
             lines = held.lines;
             kept = held.kept;
             files = held.files;
@@ -58,5 +65,6 @@ pub returns-clause-gone : goal.returns-clause-gone
 returns-clause-gone c =
     let many = ap length c.loop-place.invariant.files in
     let seen = ap (λ (s : SystemView). length s.files) c.self.view_is in
-    all_dropped c.loop-place.self c.args.since c.loop-place.place c.loop-place.invariant.gone
+    let last = c.loop-place.self in
+    all_noted (Drops last) last.files c.args.since c.loop-place.place c.loop-place.invariant.gone
     (omega (arith, c.loop-place-test.false, many, seen, c.len-place-end.ensures))
