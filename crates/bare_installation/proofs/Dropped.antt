@@ -43,7 +43,7 @@ has_files parts d users disks m first = record {
 
 module _ (e : Equipped) (users : List UserFiles) (one : length users ≡ 1) (has : HasFiles e users) where
   none_past : (reader : ℕ) → files_of users (suc reader) ≡ no_files
-  none_past reader = get_or_past users no_files (omega (arith, one))
+  none_past reader = get_or_past users (suc reader) no_files (omega (arith, one))
 
   deck_there : (cards : List (List ℕ)) → HasDeck users cards → HasDeckIn (e ∷ []) cards
   deck_there cards (zero, place, there) = (

@@ -52,7 +52,7 @@ pub struct Bare {
 }
 
 impl Model for Bare {
-    ghost use Rattle.std.specs.Prelude.{◌<◌, ◌≤◌, length};
+    ghost use Rattle.std.specs.Prelude.{◌≡◌, ◌<◌, ◌≤◌, length};
     ghost use Rattle.s370_store.specs.Plain.{plain_bytes, plain_memory};
     ghost use Rattle.machine_channels.specs.DedicatedChannels.{disks_of};
     ghost use Rattle.machine_devices.specs.Equipped.{equipped};
