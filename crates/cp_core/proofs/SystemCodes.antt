@@ -119,6 +119,7 @@ module _ (q : QueuesValue) (seats : List SeatParts) (volumes : List VolumeFormat
       → seen (seats_on q seats) volumes pool.storages directory pool.supply files is_spent ≡ view
       → user < length seats → s ≡ get_or seats user s → bytes ≡ user_part_bytes pool user (saved_user q s)
       → IsUserSaved view user bytes
+  unfolding saved_is
   user_saved_is view user s bytes is within here code =
       let parts = parts_in q seats volumes pool files is_spent in
       let whole = saved_is view (system_bytes parts) is refl in
