@@ -1,6 +1,6 @@
 -- A step of a system is one of every system that has the same, but has lines and entries that are gone of it, and keeps
 -- other programs.
-use Rattle.std.specs.Prelude.{ℕ, zero, suc, ◌≡◌, ◌++◌, ◌-◌, ◌⊎◌, ◌==◌, refl, if◌then◌else◌, Bool, true, false, List, []}
+use Rattle.std.specs.Prelude.{ℕ, zero, suc, ◌≡◌, ◌++◌, ◌-◌, ◌⊎◌, ◌==◌, refl, if◌then◌else◌, Bool, List, []}
 use Rattle.std.specs.Prelude.{◌∷◌, length, map, Option, Some, None}
 use Rattle.std.proofs.Common.{◌∙◌, ap, append-nil, append_assoc, arith, get_or, length-append}
 use Rattle.std.proofs.Common.{subst, sym}
@@ -9,7 +9,6 @@ use Rattle.s370_channel.specs.Reading.{Reading, as_reached}
 use Rattle.s370_channel.specs.declared.words.Caw.{Caw}
 use Rattle.s370_subchannels.specs.Programs.{program_of}
 use Rattle.s370_intr.specs.Run.{IsLacking}
-use Rattle.s370_intr.specs.declared.run.Ran.{Ran as RanUnits}
 use Rattle.cp_trial.specs.Holding.{HoldNeeds}
 use Rattle.cp_dat.specs.Supplied.{HasNoRoom}
 use Rattle.cp_resident.specs.Reuse.{ReuseValue}
@@ -24,12 +23,12 @@ use Rattle.machine_devices.specs.Equipped.{Equipped, nobody}
 use Rattle.machine_devices.specs.Forgotten.{unprinted}
 use Rattle.machine_devices.specs.Lent.{devices_with}
 use Rattle.machine_devices.specs.Life.{Event as Local, Deck as Gets, Line as Types, Lives}
-use Rattle.machine_devices.specs.Lines.{IplNeeds, KindLoads, requested}
+use Rattle.machine_devices.specs.Lines.{KindLoads, requested}
 use Rattle.machine_devices.specs.Notes.{closed_by, next_file}
 use Rattle.machine_devices.specs.Replies.{IsLineTold}
 use Rattle.machine_devices.specs.Comes.{LoadWants}
 use Rattle.machine_devices.specs.Requests.{needs_of, switches}
-use Rattle.machine_devices.specs.Serve.{IsServedAt, ServeNeeds, StartNeeds}
+use Rattle.machine_devices.specs.Serve.{IsServedAt, StartNeeds}
 use Rattle.machine_devices.specs.Spooling.{deck_punched}
 use Rattle.machine_devices.specs.UserDirectory.{UserDirectory, is_logged_on}
 use Rattle.machine_devices.specs.declared.files.FileNote.{FileNote}

@@ -1,25 +1,22 @@
 -- Seats with the files of all users, of which one user's change.
 use Rattle.std.proofs.Common.{◌≡◌, ◌≢◌, ◌∙◌, Bool, ℕ, zero, suc, ◌<◌, List, [], ◌∷◌, ◌++◌, length, replicate, get_or}
-use Rattle.std.proofs.Common.{map, set, Option, Some, None, refl, sym, ap, subst, arith, inl, inr}
+use Rattle.std.proofs.Common.{map, set, Some, refl, sym, ap, subst, arith}
 use Rattle.std.specs.Prelude.{slice_get}
 use Rattle.std.proofs.Math.ListN.{get_or-map}
-use Rattle.std.proofs.lemmas.Bool.{cases_eq}
 use Rattle.std.proofs.lemmas.List.{get_or-set_other, get_or_default, length-replicate, length-set}
-use Rattle.cp_spool.specs.Queues.{KeepsOthers, QueuesValue, UserFiles, files_of, no_files, with_files}
+use Rattle.cp_spool.specs.Queues.{KeepsOthers, QueuesValue, UserFiles, files_of, no_files}
 use Rattle.cp_spool.proofs.Others.{as_many}
-use Rattle.machine_devices.specs.Devices.{DevicesValue}
-use Rattle.machine_devices.specs.Lent.{DevicesParts, KeepsOtherUsers, devices_on, devices_with}
+use Rattle.machine_devices.specs.Lent.{DevicesParts, KeepsOtherUsers, devices_with}
 use Rattle.ckd_volume.specs.Volume.{VolumeFormat}
 use Rattle.cp_directory.specs.Users.{DirectoryUser}
 use Rattle.unit_record.specs.Output.{FileValue}
 use Rattle.unit_record.specs.declared.reader.Sender.TheVariants as senders
 use Rattle.cp_spool.specs.Queues.{cards_of}
-use Rattle.machine_panel.specs.Machine.{nothing_pending, reset_cpu}
 use Rattle.machine_devices.specs.Devices.{no_places}
 use Rattle.machine_devices.specs.Equipped.{Equipped, nobody}
 use Rattle.machine_devices.specs.Lent.{parts_new}
 use Rattle.machine_devices.specs.UserDirectory.{is_logged_on}
-use Rattle.machine_devices.specs.Life.{Event as Local, Deck as Gets}
+use Rattle.machine_devices.specs.Life.{Deck as Gets}
 use Rattle.cp_core.specs.Parcels.{IsThere, IsThereIn, contents, contents_in}
 use Rattle.cp_core.specs.System.{SystemView, user_at, users_of}
 use Rattle.cp_core.specs.UserMachines.{SeatParts, UserParts, seat_on, seats_on, unowned, user_with}

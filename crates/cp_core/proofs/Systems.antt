@@ -1,6 +1,6 @@
 -- The users of a system, of whom one's machine and storage change.
-use Rattle.std.specs.Prelude.{OnErr, OnOk, slice_get, Some}
-use Rattle.std.proofs.Common.{Result, Ok, Err, ◌≡◌, ℕ, ◌<◌, Bool, List, [], ◌∷◌, ◌++◌, length, map, get_or, set, zero}
+use Rattle.std.specs.Prelude.{OnErr, OnOk, slice_get}
+use Rattle.std.proofs.Common.{Result, Ok, Err, ◌≡◌, ℕ, ◌<◌, Bool, List, [], ◌∷◌, length, map, get_or, set, zero}
 use Rattle.std.proofs.Common.{suc, refl, sym, subst, ◌∙◌, ap, arith, get_or-set_same, length-set}
 use Rattle.std.proofs.lemmas.List.{get_or_default}
 use Rattle.ckd_volume.specs.Volume.{VolumeFormat}
@@ -12,8 +12,7 @@ use Rattle.machine_devices.specs.UserDirectory.{is_logged_on}
 use Rattle.cp_resident.specs.Reuse.{ReuseValue, kept_none}
 use Rattle.cp_core.specs.UserMachines.{Fits, UserParts, user_with}
 use Rattle.cp_core.specs.System.{SystemView, kept_of, logged_on_of, placements_among, users_of}
-use Rattle.machine_channels.specs.Disks.{DiskAt}
-use Rattle.cp_volumes.specs.Shared.{AllLeaveBe, DisksValue, IsConfined, IsUsers, KeepsOtherDisks, SharedMinidisk}
+use Rattle.cp_volumes.specs.Shared.{AllLeaveBe, IsUsers, KeepsOtherDisks, SharedMinidisk}
 use Rattle.cp_volumes.specs.Shared.{Placement, disks_on, placement_of, placements_of}
 use Rattle.cp_volumes.proofs.Seats.{disks_stay, placement_at, users_on}
 use Rattle.cp_core.specs.Whole.{AreSeated, IsWhole, no_user}

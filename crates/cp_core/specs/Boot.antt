@@ -1,6 +1,6 @@
 -- The system at boot.
 use Rattle.std.specs.Prelude.{◌≡◌, ℕ, ◌*◌, false, List, [], ◌∷◌, length, map, replicate, reverse}
-use Rattle.std.specs.Prelude.{Option, Some, None}
+use Rattle.std.specs.Prelude.{None}
 use Rattle.std.specs.List.{range_with_len}
 use Rattle.s370_store.specs.Memory.{memory_of}
 use Rattle.s370_subchannels.specs.declared.subchannel.Subchannel.{Subchannel}

@@ -1,5 +1,5 @@
 -- What an event is answered, and what becomes of the files of all users.
-use Rattle.std.specs.Prelude.{◌≡◌, ℕ, ◌-◌, List, [], ◌∷◌, ◌++◌, length, None}
+use Rattle.std.specs.Prelude.{◌≡◌, ℕ, ◌-◌, List, [], ◌++◌, length, None}
 use Rattle.s370_channel.specs.Reading.{as_reached}
 use Rattle.s370_intr.specs.Run.{IsLacking}
 use Rattle.cp_dat.specs.Supplied.{HasNoRoom}

@@ -1,5 +1,5 @@
 -- Whose files are whose: each seat has the files of its own number.
-use Rattle.std.specs.Prelude.{◌≡◌, ℕ, ◌<◌, List, length, slice_get, Some}
+use Rattle.std.specs.Prelude.{◌≡◌, ℕ, List, length, slice_get, Some}
 use Rattle.cp_spool.specs.Queues.{QueuesValue}
 use Rattle.cp_core.specs.UserMachines.{SeatParts}
 

@@ -1,5 +1,5 @@
 -- What is to be delivered: what it is to the machine of its receiver, and how it is reported.
-use Rattle.std.specs.Prelude.{ℕ, ◌<◌, length}
+use Rattle.std.specs.Prelude.{◌<◌, length}
 use Rattle.unit_record.specs.declared.reader.Sender.TheVariants as senders
 use Rattle.cp_console.specs.ConsoleLine.{characters_of}
 use Rattle.cp_spool.specs.Queues.{QueuesValue, deck_of, files_of}

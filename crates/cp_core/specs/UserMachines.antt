@@ -1,5 +1,5 @@
 -- A user's machine with its devices, of which the storage is in frames.
-use Rattle.std.specs.Prelude.{◌≡◌, ℕ, ◌*◌, ◌≤◌, List, [], length, map}
+use Rattle.std.specs.Prelude.{◌≡◌, ℕ, ◌*◌, ◌≤◌, List, length, map}
 use Rattle.s370_store.specs.Memory.{Memory, cleared_memory, memory_of}
 use Rattle.s370_subchannels.specs.declared.subchannel.Subchannel.{Subchannel}
 use Rattle.machine_panel.specs.Machine.{Parts, machine_of, unused}

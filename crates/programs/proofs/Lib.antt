@@ -6,5 +6,6 @@ pub mod Framed
 pub mod Unreadable
 pub mod Fronts
 pub mod Exchanges
+mod Told
 pub mod Causes
 pub mod Deeds
