@@ -3,11 +3,14 @@ by .ci/test-people.py --built."""
 from __future__ import annotations
 
 from collections.abc import Callable
+import contextlib
 import http.client
 import os
 import random
+import subprocess
 import tempfile
 import threading
+import time
 from typing import Any
 
 from gathjumli.cli import Failure
@@ -29,7 +32,8 @@ from gathjumli.state_programs import StateProgram
 from gathjumli.state_view import StateView
 from gathjumli.tracing import Trace
 
-EXAMPLES = f"{os.path.dirname(os.path.dirname(os.path.realpath(__file__)))}/examples/users"
+TOP = os.path.dirname(os.path.dirname(os.path.realpath(__file__)))
+EXAMPLES = f"{TOP}/examples/users"
 MACHINES = f"{os.path.dirname(EXAMPLES)}/machines"
 # examples of one machine: typed lines, timers, devices, files that are closed
 ALONE = ("console-lines", "timers", "auto-devices", "two-open-files")
@@ -37,6 +41,8 @@ DISKS = ["MDISK 190 3330 0 3 WORK01 W", "MDISK 191 3330 0 3 V00000 W"]
 CUT = "cards-for-another"
 NAMES = ("two-tasks", "ipl-from-cards", "more-pages-than-frames", "frames-out", "two-users-chat")
 PARTS = "ready serves volumes users frames slots pins order page_ins tables".split()
+# for so many seconds something is awaited
+PATIENCE = 120
 # a loop that adds the word at 204 to register 1, and stores the sum at 200
 LOOP = "5A1002045010020047F00100"
 DIRECTORY = (
@@ -467,6 +473,46 @@ def try_trace(check: Callable, program: str) -> None:
     check("a late trace has the same units", found[40] == found[1][39:], *found[40])
 
 
+def awaited(holds: Callable[[], Any]) -> bool:
+    """Whether something holds before long."""
+    until = time.monotonic() + PATIENCE
+    while not holds() and time.monotonic() < until:
+        time.sleep(0.05)
+    return bool(holds())
+
+
+def program_of(process: int) -> int | None:
+    """The program of machines that a command runs now."""
+    with open(f"/proc/{process}/task/{process}/children") as file:
+        children = file.read().split()
+    for child in children:
+        with contextlib.suppress(OSError):
+            if read_text(f"/proc/{child}/comm").startswith("vm370_cli"):
+                return int(child)
+    return None
+
+
+def try_left(check: Callable, folder: str) -> None:
+    """A trace that is ended has its program end as well."""
+    with open(f"{folder}/endless", "w") as file:
+        file.write(LONG + "RUN A 1000000\n" * 100)
+    words = [
+        f"{TOP}/bin/trace370",
+        "--first",
+        "9999999",
+        f"{folder}/directory",
+        f"{folder}/endless",
+    ]
+    command = subprocess.Popen([*words, f"{folder}/volume"], stderr=subprocess.DEVNULL)
+    check("a trace has a program", awaited(lambda: program_of(command.pid)))
+    program = program_of(command.pid)
+    command.terminate()
+    status = command.wait(PATIENCE)
+    check("a trace that is ended was interrupted", status == 130, status)
+    is_gone = program and awaited(lambda: not os.path.exists(f"/proc/{program}"))
+    check("and its program is gone", is_gone, program)
+
+
 def try_run(check: Callable, name: str, machines: Machines, script: bytes, count: int) -> None:
     chance = random.Random(name)
     run = Run(machines, entries_of(list(events_of(script))), None, lambda share: None)
@@ -541,5 +587,6 @@ def try_moments(check: Callable, program: str, count: int) -> None:
         machines = machines_of(program, f"{folder}/directory", [], [f"{folder}/volume"])
         try_run(check, "waiting", machines, WAITING.encode(), count)
         try_long_search(check, program, folder)
+        try_left(check, folder)
         try_recording(check, program, folder)
         try_going_on(check, program, folder)

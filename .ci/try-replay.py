@@ -342,7 +342,7 @@ def try_interruption(browser: Browser, looks: Looks) -> None:
 def try_channel_program(browser: Browser, looks: Looks) -> None:
     example = f"{EXAMPLES}/ipl-from-cards"
     with served(f"{example}/directory", f"{example}/script") as port:
-        browser.open(port)
+        browser.open(port, "#event=0")
         browser.js("what.value = 'word'; of.value = '8'; of.blur()")
         check("the words that the first card brings", browser.press("f"), browser.text("found"))
         browser.js("document.getElementById('address').value = '0'")
@@ -391,6 +391,8 @@ def try_stopping(browser: Browser, folder: str) -> None:
         browser.until(f"!{stop}.hidden")
         browser.js(f"{stop}.click()")
         check("also by its button", browser.says("^stopped"), browser.text("found"))
+        # what was stopped answers once its part is done, and not to a page that is left
+        browser.send("Page.navigate", url="about:blank")
 
 
 # --- two users out of frames ---
@@ -403,7 +405,7 @@ def try_frames(browser: Browser, looks: Looks) -> None:
     sizes = "--frames", frames, "--slots", slots
     with served(*sizes, f"{example}/directory", f"{example}/script") as port:
         browser.open(port)
-        check("the end is there", browser.press("End"))
+        check("it begins at the end", "the end" in browser.text("where"))
         check("who has which frame", "16 of 16" in browser.text("frames-note"))
         browser.js("document.querySelectorAll('#people button')[1].click()")
         check("the other user", browser.until("location.hash.includes('user=B')"))

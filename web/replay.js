@@ -9,8 +9,8 @@ const BEFORE = "before";
 const state = { event: 0, unit: 0, user: 0, address: null, asked: null, since: BEFORE, moment: null };
 let about = null, line = null, panels = null;
 
-async function get(path, words = {}) {
-  const answer = await fetch(`${path}?${new URLSearchParams(words)}`);
+async function get(path, words = {}, signal = undefined) {
+  const answer = await fetch(`${path}?${new URLSearchParams(words)}`, { signal });
   if (!answer.ok) throw new Error(await answer.text());
   return answer.json();
 }
@@ -116,7 +116,7 @@ function readBookmark() {
 
 // --- searching ---
 
-// the last thing that was looked for and where that has led; the search that somebody waits for, which is an object of its own
+// the last thing that was looked for and where that has led; what ends the search that somebody waits for
 let searched = "", searching = null;
 
 const TELL_EACH = 500;
@@ -162,14 +162,17 @@ async function seek(words) {
 
 /** Has the program look for something, and says how far that is; the answer, or null if it was stopped. */
 async function lookedFor(words, text) {
-  const mine = {};
+  const mine = new AbortController();
+  searching?.abort();
   searching = mine;
   find("stop").hidden = false;
   say(`${text} ...`, true);
   const teller = setInterval(() => tell(mine, text).catch(() => {}), TELL_EACH);
   try {
-    const found = await get("/data/search", words);
-    return mine === searching ? found : null;
+    return await get("/data/search", words, mine.signal);
+  } catch (error) {
+    if (mine.signal.aborted) return null;
+    throw error;
   } finally {
     clearInterval(teller);
     if (mine === searching) endSearch();
@@ -190,6 +193,7 @@ function endSearch() {
 async function stop() {
   wishes.length = 0;
   if (!searching) return;
+  searching.abort();
   endSearch();
   say("stopped");
   const { units } = await get("/data/stop");

@@ -165,7 +165,7 @@ export class Panels {
       row.append(made, word === 3 ? "  " : " ");
     }
     row.append(element("span", "signs", signs));
-    if (label) row.append("  ", element("span", "label", label));
+    if (label) row.append(" ", element("span", "label", label));
     return row;
   }
 
