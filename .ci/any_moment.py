@@ -3,31 +3,46 @@ by .ci/test-people.py --built."""
 from __future__ import annotations
 
 from collections.abc import Callable
+import contextlib
 import http.client
 import os
 import random
+import subprocess
 import tempfile
 import threading
+import time
 from typing import Any
 
 from gathjumli.cli import Failure
 from gathjumli.following import SavedState
-from gathjumli.machines import Machines, of_directory
-from gathjumli.moment_page import MomentPage
+from gathjumli.machines import Machines, in_system, of_bare, of_directory, room_for_all
+from gathjumli.moment_page import MomentPage, places_in
 from gathjumli.moment_search import REGISTER, Search, WORD, Wanted
+from gathjumli.moment_storage import Storage
 from gathjumli.moments import Moments
 from gathjumli.recorded_files import beginning_of, script_of, stands_on
 from gathjumli.recording import BEGINNING, Base
 from gathjumli.replay_server import ReplayServer, RunAnswers
-from gathjumli.run_index import Run, UNITS_AT_ONCE, entries_of
+from gathjumli.run_index import MOST_SPACING, Run, entries_of
 from gathjumli.script_lines import events_of
+from gathjumli.sources import Source, source_given
 from gathjumli.state_files import NOBODY, TITLE, write_state
+from gathjumli.state_pieces import Pieces
 from gathjumli.state_programs import StateProgram
 from gathjumli.state_view import StateView
+from gathjumli.tracing import Trace
 
-EXAMPLES = f"{os.path.dirname(os.path.dirname(os.path.realpath(__file__)))}/examples/users"
+TOP = os.path.dirname(os.path.dirname(os.path.realpath(__file__)))
+EXAMPLES = f"{TOP}/examples/users"
+MACHINES = f"{os.path.dirname(EXAMPLES)}/machines"
+# examples of one machine: typed lines, timers, devices, files that are closed
+ALONE = ("console-lines", "timers", "auto-devices", "two-open-files")
+DISKS = ["MDISK 190 3330 0 3 WORK01 W", "MDISK 191 3330 0 3 V00000 W"]
+CUT = "cards-for-another"
 NAMES = ("two-tasks", "ipl-from-cards", "more-pages-than-frames", "frames-out", "two-users-chat")
 PARTS = "ready serves volumes users frames slots pins order page_ins tables".split()
+# for so many seconds something is awaited
+PATIENCE = 120
 # a loop that adds the word at 204 to register 1, and stores the sum at 200
 LOOP = "5A1002045010020047F00100"
 DIRECTORY = (
@@ -38,7 +53,7 @@ LONG = f"""LINE A LOGON
 LINE A STORE 100 {LOOP}
 LINE A STORE 204 00000001
 LINE A BEGIN 100
-RUN A {4 * UNITS_AT_ONCE + 7}
+RUN A {4 * MOST_SPACING + 7}
 LINE B LOGON
 LINE B STORE 100 {LOOP}
 LINE B STORE 204 00000010
@@ -83,16 +98,118 @@ def view_from_beginning(
 
 
 def differing(one: StateView, other: StateView) -> list[str]:
-    """The parts in which two states differ, but for the entries of closed files, which a state keeps part by part."""
+    """The parts in which two states differ. Entries of a closed file may be in one of them only: the program drops them after the part
+    that closes it, but not those which a reader has then."""
     found = [
         part for part in PARTS if part != "users" and getattr(one, part) != getattr(other, part)
     ]
     for name, user in one.users.items():
         other_user = other.users[name]
         found += [
-            f"{name} {key}" for key in user if key != "closed" and user[key] != other_user[key]
+            f"{name} {key}"
+            for key in user
+            if (
+                not is_alike(user[key], other_user[key])
+                if key == "closed"
+                else user[key] != other_user[key]
+            )
         ]
     return found
+
+
+def is_alike(one: list[list], other: list[list]) -> bool:
+    """Whether closed files are the same, those of which one has no entries too."""
+    return [len(files) for files in one] == [len(files) for files in other] and all(
+        file[0] == same[0] and (file[1] == same[1] or not file[1] or not same[1])
+        for files, others in zip(one, other)
+        for file, same in zip(files, others)
+    )
+
+
+def bytes_of_closed(view: StateView) -> int:
+    """How many bytes of a state are entries of closed files: each a flag, a number, a length and what it has."""
+    return sum(
+        1 + 8 + 8 + len(data)
+        for user in view.users.values()
+        for files in user["closed"]
+        for _, entries in files
+        for _, data in entries
+    )
+
+
+def try_cuts(check: Callable, program: str) -> None:
+    """The state after a script is one, however that is cut into parts, but for the entries of closed files. A card goes to another user,
+    who withdraws it before the end."""
+    machines = machines_of(program, f"{EXAMPLES}/{CUT}/directory", [], [])
+    with open(f"{EXAMPLES}/{CUT}/script", "rb") as file:
+        events = [entry.text for entry in entries_of(list(events_of(file.read())))]
+    events = [*events[: events.index(b"LINE B QUERY FILES\n")], b"LINE B PURGE 1\n"]
+    pieces, views = Pieces(), {}
+    try:
+        for size in (1, 5, len(events)):
+            other = StateProgram(machines)
+            try:
+                for at in range(0, len(events), size):
+                    other.do(b"".join(events[at : at + size]))
+                views[size] = other.view(machines.users, pieces)
+            finally:
+                other.close()
+    finally:
+        machines.close()
+    one, *others = views.values()
+    for size, view in zip(list(views)[1:], others):
+        found = differing(one, view)
+        check(
+            f"the state of a script in parts of {size} events is that of single ones",
+            not found,
+            *found,
+        )
+        sizes = [each.state.size - bytes_of_closed(each) for each in (one, view)]
+        check(f"to the byte, in parts of {size}", sizes[0] == sizes[1], *sizes)
+    check("a file of which a reader had the deck keeps its entries", bytes_of_closed(one) > 0)
+    check("and not after a part in which that was withdrawn", bytes_of_closed(others[-1]) == 0)
+
+
+def try_bare(check: Callable, program: str) -> None:
+    """A machine of its own is played as the only user of a system: its examples have the transcripts that they have."""
+    for name in ALONE:
+        folder = f"{MACHINES}/{name}"
+        storage = (
+            read_text(f"{folder}/storage").strip() if os.path.exists(f"{folder}/storage") else "64K"
+        )
+        with open(f"{folder}/script", "rb") as file:
+            script = file.read()
+        machines = in_system(of_bare(storage, []))
+        machines.path, machines.is_built = program, True
+        try:
+            found = machines.run(script).decode("latin-1").splitlines()
+            wanted = read_text(f"{folder}/transcript").splitlines()
+            check(f"{name} at a system is as alone", found == wanted, *set(found) ^ set(wanted))
+        finally:
+            machines.close()
+    with tempfile.TemporaryDirectory() as folder:
+        paths = [f"{folder}/one", f"{folder}/other"]
+        for path in paths:
+            with open(path, "wb") as file:
+                file.write(image(b"WORK01", 3))
+        machines = in_system(of_bare("64K", paths))
+        stated = read_text(machines.before[-1]).splitlines()
+        check("each volume is a minidisk", stated[5:] == DISKS, *stated)
+        machines.path, machines.is_built = program, True
+        run = Run(
+            machines, entries_of(list(events_of(b"LINE BARE LOGON\n"))), None, lambda share: None
+        )
+        moments = Moments(run)
+        disks = moments.moment(1, 0).view.users["BARE"]["minidisks"]
+        found = [(disk["address"], disk["count"], disk["writable"]) for disk in disks]
+        check("its states have them", found == [(0x190, 3, True), (0x191, 3, True)], *found)
+        moments.close()
+        machines.close()
+
+
+def read_text(path: str) -> str:
+    with open(path, encoding="latin-1") as file:
+        return file.read()
 
 
 def displayed(program: StateProgram, view: StateView, user: str) -> list[str]:
@@ -172,7 +289,7 @@ def try_search(check: Callable, moments: Moments) -> None:
     """What changed a word or a register last, a long time ago and lately: A's loop is done by the runs of three units."""
     run = moments.run
     last = next(at for at in range(len(run.steps)) if run.steps[at].kind == "RUN")
-    for unit in (5, 2 * UNITS_AT_ONCE + 3, 4 * UNITS_AT_ONCE + 1):
+    for unit in (5, 2 * MOST_SPACING + 3, 4 * MOST_SPACING + 1):
         found = searched(moments, WORD, 0x200, (last, unit))
         # of each three units the second stores
         wanted = last, unit - (unit + 1) % 3
@@ -267,6 +384,10 @@ def try_server(check: Callable, moments: Moments) -> None:
             ("no number", 400, "/data/moment?user=A&event=-3", [own]),
             ("a number that is too large", 400, f"/data/moment?user=A&event={9 ** 99}", [own]),
             ("no moment", 400, "/data/moment?user=A&since=3.x", [own]),
+            ("a register that is no number", 400, f"{search}gpr&of=X", [own]),
+            ("an address that is none", 400, f"{search}word&of=XYZ", [own]),
+            ("how far the search is", 200, "/data/progress", [own]),
+            ("the end of a search", 200, "/data/stop", [own]),
             ("a moment after all", 200, "/data/moment?user=A&event=99999999&unit=7", [own]),
             ("no register", 400, f"{search}gpr&of=16", [own]),
             ("an address past storage", 200, f"{search}word&of=FFFFFFFF", [own]),
@@ -274,6 +395,122 @@ def try_server(check: Callable, moments: Moments) -> None:
             found = asked(port, path, heads)
             check(f"the server of a run gives {status} for {what}", found[0] == status, *found)
         server.shutdown()
+
+
+def try_long_search(check: Callable, program: str, folder: str) -> None:
+    """A search says how far it is, and ends once nobody waits for it. A short script has states within its run."""
+    machines = machines_of(program, f"{folder}/directory", [], [f"{folder}/volume"])
+    script = f"LINE A LOGON\nLINE A STORE 100 {LOOP}\nLINE A BEGIN 100\nRUN A 6000\n"
+    run = Run(machines, entries_of(list(events_of(script.encode()))), None, lambda share: None)
+    check("a short run has states within it", sum(mark.unit > 0 for mark in run.marks) == 4)
+    moments = Moments(run)
+    try:
+        looked: list[dict[str, Any]] = []
+        search = Search(
+            moments, Wanted("A", WORD, 0x300), lambda: bool(looked.append(search.progress()))
+        )
+        found = search.forward(3, 0)
+        check("a search that nobody waits for ends", found["late"] and "event" not in found, found)
+        check("and looked at one part", [item["event"] for item in looked] == [3], *looked)
+        check("of so many units", 0 < looked[0]["units"] == found["units"] < 6000, *looked)
+    finally:
+        moments.close()
+        machines.close()
+
+
+def try_source(check: Callable, program: str) -> None:
+    """What labels of a source are shown, and where a page begins: at the next instruction."""
+    example = f"{EXAMPLES}/two-tasks"
+    machines = machines_of(program, f"{example}/directory", [], [])
+    with open(f"{example}/script", "rb") as file:
+        run = Run(machines, entries_of(list(events_of(file.read()))), None, lambda share: None)
+    moments = Moments(run)
+    try:
+        page = MomentPage(moments, Source(source_given(f"{example}/A.asm")), "script", [])
+        labels = page.about()["labels"]
+        check("labels of a source", (labels["ONES"], labels["COUNT2"]) == (0x800, 0x404), labels)
+        shown = page.look((18, 20), "A", None, (18, 20))
+        rows = {row[0]: label for row, label in zip(shown["storage"], shown["labels"])}
+        check("its storage begins above the next instruction", shown["storage"][0][0] == 0x7D0)
+        check("labels stand in rows", rows[0x800] == "ONES THREES" and rows[0x810] == "", rows)
+        # where no instruction is, it begins at the first byte that is not zero
+        shown = page.look((1, 0), "A", None, (1, 0))
+        check("a machine without any", shown["storage"][0][0] == 0, shown["storage"][0])
+        rows = MomentPage(moments, None, "script", []).look((18, 20), "A", 0x800, (18, 20))
+        check("without a source there are none", set(rows["labels"]) == {""}, rows["labels"])
+        for code, wanted in (
+            ("D20302000204", {"places": [[0x200, ""], [0x204, ""]]}),
+            ("5810F010", {"places": [[0x1234, ""]]}),
+            ("9C00000C", {"device": "00C", "places": []}),
+            ("1812", {"places": []}),
+            ("8B100004", {"places": []}),
+        ):
+            nothing = Storage(moments.moment(0, 0).view, None, "A")
+            found = places_in(bytes.fromhex(code), [0] * 15 + [0x1224], nothing)
+            is_there = [[at, there and ""] for at, there in found["places"]]
+            check(
+                f"where the operands of {code} are", found | {"places": is_there} == wanted, found
+            )
+    finally:
+        moments.close()
+        machines.close()
+
+
+def try_trace(check: Callable, program: str) -> None:
+    """A trace that begins late, at a state, has the units of one from the beginning."""
+    found = {}
+    for first in (1, 40):
+        machines = machines_of(program, f"{EXAMPLES}/two-tasks/directory", [], [])
+        room_for_all(machines)
+        script = read_text(f"{EXAMPLES}/two-tasks/script").encode()
+        try:
+            trace = Trace(machines, "A", script, first, 60 - first, [], None, [], {})
+            lines = [line for piece in trace.pieces() for line in piece]
+        finally:
+            machines.close()
+        found[first] = [line for line in lines if line.startswith(("UNIT ", "INT "))]
+    check("a trace of all units", len(found[1]) == 59, *found[1])
+    check("a late trace has the same units", found[40] == found[1][39:], *found[40])
+
+
+def awaited(holds: Callable[[], Any]) -> bool:
+    """Whether something holds before long."""
+    until = time.monotonic() + PATIENCE
+    while not holds() and time.monotonic() < until:
+        time.sleep(0.05)
+    return bool(holds())
+
+
+def program_of(process: int) -> int | None:
+    """The program of machines that a command runs now."""
+    with open(f"/proc/{process}/task/{process}/children") as file:
+        children = file.read().split()
+    for child in children:
+        with contextlib.suppress(OSError):
+            if read_text(f"/proc/{child}/comm").startswith("vm370_cli"):
+                return int(child)
+    return None
+
+
+def try_left(check: Callable, folder: str) -> None:
+    """A trace that is ended has its program end as well."""
+    with open(f"{folder}/endless", "w") as file:
+        file.write(LONG + "RUN A 1000000\n" * 100)
+    words = [
+        f"{TOP}/bin/trace370",
+        "--first",
+        "9999999",
+        f"{folder}/directory",
+        f"{folder}/endless",
+    ]
+    command = subprocess.Popen([*words, f"{folder}/volume"], stderr=subprocess.DEVNULL)
+    check("a trace has a program", awaited(lambda: program_of(command.pid)))
+    program = program_of(command.pid)
+    command.terminate()
+    status = command.wait(PATIENCE)
+    check("a trace that is ended was interrupted", status == 130, status)
+    is_gone = program and awaited(lambda: not os.path.exists(f"/proc/{program}"))
+    check("and its program is gone", is_gone, program)
 
 
 def try_run(check: Callable, name: str, machines: Machines, script: bytes, count: int) -> None:
@@ -326,6 +563,10 @@ def try_recording(check: Callable, program: str, folder: str) -> None:
 
 def try_moments(check: Callable, program: str, count: int) -> None:
     """So many random moments of each of some runs."""
+    try_cuts(check, program)
+    try_bare(check, program)
+    try_source(check, program)
+    try_trace(check, program)
     for name in NAMES:
         example = f"{EXAMPLES}/{name}"
         sizes: list[str] = []
@@ -345,5 +586,7 @@ def try_moments(check: Callable, program: str, count: int) -> None:
         try_run(check, "long", machines, LONG.encode(), count)
         machines = machines_of(program, f"{folder}/directory", [], [f"{folder}/volume"])
         try_run(check, "waiting", machines, WAITING.encode(), count)
+        try_long_search(check, program, folder)
+        try_left(check, folder)
         try_recording(check, program, folder)
         try_going_on(check, program, folder)

@@ -19,10 +19,22 @@ import tempfile
 import time
 
 TOP = os.path.dirname(os.path.dirname(os.path.realpath(__file__)))
+FOUND = "document.getElementById('found').textContent"
+# more units than are looked at before anybody stops a search: a loop that moves a word, and adds 1 to it
+UNITS = 5_000 if os.environ.get("GATHJUMLI_UNPROVED") else 400_000
+LOOP = f"""LINE A LOGON
+LINE A STORE 100 D2030200020458100204
+LINE A STORE 10A 5A1002085010020447F00100
+LINE A STORE 208 00000001
+LINE A BEGIN 100
+RUN A {UNITS}
+"""
 EXAMPLES = os.path.join(TOP, "examples", "users")
 SIZES = {"wide": 1500, "narrow": 420}
 HEIGHT = 1000
 SECONDS_TO_ANSWER = 60
+# a host that has much else to do is slow
+SECONDS_TO_GO = 120
 QUIET = {"stdout": subprocess.DEVNULL, "stderr": subprocess.DEVNULL}
 OPTIONS = (
     "--headless=new --no-sandbox --disable-gpu --disable-dev-shm-usage --hide-scrollbars --no-first-run "
@@ -110,7 +122,7 @@ class Browser:
             raise RuntimeError(found["exceptionDetails"])
         return found["result"].get("value")
 
-    def until(self, text: str, seconds: float = 60) -> bool:
+    def until(self, text: str, seconds: float = SECONDS_TO_GO) -> bool:
         end = time.monotonic() + seconds
         while time.monotonic() < end:
             with contextlib.suppress(RuntimeError):
@@ -123,7 +135,7 @@ class Browser:
         """Presses a key that leads to another moment; whether it does."""
         before = self.js("location.hash")
         self.strike(key, is_shift)
-        return self.until(f"location.hash !== {json.dumps(before)}", 20)
+        return self.until(f"location.hash !== {json.dumps(before)}")
 
     def strike(self, key: str, is_shift: bool = False) -> None:
         text = {"text": key} if len(key) == 1 else {}
@@ -140,7 +152,16 @@ class Browser:
         return str(self.js(f"document.getElementById('{name}').textContent"))
 
     def at(self, text: str) -> bool:
-        return self.until(f"document.getElementById('where').textContent.startsWith('{text}')", 20)
+        return self.until(f"document.getElementById('where').textContent.startsWith('{text}')")
+
+    def says(self, text: str) -> bool:
+        """Whether the page says soon what fits an expression."""
+        return self.until(f"/{text}/.test({FOUND})")
+
+    def ask_for(self, address: str) -> None:
+        """Has an address shown."""
+        field = "document.getElementById('address')"
+        self.js(f"{field}.value = '{address}'; {field}.form.requestSubmit()")
 
     def picture(self, path: str) -> None:
         with open(path, "wb") as file:
@@ -223,8 +244,7 @@ def try_keys(browser: Browser, port: int) -> None:
 def try_searches(browser: Browser, port: int) -> None:
     browser.open(port, "#event=27&unit=0&user=A&address=380")
     browser.js("document.querySelector('[data-word=\"000404\"]').click()")
-    found = "document.getElementById('found').textContent"
-    check("who changed a word last", browser.until(f"/moments in/.test({found})"))
+    check("who changed a word last", browser.says("moments? in"))
     check("it is the unit that did", browser.at("event 24 of 34, unit 44"), browser.text("found"))
     done = "document.querySelector('#code .is-done').textContent"
     check("its instruction is shown", "ST    5,COUNT2" in browser.js(done))
@@ -234,6 +254,41 @@ def try_searches(browser: Browser, port: int) -> None:
     check("the browser's own way back", browser.at("event 24 of 34, unit 41"))
     browser.js("what.value = 'psw'; of.value = '10A'; of.blur()")
     check("until an address", browser.press("b"), browser.text("found"))
+    check("a message is there", browser.says("the instruction at 00010A"), browser.text("found"))
+    browser.press("ArrowLeft")
+    check("and goes with the next step", browser.says("^Arrows"), browser.text("found"))
+    browser.js("what.value = 'gpr'; of.value = 'G16'; of.blur()")
+    browser.strike("f")
+    check("no register", browser.says("G16 is no register: G0 to G15"), browser.text("found"))
+
+
+def try_beginning(browser: Browser, port: int) -> None:
+    """Where the page begins, and what its field for an address takes."""
+    browser.open(port)
+    check("it begins at the end", "the end" in browser.text("where"), browser.text("where"))
+    words = browser.text("words")
+    psw = int(str(browser.js("document.querySelector('#psw dd').textContent")), 16)
+    check("above the next instruction", int(words[:6], 16) == (psw & ~15) - 64, words[:60], psw)
+    browser.ask_for("count2")
+    asked = "document.querySelector('#words .asked')?.dataset.word"
+    check("a label of the source is an address", browser.until(f"{asked} === '000404'"))
+    check("labels stand in storage", "COUNT1 COUNT2" in browser.text("words"))
+    for word, reason in (
+        ("count9", "COUNT9 is no hexadecimal address, nor a label of the source"),
+        ("2000", "002000 is past the storage of A, whose last byte is at 001FFF"),
+        ("", "no address is given"),
+    ):
+        browser.ask_for(word)
+        check(f"the address {word!r} is refused", browser.says(reason), browser.text("found"))
+        check("and storage stays", browser.js(f"{asked} === '000404'"))
+
+
+def try_order(browser: Browser, port: int) -> None:
+    """Keys that are pressed while an answer is awaited are done one after another."""
+    browser.open(port, "#event=18&unit=20&user=A&address=400")
+    for key in ("ArrowRight", "ArrowRight", "ArrowRight", "PageDown", "ArrowLeft"):
+        browser.strike(key)
+    check("no key is lost", browser.at("event 18 of 34, unit 44"), browser.text("where"))
 
 
 def try_reading(browser: Browser) -> None:
@@ -265,7 +320,10 @@ def try_interruption(browser: Browser, looks: Looks) -> None:
     example = f"{EXAMPLES}/two-tasks"
     words = "--source", f"{example}/A.asm", f"{example}/directory", f"{example}/script"
     with served(*words) as port:
+        try_beginning(browser, port)
+        looks.take("beginning")
         try_keys(browser, port)
+        try_order(browser, port)
         try_searches(browser, port)
         browser.open(port, "#event=20&unit=0&user=A&address=0")
         check("a tick is no unit", browser.press("PageDown") and browser.at("event 21 of 34"))
@@ -284,13 +342,57 @@ def try_interruption(browser: Browser, looks: Looks) -> None:
 def try_channel_program(browser: Browser, looks: Looks) -> None:
     example = f"{EXAMPLES}/ipl-from-cards"
     with served(f"{example}/directory", f"{example}/script") as port:
-        browser.open(port)
+        browser.open(port, "#event=0")
         browser.js("what.value = 'word'; of.value = '8'; of.blur()")
         check("the words that the first card brings", browser.press("f"), browser.text("found"))
         browser.js("document.getElementById('address').value = '0'")
         words = browser.text("words")
         check("they are in storage", words.startswith("000000"), words[:60])
         looks.take("channel-program")
+
+
+# --- a run of many units ---
+
+
+def try_stopping(browser: Browser, folder: str) -> None:
+    """A search that takes long says how far it is, and ends if it is stopped."""
+    with open(f"{folder}/directory", "w") as file:
+        file.write("USER A PW 16K\n")
+    with open(f"{folder}/script", "w") as file:
+        file.write(LOOP)
+    with served(f"{folder}/directory", f"{folder}/script") as port:
+        browser.open(port, "#event=5&unit=1&user=A&address=200")
+        places = browser.js(
+            "[...document.querySelectorAll('#operand button')].map((one) => one.textContent).join()"
+        )
+        check("the operands", places == "operand at 000204: 00000000", places)
+        browser.press("ArrowLeft")
+        places = browser.js(
+            "[...document.querySelectorAll('#operand button')].map((one) => one.textContent).join()"
+        )
+        check(
+            "both operands of MVC",
+            places == "operand at 000200: 00000000,operand at 000204: 00000000",
+            places,
+        )
+        browser.js("what.value = 'word'; of.value = '300'; of.blur()")
+        browser.strike("f")
+        check(
+            "a search says how far it is",
+            browser.says("so far, now at event 5 of 6"),
+            browser.text("found"),
+        )
+        stop = "document.getElementById('stop')"
+        check("it can be stopped", browser.js(f"!{stop}.hidden"))
+        browser.strike("Escape")
+        check("it is stopped", browser.says("^stopped after"), browser.text("found"))
+        check("and no more", browser.js(f"{stop}.hidden"))
+        browser.strike("f")
+        browser.until(f"!{stop}.hidden")
+        browser.js(f"{stop}.click()")
+        check("also by its button", browser.says("^stopped"), browser.text("found"))
+        # what was stopped answers once its part is done, and not to a page that is left
+        browser.send("Page.navigate", url="about:blank")
 
 
 # --- two users out of frames ---
@@ -303,7 +405,7 @@ def try_frames(browser: Browser, looks: Looks) -> None:
     sizes = "--frames", frames, "--slots", slots
     with served(*sizes, f"{example}/directory", f"{example}/script") as port:
         browser.open(port)
-        check("the end is there", browser.press("End"))
+        check("it begins at the end", "the end" in browser.text("where"))
         check("who has which frame", "16 of 16" in browser.text("frames-note"))
         browser.js("document.querySelectorAll('#people button')[1].click()")
         check("the other user", browser.until("location.hash.includes('user=B')"))
@@ -336,6 +438,7 @@ def main() -> None:
             looks = Looks(browser, pictures)
             try_interruption(browser, looks)
             try_channel_program(browser, looks)
+            try_stopping(browser, folder)
             try_frames(browser, looks)
             check("the page reports no fault", not browser.faults, *browser.faults[:3])
         finally:

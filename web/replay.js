@@ -5,14 +5,17 @@ import { Panels, hex } from "/replay_panels.js";
 
 const BEFORE = "before";
 
-const state = { event: 0, unit: 0, user: 0, address: 0, since: BEFORE, moment: null };
+// address is that of the first row of storage; null until it is known. asked is the word that is framed there
+const state = { event: 0, unit: 0, user: 0, address: null, asked: null, since: BEFORE, moment: null };
 let about = null, line = null, panels = null;
 
-async function get(path, words) {
-  const answer = await fetch(`${path}?${new URLSearchParams(words)}`);
+async function get(path, words = {}, signal = undefined) {
+  const answer = await fetch(`${path}?${new URLSearchParams(words)}`, { signal });
   if (!answer.ok) throw new Error(await answer.text());
   return answer.json();
 }
+
+const KEYS_SAID = find("found").textContent;
 
 function say(text, isBusy = false) {
   find("found").textContent = text;
@@ -28,37 +31,70 @@ const here = () => ({ event: state.event, unit: state.unit, user: nameOf(state.u
 
 // --- going ---
 
-let pending = null, isAsking = false;
+// what was asked for and is not done yet, in order
+const wishes = [];
+let isAsking = false;
 
-/** Asks for a moment; while an answer is awaited only the last wish is kept. */
-async function ask(words, isKept = false) {
-  // a key leads on from what is shown when it is asked; all else says where it leads
-  pending = [words.go ? words : { ...here(), address: hex(state.address), ...words }, isKept];
+/** Does what is wished after all that was wished before. Of places on the way of a drag only the last one is kept. */
+async function wish(act, isDragged = false) {
+  if (isDragged && wishes.at(-1)?.isDragged) wishes.pop();
+  wishes.push({ act, isDragged });
   if (isAsking) return;
   isAsking = true;
-  while (pending) {
-    const [wish, kept] = pending;
-    pending = null;
+  while (wishes.length) {
     try {
-      take(await get("/data/moment", { ...here(), address: hex(state.address), ...wish }), kept);
+      await wishes.shift().act();
     } catch (error) { fail(error); }
   }
   isAsking = false;
 }
 
-/** What the last unit or event before it has changed is marked. */
-const goTo = (event, unit = 0, isKept = true) => ask({ event, unit, since: BEFORE }, isKept);
-
-function go(way) {
-  if (way === "first") return goTo(0);
-  return way === "last" ? goTo(about.events) : ask({ go: way });
+/** Shows a moment. Words say which, and what they do not say is as it is then. */
+async function ask(words, isKept = false) {
+  const place = state.address === null ? {} : { address: hex(state.address) };
+  take(await get("/data/moment", { ...here(), ...place, ...words }), isKept);
 }
 
-const refresh = () => ask({ since: state.since });
+/** A message is about where it was given: the next step has the keys there again. */
+function leave() {
+  if (!searching && find("found").textContent !== KEYS_SAID) say(KEYS_SAID);
+}
+
+/** What the last unit or event before it has changed is marked. */
+function goTo(event, unit = 0, isKept = true) {
+  wish(() => { leave(); return ask({ event, unit, since: BEFORE }, isKept); }, !isKept);
+}
+
+function go(way) {
+  if (way === "first") goTo(0);
+  else if (way === "last") goTo(about.events);
+  else wish(() => { leave(); return ask({ go: way }); });
+}
+
+/** Shows the same moment with this change of what is looked at. */
+function look(change) {
+  wish(() => { change(); leave(); return ask({ since: state.since }); });
+}
 
 function showAt(address) {
+  look(() => frame(address));
+}
+
+/** Has the word at an address framed, with some rows above it. */
+function frame(address) {
+  state.asked = address & ~3;
   state.address = Math.max(0, (address & ~15) - 64);
-  refresh();
+}
+
+/** The address that a label of the source or hexadecimal digits name; else why there is none. */
+function addressOf(text) {
+  const word = text.trim().toUpperCase();
+  const address = about.labels[word] ?? (/^[0-9A-F]{1,6}$/.test(word) ? parseInt(word, 16) : undefined);
+  const { name, pages } = about.users[state.user], labels = Object.keys(about.labels).length ? ", nor a label of the source" : "";
+  if (!word) throw new Error("no address is given");
+  if (address === undefined) throw new Error(`${word} is no hexadecimal address${labels}`);
+  if (address >= pages * 4096) throw new Error(`${hex(address)} is past the storage of ${name}, whose last byte is at ${hex(pages * 4096 - 1)}`);
+  return address;
 }
 
 function keepBookmark(isKept) {
@@ -69,54 +105,105 @@ function keepBookmark(isKept) {
 }
 
 function readBookmark() {
-  const words = new URLSearchParams(location.hash.slice(1));
-  state.event = Number(words.get("event")) || 0;
+  const words = new URLSearchParams(location.hash.slice(1)), address = parseInt(words.get("address"), 16);
+  // without a bookmark it begins at the end, from which searches go back
+  state.event = words.has("event") ? Number(words.get("event")) || 0 : about.events;
   state.unit = Number(words.get("unit")) || 0;
   state.user = Math.max(0, about.users.findIndex((user) => user.name === words.get("user")));
-  state.address = parseInt(words.get("address") || "0", 16) || 0;
+  state.address = address >= 0 ? address : null;
   state.since = /^\d+\.\d+$/.test(words.get("since")) ? words.get("since") : BEFORE;
 }
 
 // --- searching ---
 
-// the last thing that was looked for and where that has led, and how many searches there were
-let searched = "", searches = 0;
+// the last thing that was looked for and where that has led; what ends the search that somebody waits for
+let searched = "", searching = null;
 
+const TELL_EACH = 500;
 const NAMES = { psw: (of) => `the instruction at ${of}`, word: (of) => `a change of ${of}`, gpr: (of) => `a change of G${of}` };
-const took = (found) => `${found.units.toLocaleString("en")} moments in ${found.seconds} s`;
+const momentsOf = (units) => `${units.toLocaleString("en")} ${units === 1 ? "moment" : "moments"}`;
+const took = (found) => `${momentsOf(found.units)} in ${found.seconds} s`;
 
-async function search(way) {
-  const what = find("what").value, of = find("of").value.trim().toUpperCase().replace(/^G/, ""), name = NAMES[what](of);
-  const mine = ++searches;
-  say(`looking ${way} for ${name} ...`, true);
-  const words = { ...here(), what, of, way };
-  // asked again where it has led, it goes on
-  if (`${state.event}.${state.unit} ${what} ${of}` === searched) words.strict = 1;
-  try {
-    const found = await get("/data/search", words);
-    if (mine === searches) await takeFound(found, words, name, mine);
-  } catch (error) { fail(error); }
+/** What is looked for: its number, or else why there is none. */
+function wantedOf(what) {
+  const text = find("of").value.trim().toUpperCase();
+  if (what !== "gpr") return hex(addressOf(text));
+  const [, register] = /^G?(\d|1[0-5])$/.exec(text) ?? [];
+  if (register === undefined) throw new Error(`${text || "that"} is no register: G0 to G15`);
+  return register;
 }
 
-async function takeFound(found, words, name, mine) {
-  searched = `${found.event}.${found.unit} ${words.what} ${words.of}`;
-  if (found.event === undefined) {
-    if (found.unsure !== undefined) return check(words, found, "", name, mine);
-    return say(`${found.late ? "not found in a minute" : "no such moment"}: ${name} (${took(found)})`);
+function search(way) {
+  wish(() => {
+    const what = find("what").value, of = wantedOf(what), words = { ...here(), what, of, way };
+    // asked again where it has led, it goes on
+    if (`${state.event}.${state.unit} ${what} ${of}` === searched) words.strict = 1;
+    // keys go on while it looks
+    seek(words).catch(fail);
+  });
+}
+
+async function seek(words) {
+  const { what, of } = words, name = NAMES[what](of), found = await lookedFor(words, `looking ${words.way} for ${name}`);
+  if (!found) return;
+  let text = "";
+  if (found.event !== undefined) {
+    const values = what === "psw" ? "" : `: ${found.old || "nothing"} became ${found.new || "nothing"}`;
+    text = `${name}${values}, at event ${found.event}, unit ${found.unit} (${took(found)})`;
+    searched = `${found.event}.${found.unit} ${what} ${of}`;
+    wish(() => {
+      if (what === "word") frame(parseInt(of, 16));
+      return ask({ event: found.event, unit: found.unit, since: what === "psw" ? `${state.event}.${state.unit}` : BEFORE }, true);
+    });
   }
-  const values = words.what === "psw" ? "" : `: ${found.old || "nothing"} became ${found.new || "nothing"}`;
-  const text = `${name}${values}, at event ${found.event}, unit ${found.unit} (${took(found)})`;
-  say(text);
-  if (words.what === "word") state.address = Math.max(0, (parseInt(words.of, 16) & ~15) - 64);
-  ask({ event: found.event, unit: found.unit, since: words.what === "psw" ? `${state.event}.${state.unit}` : BEFORE }, true);
-  return found.unsure === undefined ? undefined : check(words, found, text, name, mine);
+  say(text || `${found.late ? "not found in a minute" : "no such moment"}: ${name} (${took(found)})`);
+  if (found.unsure !== undefined) await check(words, found, text, name);
+}
+
+/** Has the program look for something, and says how far that is; the answer, or null if it was stopped. */
+async function lookedFor(words, text) {
+  const mine = new AbortController();
+  searching?.abort();
+  searching = mine;
+  find("stop").hidden = false;
+  say(`${text} ...`, true);
+  const teller = setInterval(() => tell(mine, text).catch(() => {}), TELL_EACH);
+  try {
+    return await get("/data/search", words, mine.signal);
+  } catch (error) {
+    if (mine.signal.aborted) return null;
+    throw error;
+  } finally {
+    clearInterval(teller);
+    if (mine === searching) endSearch();
+  }
+}
+
+async function tell(mine, text) {
+  const { units, event } = await get("/data/progress");
+  if (mine === searching && units) say(`${text}: ${momentsOf(units)} so far, now at event ${event} of ${about.events}`, true);
+}
+
+function endSearch() {
+  searching = null;
+  find("stop").hidden = true;
+}
+
+/** Ends what somebody waits for. */
+async function stop() {
+  wishes.length = 0;
+  if (!searching) return;
+  searching.abort();
+  endSearch();
+  say("stopped");
+  const { units } = await get("/data/stop");
+  if (!searching && units !== undefined) say(`stopped after ${momentsOf(units)}`);
 }
 
 /** Looks at all units since what comparing states has found, in case of a change that was undone. */
-async function check(words, found, before, name, mine) {
-  say(`${before ? `${before}; ` : ""}checking that no later change was undone ...`, true);
-  const later = await get("/data/search", { ...words, after: found.unsure });
-  if (mine !== searches) return;
+async function check(words, found, before, name) {
+  const later = await lookedFor({ ...words, after: found.unsure }, `${before ? `${before}; ` : ""}checking that no later change was undone`);
+  if (!later) return;
   if (later.event === undefined) {
     const none = before ? `${before}; no later change was undone` : `no such moment: ${name}`;
     say(later.late ? `${before || name}: not all was looked at in a minute` : `${none} (${took(later)})`);
@@ -140,6 +227,8 @@ function searchBack(what, of) {
 
 function take(moment, isKept) {
   Object.assign(state, { event: moment.event, unit: moment.unit, since: moment.since, moment });
+  state.address ??= moment.storage[0][0];
+  find("of").value ||= hex(moment.psw.address);
   keepBookmark(isKept);
   show();
 }
@@ -150,8 +239,9 @@ function show() {
   const following = next ? `, next: ${next.text.slice(0, 60)}${next.dealt ? " (dealt)" : ""}` : ", the end";
   find("where").textContent = `event ${moment.event} of ${about.events}${units}${following}${moment.when ? `, ${moment.when} UTC` : ""}`;
   showTime(moment);
-  panels.show(moment, state.user);
-  if (document.activeElement !== find("address")) find("address").value = hex(state.address);
+  panels.show(moment, state.user, state.asked);
+  const first = moment.storage[0][0], isAskedShown = state.asked >= first && state.asked < first + 16 * moment.storage.length;
+  if (document.activeElement !== find("address")) find("address").value = hex(state.asked !== null && isAskedShown ? state.asked : first);
 }
 
 function showTime({ event, unit, next }) {
@@ -170,6 +260,10 @@ function showTime({ event, unit, next }) {
 // --- users, keys ---
 
 function choose(user, address = state.address) {
+  look(() => showUser(user, address));
+}
+
+function showUser(user, address) {
   state.user = user;
   state.address = address;
   [...find("people").children].forEach((tab, place) => {
@@ -177,7 +271,10 @@ function choose(user, address = state.address) {
     tab.tabIndex = place === user ? 0 : -1;
     if (place === user) tab.scrollIntoView({ block: "nearest" });
   });
-  refresh();
+}
+
+function openBookmark() {
+  look(() => { readBookmark(); showUser(state.user, state.address); });
 }
 
 function addUsers() {
@@ -191,8 +288,9 @@ function addUsers() {
   find("people").addEventListener("keydown", (event) => {
     const way = { ArrowDown: 1, ArrowUp: -1 }[event.key];
     if (!way) return;
-    choose((state.user + way + about.users.length) % about.users.length);
-    find("people").children[state.user].focus();
+    const to = (state.user + way + about.users.length) % about.users.length;
+    choose(to);
+    find("people").children[to].focus();
     event.preventDefault();
   });
 }
@@ -214,19 +312,23 @@ const ACTS = {
 };
 
 function press(event) {
+  if (event.key === "Escape") stop().catch(fail);
   if (event.ctrlKey || event.altKey || event.metaKey || /^(INPUT|SELECT|TEXTAREA)$/.test(event.target.tagName)) return;
   const way = KEYS[(event.shiftKey && event.key.startsWith("Arrow") ? "Shift+" : "") + event.key], act = ACTS[event.key];
   if (!way && !act) return;
   event.preventDefault();
+  // a key that is held goes as far as answers come, and no farther
+  if (event.repeat && isAsking) return;
   if (way) go(way);
   else act();
 }
 
 /** Shows the rows of storage before or after these. */
 function turnOver(way) {
-  const { size, storage } = state.moment, room = 16 * storage.length;
-  state.address = Math.max(0, Math.min(size - room, (storage[0][0] + way * room) & ~15));
-  refresh();
+  look(() => {
+    const { size, storage } = state.moment, room = 16 * storage.length;
+    state.address = Math.max(0, Math.min(size - room, (storage[0][0] + way * room) & ~15));
+  });
 }
 
 function listen() {
@@ -236,16 +338,15 @@ function listen() {
   document.querySelector("[data-way=back]").addEventListener("click", () => search("back"));
   find("at").addEventListener("submit", (event) => {
     event.preventDefault();
-    state.address = parseInt(find("address").value, 16) || 0;
-    find("address").blur();
-    refresh();
+    look(() => { frame(addressOf(find("address").value)); find("address").blur(); });
   });
   find("up").addEventListener("click", () => turnOver(-1));
   find("down").addEventListener("click", () => turnOver(1));
   find("units").addEventListener("input", () => goTo(state.event, Number(find("units").value), false));
   find("shade").addEventListener("click", () => shade(!document.documentElement.classList.contains("dark")));
   find("bookmark").addEventListener("click", copyBookmark);
-  window.addEventListener("popstate", () => { readBookmark(); choose(state.user); });
+  find("stop").addEventListener("click", () => stop().catch(fail));
+  window.addEventListener("popstate", openBookmark);
   window.addEventListener("resize", () => { if (state.moment) show(); });
 }
 
@@ -259,7 +360,6 @@ async function copyBookmark() {
 async function begin() {
   about = await get("/data/run", {});
   document.title = `${about.title}: replay`;
-  readBookmark();
   const pointed = (event, isDragged) => { if (event !== state.event || state.unit) goTo(event, 0, !isDragged); };
   const fetched = (from, to, columns) => get("/data/line", { from, to, columns });
   line = new TimeLine(find("line"), about, fetched, pointed);
@@ -267,7 +367,7 @@ async function begin() {
   addUsers();
   listen();
   shade(matchMedia("(prefers-color-scheme: dark)").matches);
-  choose(state.user);
+  openBookmark();
 }
 
 begin().catch(fail);

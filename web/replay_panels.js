@@ -22,7 +22,6 @@ function marked(made, isNew, title) {
   return made;
 }
 
-const ADDRESSED = /^(SIOF?|TIO|HIO|HDV|TCH)$/;
 const MASKS = ["fixed overflow", "decimal overflow", "exponent underflow", "significance"];
 
 /** The panels of the page. about is what there is of the run; page has choose(user), goTo(event), searchBack(what, of) and showAt(address). */
@@ -36,9 +35,11 @@ export class Panels {
     find("words").addEventListener("keydown", (event) => this.moveFocus(event));
   }
 
-  show(moment, user) {
+  /** Shows a moment of a user; asked is the word that is framed in storage, or null. */
+  show(moment, user, asked) {
     this.moment = moment;
     this.user = user;
+    this.asked = asked;
     this.showProcessor(moment);
     this.showCode(moment);
     this.showStorage(moment);
@@ -128,15 +129,15 @@ export class Panels {
 
   showOperand(first) {
     const note = find("operand");
-    note.replaceChildren();
-    if (!first || first.operand === undefined) return;
-    if (ADDRESSED.test(first.name)) note.textContent = `device ${hex(first.operand & 0xffff, 3)}`;
-    else note.append(button("small", `operand at ${hex(first.operand)}: ${first.there || "past storage"}`, "shows it in storage", () => this.page.showAt(first.operand)));
+    note.replaceChildren(first?.device ? `device ${first.device}` : "");
+    for (const [at, there] of first?.places ?? []) {
+      note.append(button("small", `operand at ${hex(at)}: ${there || "past storage"}`, "shows it in storage", () => this.page.showAt(at)), " ");
+    }
   }
 
   showStorage(moment) {
     const focused = document.activeElement?.dataset?.word, shownAt = moment.storage.length ? moment.storage[0][0] : 0;
-    find("words").replaceChildren(...moment.storage.map((row) => this.storageRow(row)));
+    find("words").replaceChildren(...moment.storage.map((row, place) => this.storageRow(row, moment.labels[place])));
     const words = [...find("words").querySelectorAll("button")], again = words.find((one) => one.dataset.word === focused);
     (again ?? words[0])?.setAttribute("tabindex", "0");
     if (focused !== undefined) again?.focus();
@@ -150,19 +151,21 @@ export class Panels {
     }
   }
 
-  storageRow([at, code, signs, changed]) {
+  storageRow([at, code, signs, changed], label) {
     const row = element("div", "line");
     row.append(element("span", "at", `${hex(at)}  `));
     for (let word = 0; word < 4 && 8 * word < code.length; word++) {
       const name = hex(at + 4 * word), made = button("", undefined, `who changed ${name} last?`, () => this.page.searchBack("word", name));
       made.tabIndex = -1;
       made.dataset.word = name;
+      made.classList.toggle("asked", at + 4 * word === this.asked);
       const bytes = [0, 1, 2, 3].map((place) => [code.slice(8 * word + 2 * place, 8 * word + 2 * place + 2), changed[4 * word + place] === "1"]);
       made.append(...bytes.map(([text, isNew]) => (isNew ? element("span", "new", text) : text)));
       made.setAttribute("aria-label", `${name} ${code.slice(8 * word, 8 * word + 8)}${bytes.some(([, isNew]) => isNew) ? ", changed" : ""}: who changed it last?`);
       row.append(made, word === 3 ? "  " : " ");
     }
     row.append(element("span", "signs", signs));
+    if (label) row.append(" ", element("span", "label", label));
     return row;
   }
 

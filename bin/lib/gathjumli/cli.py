@@ -6,6 +6,7 @@ from collections.abc import Callable
 import difflib
 import os
 import re
+import signal
 import subprocess
 import sys
 import tempfile
@@ -167,6 +168,14 @@ def run(command: Any, usage: Any, crate: Any = None) -> None:
     except KeyboardInterrupt:
         status = 130
     sys.exit(give_up_output(status))
+
+
+def end_what_was_started() -> None:
+    """Has the end by a service manager, or of the terminal, be an interrupt too: then programs that were started end as well."""
+    for number in (signal.SIGTERM, signal.SIGHUP):
+        # nohup has the terminal's end ignored
+        if signal.getsignal(number) == signal.SIG_DFL:
+            signal.signal(number, signal.default_int_handler)
 
 
 def output_failure(item: OSError) -> str:

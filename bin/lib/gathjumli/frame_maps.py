@@ -64,7 +64,7 @@ class FrameMap:
         """The last state that can be read, and from which byte of the recording it goes on. Its file stays open, as others follow."""
         recording = self.engine.recording
         beginning = [recording.beginning] * bool(recording.beginning)
-        for mark in reversed([*beginning, *recording.states]):
+        for mark in reversed([*beginning, *recording.states, *self.engine.states.on_way]):
             with contextlib.suppress(Failure, OSError):
                 recording.store.have(self.engine.states.path(mark.name))
                 state = read_state(self.engine.states.path(mark.name))

@@ -13,6 +13,7 @@ from gathjumli.cli import (
     version,
 )  # fmt: skip
 from gathjumli.reasons import reason
+from gathjumli.volumes import header_of
 
 BARE = "BARE"
 UNITS = {
@@ -199,6 +200,48 @@ def of_bare(storage: Any, volumes: Any) -> Any:
     devices = {"009": "console", "00C": "reader", "00D": "punch", "00E": "printer"}
     devices |= {f"{0x190 + number:03X}": "disk" for number in range(len(volumes))}
     return Machines("bare370", [storage], volumes, {BARE: pages}, {BARE: devices})
+
+
+def in_system(bare: Machines) -> Machines:
+    """A machine of its own as that of the only user of a system, which has states: with these devices, each volume as one minidisk, and
+    a frame for each page. He has at each moment the state that a machine of his own has (docs/PROMISES.md).
+    """
+    bare.close()
+    found = Machines("vm370", [], [], bare.users, bare.devices)
+    found.volumes = with_different_serials(bare.volumes, found.folder.name)
+    disks = iter(map(header_of, found.volumes))
+    lines = [f"USER {BARE} {BARE} {bare.before[0]}"]
+    for address, kind in bare.devices[BARE].items():
+        if kind == "console":
+            lines.append(f"CONSOLE {address} 3215")
+        elif kind == "disk":
+            header = next(disks)
+            lines.append(f"MDISK {address} 3330 0 {header.cylinders} {header.serial} W")
+        else:
+            lines.append(f"SPOOL {address} {kind.upper()}")
+    found.before = [os.path.join(found.folder.name, "directory")]
+    with open(found.before[0], "w") as file:
+        file.writelines(f"{line}\n" for line in lines)
+    room_for_all(found)
+    return found
+
+
+def with_different_serials(volumes: list[str], folder: str) -> list[str]:
+    """Images of these volumes, each with a serial number of its own, as a system has them: where two have one, the later one is a copy.
+    No machine sees the numbers."""
+    taken = [header_of(path).serial for path in volumes]
+    found = []
+    for place, path in enumerate(volumes):
+        if taken[place] in taken[:place]:
+            data = read_file(path)
+            taken[place] = next(
+                name for name in map("V{:05}".format, range(100)) if name not in taken
+            )
+            path = os.path.join(folder, f"volume-{place + 1}")
+            with open(path, "wb") as file:
+                file.write(data[:4] + taken[place].encode().ljust(6) + data[10:])
+        found.append(path)
+    return found
 
 
 def of_directory(directory: Any, sizes: Any, volumes: Any) -> Any:

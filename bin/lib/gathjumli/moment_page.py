@@ -6,9 +6,9 @@ from collections.abc import Iterator
 from typing import Any
 
 from gathjumli.cli import Failure
-from gathjumli.instructions import INSTRUCTIONS, RS, RX, S, SI, length, place_of, text_of
+from gathjumli.instructions import length, place_of, storage_operands, text_of
 from gathjumli.moment_devices import channel_of, devices_of
-from gathjumli.moment_storage import Storage, line_text
+from gathjumli.moment_storage import ROW, Storage, line_text
 from gathjumli.moments import Moment, Moments
 from gathjumli.printout_lines import PAGE_LENGTH, entries_in, page_text
 from gathjumli.sources import Source
@@ -22,6 +22,12 @@ MOST_FILES = 20
 NO_FRAME = "(no frame is free: nothing was done)"
 # frames and slots of which it is said which page they have
 MOST_PLACES = 4096
+# rows of storage above that of the next instruction
+ROWS_BEFORE = 4
+# bytes that are shown of an operand
+OPERAND_SHOWN = 4
+# SIO, TIO, HIO and TCH, without their last two bits
+OF_CHANNELS = 0x9C
 
 
 class MomentPage:
@@ -42,13 +48,16 @@ class MomentPage:
             "title": self.title,
             "users": [{"name": user, "pages": pages[user]} for user in self.run.users],
             "events": len(self.run.steps),
-            "source": bool(self.source),
+            "labels": {label: at for at, label in self.source.labels.items()}
+            if self.source
+            else {},
         }
 
     def look(
-        self, where: tuple[int, int], user: str, address: int, since: tuple[int, int]
+        self, where: tuple[int, int], user: str, address: int | None, since: tuple[int, int]
     ) -> dict[str, Any]:
-        """A moment of a user. What differs from the moment `since` is said."""
+        """A moment of a user, with storage from an address on, or where he would look first. What differs from the moment `since` is
+        said."""
         # the earlier one first: a program goes on from there
         made = {at: self.moments.moment(*at) for at in sorted({where, since})}
         moment, old = made[where], made[since].view if since != where else None
@@ -58,7 +67,9 @@ class MomentPage:
         found |= self.what_is_next(moment.event) | {"when": self.when(moment.event)}
         found |= self.processor(now, before)
         found |= self.instructions(now, before, storage, self.moments.is_unit(since, where, user))
-        found |= self.storage(storage, now, address)
+        found |= self.storage(
+            storage, now, first_address(storage, now) if address is None else address
+        )
         found |= {"devices": devices_of(now, storage), "console": self.console(user, moment)}
         found |= channel_of(now, storage)
         return found | {"files": self.files(moment.event, user, now)} | system_of(moment.view)
@@ -119,9 +130,7 @@ class MomentPage:
             found.append(row)
             at += len(row["code"]) // 2
         if found:
-            place = operand_of(bytes.fromhex(found[0]["code"]), registers)
-            if place is not None:
-                found[0] |= {"operand": place, "there": storage.at(place, 4).hex().upper()}
+            found[0] |= places_in(bytes.fromhex(found[0]["code"]), registers, storage)
         return found
 
     def instruction(self, at: int, storage: Storage) -> dict[str, Any] | None:
@@ -135,9 +144,11 @@ class MomentPage:
 
     def storage(self, storage: Storage, now: dict[str, Any], address: int) -> dict[str, Any]:
         rows = storage.rows(address)
+        labels = [self.source.labels_in(row[0], ROW) if self.source else "" for row in rows]
         key = now["keys"][(rows[0][0] if rows else 0) // BLOCK]
         return {
             "storage": rows,
+            "labels": labels,
             "size": storage.size,
             "changed": storage.changed(),
             "key": key,
@@ -168,11 +179,15 @@ class MomentPage:
 
     def files(self, event: int, user: str, now: dict[str, Any]) -> list[dict[str, Any]]:
         """What the user printed and punched: closed files, and what is open."""
+        closed = [
+            file
+            for file in self.run.files[: bisect_left(self.run.files, (event,))]
+            if file[1].endswith(f" {user}")
+        ]
         found = [
             file_of(heading.removeprefix("== "), place, heading[3:6], entries_in(body))
-            for place, heading, body in self.run.files
-            if place < event and heading.endswith(f" {user}")
-        ][-MOST_FILES:]
+            for place, heading, body in closed[-MOST_FILES:]
+        ]
         printer, punch = now["printer"]["entries"], now["punch"]["entries"]
         if printer:
             lines = [f"{code:02X} {line_text(data)}" for code, data in printer]
@@ -195,12 +210,20 @@ def file_of(title: str, event: int | None, kind: str, entries: list[str]) -> dic
     return {"title": title, "event": event, "kind": kind, "text": text, "more": more}
 
 
-def operand_of(code: bytes, registers: list[int]) -> int | None:
-    """The address of the first storage operand, as trace370 computes it for channel instructions and EX."""
-    form = INSTRUCTIONS[code[0]][1] if code[0] in INSTRUCTIONS else ""
-    if form in (RX, S, RS, SI):
-        return place_of(code, registers)
-    return None
+def places_in(code: bytes, registers: list[int], storage: Storage) -> dict[str, Any]:
+    """Where the operands of an instruction are in storage, with what is there, or which device it names."""
+    if code[0] & 0xFC == OF_CHANNELS and len(code) == 4:
+        return {"device": f"{place_of(code, registers) & 0xFFFF:03X}", "places": []}
+    places = storage_operands(code, registers)
+    return {"places": [[at, storage.at(at, OPERAND_SHOWN).hex().upper()] for at in places]}
+
+
+def first_address(storage: Storage, now: dict[str, Any]) -> int:
+    """Where a user would look first: at his next instruction, or at the first byte that is not zero."""
+    address = now["psw"]["address"]
+    if any(storage.at(address, 2)):
+        return max(0, (address & -ROW) - ROWS_BEFORE * ROW)
+    return storage.first_used() & -ROW
 
 
 def psw_of(psw: dict[str, Any]) -> dict[str, Any]:

@@ -16,10 +16,11 @@ from gathjumli.state_view import PAGE, StateView
 
 ADDRESS, REGISTER, WORD = "psw", "gpr", "word"
 KINDS = (ADDRESS, REGISTER, WORD)
-# units whose answers are asked for at once
-UNITS_AT_ONCE = 4_000
-# events of others that are done at once
-MOST_PARTS = 20_000
+# units whose answers are asked for at once, as many as are answered soon: so a search can be stopped
+FEWEST_AT_ONCE, MOST_AT_ONCE = 100, 4_000
+SOON = 0.3
+# units and events of others that are done at once, for each of these
+OTHERS = 25
 MOST_SECONDS = 60.0
 NO_FRAME = "the search finds no frame for what it asks about: look unit by unit"
 
@@ -101,6 +102,9 @@ class Search:
         self.wanted = wanted
         self.asked = Asked(wanted)
         self.begun = time.monotonic()
+        self.at_once = FEWEST_AT_ONCE
+        # the last moment that was looked at
+        self.at: Where | None = None
         # whether anybody still waits for it
         self.is_wanted = is_wanted
 
@@ -139,6 +143,10 @@ class Search:
                 return hit
             end = self.where(place)
             place -= 1
+
+    def progress(self) -> dict[str, Any]:
+        """How far it is."""
+        return {"units": self.asked.units, "event": self.at[0] if self.at else None}
 
     # --- values ---
 
@@ -185,15 +193,25 @@ class Search:
         try:
             self.asked.start(program)
             for places, part in self.parts_between(first, end):
-                for found in self.asked.judge(places, program.do(part).events):
+                for found in self.asked.judge(places, self.done_soon(program, part)):
                     if not is_last:
                         return found
-                if time.monotonic() - self.begun > MOST_SECONDS or not self.is_wanted():
+                self.at = places[-1] if places else self.at
+                if not self.is_wanted() or time.monotonic() - self.begun > MOST_SECONDS:
                     self.asked.is_late = True
                     return found
             return found
         finally:
             program.close()
+
+    def done_soon(self, program: Program, part: bytes) -> list[str]:
+        """What a part prints. The next ones are larger if it took little time, and smaller if it took much."""
+        begun = time.monotonic()
+        events = program.do(part).events
+        is_soon = time.monotonic() - begun < SOON
+        size = 2 * self.at_once if is_soon else self.at_once // 2
+        self.at_once = max(FEWEST_AT_ONCE, min(size, MOST_AT_ONCE))
+        return events
 
     def program_at(self, start: Any) -> Program:
         """A program at a moment or at a state."""
@@ -207,14 +225,21 @@ class Search:
         changes neither registers nor storage of this one, so nothing is asked then."""
         places: list[Where] = []
         text: list[bytes] = []
+        work = 0
         for where, step, stop in self.events_between(first, end):
             is_typed = step.kind in ("LINE", "TICK")
             for asked, part in self.parts_of(where, step, stop):
-                if places and (is_typed or len(places) >= UNITS_AT_ONCE) or len(text) >= MOST_PARTS:
+                if (
+                    len(places) >= self.at_once
+                    or work >= OTHERS * self.at_once
+                    or places
+                    and is_typed
+                ):
                     yield places, b"".join(text)
-                    places, text = [], []
+                    places, text, work = [], [], 0
                 places += asked
                 text.append(part)
+                work += 1 if asked else 1 + step.units
             if is_typed and places:
                 yield places, b"".join(text)
                 places, text = [], []
@@ -247,7 +272,7 @@ class Search:
         last = step.units if stop is None else stop
         one = f"RUN {step.user} 1\n".encode() + question
         while unit < last:
-            count = min(UNITS_AT_ONCE, last - unit)
+            count = min(self.at_once, last - unit)
             yield [(event, unit + number + 1) for number in range(count)], one * count
             unit += count
         if stop is None and step.reason != "COUNT":

@@ -7,6 +7,7 @@ from collections.abc import Iterator
 from gathjumli.state_view import PAGE, StateView
 
 ROWS = 20
+ROW = 16
 MOST_RANGES = 24
 
 
@@ -37,14 +38,22 @@ class Storage:
 
     def rows(self, address: int) -> list[list]:
         """Rows of sixteen bytes about an address: the address, the bytes, their characters, and which of them have changed."""
-        low = max(0, min(address & ~15, self.size - 16 * ROWS))
-        now = self.at(low, 16 * ROWS)
-        before = self.old.storage_of(self.user, low, 16 * ROWS)
+        low = max(0, min(address & -ROW, self.size - ROW * ROWS))
+        now = self.at(low, ROW * ROWS)
+        before = self.old.storage_of(self.user, low, ROW * ROWS)
         return [
-            [low + at, row.hex().upper(), characters(row), differing(row, before[at : at + 16])]
-            for at in range(0, len(now), 16)
-            if (row := now[at : at + 16])
+            [low + at, row.hex().upper(), characters(row), differing(row, before[at : at + ROW])]
+            for at in range(0, len(now), ROW)
+            if (row := now[at : at + ROW])
         ]
+
+    def first_used(self) -> int:
+        """The address of the first byte that is not zero; 0 if all are."""
+        number = next((number for number, page in enumerate(self.table) if page), None)
+        if number is None:
+            return 0
+        page = self.view.page(self.user, number)
+        return PAGE * number + next((at for at, byte in enumerate(page) if byte), 0)
 
     def changed(self) -> list[list[int]]:
         """Where it has changed: ranges of addresses, the first ones."""

@@ -7,6 +7,7 @@ import collections
 import threading
 from typing import NamedTuple
 
+from gathjumli.replaying import nearest
 from gathjumli.run_index import MOST_STATE_BYTES, Mark, Printed, Run
 from gathjumli.state_programs import StateProgram
 from gathjumli.state_view import StateView
@@ -189,8 +190,7 @@ class Moments:
         return [line for line in found if line.unit <= mark.unit]
 
     def mark_before(self, place: Place) -> Mark:
-        places = [mark.place() for mark in self.run.marks]
-        return self.run.marks[bisect_right(places, place.before()) - 1]
+        return nearest(self.run.marks, place.before(), Mark.place)
 
     def between(self, entry: int, turn: int, unit: int, place: Place) -> list[bytes]:
         """The script from one place to another, whole turns only; the last part is of the entry in which that place is."""

@@ -29,6 +29,7 @@ FILES = {
 }
 JSON, TEXT = "application/json", "text/plain; charset=utf-8"
 MOST_NUMBER = 1 << 53
+MOST_SHOWN = 40
 MOST_COLUMNS = 4096
 BEFORE = "before"
 OTHER_HOST = b"this host has another name\n"
@@ -48,14 +49,24 @@ class Words:
     def has(self, name: str) -> bool:
         return name in self.found
 
-    def number(self, name: str, base: int = 10, usual: int = 0) -> int:
+    def number(self, name: str, usual: int = 0) -> int:
+        return self.read(name, 10, usual, MOST_NUMBER, f"{name} is a number from 0 on")
+
+    def address(self, name: str) -> int:
+        return self.read(name, 16, 0, MOST_NUMBER, "an address is hexadecimal")
+
+    def register(self, name: str) -> int:
+        return self.read(name, 10, 0, 15, "a register is a number from 0 to 15")
+
+    def read(self, name: str, base: int, usual: int, most: int, meant: str) -> int:
+        """The number that a word is; else what is meant is said."""
         text = self.found.get(name, "")
         try:
             number = int(text, base) if text else usual
         except ValueError:
-            raise WrongRequest(f"{name} is a number, and not {text[:40]}") from None
-        if not 0 <= number < MOST_NUMBER:
-            raise WrongRequest(f"{name} is a number below {MOST_NUMBER}")
+            number = -1
+        if not 0 <= number <= most:
+            raise WrongRequest(f"{meant}, and not {text[:MOST_SHOWN]}")
         return number
 
     def word(self, name: str, allowed: Any) -> str:
@@ -77,9 +88,9 @@ class RunAnswers:
     def __init__(self, moments: Moments, page: MomentPage) -> None:
         self.moments, self.page = moments, page
         self.users = moments.run.users
-        # moments are made in turn; of searches only the last one is wanted
+        # moments are made in turn; of searches only the last one is wanted, until it is stopped
         self.lock = threading.Lock()
-        self.searches = 0
+        self.last_search: Search | None = None
 
     def about(self, words: Words) -> dict[str, Any]:
         return self.page.about()
@@ -101,22 +112,28 @@ class RunAnswers:
         elif words.has("since"):
             since = self.moments.ordered(*words.where("since"))
         with self.lock:
-            return self.page.look(where, user, words.number("address", 16), since)
+            address = words.address("address") if words.has("address") else None
+            return self.page.look(where, user, address, since)
 
     def search(self, words: Words) -> dict[str, Any]:
         kind = words.word("what", KINDS)
-        number = words.number("of", 10 if kind == REGISTER else 16)
-        if kind == REGISTER and number > 15:
-            raise WrongRequest("a register is 0 to 15")
-        wanted = Wanted(words.word("user", self.users), kind, min(number, 0xFFFFFF))
-        self.searches += 1
-        own = self.searches
-        search = Search(self.moments, wanted, lambda: own == self.searches)
+        number = words.register("of") if kind == REGISTER else min(words.address("of"), 0xFFFFFF)
+        wanted = Wanted(words.word("user", self.users), kind, number)
+        search = Search(self.moments, wanted, lambda: search is self.last_search)
+        self.last_search = search
         where = self.moments.ordered(words.number("event"), words.number("unit"))
         if words.word("way", ("back", "forward")) == "forward":
             return search.forward(*where)
         after = words.number("after") if words.has("after") else None
         return search.back(*where, words.has("strict"), after)
+
+    def progress(self, words: Words) -> dict[str, Any]:
+        """How far the search is that somebody waits for."""
+        return self.last_search.progress() if self.last_search else {}
+
+    def stop(self, words: Words) -> dict[str, Any]:
+        found, self.last_search = self.progress(words), None
+        return found
 
 
 class Handler(http.server.BaseHTTPRequestHandler):
@@ -197,6 +214,8 @@ class ReplayServer(http.server.ThreadingHTTPServer):
             "/data/line": answers.line,
             "/data/moment": answers.moment,
             "/data/search": answers.search,
+            "/data/progress": answers.progress,
+            "/data/stop": answers.stop,
         }
 
     def handle_error(self, *_: Any) -> None:

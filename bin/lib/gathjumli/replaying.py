@@ -1,7 +1,8 @@
 """Brings a program to where a recording ends. A long way is saved on the way, so that a start that is broken off need not begin again."""
 from __future__ import annotations
 
-from collections.abc import Callable
+from bisect import bisect_right
+from collections.abc import Callable, Sequence
 import collections
 import hashlib
 import time
@@ -38,6 +39,11 @@ class Progress:
         if time.monotonic() - self.notified >= 1:
             self.notified = time.monotonic()
             self.notify(self.share())
+
+
+def nearest(states: Sequence, place: Any, place_of: Callable) -> Any:
+    """The last of some states, which are in order, that is no later than a place; the first one is before all places."""
+    return states[bisect_right([place_of(state) for state in states], place) - 1]
 
 
 class RecordingPlace(NamedTuple):

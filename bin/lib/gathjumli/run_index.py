@@ -18,18 +18,17 @@ from gathjumli.state_programs import StateProgram
 from gathjumli.state_view import PackedState, StateView
 from gathjumli.tracing import SLICE
 
-# what is done between two states, in units; a line counts as some
-WORK_BETWEEN_STATES = 20_000
+# what is done between two states, in units, at first and at most; a line counts as some. Where there are many states, every other one
+# goes, and the next ones are farther apart
+LEAST_SPACING, MOST_SPACING = 1_250, 20_000
+MANY_STATES = 256
 WORK_OF_LINE = 40
-# what the program is given at once
-TURNS_AT_ONCE = 200
-UNITS_AT_ONCE = 20_000
 MOST_TURNS = 100_000
 # parts that are given before the first of them is answered
 AHEAD = 16
 # pieces of states take at most so many bytes; then every other state goes
 MOST_STATE_BYTES = 192 << 20
-LARGE_STATE = 4 << 20
+MIDDLING_STATE, LARGE_STATE = 64 << 10, 4 << 20
 IDLE = "= IDLE"
 
 
@@ -113,6 +112,8 @@ class Run:
         self.marks: list[Mark] = []
         # units and lines since the last state, and how long that took
         self.work = 0
+        # what is done between two states; the program is given as much at once
+        self.spacing = LEAST_SPACING
         self.marked_at, self.marking = 0.0, 0.0
         self.is_cut = False
         self.progress = Progress(sum(map(work_of, entries)), notify)
@@ -136,13 +137,13 @@ class Run:
     def give_all(self, program: StateProgram) -> None:
         sent: collections.deque[Piece] = collections.deque()
         for number, entry in enumerate(self.entries):
-            if entry.units() > UNITS_AT_ONCE or entry.words[0] == "AUTO" and not entry.turns:
+            if entry.units() > self.spacing or entry.words[0] == "AUTO" and not entry.turns:
                 # how one piece ends decides whether there is another one
                 self.take_all(program, sent)
                 give = self.give_run if entry.units() else self.give_until_all_wait
                 give(program, number, entry)
                 continue
-            for piece in pieces_of(number, entry):
+            for piece in self.pieces_of(number, entry):
                 program.send(piece.text)
                 sent.append(piece)
                 self.work += work_of(entry, piece.count)
@@ -153,14 +154,26 @@ class Run:
                     self.mark_after(program, piece)
         self.take_all(program, sent)
 
+    def pieces_of(self, number: int, entry: Entry) -> Iterator[Piece]:
+        """An entry of which the length is known, in pieces."""
+        if entry.words[0] != "AUTO":
+            yield Piece(number, 0, entry.units(), entry.text)
+            return
+        before = 0
+        while before < entry.turns:
+            count = min(self.spacing // SLICE, entry.turns - before)
+            yield Piece(number, before, count, b"AUTO %d\n" % count)
+            before += count
+
     def take_all(self, program: StateProgram, sent: collections.deque[Piece]) -> None:
         while sent:
             self.take(sent.popleft(), program.answer())
 
     def give_run(self, program: StateProgram, number: int, entry: Entry) -> None:
         """Gives a long run piece by piece, until one ends early."""
-        for before in range(0, entry.units(), UNITS_AT_ONCE):
-            count = min(UNITS_AT_ONCE, entry.units() - before)
+        before = 0
+        while before < entry.units():
+            count = min(self.spacing, entry.units() - before)
             text = f"RUN {entry.words[1]} {count}\n".encode()
             result = program.do(text)
             piece = Piece(number, before, count, text)
@@ -168,22 +181,26 @@ class Run:
             self.work += count
             if not result.events[-1].endswith(" COUNT"):
                 return
-            if self.is_mark_due() and before + count < entry.units():
+            before += count
+            if self.is_mark_due() and before < entry.units():
                 self.mark_after(program, piece)
 
     def give_until_all_wait(self, program: StateProgram, number: int, entry: Entry) -> None:
         """Deals turns until one finds nobody ready. That one, and those after it, change nothing, and are left out."""
-        for before in range(0, MOST_TURNS, TURNS_AT_ONCE):
-            text = b"AUTO %d\n" % TURNS_AT_ONCE
+        before = 0
+        while before < MOST_TURNS:
+            count = min(self.spacing // SLICE, MOST_TURNS - before)
+            text = b"AUTO %d\n" % count
             result = program.do(text)
             idle = idle_turns(result.events)
             events = result.events[: len(result.events) - idle]
-            piece = Piece(number, before, TURNS_AT_ONCE - idle, text)
+            piece = Piece(number, before, count - idle, text)
             self.take(piece, result._replace(events=events))
             self.work += SLICE * piece.count
             if idle:
                 self.entries[number] = entry._replace(turns=before + piece.count)
                 return
+            before += count
             if self.is_mark_due():
                 self.mark_after(program, piece)
         text = f"somebody does not wait after {MOST_TURNS} turns: write AUTO with a number"
@@ -192,11 +209,12 @@ class Run:
     # --- states ---
 
     def is_mark_due(self) -> bool:
-        """Whether so much was done that a state is kept. Of large states there are fewer, so that they take half of the time at most."""
-        if self.work < WORK_BETWEEN_STATES:
+        """Whether so much was done that a state is kept. Of large states there are fewer, so that they take half of the time at most, and
+        so there are of middling ones that are nearer to each other than states may be."""
+        if self.work < self.spacing:
             return False
-        is_small = self.marks[-1].state.size < LARGE_STATE
-        return is_small or time.monotonic() - self.marked_at >= self.marking
+        most = LARGE_STATE if self.work >= MOST_SPACING else MIDDLING_STATE
+        return self.marks[-1].state.size < most or time.monotonic() - self.marked_at >= self.marking
 
     def mark_after(self, program: StateProgram, piece: Piece) -> None:
         entry, done = self.entries[piece.entry], piece.before + piece.count
@@ -213,8 +231,10 @@ class Run:
         event = len(self.steps) - (unit > 0)
         view = self.view_of(program)
         self.marks.append(Mark(event, unit, entry, turn, view.state))
-        if self.pieces.size > MOST_STATE_BYTES:
+        is_dense = len(self.marks) > MANY_STATES and self.spacing < MOST_SPACING
+        if is_dense or self.pieces.size > MOST_STATE_BYTES:
             self.forget_half()
+            self.spacing = min(2 * self.spacing, MOST_SPACING)
         self.work = 0
         self.marked_at = time.monotonic()
         self.marking = self.marked_at - begun
@@ -304,16 +324,6 @@ class Run:
 def idle_turns(events: list[str]) -> int:
     """How many turns at the end found nobody ready."""
     return next((at for at, event in enumerate(reversed(events)) if event != IDLE), len(events))
-
-
-def pieces_of(number: int, entry: Entry) -> Iterator[Piece]:
-    """An entry of which the length is known, in pieces."""
-    if entry.words[0] != "AUTO":
-        yield Piece(number, 0, entry.units(), entry.text)
-        return
-    for before in range(0, entry.turns, TURNS_AT_ONCE):
-        count = min(TURNS_AT_ONCE, entry.turns - before)
-        yield Piece(number, before, count, b"AUTO %d\n" % count)
 
 
 def work_of(entry: Entry, count: int | None = None) -> int:

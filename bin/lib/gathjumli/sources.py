@@ -4,7 +4,7 @@ from __future__ import annotations
 from typing import Any
 import os
 
-from gathjumli.asm370 import PROGRAM, Refused, assembled
+from gathjumli.asm370 import PROGRAM, Refused, addresses, assembled
 from gathjumli.cli import FILE_FAILED, Failure, REFUSED
 
 LISTING_BEFORE, LISTING_AFTER = 6, 14
@@ -26,6 +26,8 @@ class Source:
     def __init__(self, program: Any) -> None:
         self.rows: list[tuple[int | None, bytes, str]] = []
         self.at: dict[int, int] = {}
+        # labels by their addresses
+        self.labels: dict[int, str] = addresses(program)
         for statement, section, place, data in program.lines:
             is_here = section == PROGRAM
             if is_here and (data or statement.name):
@@ -58,6 +60,11 @@ class Source:
             }
             for place, data, text in shown
         ]
+
+    def labels_in(self, low: int, count: int) -> str:
+        """The labels of so many bytes from an address on."""
+        found = [self.labels[at] for at in range(low, low + count) if at in self.labels]
+        return " ".join(found)
 
     def text_at(self, address: int) -> str:
         number = self.number_of(address)

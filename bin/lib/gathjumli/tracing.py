@@ -1,6 +1,7 @@
 """The units of a guest one by one. A script is done again with its runs as single units, and between these the machine is
 asked by DISPLAY; the guest does not notice. What is asked depends on earlier answers, so the script is run until nothing is
-left to ask. That is done piece by piece, each with more units than the one before, so that a trace that stops soon is soon there."""
+left to ask. That is done piece by piece, each with more units than the one before, so that a trace that stops soon is soon there; each
+begins at the state with which the one before has ended."""
 from __future__ import annotations
 
 import bisect
@@ -9,8 +10,10 @@ import re
 from typing import Any, NamedTuple
 
 from gathjumli.channels import chained, command_text, status_text
+from gathjumli.following import Program, SavedState
 from gathjumli.instructions import length, place_of, storage_operands, text_of, under_execute
 from gathjumli.machines import parts
+from gathjumli.replaying import nearest
 from gathjumli.cli import Failure, REFUSED
 
 
@@ -189,32 +192,84 @@ def printed(findings: Any) -> list:
     return [item for item in findings if not item.startswith("= ")]
 
 
+class Start(NamedTuple):
+    """Where runs of some steps begin: before which step, after so many printed lines, and at which state; None is the beginning."""
+
+    place: int
+    printed: int
+    state: SavedState | None
+
+
+BEGINNING = Start(0, 0, None)
+
+
+def program_at(machines: Any, start: Start) -> Program:
+    program = Program(machines)
+    try:
+        if start.state:
+            program.restore(start.state.size(), start.state.pieces)
+    except BaseException:
+        program.close()
+        raise
+    return program
+
+
 class Machine:
     """What is known of a machine after each number of steps: `ask` gives an answer, or None where it is yet to be asked."""
 
-    def __init__(self, machines: Any, user: Any, expansion: Any) -> None:
+    def __init__(self, machines: Any, user: Any, expansion: Any, start: Start) -> None:
         self.machines = machines
         self.user = user
         self.steps = steps = expansion.steps
+        # where runs may begin, the first one first
+        self.starts = [start]
         self.known = {}
         self.wanted = {}
-        self.findings, _ = parts(machines.run(b"".join(step.text for step in steps)))
-        shown = printed(self.findings)
-        if shown != expansion.printed[: len(shown) if expansion.is_cut else None]:
+        self.findings = self.run(start, self.text(start.place, len(steps)))
+        shown, known = printed(self.findings), expansion.printed[start.printed :]
+        if shown != known[: len(shown) if expansion.is_cut else None]:
             raise Failure(REFUSED, CHANGED)
-        self.trailing = {0: 0, len(steps): len(self.findings)}
+        # how many lines come of the steps from the first start on until each place
+        self.trailing = {start.place: 0, len(steps): len(self.findings)}
         ends = [place + 1 for place, item in enumerate(self.findings) if item.startswith("= ")]
-        for place, step in enumerate(steps):
+        for place, step in enumerate(steps[start.place :], start.place):
             if step.kind != "line":
                 self.trailing[place + 1] = ends.pop(0)
+
+    def text(self, begin: int, end: int) -> bytes:
+        return b"".join(step.text for step in self.steps[begin:end])
+
+    def run(self, start: Start, script: bytes) -> list[str]:
+        """What a script prints from a start on."""
+        if not start.state:
+            return parts(self.machines.run(script))[0]
+        program = program_at(self.machines, start)
+        try:
+            return program.do(script).events
+        finally:
+            program.close()
+
+    def start_before(self, place: int) -> Start:
+        """The nearest start at or before a place."""
+        return nearest(self.starts, place, lambda start: start.place)
+
+    def start_at(self, place: int) -> Start | None:
+        """The state at a place; None if the machines have no states."""
+        begin = self.start_before(place)
+        program = program_at(self.machines, begin)
+        try:
+            program.do(self.text(begin.place, place))
+            state = program.save()
+        finally:
+            program.close()
+        shown = printed(self.findings[: self.lines_after(place)])
+        return state and Start(place, self.starts[0].printed + len(shown), state)
 
     def lines_after(self, place: Any) -> Any:
         """How many lines the transcript has after so many steps; of a typed line a run of the script up to it says."""
         if place not in self.trailing:
-            findings, _ = parts(
-                self.machines.run(b"".join(step.text for step in self.steps[:place]))
-            )
-            self.trailing[place] = len(findings)
+            start = self.starts[0]
+            self.trailing[place] = len(self.run(start, self.text(start.place, place)))
         return self.trailing[place]
 
     def ask(self, place: Any, what: Any) -> Any:
@@ -228,14 +283,13 @@ class Machine:
         if not self.wanted:
             return False
         wanted, self.wanted = self.wanted, {}
-        script = b""
-        for place in range(len(self.steps) + 1):
+        start, script = self.start_before(min(wanted)), b""
+        for place in range(start.place, len(self.steps) + 1):
             script += b"".join(
                 f"LINE {self.user} #CP DISPLAY {item}\n".encode() for item in wanted.get(place, ())
             )
             script += self.steps[place].text if place < len(self.steps) else b""
-        findings, _ = parts(self.machines.run(script))
-        last = 0
+        findings, last = self.run(start, script), self.lines_after(start.place)
         for place in sorted(wanted):
             trailing = self.lines_after(place)
             if findings[: trailing - last] != self.findings[last:trailing]:
@@ -305,6 +359,8 @@ class Trace:
         self.started_before, self.started = {}, {}
         self.is_stopped = False
         self.done = 0
+        # where the next piece begins
+        self.start = BEGINNING
 
     def pieces(self) -> Iterator:
         """The lines, piece by piece."""
@@ -316,15 +372,29 @@ class Trace:
     def piece(self, size: int) -> list:
         """The lines of so many units more. What is before them was shown with the piece before."""
         self.expansion = self.expanded(size)
-        self.machine = Machine(self.machines, self.user, self.expansion)
         begin = self.expansion.first_unit() if self.done else 0
+        start = self.start._replace(place=begin) if self.start.state else BEGINNING
+        self.machine = Machine(self.machines, self.user, self.expansion, start)
+        self.begin_late()
         while True:
             found = list(self.pass_over(begin))
             if not self.machine.learn():
                 break
         self.started_before = self.started
         self.done += size
+        if not self.is_stopped:
+            self.start = self.state_at(len(self.machine.steps)) or BEGINNING
         return found
+
+    def begin_late(self) -> None:
+        """Has the first piece's questions about its units begin at the first one, if there are many before it."""
+        if not self.done and self.first > FIRST_PIECE and self.expansion.is_cut:
+            found = self.state_at(self.expansion.first_unit())
+            self.machine.starts += [found] if found else []
+
+    def state_at(self, place: int) -> Start | None:
+        """The state at a place. A machine of its own has none."""
+        return self.machine.start_at(place) if self.machines.name == "vm370" else None
 
     def expanded(self, size: int) -> Expansion:
         """The steps of a piece, from as much of the script as it needs."""

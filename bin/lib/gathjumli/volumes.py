@@ -9,6 +9,8 @@ from gathjumli.cli import Failure, REFUSED
 HEADS = 19
 ROOM = 13165
 MOST_CYLINDERS = 808
+# of an image, before its tracks
+HEADER_BYTES = 12
 # cylinders of the two models of a 3330, each with the alternate ones
 ALTERNATES = 7
 MODELS = {404 + ALTERNATES: 404, 808 + ALTERNATES: 808}
@@ -101,15 +103,34 @@ class Reader:
         return int.from_bytes(self.take(count), "big")
 
 
-def read_volume(data: bytes) -> Any:
-    """The volume of an image, which is judged as the programs judge it."""
-    reader = Reader(data)
+class ImageHeader(NamedTuple):
+    """What an image begins with."""
+
+    version: int
+    serial: str
+    cylinders: int
+
+
+def read_header(reader: Reader) -> ImageHeader:
     magic, serial, cylinders = reader.take(4), reader.take(6), reader.number(2)
-    version = {b"CKD1": 1, b"CKD2": 2}.get(magic)
+    version = {b"CKD1": 1, b"CKD2": 2}.get(magic, 0)
     serial = serial.decode("latin-1").rstrip(" ")
     most = {1: 404, 2: MOST_CYLINDERS}.get(version, 0)
     if not is_serial(serial) or not 1 <= cylinders <= most:
         raise refused("BadMagic")
+    return ImageHeader(version, serial, cylinders)
+
+
+def header_of(path: str) -> ImageHeader:
+    """The header of an image."""
+    with open(path, "rb") as file:
+        return read_header(Reader(file.read(HEADER_BYTES)))
+
+
+def read_volume(data: bytes) -> Any:
+    """The volume of an image, which is judged as the programs judge it."""
+    reader = Reader(data)
+    version, serial, cylinders = read_header(reader)
     tracks = []
     for cylinder in range(cylinders):
         for head in range(HEADS):
