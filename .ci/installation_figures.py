@@ -2,6 +2,7 @@
 from __future__ import annotations
 
 from collections.abc import Callable
+import asyncio
 import http.client
 import importlib.util
 import json
@@ -46,6 +47,29 @@ def try_json(check: Callable, site: Site) -> None:
     wrong = operator(site, "status", "--jsn")
     holds = wrong.returncode == 1 and "status or status --json" in wrong.stdout
     check("another word is refused", holds, wrong.stdout)
+
+
+async def computed(site: Site) -> int:
+    """Bob's machine runs for a while; how many turns it had, which the stand-in counts."""
+    bob = await on(site, "BOB", "BUILDER")
+    bob.type("BEGIN 100")
+    await asyncio.sleep(0.5)
+    bob.type("#CP", "DISPLAY G1")
+    while not (line := await bob.line()).startswith("GPR 1 = "):
+        pass
+    bob.go()
+    return int(line.split()[-1], 16)
+
+
+def try_turns(check: Callable, site: Site) -> None:
+    """Turns count for the user whose machine ran, and for no other."""
+    count = run(computed(site))
+    found = json.loads(operator(site, "status", "--json").stdout)
+    turns = {user["name"]: user["turns"] for user in found["users"]}
+    holds = turns["BOB"] == count > 0 and turns["ALICE"] == 0 and found["turns"] >= count
+    check("turns of who ran", holds, f"{count} of {found['turns']}", json.dumps(turns))
+    wanted = f'gathjumli_user_turns_shared_total{{user="BOB"}} {count}'
+    check("and as Prometheus reads them", wanted in operator(site, "metrics").stdout, wanted)
 
 
 def try_text(check: Callable, site: Site) -> list[str]:
@@ -101,6 +125,7 @@ def try_figures(check: Callable, command: str, folder: str) -> None:
     )
     try_json(check, site)
     try_text(check, site)
+    try_turns(check, site)
     if has_pages:
         check("pages are there", site.await_message("pages are at"), *site.findings)
         try_page(check, site, port)

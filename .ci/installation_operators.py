@@ -334,7 +334,7 @@ def try_waiting_printout(check: Callable, site: object) -> None:
     status, spool, end = (operator(site, word).stdout for word in ("status", "spool", "end"))
     holds = (
         "1 closed, 1 not written: File exists" in status
-        and "PRT0001-ALICE.txt 1 lines, waits" in spool
+        and "PRT0001-ALICE.txt 1 line, waits" in spool
     )
     check("is seen by the operator", holds, status, spool)
     check("and keeps the session from its end", "not written: PRT0001-ALICE.txt" in end, end)
@@ -345,7 +345,7 @@ def try_waiting_printout(check: Callable, site: object) -> None:
         *site.findings,
     )
     spool = operator(site, "spool").stdout
-    check("which is seen too", "PRT0001-ALICE.txt 1 lines, written" in spool, spool)
+    check("which is seen too", "PRT0001-ALICE.txt 1 line, written" in spool, spool)
     check(
         "then it ends",
         operator(site, "end", "logoff").returncode == 0 and site.ended() == 0,
@@ -391,6 +391,8 @@ def try_commands(check: Callable, site: object) -> None:
         ]
         check("are seen by who they are for", seen[-4:] == wanted, *seen)
         await alice.until("OPERATOR: For all")
+        told = operator(site, "message", "NOBODY", "is", "here").stdout
+        check("an operator hears how many see a message", "shown at 1 terminal\n" in told, told)
         check("and by nobody else", "OPERATOR: For you" not in alice.lines, *alice.lines)
         alice.go()
         back, bob = await on(site), await on(site, "BOB", "BUILDER")

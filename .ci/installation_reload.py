@@ -97,11 +97,17 @@ def try_reload(check: Callable, site: Site) -> None:
     holds = done.returncode == 1 and all(text in done.stdout for text in wanted)
     check("what cannot be read stays", holds, done.stdout, done.stderr)
     check("as does the lock", answer(site, "BUILDER", "BOB") == REFUSED)
+    check("and his wrong passwords are wrong", answer(site, "WONDER", "BOB") == REFUSED)
     write_text(directory, DIRECTORY)
     os.unlink(f"{site.record}.rules")
     check("without rules", operator(site, "reload").returncode == 0)
     check("he is let in", answer(site, "BUILDER", "BOB") == "LOGON OK", *site.findings)
     check("it is suspended", site.stop() == 0)
+    told = site.since_start()
+    holds = (
+        "BOB is locked, and was refused 2 times\n" in told and "a wrong password for BOB\n" in told
+    )
+    check("the journal tells a lock from a wrong password", holds, told)
 
 
 def certificate_at(port: int) -> str:

@@ -129,7 +129,7 @@ def try_printed_on_way(check: Callable, site: Site) -> None:
     site.online("--operate", f"{site.folder}/operator", "--state-every", "1")
     spool = operator(site, "spool").stdout
     name = f"{prints}/{site.session()}/PRT0001-ALICE.txt"
-    holds = "PRT0001-ALICE.txt 1 lines, written" in spool and os.path.exists(name)
+    holds = "PRT0001-ALICE.txt 1 line, written" in spool and os.path.exists(name)
     check("what was printed is written", holds, spool, *names_in(prints))
     check("it is suspended", site.stop() == 0, *site.findings)
 

@@ -35,8 +35,8 @@ def try_care(check: Callable, site: Site) -> None:
     run(print_some(site))
     check("all are written", site.await_message(f"{OTHER}.txt"), *site.findings)
     folder = f"{prints}/{site.session()}"
-    answered(check, site, "spool", 0, f"{FIRST}.txt 1 lines, written", "3 files")
-    answered(check, site, "spool bob", 0, f"{OTHER}.txt 1 lines, written", "1 files")
+    answered(check, site, "spool", 0, f"{FIRST}.txt 1 line, written", "3 files")
+    answered(check, site, "spool bob", 0, f"{OTHER}.txt 1 line, written", "1 file")
     answered(check, site, "spool NOBODY", 1, "there is no user NOBODY")
     answered(check, site, f"hold {FIRST}", 0, f"{FIRST}.txt is held in {folder}/held")
     check("it is in its folder", names_in(f"{folder}/held") == [f"{FIRST}.txt"])
@@ -48,7 +48,7 @@ def try_care(check: Callable, site: Site) -> None:
     answered(check, site, "purge", 1, "the name of a file is missing")
     check("it is suspended", site.stop() == 0, *site.findings)
     site.online(*words)
-    answered(check, site, "spool ALICE", 0, f"{FIRST}.txt 1 lines, held")
+    answered(check, site, "spool ALICE", 0, f"{FIRST}.txt 1 line, held")
     check("a held one is not written again", not os.path.exists(f"{folder}/{FIRST}.txt"))
     answered(check, site, f"release {FIRST.lower()}.txt", 0, f"{FIRST}.txt is released")
     check(
@@ -58,7 +58,7 @@ def try_care(check: Callable, site: Site) -> None:
     answered(check, site, f"reprint {FIRST}", 0, f"{folder}/{FIRST}-3.txt")
     check("copies are whole", read(f"{folder}/{FIRST}-3.txt") == b"ONE\n")
     answered(check, site, f"purge {SECOND}", 0, f"{SECOND}.txt is removed")
-    answered(check, site, "spool ALICE", 0, f"{SECOND}.txt 1 lines, removed")
+    answered(check, site, "spool ALICE", 0, f"{SECOND}.txt 1 line, removed")
     answered(check, site, f"hold {SECOND}", 1, f"{SECOND}.txt is removed")
     wanted = [f"{FIRST}-2.txt", f"{FIRST}-3.txt", f"{FIRST}.txt", f"{OTHER}.txt"]
     check("nothing else has changed", names_in(folder) == wanted, *names_in(folder))
@@ -69,7 +69,7 @@ def try_no_folder(check: Callable, site: Site) -> None:
     """Without a folder files are listed, and there is nothing to do to them."""
     site.online("--operate", f"{site.folder}/operator")
     run(print_some(site))
-    answered(check, site, "spool", 0, f"{OTHER}.txt 1 lines, closed")
+    answered(check, site, "spool", 0, f"{OTHER}.txt 1 line, closed")
     answered(check, site, f"purge {FIRST}", 1, "files are only reported, and not kept")
     check("it is suspended", site.stop() == 0)
 

@@ -875,7 +875,7 @@ def try_printouts(check: Check, site: Site) -> None:
     check("and a state is saved", site.stop() == 0 and bool(state_names(site)), *site.findings)
     site.online("--printouts", prints)
     site.operate("spool")
-    holds = site.await_message("PRT0001-ALICE.txt 1 lines, written") and begun_with(site)
+    holds = site.await_message("PRT0001-ALICE.txt 1 line, written") and begun_with(site)
     check("of which the spool has it", holds, *site.findings)
     run(prints_one())
     check("another is written", site.await_message("PRT0002-ALICE.txt"), *site.findings)

@@ -5,7 +5,6 @@ primary with a synchronous copy, made in FOLDER. It says how long lines waited, 
 from __future__ import annotations
 
 from typing import Any
-import glob
 import os
 import re
 import shutil
@@ -21,26 +20,10 @@ from gathjumli.libraries import STORE, need
 from installation import sizes_of
 from store_cases import Place
 from store_people import Host, Typists, haproxy_block, kill_all
+from town import lay_out
 import servers
 
 HOSTS = ["127.0.1.1", "127.0.1.2", "127.0.1.3"]
-PROGRAMS = ["vm370_cli", "logon_desk_cli", "frame_map"]
-
-
-def lay_out(folder: str, is_unproved: bool) -> str:
-    """The commands as they are installed, with the programs that were built."""
-    repository = f"{folder}/repository"
-    for name in ("bin", "web"):
-        shutil.copytree(f"{TOP}/{name}", f"{repository}/{name}")
-    shutil.copy(f"{TOP}/VERSION", repository)
-    os.makedirs(f"{repository}/programs")
-    for crate in PROGRAMS:
-        path = f"{TOP}/crates/{crate}/out/{crate}"
-        path = glob.glob(f"{TOP}/out/unproved/{crate}-*")[0] if is_unproved else path
-        shutil.copy(path, f"{repository}/programs/{crate}")
-        with open(f"{repository}/programs/{crate}.built", "w") as file:
-            file.write("sources 0\nkit none\nnot proved\n")
-    return repository
 
 
 class Plant:

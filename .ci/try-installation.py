@@ -30,9 +30,7 @@ sys.path[:0] = [f"{TOP}/bin/lib", f"{TOP}/.ci"]
 from installation import (
     BANNER,
     Person,
-    Site,
     image_of,
-    memory_of,
     person,
     processor_ticks,
     read,
@@ -40,23 +38,19 @@ from installation import (
     sizes_of,
     write,
 )
+from town import COUNTS, Town
 from gathjumli.cli import last, number, read_arguments
 from gathjumli.recording import entries_of
 
 if TYPE_CHECKING:
     from desk import Account, Place
 
-COMMAND = f"{TOP}/bin/installation"
 PROGRAM, BARE = (f"{TOP}/crates/{name}/out/{name}" for name in ("vm370_cli", "bare370_cli"))
-DEVICES = "CONSOLE 009 3215\nSPOOL 00C READER\nSPOOL 00D PUNCH\nSPOOL 00E PRINTER\n"
 # adds one to register 1 for ever
 COMPUTES = "STORE 100 4111000147F00100"
-# counts register 2 down and stops
-COUNTS = "STORE 100 46200100820001080002000000000000"
 # starts a program at the console, waits until that is done, and so on
 PRINTS_FOR_EVER = ["STORE 48 00000800", "STORE 800 0900084020000078", "STORE 100 9C0000099D0000094770010447F00100",
                    *(f"STORE {0x840 + 16 * number:X} {'C1' * 16}" for number in range(8)), "BEGIN 100"]  # fmt: skip
-ADDRESS = "127.0.0.1"
 # the time of the lines that follow, as one who appears back sees it
 TIME = re.compile(r"-- [0-9: -]{16} UTC")
 
@@ -73,41 +67,6 @@ def check(what: str, holds: object, *findings: object) -> None:
 
 def notify(text: str) -> None:
     print(text, flush=True)
-
-
-def free_port() -> object:
-    with socket.socket() as one:
-        one.bind((ADDRESS, 0))
-        return one.getsockname()[1]
-
-
-class Town(Site):
-    """An installation of so many users U00, U01 .. with passwords PW00, PW01 .., at a port."""
-
-    def __init__(self, folder: str, users: list, *words: object) -> None:
-        os.makedirs(folder)
-        self.users = [f"U{number:02}" for number in range(users)]
-        write(
-            f"{folder}/directory",
-            "".join(f"USER {user} PW{user[1:]} 64K\n{DEVICES}" for user in self.users).encode(),
-        )
-        self.where = (ADDRESS, free_port())
-        super().__init__(
-            COMMAND, folder, f"{folder}/directory", "--listen", f"{ADDRESS}:{self.where[1]}", *words
-        )
-        self.words = [
-            word for word in self.words if word != "--listen" and not word.endswith("/socket")
-        ]
-        self.words[2:2] = ["--listen"]
-
-    async def on(self, user: Account) -> object:
-        """Somebody who has logged on."""
-        one = await person(self.where)
-        await one.logon(user, f"PW{user[1:]}")
-        return one
-
-    def told_memory(self) -> str:
-        return f"command {memory_of(self.process.pid) // 1024} MB, program {memory_of(self.program()) // 1024} MB"
 
 
 def hundredths(seconds: object) -> str:

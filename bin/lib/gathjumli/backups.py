@@ -15,7 +15,7 @@ import threading
 
 from gathjumli.checkpoints import sync_file
 from gathjumli.cli import FILE_FAILED, Failure, REFUSED, reason_text
-from gathjumli.host import MEGABYTE
+from gathjumli.host import size_text
 from gathjumli.recording import SUM_DIGITS, sync_folder
 
 CHUNK = 1 << 20
@@ -111,8 +111,8 @@ class Backup:
         finally:
             for item in sources:
                 item.file.close()
-        size = sum(item.size for item in sources) / MEGABYTE
-        told = f"a backup is in {folder}: {len(sources)} files, {size:.1f} MB"
+        size = size_text(sum(item.size for item in sources))
+        told = f"a backup is in {folder}: {len(sources)} files, {size}"
         self.installation.notify(told)
         reply(told)
         end(True)

@@ -8,7 +8,7 @@ import os
 from gathjumli.checkpoints import Checkpoint
 from gathjumli.cli import Failure, REFUSED
 from gathjumli.engine import Engine
-from gathjumli.host import MEGABYTE
+from gathjumli.host import size_text
 from gathjumli.recording import END, END_KEEPING, Recording
 from gathjumli.state_files import is_state
 
@@ -59,7 +59,9 @@ def room_trouble(volumes: list[str], free: int) -> str:
     needed = sum(os.path.getsize(volume) for volume in volumes)
     if free >= needed:
         return ""
-    return f"the disk is full: it has {free / MEGABYTE:.1f} MB free, and the volumes need {needed / MEGABYTE:.1f} MB"
+    return (
+        f"the disk is full: it has {size_text(free)} free, and the volumes need {size_text(needed)}"
+    )
 
 
 def finish_ending(

@@ -92,7 +92,8 @@ class Engine:
         self.is_whole = False
         self.progress = Progress(0, notify)
         printouts.note = lambda name: self.note(PRINTED + name.encode() + b"\n")
-        self.parts = 0
+        # what was done since the start of the command
+        self.parts = self.turns = 0
         self.waits = Waits()
 
     def begun(self) -> Any:
@@ -320,6 +321,8 @@ class Engine:
 
     def take(self, part: Any, came: Any, when: Any = None) -> None:
         """Shows each user what was printed at his terminal, and keeps who is on and whose machine runs."""
+        if when is None:
+            self.count_turns(part.turns)
         for heading, body in came.files:
             self.users[heading.rpartition(" ")[2]].written += len(body)
         for name, text in part.typed:
@@ -333,6 +336,12 @@ class Engine:
                     self.notify(f"{name}: {text}")
         for state, name in came.states:
             self.users[name].become(state)
+
+    def count_turns(self, turns: int) -> None:
+        """Counts turns for each user whose machine ran. Which of them had a slice the program does not say."""
+        self.turns += turns
+        for user in self.users.values():
+            user.turns += turns * user.is_running
 
     def printed(self, part: Part, came: PartResult) -> dict[str, list[str]]:
         """The lines of each user that a part printed, and what is said of typed lines that were not done."""

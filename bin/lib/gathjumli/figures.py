@@ -20,6 +20,11 @@ OF_USERS = {
     "running": ("user_running", "whether the user's machine runs", False),
     "typed": ("user_lines_typed_total", "lines that were typed at the user's terminal", True),
     "shown": ("user_lines_shown_total", "lines that were shown at the user's terminal", True),
+    "turns": (
+        "user_turns_shared_total",
+        "turns that were dealt while the user's machine ran",
+        True,
+    ),
     "written": (
         "user_written_bytes",
         "bytes that the user and his guests wrote since LOGON",
@@ -35,6 +40,7 @@ OF_ALL = {
     ("repeated",): ("recording_repeated_ratio", "how much of the recording is done again", False),
     ("strangers",): ("strangers", "connections that are about to log on", False),
     ("parts",): ("parts_total", "parts that the program has done", True),
+    ("turns",): ("turns_total", "turns that were dealt", True),
     ("busy",): ("busy", "whether somebody computes", False),
     ("starts",): ("program_starts_total", "starts of the program", True),
     ("memory", "command"): ("command_memory_bytes", "memory of the command", False),
@@ -92,6 +98,7 @@ def figures(installation: Any) -> dict[str, Any]:
         "strangers": count_strangers(installation.desk),
         "refused": len(installation.desk.penalties.refused()),
         "parts": engine.parts,
+        "turns": engine.turns,
         "busy": engine.pace.is_busy,
         "starts": engine.starts,
         "turn": engine.pace.seconds_a_turn,
@@ -124,7 +131,7 @@ def figures(installation: Any) -> dict[str, Any]:
 
 
 def user_figures(user: Any, files: int, unwritten: int) -> dict[str, Any]:
-    """What is known of a user; lines count since the start of the command."""
+    """What is known of a user; lines and turns count since the start of the command."""
     return {
         "name": user.name,
         "on": user.is_on,
@@ -134,6 +141,7 @@ def user_figures(user: Any, files: int, unwritten: int) -> dict[str, Any]:
         "open": user.open,
         "typed": user.typed,
         "shown": user.shown,
+        "turns": user.turns,
         "files": files,
         "unwritten": unwritten,
     }

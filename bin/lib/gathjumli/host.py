@@ -7,6 +7,11 @@ import os
 MEGABYTE = 1 << 20
 
 
+def size_text(size: int) -> str:
+    """A length in words, of which a short one is not rounded to nothing."""
+    return f"{size / MEGABYTE:.1f} MB" if size >= MEGABYTE else f"{-(-size // 1024)} KB"
+
+
 def memory_of(process: Any) -> Any:
     """The bytes of memory that a process has, or 0 if it is gone."""
     try:

@@ -22,6 +22,11 @@ def printable(text: str) -> str:
     return "".join(item if item.isprintable() else "?" for item in text)
 
 
+def amount(count: int, what: str) -> str:
+    """So many of what is named by a word."""
+    return f"{count} {what}{'s' * (count != 1)}"
+
+
 class Outlet:
     """A file descriptor to which lines go, by a thread of its own. If nobody reads there nobody waits for that; how many lines are
     lost is said."""

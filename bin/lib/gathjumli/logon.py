@@ -71,18 +71,6 @@ class PasswordsFile:
         return hmac.compare_digest(salted(password, salt), wanted) and name in entries
 
 
-class Unlocked:
-    """The passwords, of which those of locked users are never right."""
-
-    def __init__(self, passwords: Any, locked: tuple = ()) -> None:
-        self.passwords = passwords
-        self.names = passwords.names
-        self.locked = locked
-
-    def are_right(self, name: str, password: str) -> bool:
-        return self.passwords.are_right(name, password) and name not in self.locked
-
-
 def salted(password: str, salt: Any) -> Any:
     """The sum of a password, whose letters the desk makes capitals."""
     return hashlib.scrypt(password.upper().encode("latin-1"), salt=salt, **COSTS)

@@ -20,13 +20,13 @@ import subprocess
 import time
 
 from gathjumli.cli import FILE_FAILED, Failure
-from gathjumli.logon import Unlocked
 from gathjumli.parts import typed_line
 from gathjumli.penalties import Penalties
 from gathjumli.rules import Rules
 from gathjumli.strangers import (
     Closings,
     IS_NO_LOGON,
+    LockedOut,
     MOST_ANSWERS,
     SECONDS_APART,
     STRANGER_BYTES,
@@ -67,6 +67,8 @@ class Connection:
         # when lines are shown again, the minute that was shown last
         self.minute = ""
         self.may_send = asyncio.Event()
+        # whether its last guess was right, for a user whom the rules lock
+        self.is_locked = False
         # how much it was answered before anybody logged on there
         self.answers = 0
 
@@ -158,7 +160,7 @@ class LogonServer:
 
     def __init__(self, engine: Any, passwords: Any, notify: Any, program: Any) -> None:
         self.engine = engine
-        self.passwords = Unlocked(passwords)
+        self.passwords = passwords
         # which addresses may come
         self.rules = Rules()
         self.notify = notify
@@ -171,7 +173,7 @@ class LogonServer:
         self.people = [engine.users[name] for name in passwords.names]
         self.begun = time.monotonic()
         self.key = os.urandom(16)
-        self.wrong = WrongPasswords(notify)
+        self.wrong, self.locked_out = WrongPasswords(notify), LockedOut(notify)
         self.penalties = Penalties(notify)
         self.closings = Closings(notify)
         self.share = Share()
@@ -295,7 +297,8 @@ class LogonServer:
     def obey_note(self, connection: Any, word: str, number: Any) -> None:
         user = None if number == "-" else self.people[int(number, 16)]
         if word == "FAIL":
-            self.wrong.add(user and user.name, connection.address)
+            summed = self.locked_out if connection.is_locked else self.wrong
+            summed.add(user and user.name, connection.address)
             self.penalties.add(connection.address)
         elif word in ("LOGS", "BACK"):
             connection.user, user.terminal.connection = user, connection
@@ -329,6 +332,9 @@ class LogonServer:
             return
         # a passwords file may name somebody whom the directory has not
         is_right = is_right and given[0] in self.engine.users
+        # who is locked out is answered as if he were wrong
+        connection.is_locked = is_right and given[0] in self.rules.locked
+        is_right = is_right and not connection.is_locked
         if is_right and self.is_closed and not self.engine.users[given[0]].is_on:
             connection.send(CLOSED)
             self.leave(connection)
@@ -352,7 +358,6 @@ class LogonServer:
     def take_rules(self, rules: Rules) -> None:
         """Has these rules hold for whoever comes from now on."""
         self.rules = rules
-        self.passwords.locked = rules.locked
         self.penalties.trusted = rules.trusted
 
     def come(self, connection: Any) -> bool:
@@ -446,6 +451,7 @@ class LogonServer:
             connection.send(GOES_DOWN)
             connection.close()
         self.wrong.notify_all()
+        self.locked_out.notify_all()
         self.closings.notify_all()
         for task in [*self.serving, *self.tasks]:
             task.cancel()

@@ -9,13 +9,14 @@ import json
 import os
 import re
 
-from gathjumli.host import MEGABYTE, memory_of
+from gathjumli.host import MEGABYTE, memory_of, size_text
 from gathjumli.backups import Backup
 from gathjumli.cli import Failure, read_file
 from gathjumli.ending import Ending, room_trouble
 from gathjumli.spool_care import NotDone, SpoolCare
 from gathjumli.figures import Data, figures, metrics
 from gathjumli.frame_maps import BEING_LOOKED_FOR, FrameMap
+from gathjumli.journal import amount
 
 DONE, NOT_DONE, ENDS, ENDED = range(4)
 # before all of the recording is done again
@@ -136,7 +137,7 @@ class Operator:
             f"memory: command {memory_of(os.getpid()) // MEGABYTE} MB, program {engine.memory() // MEGABYTE} MB of {most} MB"
         )
         reply(f"the session began {recording.begun_at()} UTC, {age(recording.seconds())} ago; "
-              f"its recording has {recording.lines} lines, {recording.size() / MEGABYTE:.1f} MB, "
+              f"its recording has {recording.lines} lines, {size_text(recording.size())}, "
               f"and its disk {recording.free() // MEGABYTE} MB free")  # fmt: skip
         for text in self.store.about():
             reply(text)
@@ -172,7 +173,7 @@ class Operator:
         for user in self.on():
             where = "" if user.terminal.is_there else ", at no terminal"
             reply(
-                f"{user.name} {'runs' if user.is_running else 'is stopped'}{where}, {user.written / MEGABYTE:.1f} MB written"
+                f"{user.name} {'runs' if user.is_running else 'is stopped'}{where}, {size_text(user.written)} written"
             )
         reply(f"{len(self.on())} on")
 
@@ -203,7 +204,7 @@ class Operator:
         word, _, rest = text.partition(" ")
         user = self.engine.users.get(word)
         if not user or not rest:
-            self.announce(text)
+            reply(f"shown at {amount(self.announce(text), 'terminal')}")
         elif not user.is_on:
             raise NotDone(f"{word} is not on")
         else:
@@ -214,9 +215,11 @@ class Operator:
                 else f"sent to {word}"
             )
 
-    def announce(self, text: str) -> None:
+    def announce(self, text: str) -> int:
+        """A line for each terminal; at how many somebody sees it."""
         for user in self.engine.users.values():
             user.terminal.show(f"OPERATOR: {plain(text)}")
+        return sum(user.terminal.is_there for user in self.engine.users.values())
 
     def set_log_message(self, text: str, reply: Any) -> None:
         if text:
@@ -332,7 +335,7 @@ def state_text(engine: Any) -> str:
         return "no state is saved yet"
     waited = f", for which all waited {last.waited:.2f} s" if last.waited else ""
     ago = engine.seconds() - engine.states.at
-    return f"the last state has {last.size / MEGABYTE:.2f} MB and is {ago:.0f} s of computing old{waited}"
+    return f"the last state has {size_text(last.size)} and is {ago:.0f} s of computing old{waited}"
 
 
 def plain(text: str) -> Any:

@@ -13,7 +13,7 @@ import stat
 import time
 
 from gathjumli.decks import OPEN_FOLDER, in_thread
-from gathjumli.journal import DATE_AND_TIME, Journal
+from gathjumli.journal import DATE_AND_TIME, Journal, amount
 from gathjumli.stores import SESSION
 
 SECONDS_BETWEEN_LOOKS = 3600
@@ -63,7 +63,7 @@ class Retention:
                         removed[what] += 1
         with self.reporting():
             removed["journal"] += rotate(installation.journal, limit)
-        texts = [f"{count} {what}{'s' * (count > 1)}" for what, count in removed.items() if count]
+        texts = [amount(count, what) for what, count in removed.items() if count]
         if texts:
             installation.notify(f"older than {self.days} days, and removed: {', '.join(texts)}")
 

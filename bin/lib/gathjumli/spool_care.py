@@ -9,6 +9,7 @@ import itertools
 import os
 
 from gathjumli.checkpoints import copy_whole
+from gathjumli.journal import amount
 from gathjumli.spooling import Printout, UNWRITTEN
 
 HELD = "held"
@@ -33,9 +34,9 @@ class SpoolCare:
             raise NotDone(f"there is no user {rest}")
         found = [item for item in self.printouts.all if name in ("", item.user)]
         for printout in found[-MOST_SHOWN:]:
-            reply(f"{printout.name} {printout.lines} lines, {self.state(printout)}")
+            reply(f"{printout.name} {amount(printout.lines, 'line')}, {self.state(printout)}")
         shown = f", the last {MOST_SHOWN} are shown" * (len(found) > MOST_SHOWN)
-        reply(f"{len(found)} files{shown}")
+        reply(f"{amount(len(found), 'file')}{shown}")
 
     def state(self, printout: Printout) -> str:
         """What has become of a file."""

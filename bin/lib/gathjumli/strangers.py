@@ -70,6 +70,13 @@ class WrongPasswords(Sums):
         return f"{passwords} for {what or 'nobody here'}"
 
 
+class LockedOut(Sums):
+    """The right passwords for each user whom the rules lock."""
+
+    def text(self, what: Any, count: int) -> str:
+        return f"{what} is locked, and was refused{f' {count} times' * (count > 1)}"
+
+
 class WrongTokens(Sums):
     """The wrong tokens at the operator's page."""
 

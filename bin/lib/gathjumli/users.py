@@ -43,6 +43,8 @@ class User:
         self.open = 0
         # lines that were typed and shown at his terminal since the start of the command
         self.typed = self.shown = 0
+        # turns that were dealt since then while his machine ran
+        self.turns = 0
 
     def keep(self, texts: list[str], when: str | None = None) -> None:
         """Keeps lines for when he appears back, with the minute of their time."""

@@ -1,0 +1,67 @@
+"""Commands as they are installed, with the programs that were built, and a town: an installation with users of one directory. What
+.ci/try-installation.py, .ci/try-hosts.py and .ci/try-year.py share."""
+from __future__ import annotations
+
+from typing import TYPE_CHECKING
+import glob
+import os
+import shutil
+
+from installation import Site, memory_of, person, write
+from servers import free_port
+
+if TYPE_CHECKING:
+    from desk import Account
+
+TOP = os.path.dirname(os.path.dirname(os.path.realpath(__file__)))
+COMMAND = f"{TOP}/bin/installation"
+PROGRAMS = ["vm370_cli", "logon_desk_cli", "frame_map"]
+ADDRESS = "127.0.0.1"
+DEVICES = "CONSOLE 009 3215\nSPOOL 00C READER\nSPOOL 00D PUNCH\nSPOOL 00E PRINTER\n"
+# counts register 2 down and stops
+COUNTS = "STORE 100 46200100820001080002000000000000"
+
+
+def lay_out(folder: str, is_unproved: bool) -> str:
+    """The commands as they are installed, with the programs that were built."""
+    repository = f"{folder}/repository"
+    for name in ("bin", "web"):
+        shutil.copytree(f"{TOP}/{name}", f"{repository}/{name}")
+    shutil.copy(f"{TOP}/VERSION", repository)
+    os.makedirs(f"{repository}/programs")
+    for crate in PROGRAMS:
+        path = f"{TOP}/crates/{crate}/out/{crate}"
+        path = glob.glob(f"{TOP}/out/unproved/{crate}-*")[0] if is_unproved else path
+        shutil.copy(path, f"{repository}/programs/{crate}")
+        with open(f"{repository}/programs/{crate}.built", "w") as file:
+            file.write("sources 0\nkit none\nnot proved\n")
+    return repository
+
+
+class Town(Site):
+    """An installation of so many users U00, U01 .. with passwords PW00, PW01 .., at a port."""
+
+    def __init__(self, folder: str, users: int, *words: object, command: str = COMMAND) -> None:
+        os.makedirs(folder)
+        self.users = [f"U{number:02}" for number in range(users)]
+        write(
+            f"{folder}/directory",
+            "".join(f"USER {user} PW{user[1:]} 64K\n{DEVICES}" for user in self.users).encode(),
+        )
+        self.where = (ADDRESS, free_port())
+        super().__init__(
+            command, folder, f"{folder}/directory", "--listen", f"{ADDRESS}:{self.where[1]}", *words
+        )
+        self.words = [
+            word for word in self.words if word != "--listen" and not word.endswith("/socket")
+        ]
+        self.words[2:2] = ["--listen"]
+
+    async def on(self, user: Account) -> object:
+        """Somebody who has logged on."""
+        one = await person(self.where)
+        await one.logon(user, f"PW{user[1:]}")
+        return one
+
+    def told_memory(self) -> str:
+        return f"command {memory_of(self.process.pid) // 1024} MB, program {memory_of(self.program()) // 1024} MB"
