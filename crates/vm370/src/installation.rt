@@ -174,7 +174,7 @@ impl Installation for SharedMachines {
 
     /// Appends what the state has of one user, of the frames and of his storage, and returns true.
     fn save_user(&self, user: UserNo, out: &mut Vec<u8>) -> Result<bool, AllocError> {
-        self.system.save_user(user, out)?;
+        self.system.save_user(self.place(user), out)?;
         Ok(true)
     }
 
