@@ -228,6 +228,14 @@ def displayed(program: StateProgram, view: StateView, user: str) -> list[str]:
     ]
 
 
+def is_viewed(program: StateProgram, whole: StateView, user: str, run: Run) -> bool:
+    """Whether what a program tells of one user is what its state has of him, of the frames and of his storage."""
+    one = program.user_view(user, run.machines.users, run.pieces)
+    is_same = one.users[user] == whole.users[user] and one.tables[user] == whole.tables[user]
+    parts = "frames slots pins order page_ins".split()
+    return is_same and all(getattr(one, part) == getattr(whole, part) for part in parts)
+
+
 def try_moment(check: Callable, name: str, moments: Moments, event: int, unit: int) -> None:
     view = moments.moment(event, unit).view
     program = StateProgram(moments.run.machines)
@@ -239,6 +247,8 @@ def try_moment(check: Callable, name: str, moments: Moments, event: int, unit: i
             not found,
             *found,
         )
+        others = [user for user in view.users if not is_viewed(program, other, user, moments.run)]
+        check(f"{name}: VIEW has of each at {event}.{unit} what SAVE has", not others, *others)
         for user, state in view.users.items():
             if state["mode"] != "off":
                 wrong = displayed(program, view, user)

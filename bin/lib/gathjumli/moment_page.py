@@ -12,7 +12,7 @@ from gathjumli.moment_storage import ROW, Storage, line_text
 from gathjumli.moments import Moment, Moments
 from gathjumli.printout_lines import PAGE_LENGTH, entries_in, page_text
 from gathjumli.sources import Source
-from gathjumli.state_view import BLOCK, StateView
+from gathjumli.state_view import BLOCK, UserView
 
 INSTRUCTIONS_SHOWN = 16
 MOST_LINES = 400
@@ -59,7 +59,7 @@ class MomentPage:
         """A moment of a user, with storage from an address on, or where he would look first. What differs from the moment `since` is
         said."""
         # the earlier one first: a program goes on from there
-        made = {at: self.moments.moment(*at) for at in sorted({where, since})}
+        made = {at: self.moments.moment(*at, user) for at in sorted({where, since})}
         moment, old = made[where], made[since].view if since != where else None
         storage = Storage(moment.view, old, user)
         now, before = moment.view.users[user], (old or moment.view).users[user]
@@ -244,7 +244,7 @@ def numbers(now: list[int], before: list[int]) -> list[list[str]]:
 # --- what all users have in common ---
 
 
-def system_of(view: StateView) -> dict[str, Any]:
+def system_of(view: UserView) -> dict[str, Any]:
     return {
         "frames": places_of(view.frames),
         "slots": places_of(view.slots),
@@ -260,7 +260,7 @@ def places_of(owners: list) -> dict[str, Any]:
     return {"count": len(owners), "full": len(used), "used": used[:MOST_PLACES]}
 
 
-def volumes_of(view: StateView) -> list[dict[str, Any]]:
+def volumes_of(view: UserView) -> list[dict[str, Any]]:
     """Each volume's cylinders: how full, and whose."""
     found = []
     for number, volume in enumerate(view.volumes):
@@ -274,7 +274,7 @@ def volumes_of(view: StateView) -> list[dict[str, Any]]:
     return found
 
 
-def own_disks(view: StateView, volume: int) -> Iterator[tuple[str, dict[str, Any]]]:
+def own_disks(view: UserView, volume: int) -> Iterator[tuple[str, dict[str, Any]]]:
     """The minidisks on a volume, each with its user."""
     for name, user in view.users.items():
         yield from ((name, disk) for disk in user["minidisks"] if disk["volume"] == volume)

@@ -10,9 +10,9 @@ from typing import Any, NamedTuple
 
 from gathjumli.cli import Failure, REFUSED
 from gathjumli.following import Program
-from gathjumli.moments import Moment, Moments
+from gathjumli.moments import Moments
 from gathjumli.run_steps import Step
-from gathjumli.state_view import PAGE, StateView
+from gathjumli.state_view import PAGE, UserView
 
 ADDRESS, REGISTER, WORD = "psw", "gpr", "word"
 KINDS = (ADDRESS, REGISTER, WORD)
@@ -110,8 +110,7 @@ class Search:
 
     def forward(self, event: int, unit: int) -> dict[str, Any]:
         """The next hit after a moment."""
-        moment = self.moments.moment(event, unit)
-        return self.answer(self.scan(moment, (event, unit), None, is_last=False))
+        return self.answer(self.scan((event, unit), None, is_last=False))
 
     def back(self, event: int, unit: int, is_strict: bool, after: int | None) -> dict[str, Any]:
         """The last hit until a moment, or before it. A change that was undone before the next state may be passed over: the answer
@@ -123,23 +122,21 @@ class Search:
         if self.wanted.kind == ADDRESS or after is not None:
             return self.answer(self.all_units(end, after or 0))
         place = self.mark_until(end)
-        now, last = self.value_in(self.moments.moment(*end).view), place
+        now, last = self.value_in(self.moments.moment(*end, self.wanted.user).view), place
         while place >= 0 and self.value_at(place) == now:
             place -= 1
         if place < 0:
             return self.answer(None) | {"unsure": 0}
-        mark = self.run.marks[place]
         until = end if place == last else self.where(place + 1)
-        hit = self.scan(mark, (mark.event, mark.unit), until, is_last=True)
+        hit = self.scan(self.where(place), until, is_last=True)
         return self.answer(hit) | ({} if place == last else {"unsure": until[0]})
 
     def all_units(self, end: Where, after: int) -> Hit | None:
         """The last hit before a moment, from state to state back until an event."""
         place = self.mark_until(end)
         while True:
-            mark = self.run.marks[place]
-            hit = self.scan(mark, self.where(place), end, is_last=True)
-            if hit or place == 0 or self.asked.is_late or mark.event <= after:
+            hit = self.scan(self.where(place), end, is_last=True)
+            if hit or place == 0 or self.asked.is_late or self.where(place)[0] <= after:
                 return hit
             end = self.where(place)
             place -= 1
@@ -170,7 +167,7 @@ class Search:
         content = self.run.pieces.piece(page, PAGE) if page else bytes(PAGE)
         return content[number % PAGE & ~3 :][:4]
 
-    def value_in(self, view: StateView) -> Any:
+    def value_in(self, view: UserView) -> Any:
         user, kind, number = self.wanted
         if kind == REGISTER:
             return view.users[user]["general"][number]
@@ -186,9 +183,9 @@ class Search:
 
     # --- going over moments ---
 
-    def scan(self, start: Any, first: Where, end: Where | None, is_last: bool) -> Hit | None:
+    def scan(self, first: Where, end: Where | None, is_last: bool) -> Hit | None:
         """Goes over moments one by one, and asks at each; the first hit, or the last one."""
-        program = self.program_at(start)
+        program = self.moments.program_at(*first)
         found = None
         try:
             self.asked.start(program)
@@ -212,13 +209,6 @@ class Search:
         size = 2 * self.at_once if is_soon else self.at_once // 2
         self.at_once = max(FEWEST_AT_ONCE, min(size, MOST_AT_ONCE))
         return events
-
-    def program_at(self, start: Any) -> Program:
-        """A program at a moment or at a state."""
-        state = start.view.state if isinstance(start, Moment) else start.state
-        program = self.moments.fresh()
-        program.restore(state.size, state.data(self.run.pieces))
-        return program
 
     def parts_between(self, first: Where, end: Where | None) -> Iterator[tuple[list[Where], bytes]]:
         """What the program is given from a moment to another one, and which moments the questions in it are of. What other users do

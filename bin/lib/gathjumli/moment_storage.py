@@ -4,7 +4,7 @@ from __future__ import annotations
 from array import array
 from collections.abc import Iterator
 
-from gathjumli.state_view import PAGE, StateView
+from gathjumli.state_view import PAGE, UserView
 
 ROWS = 20
 ROW = 16
@@ -23,7 +23,7 @@ def line_text(data: bytes) -> str:
 class Storage:
     """A user's storage at a moment, and what it was before."""
 
-    def __init__(self, view: StateView, old: StateView | None, user: str) -> None:
+    def __init__(self, view: UserView, old: UserView | None, user: str) -> None:
         self.view, self.old, self.user = view, old or view, user
         self.table: array = view.tables[user]
         self.size = PAGE * len(self.table)

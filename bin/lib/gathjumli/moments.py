@@ -1,5 +1,6 @@
 """Any moment of a run. A moment is (event, unit): so many events are done, and so many units of the next one. What is seen of it is what
-the program answers to SAVE there, and the lines that it printed. The program gets there from the nearest state before it."""
+the program answers to SAVE there, or where states are large to VIEW of one user, and the lines that it printed. The program gets there
+from the nearest state before it."""
 from __future__ import annotations
 
 from bisect import bisect_left, bisect_right
@@ -10,12 +11,10 @@ from typing import NamedTuple
 from gathjumli.replaying import nearest
 from gathjumli.run_index import MOST_STATE_BYTES, Mark, Printed, Run
 from gathjumli.state_programs import StateProgram
-from gathjumli.state_view import StateView
+from gathjumli.state_view import UserView
 from gathjumli.tracing import SLICE
 
 KEPT_MOMENTS = 24
-# a state of which one more takes a second
-VERY_LARGE = 64 << 20
 # of all states and moments
 MOST_BYTES = MOST_STATE_BYTES + (64 << 20)
 # programs that have read directory and volumes, and wait for a state
@@ -39,7 +38,8 @@ class Place(NamedTuple):
 class Moment(NamedTuple):
     event: int
     unit: int
-    view: StateView
+    # of all users, or of one where states are large
+    view: UserView
     # lines that were printed in this event until now
     lines: list[Printed]
 
@@ -60,7 +60,10 @@ class Moments:
     def __init__(self, run: Run) -> None:
         self.run = run
         self.steps = run.steps
-        self.known: collections.OrderedDict[tuple[int, int], Moment] = collections.OrderedDict()
+        # by event, unit, and the user of whom the view is
+        self.known: collections.OrderedDict[
+            tuple[int, int, str], Moment
+        ] = collections.OrderedDict()
         self.spare: list[StateProgram] = []
         self.live: Live | None = None
         # for all that belongs to moments, and for the spare programs, which searches take too
@@ -115,17 +118,37 @@ class Moments:
         rest += f"RUN {step.user} {unit}\n" if unit else ""
         return Place(step.entry, step.turn, 0, rest.encode())
 
-    def moment(self, event: int, unit: int) -> Moment:
+    def key_of(self, event: int, unit: int, user: str) -> tuple[int, int, str]:
+        """By what a moment is known."""
+        return event, unit, user if self.run.is_large() else ""
+
+    def moment(self, event: int, unit: int, user: str = "") -> Moment:
+        """A moment; where states are large it shows only this user, or all if none is named."""
+        key = self.key_of(event, unit, user)
         with self.lock:
-            found = self.known.pop((event, unit), None) or self.made(event, unit)
-            self.known[event, unit] = found
+            found = self.known.pop(key, None) or self.made(*key)
+            self.known[key] = found
             while len(self.known) > KEPT_MOMENTS:
                 self.known.popitem(last=False)
             if self.run.pieces.size > MOST_BYTES:
-                self.run.forget_but([moment.view.state for moment in self.known.values()])
+                self.run.forget_but([moment.view for moment in self.known.values()])
             return found
 
-    def made(self, event: int, unit: int) -> Moment:
+    def program_at(self, event: int, unit: int) -> StateProgram:
+        """A program that is led to a moment from the last state before it."""
+        place = self.place_of(event, unit)
+        mark = self.mark_before(place)
+        program = self.restored(mark)
+        try:
+            script = self.between(mark.entry, mark.turn, mark.unit, place) + [place.rest]
+            for part in filter(None, script):
+                program.do(part)
+        except BaseException:
+            program.close()
+            raise
+        return program
+
+    def made(self, event: int, unit: int, user: str) -> Moment:
         """A moment, from the last state before it or from the last moment that was made, whatever is nearer."""
         place = self.place_of(event, unit)
         mark = self.mark_before(place)
@@ -145,7 +168,11 @@ class Moments:
             if not unit:
                 for part in filter(None, script):
                     program.do(part)
-            view = self.run.view_of(program)
+            view = (
+                program.user_view(user, self.run.machines.users, self.run.pieces)
+                if user
+                else self.run.view_of(program)
+            )
         except BaseException:
             program.close()
             raise
@@ -231,12 +258,6 @@ class Moments:
         if unit:
             return event, unit - 1
         return max(0, event - 1), max(0, self.units_of(event - 1) - 1) if event else 0
-
-    def before_known(self, event: int, unit: int) -> tuple[int, int]:
-        """The moment before one, or that itself if states are so large that one more would take long."""
-        before = self.before(event, unit)
-        is_near = before in self.known or self.run.marks[-1].state.size < VERY_LARGE
-        return before if is_near else (event, unit)
 
     def is_unit(self, since: tuple[int, int], to: tuple[int, int], user: str) -> bool:
         """Whether one unit of a user leads from a moment to another."""

@@ -108,7 +108,7 @@ class RunAnswers:
         if words.has("go"):
             where = self.moments.go(*where, user, words.word("go", WAYS))
         elif words.found.get("since") == BEFORE:
-            since = self.moments.before_known(*where)
+            since = self.moments.before(*where)
         elif words.has("since"):
             since = self.moments.ordered(*words.where("since"))
         with self.lock:

@@ -4,6 +4,7 @@ from __future__ import annotations
 
 from collections.abc import Callable, Iterator
 import collections
+import itertools
 import time
 from typing import Any, NamedTuple
 
@@ -15,7 +16,7 @@ from gathjumli.script_lines import Event
 from gathjumli.state_files import StateFile, restore
 from gathjumli.state_pieces import Pieces
 from gathjumli.state_programs import StateProgram
-from gathjumli.state_view import PackedState, StateView
+from gathjumli.state_view import PackedState, StateView, UserView
 from gathjumli.tracing import SLICE
 
 # what is done between two states, in units, at first and at most; a line counts as some. Where there are many states, every other one
@@ -244,14 +245,21 @@ class Run:
         self.marks = self.marks[::2]
         self.forget_but([])
 
-    def forget_but(self, states: list[PackedState]) -> None:
-        """Forgets all pieces but those of the kept states, and of these."""
-        states = [*(mark.state for mark in self.marks), *states]
-        self.pieces.forget_others(number for state in states for number in state.used(self.pieces))
+    def forget_but(self, views: list[UserView]) -> None:
+        """Forgets all pieces but those of the kept states, and of these views."""
+        used = [
+            *(mark.state.used(self.pieces) for mark in self.marks),
+            *(view.used() for view in views),
+        ]
+        self.pieces.forget_others(itertools.chain.from_iterable(used))
 
     def view_of(self, program: StateProgram) -> StateView:
         """The state where a program is."""
         return program.view(self.machines.users, self.pieces)
+
+    def is_large(self) -> bool:
+        """Whether a state takes so long that only one user is looked at."""
+        return self.marks[-1].state.size >= LARGE_STATE
 
     # --- what the program answers ---
 

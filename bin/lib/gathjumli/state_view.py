@@ -150,6 +150,9 @@ class PackedState(NamedTuple):
 class UserView:
     """What a state has of one user, by name, of the frames and of his storage."""
 
+    # those of all users are in no answer for one
+    volumes: list[dict[str, Any]] = []
+
     def __init__(
         self, arriving: Iterable[bytes], name: str, users: dict[str, int], pieces: Pieces
     ) -> None:
@@ -160,6 +163,11 @@ class UserView:
         # the numbers of his pages
         self.tables: dict[str, array] = {name: self.storage()}
         self.read.finish()
+
+    def used(self) -> Iterator[int]:
+        """The numbers of all pieces that it needs."""
+        for table in self.tables.values():
+            yield from table
 
     def read_supply(self) -> None:
         """Reads what the frames and slots have, and in which order frames are taken."""
@@ -294,6 +302,9 @@ class StateView(UserView):
         if not len(users) == len(self.users) == len(self.tables):
             raise malformed()
         self.state = self.packed(read.cut())
+
+    def used(self) -> Iterator[int]:
+        return self.state.used(self.pieces)
 
     def packed(self, tail: bytes) -> PackedState:
         storages = [self.keep(table.tobytes()) for table in self.tables.values()]
