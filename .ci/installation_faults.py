@@ -560,6 +560,10 @@ def try_killed_program(check: Callable, site: object, program: str) -> None:
             os.kill(site.program(), signal.SIGKILL)
             alice.type("DISPLAY G1")
             await alice.until(f"GPR 1 = {count:08X}")
+        killed = site.program()
+        os.kill(killed, signal.SIGKILL)
+        await until_so(lambda: site.program() not in (None, killed))
+        check("also while nobody types", site.program() not in (None, killed))
         alice.type("LOGOFF")
         return await alice.rest()
 

@@ -178,8 +178,9 @@ class Engine:
         return results, [done for _, done in given]
 
     def look_again(self) -> None:
-        """Has what users hold asked once more if something was done since it was."""
-        if self.parts != self.looked_after:
+        """Has what users hold asked once more if something was done since it was. A program that has died is asked too: it is
+        started again before anybody types."""
+        if self.parts != self.looked_after or self.program.process.poll() is not None:
             self.woken.set()
 
     def look_at_open_files(self) -> None:
