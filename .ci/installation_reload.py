@@ -80,11 +80,15 @@ def try_reload(check: Callable, site: Site) -> None:
     check("a password of the directory", answer(site, "ANOTHER") == "LOGON OK", *site.findings)
     check("the old one is wrong", answer(site, "WONDER") == REFUSED, *site.findings)
     check("the journal goes on in a new file", b"ALICE logs on" in read(journal))
-    write_text(f"{site.record}.rules", "# at night\nlock BOB\nquota 9\n")
+    write_text(f"{site.record}.rules", "# at night\nlock BOB\nlock BEN\nquota 9\n")
     os.rename(journal, f"{journal}.2")
     site.process.send_signal(signal.SIGHUP)
     check("a SIGHUP does so", site.await_message("are read again"), *site.findings)
+    wanted = f"{site.record}.rules locks BEN, who is no user"
+    check("a lock of nobody is told", wanted in site.since_start(), *site.findings)
     check("a locked user", answer(site, "BUILDER", "BOB") == REFUSED)
+    told = operator(site, "users").stdout
+    check("the operator sees who is locked", "BOB is locked\n" in told, told)
     check("the journal after a SIGHUP", os.path.exists(journal))
     write_text(directory, DIRECTORY.replace("USER BOB", "USER BEN"))
     write_text(f"{site.record}.rules", "quota many\n")

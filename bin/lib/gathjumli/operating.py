@@ -30,7 +30,7 @@ HELP = """\
 status             who is on, memory, sizes, the age of the session, how long a start takes
 status --json      the same and more in figures, a line for programs
 metrics            these figures as Prometheus reads them; so are they at /metrics of the pages
-users              who is on, and how much each has written since LOGON
+users              who is on, and how much each has written since LOGON; who is locked
 frames             in which frames pages are; what followed the last state is done for it
 spool              the files that users closed for the operator, the last ones; spool USER his
 hold FILE          moves a written file into the folder held; release FILE moves it back
@@ -175,6 +175,8 @@ class Operator:
             reply(
                 f"{user.name} {'runs' if user.is_running else 'is stopped'}{where}, {size_text(user.written)} written"
             )
+        for name in sorted(self.installation.desk.rules.locked):
+            reply(f"{name} is locked")
         reply(f"{len(self.on())} on")
 
     def close(self) -> None:

@@ -80,5 +80,7 @@ class Reload:
             user=rules.quota * MEGABYTE if rules.quota else self.limits.user,
             memory=rules.memory * MEGABYTE if rules.memory else self.limits.memory,
         )
+        for name in sorted({*rules.locked} - installation.engine.users.keys()):
+            installation.notify(f"{self.path} locks {name}, who is no user")
         installation.desk.take_rules(rules)
         installation.retention.take(rules.keep)
