@@ -6,6 +6,8 @@ use Rattle.ckd_image.specs.declared.faults.ImageError.TheVariants as images
 use Rattle.ckd_image.specs.Told.{image_status, image_text}
 use Rattle.s370_num.specs.declared.host.HostFault.{HostFault}
 use Rattle.s370_num.specs.declared.host.HostFault.TheVariants as hosts
+use Rattle.ckd_text.specs.declared.arguments.ToolUsageError.{ToolUsageError}
+use Rattle.ckd_text.specs.declared.arguments.ToolUsageError.TheVariants as uses
 use Rattle.ckd_text.specs.declared.reader.TextError.{TextError}
 use Rattle.ckd_text.specs.declared.reader.TextError.TheVariants as texts
 use Rattle.ckd_text.specs.declared.faults.ToolFailure.{ToolFailure}
@@ -30,6 +32,11 @@ image_failure images.Truncated = failures.Image images.Truncated
 image_failure (images.BadTrack cylinder head) = failures.Image (images.BadTrack cylinder head)
 image_failure images.Trailing = failures.Image images.Trailing
 image_failure images.BadTotal = failures.Image images.BadTotal
+
+-- and as words name no files
+abbrev pub use_failure : ToolUsageError → ToolFailure
+use_failure uses.Memory = failures.Memory
+use_failure (uses.Usage text) = failures.Usage
 
 -- the line of a failure
 abbrev pub fault_text : ToolFailure → List ℕ

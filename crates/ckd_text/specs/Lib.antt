@@ -3,6 +3,9 @@ pub mod Text
 pub mod Stated
 pub mod Options
 pub mod Faults
+pub mod Hosts
 pub mod Map
 pub mod Grammar
 pub mod Made
+pub mod Mapped
+pub mod Runs

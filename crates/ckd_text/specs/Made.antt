@@ -1,42 +1,70 @@
--- The image that is made of a text.
-use Rattle.std.specs.Prelude.{ℕ, ◌≡◌, ◌⊎◌, List, Option, Result, Ok, Err}
-use Rattle.std.specs.Io.KnownBytes.{Appends}
-use Rattle.s370_num.specs.Host.{one_more}
-use Rattle.s370_num.specs.declared.host.HostFault.{HostFault}
-use Rattle.s370_num.specs.declared.host.HostFault.TheVariants as hosts
+-- The image that mkvol makes of a text.
+use Rattle.std.specs.Prelude.{◌≡◌, ◌⊎◌, ℕ, List, Option, Ok}
 use Rattle.ckd_volume.specs.Volume.{VolumeFormat}
 use Rattle.ckd_image.specs.Image.{image_of}
+use Rattle.ckd_text.specs.Faults.{text_failure}
+use Rattle.ckd_text.specs.Hosts.{Giving, HasFailed, IsCutAs, IsReadAs, IsUsed, IsWithheld}
+use Rattle.ckd_text.specs.Hosts.{IsWrittenAs}
+use Rattle.ckd_text.specs.Text.{IsRefusal, volume_of}
+use Rattle.ckd_text.specs.declared.arguments.VolumePaths.{VolumePaths}
 use Rattle.ckd_text.specs.declared.faults.ToolFailure.{ToolFailure}
-use Rattle.ckd_text.specs.declared.faults.ToolFailure.TheVariants as failures
-use Rattle.ckd_text.specs.Text.{volume_of}
+use Rattle.ckd_text.specs.declared.reader.TextError.{TextError}
 
--- the text states a volume, a writer was made, and to it the image of that volume was written
-pub record IsMade {W : Type 0} (text : List ℕ) (Makes : W → Type 0) (contents : W → Option (List ℕ))
-    (writer : W) : Type 0 where
-  pub volume : VolumeFormat
+-- the file at the path of the text was opened, and its text states this volume
+pub record IsStated {H F : Type 0} (Opens : List ℕ → Giving H F)
+    (remaining : F → Option (List ℕ)) (path : List ℕ) (volume : VolumeFormat)
+    (old new : H) : Type 0 where
+  pub text : List ℕ
+  pub read : IsUsed (Opens path) (IsReadAs remaining text) old new
   pub stated : volume_of text ≡ Ok volume
-  pub first : W
-  pub made : Makes first
-  pub written : Appends (contents first) (contents writer) (image_of volume)
 
--- a file fails for the first time, or there is no memory for it
-abbrev pub IsFirst : HostFault → Type 0
-IsFirst hosts.Memory = Unit {0}
-IsFirst (hosts.Device count) = count ≡ 1
+-- the text at its path states a volume, and the volume's image was written to the file that was
+-- created at the path of the image
+pub record IsMade {H F W : Type 0} (Opens : List ℕ → Giving H F)
+    (Creates : List ℕ → Giving H W) (remaining : F → Option (List ℕ))
+    (contents : W → Option (List ℕ)) (held : W → List ℕ) (paths : VolumePaths)
+    (old new : H) : Type 0 where
+  pub volume : VolumeFormat
+  pub between : H
+  pub stated : IsStated Opens remaining paths.text.now volume old between
+  pub written : IsUsed (Creates paths.out.now) (IsWrittenAs contents held (image_of volume))
+      between new
 
--- the output failed, which made no writer, or the writer that was made, for its first time
-abbrev pub HasFailed : {W : Type 0} → (W → Type 0) → (W → ℕ) → (HostFault → Type 0) → ℕ → Type 0
-HasFailed {W} Makes failures_of Fails count =
-    Fails (hosts.Device count)
-    ⊎ ((first : W) × Makes first × (count ≡ one_more (failures_of first)))
+-- the text was read, and is refused
+pub record IsRefusedText {H F : Type 0} (Opens : List ℕ → Giving H F)
+    (remaining : F → Option (List ℕ)) (path : List ℕ) (old new : H)
+    (failure : ToolFailure) : Type 0 where
+  pub text : List ℕ
+  pub read : IsUsed (Opens path) (IsReadAs remaining text) old new
+  pub error : TextError
+  pub refused : IsRefusal (volume_of text) error
+  pub reported : failure ≡ text_failure error
 
--- why no image is made of a text that states this: memory, its first wrong line, or, where it
--- states a volume, a failure of the output
-abbrev pub IsUnmade : {W : Type 0} → (W → Type 0) → (W → ℕ) → (HostFault → Type 0)
-    → Result VolumeFormat ℕ → ToolFailure → Type 0
-IsUnmade Makes failures_of Fails stated failures.Memory = Unit {0}
-IsUnmade Makes failures_of Fails stated (failures.Text line) = stated ≡ Err line
-IsUnmade Makes failures_of Fails stated (failures.File count) =
-    ((volume : VolumeFormat) × (stated ≡ Ok volume)) × HasFailed Makes failures_of Fails count
-IsUnmade Makes failures_of Fails stated (failures.Image error) = ⊥
-IsUnmade Makes failures_of Fails stated failures.Usage = ⊥
+-- why there is no volume, and no file was created: the text was not opened, or not read, or is
+-- refused
+abbrev pub IsUnstated : {H F : Type 0} → (List ℕ → Giving H F)
+    → (F → Option (List ℕ)) → (F → ℕ) → List ℕ → H → H → ToolFailure → Type 0
+IsUnstated Opens remaining count path old new failure =
+    IsWithheld (Opens path) old new failure
+    ⊎ IsUsed (Opens path) (HasFailed count failure) old new
+    ⊎ IsRefusedText Opens remaining path old new failure
+
+-- there was a volume, and the file for its image was not created, or not written to its end
+pub record IsUnwritten {H F W : Type 0} (Opens : List ℕ → Giving H F)
+    (Creates : List ℕ → Giving H W) (remaining : F → Option (List ℕ))
+    (contents : W → Option (List ℕ)) (count : W → ℕ) (paths : VolumePaths) (old new : H)
+    (failure : ToolFailure) : Type 0 where
+  pub volume : VolumeFormat
+  pub between : H
+  pub stated : IsStated Opens remaining paths.text.now volume old between
+  pub failed : IsWithheld (Creates paths.out.now) between new failure
+      ⊎ IsUsed (Creates paths.out.now) (IsCutAs contents count (image_of volume) failure) between
+      new
+
+-- which of the two failed
+abbrev pub IsUnmade : {H F W : Type 0} → (List ℕ → Giving H F)
+    → (List ℕ → Giving H W) → (F → Option (List ℕ)) → (F → ℕ)
+    → (W → Option (List ℕ)) → (W → ℕ) → VolumePaths → H → H → ToolFailure → Type 0
+IsUnmade Opens Creates remaining read_failures contents failures paths old new failure =
+    IsUnstated Opens remaining read_failures paths.text.now old new failure
+    ⊎ IsUnwritten Opens Creates remaining contents failures paths old new failure

@@ -29,7 +29,7 @@ mod reader;
 mod statement;
 pub mod trackmap;
 
-pub use host::ToolEnd;
+pub use host::{ToolEnd, ToolHost};
 pub use map::track_map;
 pub use programs::program;
 pub use reader::{TextError, make_volume, reads_grammar};

@@ -1,22 +1,15 @@
 //! The program `mkvol OUT TEXT`: the image of the volume that a text states.
-ghost use Rattle.std.specs.Prelude.{◌≡◌, ℕ, [], Err, IfErr, IfOk};
-ghost use Rattle.s370_num.specs.Counted.{failures_of};
-ghost use Rattle.s370_num.specs.declared.host.HostFault.{HostFault};
-ghost use Rattle.ckd_text.specs.Made.{IsFirst, IsMade, IsUnmade};
-ghost use Rattle.ckd_text.specs.Text.{volume_of};
+ghost use Rattle.std.specs.Prelude.{IfErr, OnOk, map, string_bytes};
+ghost use Rattle.ckd_text.specs.Made.{IsMade, IsUnmade};
+ghost use Rattle.ckd_text.specs.Runs.{IsMadeNamed, IsUnmadeNamed};
 
-use crate::arguments::{ToolUsageError, volume_paths};
+use crate::arguments::{VolumePaths, volume_paths};
 use crate::faults::ToolFailure;
-use crate::host::{open, words, wrong_use};
+use crate::host::{ToolHost, wrong_use};
 use crate::reader::make_volume;
 use ckd_image::write_image;
-use s370_num::host::{Counted, HostFault, HostWriter, read_all};
+use s370_num::host::read_all;
 use std::alloc::Global;
-use std::rt::{Env, Files};
-use std::{fs, io};
-
-/// The program's name, as it says it.
-const PROGRAM: &str = "mkvol";
 
 /// What is reported after a usage text: an example, and the exit statuses.
 const USAGE_NOTE: &str = "
@@ -32,96 +25,52 @@ A fault is one line on standard error. Exit statuses:
   4  there was not memory enough
 ";
 
-/// Runs `mkvol`: reads the text that its second argument names, and writes the image of the volume
-/// to its first, which is made anew.
-pub(crate) fn run<R: AllocGlobal + Files + Env + Eprint>(rt: &R) -> Result<(), ToolFailure> {
+/// Does what these words of `mkvol` ask: makes the image of a text. A usage error is printed here.
+pub(crate) fn obey<R: AllocGlobal + Eprint, H: ToolHost>(
+    rt: &R,
+    host: &mut H,
+    words: &[String],
+) -> Result<(), ToolFailure>
+    ensures ok { OnOk result
+        (IsMadeNamed H.opens H.creates H.File.remaining H.Image.contents H.Image.held
+        (map string_bytes words.now) host.old host.new) }
+    ensures err { IfErr result
+        (IsUnmadeNamed H.opens H.creates H.File.remaining H.File.HostFile.failures H.Image.contents
+        H.Image.HostFile.failures (map string_bytes words.now) host.old host.new) }
+{
     let alloc = rt.alloc();
-    let words = words(rt, PROGRAM)?;
-    let paths = match volume_paths(alloc, words.as_slice()) {
+    let paths = match volume_paths(alloc, words) {
         Ok(paths) => paths,
-        Err(ToolUsageError::Memory) => return Err(ToolFailure::Memory),
-        Err(ToolUsageError::Usage(text)) => return Err(wrong_use(rt, &text, USAGE_NOTE)),
+        Err(error) => return Err(wrong_use(rt, &error, USAGE_NOTE)),
     };
-    let text = read_all(alloc, &mut open(rt, paths.text)?)?;
-    let mut output = OutputFile {
-        rt,
-        path: paths.out,
-    };
-    let _written = make_image(alloc, &text, &mut output)?;
-    Ok(())
+    make_image(alloc, host, &paths)
 }
 
-/// Where an image goes: something that makes the writer when it is asked to, and not before.
-pub trait ImageOutput {
-    /// What the image is written to.
-    type Writer: HostWriter + Drop;
-
-    /// The output may make this writer.
-    ghost makes: { Self → Self.Writer → Type 0 };
-
-    /// The output may fail so.
-    ghost fails: { Self → HostFault → Type 0 };
-
-    /// Makes and returns the writer to which the image goes.
-    ///
-    /// # Errors
-    ///
-    /// `Device` with the number of the failure, or `Memory`.
-    fn make(&mut self) -> Result<Self::Writer, HostFault>
-        ensures ok { IfOk result (λ writer. makes self.old writer) }
-        ensures err { IfErr result (λ fault. fails self.old fault) };
-}
-
-/// Makes the volume that a text states, makes a writer, writes the volume's image to it, flushes it
-/// and returns it.
+/// Reads the text at its path, creates the file at the path of the image, and writes the image of
+/// the volume that the text states to it.
 ///
-/// The text is tested first: if it is refused, no writer is made.
+/// The text is tested first: if it is refused, no file is created.
 ///
 /// # Errors
 ///
 /// A `ToolFailure`: the first fault of the text or the image, a failure of a file, or refused
 /// memory.
-pub fn make_image<O: ImageOutput>(
+pub fn make_image<H: ToolHost>(
     alloc: Global,
-    text: &[u8],
-    output: &mut O,
-) -> Result<O::Writer, ToolFailure>
-    ensures made { IfOk result (IsMade text.now (O.makes output.old) O.Writer.contents) }
-    ensures flushed { IfOk result (λ writer. O.Writer.held writer ≡ []) }
+    host: &mut H,
+    paths: &VolumePaths<'_>,
+) -> Result<(), ToolFailure>
+    ensures ok { OnOk result
+        (IsMade H.opens H.creates H.File.remaining H.Image.contents H.Image.held paths.now host.old
+        host.new) }
     ensures err { IfErr result
-        (IsUnmade (O.makes output.old) O.Writer.HostFile.failures (O.fails output.old)
-        (volume_of text.now)) }
-    ensures unasked { (line : ℕ) → volume_of text.now ≡ Err line → output.new ≡ output.old }
+        (IsUnmade H.opens H.creates H.File.remaining H.File.HostFile.failures H.Image.contents
+        H.Image.HostFile.failures paths.now host.old host.new) }
 {
-    let volume = make_volume(alloc, text)?;
-    let mut writer = output.make()?;
-    write_image(alloc, &volume, &mut writer)?;
-    Ok(writer)
-}
-
-/// The file at a path, which is made anew when it is asked for.
-#[derive(Drop)]
-struct OutputFile<'a, R> {
-    rt: &'a R,
-    path: &'a str,
-}
-
-impl<R: AllocGlobal + Files> ImageOutput for OutputFile<'_, R> {
-    type Writer = Counted<io::BufWriter<R::File, Global>>;
-
-    ghost makes = { λ _ writer. failures_of writer ≡ 0 };
-
-    ghost fails = { λ _ fault. IsFirst fault };
-
-    /// Creates the file at the path, which empties one that exists, and returns it with a buffer
-    /// and no failure counted.
-    fn make(&mut self) -> Result<Counted<io::BufWriter<R::File, Global>>, HostFault> {
-        let Ok(file) = fs::create(self.rt, self.path) else {
-            return Err(HostFault::Device(1));
-        };
-        let Ok(buffered) = io::BufWriter::new(self.rt.alloc(), file) else {
-            return Err(HostFault::Memory);
-        };
-        Ok(Counted::new(buffered))
-    }
+    let mut file = host.open(paths.text)?;
+    let text = read_all(alloc, &mut file)?;
+    let volume = make_volume(alloc, &text)?;
+    let mut image = host.create(paths.out)?;
+    write_image(alloc, &volume, &mut image)?;
+    Ok(())
 }

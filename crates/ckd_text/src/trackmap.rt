@@ -1,21 +1,15 @@
 //! The program `trackmap IMAGE`: what the volume of an image has.
-ghost use Rattle.std.specs.Prelude.{◌≡◌, [], OnOk};
-ghost use Rattle.std.specs.Io.KnownBytes.{Appends};
-ghost use Rattle.ckd_text.specs.Map.{map_of};
+ghost use Rattle.std.specs.Prelude.{IfErr, OnOk, map, string_bytes};
+ghost use Rattle.ckd_text.specs.Mapped.{IsMapped, IsUnmapped};
+ghost use Rattle.ckd_text.specs.Runs.{IsMappedNamed, IsUnmappedNamed};
 
-use crate::arguments::{ToolUsageError, image_path};
+use crate::arguments::image_path;
 use crate::faults::ToolFailure;
-use crate::host::{open, words, wrong_use};
+use crate::host::{ToolHost, wrong_use};
 use crate::map::track_map;
 use ckd_image::read_image;
-use ckd_volume::Volume;
-use s370_num::host::{Counted, HostWriter, write_all};
+use s370_num::host::{HostWriter, write_all};
 use std::alloc::Global;
-use std::io;
-use std::rt::{Env, Files};
-
-/// The program's name, as it says it.
-const PROGRAM: &str = "trackmap";
 
 /// What is reported after a usage text: an example, and the exit statuses.
 const USAGE_NOTE: &str = "
@@ -32,37 +26,47 @@ The map goes to standard output, a fault as one line to standard error. Exit sta
   4  there was not memory enough
 ";
 
-/// Runs `trackmap`: reads the image that its argument names, and prints the map of its volume on
-/// standard output.
-pub(crate) fn run<R: AllocGlobal + Files + Env + Print + Eprint>(
+/// Does what these words of `trackmap` ask: prints the map of an image. A usage error is printed
+/// here.
+pub(crate) fn obey<R: AllocGlobal + Eprint, H: ToolHost>(
     rt: &R,
-) -> Result<(), ToolFailure> {
+    host: &mut H,
+    words: &[String],
+) -> Result<(), ToolFailure>
+    ensures ok { OnOk result
+        (IsMappedNamed H.opens H.prints H.File.remaining H.Printer.contents H.Printer.held
+        (map string_bytes words.now) host.old host.new) }
+    ensures err { IfErr result
+        (IsUnmappedNamed H.opens H.prints H.File.remaining H.File.HostFile.failures
+        H.Printer.contents H.Printer.HostFile.failures (map string_bytes words.now) host.old
+        host.new) }
+{
     let alloc = rt.alloc();
-    let words = words(rt, PROGRAM)?;
-    let path = match image_path(alloc, words.as_slice()) {
+    let path = match image_path(alloc, words) {
         Ok(path) => path,
-        Err(ToolUsageError::Memory) => return Err(ToolFailure::Memory),
-        Err(ToolUsageError::Usage(text)) => return Err(wrong_use(rt, &text, USAGE_NOTE)),
+        Err(error) => return Err(wrong_use(rt, &error, USAGE_NOTE)),
     };
-    let volume = read_image(alloc, &mut open(rt, path)?)?;
-    let Ok(output) = io::BufWriter::new(alloc, io::writer(rt)) else {
-        return Err(ToolFailure::Memory);
-    };
-    print_map(alloc, &volume, &mut Counted::new(output))
+    print_map(alloc, host, path)
 }
 
-/// Appends the map of a volume to a file and flushes it.
-fn print_map<W: HostWriter>(
-    alloc: Global,
-    volume: &Volume,
-    writer: &mut W,
-) -> Result<(), ToolFailure>
-    ensures written { OnOk result
-        (Appends (W.contents writer.old) (W.contents writer.new) (map_of volume.now)) }
-    ensures flushed { OnOk result (W.held writer.new ≡ []) }
+/// Reads the image at a path, and prints the map of its volume on standard output.
+///
+/// # Errors
+///
+/// A `ToolFailure`: the first fault of the image, a failure of a file, or refused memory.
+pub fn print_map<H: ToolHost>(alloc: Global, host: &mut H, path: &str) -> Result<(), ToolFailure>
+    ensures ok { OnOk result
+        (IsMapped H.opens H.prints H.File.remaining H.Printer.contents H.Printer.held path.now
+        host.old host.new) }
+    ensures err { IfErr result
+        (IsUnmapped H.opens H.prints H.File.remaining H.File.HostFile.failures H.Printer.contents
+        H.Printer.HostFile.failures path.now host.old host.new) }
 {
-    let map = track_map(alloc, volume)?;
-    write_all(writer, &map)?;
-    writer.flush()?;
+    let mut file = host.open(path)?;
+    let volume = read_image(alloc, &mut file)?;
+    let map = track_map(alloc, &volume)?;
+    let mut output = host.standard_output()?;
+    write_all(&mut output, &map)?;
+    output.flush()?;
     Ok(())
 }

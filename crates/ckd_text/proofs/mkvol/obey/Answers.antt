@@ -1,0 +1,20 @@
+use Rattle.std.proofs.Common.{inl, inr}
+use Rattle.std.proofs.lemmas.Result.{IfErr-at_err, IfErr-weaker, IfOk-at_ok, on_ok_weaker}
+use Rattle.ckd_text.proofs.Hosts.{unbegun}
+use Rattle.ckd_text.proofs.mkvol.obey.Goals as goal
+
+pub returns-in-Err-clause-err : goal.returns-in-Err-clause-err
+returns-in-Err-clause-err g c =
+    inl (unbegun c.args.host.now c.in-Err.error c.wrong_use.result c.wrong_use.ensures
+    (λ other taken out text. other (IfErr-at_err _ c.in-Err.is (c.volume_paths.ensures.err taken out text))))
+
+pub returns-clause-ok : goal.returns-clause-ok
+returns-clause-ok g c =
+    on_ok_weaker c.make_image.result
+    (λ made. (c.in-Ok.paths, IfOk-at_ok _ c.in-Ok.is c.volume_paths.ensures.ok, made)) c.make_image.ensures.ok
+
+pub returns-clause-err : goal.returns-clause-err
+returns-clause-err g c =
+    IfErr-weaker c.make_image.result _ _
+    (λ failure failed. inr (c.in-Ok.paths, IfOk-at_ok _ c.in-Ok.is c.volume_paths.ensures.ok, failed))
+    c.make_image.ensures.err
