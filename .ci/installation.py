@@ -612,7 +612,7 @@ def try_no_room(check: Callable) -> None:
     user = User("A")
     user.show = lambda texts, when=None: shown.extend(texts)
     engine.users, engine.receiver, engine.pace = {"A": user}, None, Pace(1)
-    engine.marks = collections.deque()
+    engine.marks, engine.turns = collections.deque(), 0
     short, done = PartResult(["= A FRAMES"], [], [], True), PartResult([], [], [], True)
 
     def try_results(*results: PartResult) -> None:
