@@ -502,12 +502,12 @@ def program_of(process: int) -> int | None:
     return None
 
 
-def try_left(check: Callable, folder: str) -> None:
+def try_left(check: Callable, repository: str, folder: str) -> None:
     """A trace that is ended has its program end as well."""
     with open(f"{folder}/endless", "w") as file:
         file.write(LONG + "RUN A 1000000\n" * 100)
     words = [
-        f"{TOP}/bin/trace370",
+        f"{repository}/bin/trace370",
         "--first",
         "9999999",
         f"{folder}/directory",
@@ -571,7 +571,7 @@ def try_recording(check: Callable, program: str, folder: str) -> None:
         machines.close()
 
 
-def try_moments(check: Callable, program: str, count: int) -> None:
+def try_moments(check: Callable, repository: str, program: str, count: int) -> None:
     """So many random moments of each of some runs."""
     try_cuts(check, program)
     try_bare(check, program)
@@ -597,6 +597,6 @@ def try_moments(check: Callable, program: str, count: int) -> None:
         machines = machines_of(program, f"{folder}/directory", [], [f"{folder}/volume"])
         try_run(check, "waiting", machines, WAITING.encode(), count)
         try_long_search(check, program, folder)
-        try_left(check, folder)
+        try_left(check, repository, folder)
         try_recording(check, program, folder)
         try_going_on(check, program, folder)

@@ -1413,7 +1413,7 @@ def try_states(repository: str, folder: str) -> None:
     broken.try_spoiled(check, programs[0], broken.STATES, 1)
     typed_lines.try_typed(check, programs[0], 50)
     closed_files.try_closed(check, programs[0], 300)
-    any_moment.try_moments(check, programs[0], 20)
+    any_moment.try_moments(check, repository, programs[0], 20)
     watching.try_event_by_event(check, programs, f"{folder}/watched")
 
 
