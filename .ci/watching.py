@@ -37,13 +37,12 @@ COUNTED = {
     "half a line": ("RUN A 5\n", 1, "= A 5 COU", 0),
 }
 
-# a line, a run that takes most of the time, and another line
-LONG_RUN = """LINE {0} LOGON
-LINE {0} STORE 100 47F00100
-LINE {0} BEGIN 100
-RUN {0} 20000000
-LINE {0} #CP DISPLAY PSW
-"""
+# a line, runs that take most of the time, and another line
+LONG_RUN = (
+    "LINE {0} LOGON\nLINE {0} STORE 100 47F00100\nLINE {0} BEGIN 100\n"
+    + 3 * "RUN {0} 9999999\n"
+    + "LINE {0} #CP DISPLAY PSW\n"
+)
 
 
 class Shown:
@@ -140,7 +139,7 @@ def try_watching(check: Callable, folder: str) -> None:
 
 
 def try_event_by_event(check: Callable, programs: tuple[str, str], folder: str) -> None:
-    """A terminal is shown what a program prints before a long run while that goes on."""
+    """A terminal is shown what a program prints before long runs while these go on."""
     os.makedirs(folder)
     with open(f"{folder}/directory", "w") as file:
         file.write("USER A PW 8K\n")
