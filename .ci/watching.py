@@ -40,7 +40,7 @@ COUNTED = {
 # a line, runs that take most of the time, and another line
 LONG_RUN = (
     "LINE {0} LOGON\nLINE {0} STORE 100 47F00100\nLINE {0} BEGIN 100\n"
-    + 3 * "RUN {0} 9999999\n"
+    + 40 * "RUN {0} 1000000\n"
     + "LINE {0} #CP DISPLAY PSW\n"
 )
 
