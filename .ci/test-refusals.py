@@ -524,7 +524,7 @@ def desk_fault(case: Case, ended: Ended) -> str | None:
 
 
 def saved_after(host: Host, requests: bytes) -> tuple[bytes, bytes]:
-    """What a session that nothing interrupts answers to requests of which the last is SAVE, and the state in it."""
+    """What a session that nothing interrupts answers to requests of which the last is SAVE or VIEW, and the state in it."""
     ended = host.run(follow_case("", requests, b""))
     assert ended.status == 0, ended.findings()
     place = ended.out.index(b"> STATE ")
@@ -552,17 +552,21 @@ def map_of_state(host: Host, state: bytes) -> Case:
 
 
 def state_cases(host: Host) -> list[Case]:
-    """A part from a state, the same with a state that is saved then, and a map from a state."""
+    """A part from a state, the same with a state that is saved then, with that of one user, and a map from a state."""
     before, after = (
         refused_states.part(text) for text in (refused_states.BEFORE, refused_states.AFTER)
     )
     _, state = saved_after(host, before + b"SAVE\n")
     saved, _ = saved_after(host, before + after + b"SAVE\n")
+    viewed, _ = saved_after(host, before + after + b"VIEW 1\n")
     requests = refused_states.begun_from(state) + after
     return [
         follow_case("a state", requests, refused_states.ANSWER),
         follow_case(
             "a state, and another one", requests + b"SAVE\n", refused_states.ANSWER + saved
+        ),
+        follow_case(
+            "a state, and that of a user", requests + b"VIEW 1\n", refused_states.ANSWER + viewed
         ),
         map_of_state(host, state),
     ]
