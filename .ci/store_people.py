@@ -23,9 +23,8 @@ from servers import free_port
 
 Check = Callable[..., None]
 PEOPLE = 20
-# everybody is back so soon after what lets them, where a start takes a second; on a host that is busy, after so many starts
+# everybody is back so soon after what lets them
 SECONDS_BACK = 10
-STARTS_BACK = 5
 THINKS = 0.3
 SITES: list[Site] = []
 
@@ -52,12 +51,6 @@ class Host(Site):
                       "--listen", self.socket, *words]  # fmt: skip
         self.record, self.paths = f"{folder}/work/recording", []
         SITES.append(self)
-
-    def seconds_back(self) -> float:
-        """How soon people are back on this host, which may have other work: it is started, and that is timed."""
-        begun = time.monotonic()
-        self.online()
-        return max(SECONDS_BACK, STARTS_BACK * (time.monotonic() - begun))
 
     def stands_by(self) -> Host:
         self.start()
@@ -156,7 +149,7 @@ class Scene:
             )
         )
         self.engine, self.standby = Host(place, "a", *words), Host(place, "b", *words)
-        self.seconds_back = self.engine.seconds_back()
+        self.engine.online()
         self.standby.stands_by()
         self.typists = Typists([self.engine.socket, self.standby.socket], PEOPLE)
         self.typists.are_back(0)
@@ -173,7 +166,7 @@ class Scene:
         took = min(took, max(first_after(self.typists, since)))
         self.check(
             f"{what}: everybody is back in time",
-            is_back and took < self.seconds_back,
+            is_back and took < SECONDS_BACK,
             f"{took:.1f} s",
             *self.standby.findings[-5:],
         )
@@ -216,7 +209,7 @@ def try_hosts(check: Check, place: Any) -> None:
     # whoever is at a host that hangs sees that only by the time that it takes
     check(
         "an engine that is stopped is taken as dead",
-        taken and time.monotonic() - since < scene.seconds_back,
+        taken and time.monotonic() - since < SECONDS_BACK,
         *scene.standby.findings,
     )
     size = os.path.getsize(stale.record)
@@ -564,7 +557,7 @@ def try_haproxy(check: Check, place: Any) -> None:
         host = Host(place, inner, "--proxy-from", "127.0.0.1", *pages)
         host.words[host.words.index("--listen") + 1] = f"127.0.0.1:{ports[number]}"
         hosts.append(host)
-    seconds_back = hosts[0].seconds_back()
+    hosts[0].online()
     hosts[1].stands_by()
     door = subprocess.Popen(
         [program, "-f", haproxy_words(place.folder, names)], stderr=subprocess.DEVNULL
@@ -589,7 +582,7 @@ def try_haproxy(check: Check, place: Any) -> None:
             took = max(typists_firsts(typists, since + 1), default=60.0) + 1
             check(
                 f"by one address all are back if the engine is {what}",
-                is_back and took < seconds_back + 1,
+                is_back and took < SECONDS_BACK + 1,
                 f"{took:.1f} s",
             )
             hosts[0].process.send_signal(signal.SIGCONT)
