@@ -15,7 +15,7 @@ from gathjumli.state_view import UserView
 from gathjumli.tracing import SLICE
 
 KEPT_MOMENTS = 24
-# of all states and moments
+# what the pieces of all kept states and moments take at most
 MOST_BYTES = MOST_STATE_BYTES + (64 << 20)
 # programs that have read directory and volumes, and wait for a state
 SPARE = 2
