@@ -448,7 +448,7 @@ impl Frames {
             // By a buffer of its own, so that the caller's bytes can stay in registers.
             let mut buffer = [0u8; LONGEST];
             let part = &mut buffer[..into.len()];
-            self.load_apart(user, start, part);
+            self.load_pages(user, start, part);
             into.copy_from_slice(part);
         }
     }
@@ -486,7 +486,7 @@ impl Frames {
 
     /// Fills `into` with bytes of a user that may lie in two pages, which have to be in frames.
     #[inline(never)]
-    fn load_apart(&self, user: UserNo, start: u32, into: &mut [u8])
+    fn load_pages(&self, user: UserNo, start: u32, into: &mut [u8])
         requires granted { IsGranted (length (bytes_of self.now user))
             (is_there self.now.supply.owners user) start
             (length into.old) }
@@ -540,7 +540,7 @@ impl Frames {
             let mut buffer = [0u8; LONGEST];
             let part = &mut buffer[..from.len()];
             part.copy_from_slice(from);
-            self.store_apart(user, start, part);
+            self.store_pages(user, start, part);
         }
     }
 
@@ -705,7 +705,7 @@ impl Frames {
 
     /// Copies bytes into a user's storage that may lie in two pages, which have to be in frames.
     #[inline(never)]
-    fn store_apart(&mut self, user: UserNo, start: u32, from: &[u8])
+    fn store_pages(&mut self, user: UserNo, start: u32, from: &[u8])
         requires granted { IsGranted (length (bytes_of self.old user))
             (is_there self.old.supply.owners user) start
             (length from.now) }

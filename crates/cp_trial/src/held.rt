@@ -12,7 +12,7 @@ ghost use Rattle.cp_trial.specs.declared.DryRunError.TheVariants as errors;
 ghost use Rattle.s370_channel.specs.Supplied.{AllSuch};
 
 use crate::DryRunError;
-use crate::apart::pages_apart;
+use crate::copied::pages_on_copy;
 use cp_dat::Dat;
 use cp_needs::{Analysis, WordAt, analyze};
 use s370_store::{FramesOut, Page, Storage, Supply};
@@ -108,7 +108,7 @@ pub fn lock_pages(
         Ok(Analysis::Page(_)) => {}
         Err(_) => return Err(DryRunError::Memory),
     }
-    match pages_apart(alloc, storage, address) {
+    match pages_on_copy(alloc, storage, address) {
         Ok(Some(wanted)) => lock_wanted(alloc, storage, address, &wanted),
         Ok(None) => Ok(LockedProgram::SelfModifying),
         Err(_) => Err(DryRunError::Memory),

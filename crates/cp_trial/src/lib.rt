@@ -59,7 +59,7 @@
 //! ```
 #![tactic(auto)]
 
-mod apart;
+mod copied;
 mod flags;
 mod held;
 mod open;
@@ -176,7 +176,7 @@ pub fn run_tried<D: Device>(
         Ok(()) => {}
         Err(FramesOut) => return Err(DryRunError::FramesOut),
     }
-    let ran = run_apart(alloc, storage, start, device);
+    let ran = run_on_copy(alloc, storage, start, device);
     let Ok(ending) = ran else {
         return Err(DryRunError::Memory);
     };
@@ -186,7 +186,7 @@ pub fn run_tried<D: Device>(
 
 /// Runs the program with this start on its device, but on copies of pages, which are dropped, and
 /// returns how it ended.
-fn run_apart<D: Device>(
+fn run_on_copy<D: Device>(
     alloc: Global,
     storage: &Dat<'_>,
     start: Caw,
@@ -277,7 +277,7 @@ pub fn load_tried<D: Device>(
         Ok(()) => {}
         Err(FramesOut) => return Err(DryRunError::FramesOut),
     }
-    let ran = load_apart(alloc, storage, device);
+    let ran = load_on_copy(alloc, storage, device);
     let Ok(ending) = ran else {
         return Err(DryRunError::Memory);
     };
@@ -287,7 +287,7 @@ pub fn load_tried<D: Device>(
 
 /// Runs the program of an initial program loading on its device, but on copies of pages, which are
 /// dropped, and returns how it ended.
-fn load_apart<D: Device>(
+fn load_on_copy<D: Device>(
     alloc: Global,
     storage: &Dat<'_>,
     device: &mut D,

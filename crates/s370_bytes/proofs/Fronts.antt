@@ -10,7 +10,7 @@ use Rattle.s370_store.specs.Access.{put}
 use Rattle.s370_bytes.specs.declared.combine.Combine.{Combine}
 use Rattle.s370_bytes.specs.Combine.{combined, made_of, lag_of, lagged}
 use Rattle.s370_bytes.specs.Strings.{number}
-use Rattle.s370_bytes.specs.Translate.{translation, is_apart}
+use Rattle.s370_bytes.specs.Translate.{translation, are_disjoint}
 use Rattle.s370_bytes.proofs.Changes.{made_is, lagged_source}
 use Rattle.s370_bytes.proofs.Places.{length-put, put_below, put_inside, put_above, range_inside}
 use Rattle.s370_bytes.proofs.Translated.{made_is as translated_front}
@@ -131,7 +131,8 @@ front_put bytes first made a n few l m p rest =
     (cases_lt k a))
 
 -- the first bytes of eight, translated by a table that has none of them
-pub front_translated : (bytes first made : List ℕ) (a t n : ℕ) → is_apart a n t ≡ true → a + n ≤ length bytes → n ≤ 8
+pub front_translated : (bytes first made : List ℕ) (a t n : ℕ) → are_disjoint a n t ≡ true
+    → a + n ≤ length bytes → n ≤ 8
     → length made ≡ 8
     → first ≡ slice_range bytes a (a + 8) → ((j : ℕ) → get_or first j 0 < 256)
     → ((j : ℕ) → j < n → get_or made j 0 ≡ get_or bytes (t + get_or first j 0) 0)

@@ -7,7 +7,7 @@ use Rattle.std.proofs.lemmas.Bool.{cases_lt, cases_eq}
 use Rattle.std.proofs.lemmas.Bool.Decides.{nat_tests}
 use Rattle.std.specs.List.{slice_range}
 use Rattle.s370_store.specs.Access.{IsGranted, put}
-use Rattle.s370_bytes.specs.Translate.{translated, translation, is_apart, zeros}
+use Rattle.s370_bytes.specs.Translate.{translated, translation, are_disjoint, zeros}
 use Rattle.s370_bytes.proofs.Places.{put_range, range_inside, length-range}
 
 -- one byte of a granted range
@@ -60,7 +60,7 @@ translated_is bytes a t n h =
     put_range bytes (translated bytes a t n) a n h s.size s.below s.above
 
 -- a byte of a table that has none of the bytes that were translated
-far : (bytes now : List ℕ) (a t n k x : ℕ) → is_apart a n t ≡ true → x < 256 → k ≤ n → Kept bytes now a k
+far : (bytes now : List ℕ) (a t n k x : ℕ) → are_disjoint a n t ≡ true → x < 256 → k ≤ n → Kept bytes now a k
     → get_or now (t + x) 0 ≡ get_or bytes (t + x) 0
 far bytes now a t n k x apart small l s =
     ⊎_elim
@@ -69,7 +69,7 @@ far bytes now a t n k x apart small l s =
     (cases_lt (t + x) a)
 
 -- the bytes that are translated, by a table that has none of them
-inside : (bytes : List ℕ) (a t n k j : ℕ) → is_apart a n t ≡ true → a + n ≤ length bytes → k ≤ n
+inside : (bytes : List ℕ) (a t n k j : ℕ) → are_disjoint a n t ≡ true → a + n ≤ length bytes → k ≤ n
     → ((i : ℕ) → i < n → get_or bytes (a + i) 0 < 256)
     → j < k → get_or (translated bytes a t k) (a + j) 0 ≡ get_or bytes (t + get_or bytes (a + j) 0) 0
 inside bytes a t n zero j apart h l b s = absurd (omega arith)
@@ -89,7 +89,7 @@ inside bytes a t n (suc k) j apart h l b s =
     (cases_eq j k)
 
 -- what a buffer leaves that was loaded, translated and stored
-pub made_is : (bytes first table made : List ℕ) (a t n : ℕ) → is_apart a n t ≡ true → a + n ≤ length bytes
+pub made_is : (bytes first table made : List ℕ) (a t n : ℕ) → are_disjoint a n t ≡ true → a + n ≤ length bytes
     → length made ≡ n
     → first ≡ slice_range bytes a (a + n) → table ≡ slice_range bytes t (t + 256) → ((j : ℕ) → get_or first j 0 < 256)
     → ((j : ℕ) → j < n → get_or made j 0 ≡ get_or table (get_or first j 0) 0) → made ≡ translation bytes a t n

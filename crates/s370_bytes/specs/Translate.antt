@@ -29,8 +29,8 @@ string_translated m i =
     checked (store_test a n ∷ fetch_test t 256 ∷ []) (writes m a (translation m.bytes a t n))
 
 -- no byte of the n from a on is one of the table at t
-abbrev pub is_apart : ℕ → ℕ → ℕ → Bool
-is_apart a n t = nat_le (a + n) t || nat_le (t + 256) a
+abbrev pub are_disjoint : ℕ → ℕ → ℕ → Bool
+are_disjoint a n t = nat_le (a + n) t || nat_le (t + 256) a
 
 -- how many bytes have a function byte of zero before the first that has not
 abbrev pub zeros : List ℕ → List ℕ → ℕ

@@ -37,7 +37,7 @@ pub use combine::{Combine, combine_few, combine_row, combine_straight, combine_s
 pub use compare::{compare_few, compare_row, compare_straight, holds_eight};
 pub use decimal::{binary_row, decimal_row};
 pub use digits::{Layout, layout_row};
-pub use long::{compare_long_row, move_long_quickly, move_long_row};
+pub use long::{compare_long_row, move_long_parts, move_long_row};
 pub use masks::{
     characters_order_in, chosen_count, compare_characters_row, insert_characters_in,
     insert_characters_row, store_characters_in, store_characters_row,

@@ -276,7 +276,7 @@ pub fn move_long_row<S: Storage>(
 
 /// Returns whether `count` bytes from `to` on include neither of the two bytes from `start` on.
 #[inline(always)]
-fn is_apart(to: u32, count: u32, start: u32) -> bool
+fn excludes(to: u32, count: u32, start: u32) -> bool
     requires to { to < 2 ^ 24 }
     requires count { count ≤ 2048 }
     requires start { start < 2 ^ 24 }
@@ -349,7 +349,7 @@ fn move_whole_parts<S: Storage>(
     let second = Operand::of(cpu, r2);
     let to = first.address.get();
     let from = second.address.get();
-    if !is_apart(to, count, start.get()) {
+    if !excludes(to, count, start.get()) {
         return 0;
     }
     if !copy_granted(cpu, storage, from, to, count) {
@@ -368,7 +368,7 @@ fn move_whole_parts<S: Storage>(
 ///
 /// Those that lie in one block are one copy.
 #[inline(always)]
-pub fn move_long_quickly<S: Storage>(
+pub fn move_long_parts<S: Storage>(
     cpu: &mut Cpu,
     storage: &mut S,
     start: Addr24,

@@ -5,7 +5,7 @@ ghost use Rattle.s370_store.specs.Access.{IsGranted};
 ghost use Rattle.s370_store.specs.Memory.{with_stored};
 ghost use Rattle.s370_rows.specs.State.{state_of};
 ghost use Rattle.s370_rows.specs.Rows.{MeetsRow};
-ghost use Rattle.s370_bytes.specs.Translate.{is_apart, translation, string_translated, zeros};
+ghost use Rattle.s370_bytes.specs.Translate.{are_disjoint, translation, string_translated, zeros};
 ghost use Rattle.s370_bytes.specs.Translate.{scanned, string_scanned};
 
 use crate::compare::holds_eight;
@@ -23,11 +23,11 @@ fn whole_table(start: u32) -> Range
 
 /// Returns whether a string and a table of 256 bytes have no byte in common.
 #[inline(always)]
-fn is_apart(to: u32, count: u32, table: u32) -> bool
+fn are_disjoint(to: u32, count: u32, table: u32) -> bool
     requires to { to < 2 ^ 24 }
     requires short { count ≤ 256 }
     requires table { table < 2 ^ 24 }
-    ensures { result ≡ is_apart to count table }
+    ensures { result ≡ are_disjoint to count table }
 {
     to + count <= table || table + 256 <= to
 }
@@ -48,7 +48,7 @@ fn translate_all(bytes: &mut [u8], table: &[u8])
 /// Translates a range of storage by a table that does not overlap it, through buffers of their
 /// lengths.
 #[inline(always)]
-fn translate_apart<S: Storage>(
+fn translate_disjoint<S: Storage>(
     storage: &mut S,
     to: u32,
     from: u32,
@@ -57,7 +57,7 @@ fn translate_apart<S: Storage>(
 )
     requires short { length bytes.old ≤ 256 }
     requires whole { length table.old ≡ 256 }
-    requires apart { is_apart to (length bytes.old) from ≡ true }
+    requires apart { are_disjoint to (length bytes.old) from ≡ true }
     requires target { IsGranted (length (S.memory storage.old).bytes) (S.present storage.old) to
         (length bytes.old) }
     requires table { IsGranted (length (S.memory storage.old).bytes) (S.present storage.old) from
@@ -88,7 +88,7 @@ fn translate_in<S: Storage>(
     requires some { 0 < length bytes.old }
     requires short { length bytes.old ≤ 256 }
     requires whole { length table.old ≡ 256 }
-    requires apart { is_apart to (length bytes.old) from ≡ true }
+    requires apart { are_disjoint to (length bytes.old) from ≡ true }
     requires source_placed { S.IsPlaced storage.old source }
     requires source_begins { source.first ≤ from }
     requires source_ends { from + 256 ≤ source.first + 2048 }
@@ -120,7 +120,7 @@ fn translate_long<S: Storage>(
 )
     requires to { to < 2 ^ 24 }
     requires table { from < 2 ^ 24 }
-    requires apart { is_apart to count from ≡ true }
+    requires apart { are_disjoint to count from ≡ true }
     requires some { 0 < count }
     requires short { count ≤ 256 }
     requires source_placed { S.IsPlaced storage.old source }
@@ -202,7 +202,7 @@ fn translate_short<S: Storage>(
 )
     requires to { to < 2 ^ 24 }
     requires table { from < 2 ^ 24 }
-    requires apart { is_apart to count from ≡ true }
+    requires apart { are_disjoint to count from ≡ true }
     requires some { 0 < count }
     requires few { count ≤ 8 }
     requires target_room { to + 8 ≤ target.first + 2048 }
@@ -253,7 +253,7 @@ pub fn translate_straight<S: Storage>(
     ensures still { result ≡ false → S.memory storage.new ≡ S.memory storage.old }
     ensures rest { S.Keeps storage.old storage.new }
 {
-    if !is_apart(to, count, from) {
+    if !are_disjoint(to, count, from) {
         return false;
     }
     if count <= 8 && holds_eight(target, to) {
@@ -308,10 +308,10 @@ pub fn translate_row<S: Storage>(
     let target = Range { start: to, count };
     let whole = whole_table(from);
     grant_two(cpu, storage, target, Access::Store, whole, Access::Fetch)?;
-    if is_apart(to, count, from) {
+    if are_disjoint(to, count, from) {
         let mut bytes = [0u8; 256];
         let mut table = [0u8; 256];
-        translate_apart(storage, to, from, &mut bytes[..count as usize], &mut table);
+        translate_disjoint(storage, to, from, &mut bytes[..count as usize], &mut table);
     } else {
         translate_each(storage, to, from, count);
     }

@@ -136,29 +136,6 @@ pub fn branch_to(kind: Branching, cpu: &mut Cpu, place: Place, i: Instruction) -
     }
 }
 
-/// Does BALR (05), BCTR (06) or BCR (07): sets R1 for BALR and BCTR, and returns a branch to the
-/// address in R2 if it is taken and R2 is not register 0.
-#[inline(always)]
-pub fn branch_register(kind: Branching, cpu: &mut Cpu, place: Place, i: Instruction) -> Completion
-    ensures { branched kind cpu.old place i (not (r2_of i == 0))
-        (slice_index cpu.old.general (r2_of i))
-        ≡ record { ending = result; cpu = cpu.new } }
-{
-    let target = cpu.general[i.r2().index()];
-    branch_row(kind, cpu, place, i, i.r2().number() != 0, target)
-}
-
-/// Does an operation on registers R1 and R2: sets R1, the condition code, or both, as the operation
-/// says, and may return an overflow exception.
-#[inline(always)]
-pub fn register_operation(operation: Arithmetic, cpu: &mut Cpu, i: Instruction) -> Completion
-    ensures { arithmetic operation cpu.old (r1_of i) (slice_index cpu.old.general (r2_of i))
-        ≡ record { ending = result; cpu = cpu.new } }
-{
-    let second = cpu.general[i.r2().index()];
-    arithmetic_row(operation, cpu, i.r1(), second)
-}
-
 /// Does LA (41): sets R1 to the address of the second operand.
 #[inline(always)]
 pub fn load_address(cpu: &mut Cpu, i: Instruction) -> Completion

@@ -69,7 +69,7 @@ pub fn step<S: Storage>(cpu: &mut Cpu, storage: &mut S) -> Stop
 {
     let start = cpu.psw.address().get();
     if !may_fetch_longest(cpu, storage, start, cpu.psw.key()) {
-        return step_apart(cpu, storage);
+        return step_by_parts(cpu, storage);
     }
     let opcode = load_byte(storage, start);
     carry_known(cpu, storage, start, opcode)
@@ -119,7 +119,7 @@ fn carry_in<S: Storage>(cpu: &mut Cpu, storage: &mut S, start: Addr24, block: Bl
 /// Fetches the instruction with tests of each part and does it as [`step`] does; a fetch that fails
 /// changes nothing.
 #[inline(never)]
-fn step_apart<S: Storage>(cpu: &mut Cpu, storage: &mut S) -> Stop
+fn step_by_parts<S: Storage>(cpu: &mut Cpu, storage: &mut S) -> Stop
     ensures unit { let before = state_of cpu.old (S.memory storage.old) in
         let after = state_of cpu.new (S.memory storage.new) in
         MeetsStep (S.present storage.old) before result after }

@@ -19,7 +19,7 @@ use Rattle.s370_store.specs.declared.Access.{Access}
 use Rattle.s370_store.specs.declared.block.Block.{Block}
 use Rattle.s370_rows.specs.declared.held.HeldBlock.{HeldBlock}
 use Rattle.s370_rows.specs.Reach.{AreHeld, IsHeld}
-use Rattle.s370_quick.specs.Quick.{StepsQuickly}
+use Rattle.s370_quick.specs.Quick.{StepsOrStays}
 use Rattle.s370_cpu.specs.declared.conclude.Stop.TheVariants.{Done}
 use Rattle.s370_cpu.specs.Laws.{Rights, rights_of}
 use Rattle.s370_cpu.specs.Table.{unit}
@@ -344,17 +344,17 @@ still_fetched key block moves s k p h = record {
 
 -- A step that says where the next instruction is, was done.
 pub stepped_to : (present : ℕ → Bool) (m m' : State) (went : Option ℕ) (next : ℕ) → went ≡ Some next
-    → StepsQuickly present m went m' → StepsQuickly present m (Some next) m'
-stepped_to present m m' went next e h = subst (λ (o : Option ℕ). StepsQuickly present m o m') e h
+    → StepsOrStays present m went m' → StepsOrStays present m (Some next) m'
+stepped_to present m m' went next e h = subst (λ (o : Option ℕ). StepsOrStays present m o m') e h
 
 -- A step that does not say it, changed nothing.
-pub left_out : (present : ℕ → Bool) (m m' : State) (went : Option ℕ) → went ≡ None → StepsQuickly present m went m'
+pub left_out : (present : ℕ → Bool) (m m' : State) (went : Option ℕ) → went ≡ None → StepsOrStays present m went m'
     → m' ≡ m
-left_out present m m' went e h = (subst (λ (o : Option ℕ). StepsQuickly present m o m') e h).still
+left_out present m m' went e h = (subst (λ (o : Option ℕ). StepsOrStays present m o m') e h).still
 
 -- Instructions, and one more.
 pub and_one_more : (n : ℕ) (first m m' : State) (present : ℕ → Bool) (next : ℕ) → DoesInstructions n first m
-    → StepsQuickly present m (Some next) m' → DoesInstructions (n + 1) first m'
+    → StepsOrStays present m (Some next) m' → DoesInstructions (n + 1) first m'
 and_one_more n first m m' present next before h pending list e =
     let b = before pending list e in
     let step : core_of m' pending list ≡ unit_at (look (core_of m pending list)) (core_of m pending list) =
@@ -366,7 +366,7 @@ and_one_more n first m m' present next before h pending list e =
 
 -- of those that were left, one fewer
 pub and_one_left : (limit left : ℕ) (first m m' : State) (present : ℕ → Bool) (next : ℕ) → 0 < left → left ≤ limit
-    → DoesInstructions (limit - left) first m → StepsQuickly present m (Some next) m'
+    → DoesInstructions (limit - left) first m → StepsOrStays present m (Some next) m'
     → DoesInstructions (limit - (left - 1)) first m'
 and_one_left limit left first m m' present next some within before h =
     subst (λ (n : ℕ). DoesInstructions n first m') (omega arith)

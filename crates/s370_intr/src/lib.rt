@@ -29,11 +29,11 @@
 //! ```
 #![tactic(auto)]
 
-mod apart;
 mod class;
 mod code_blocks;
 mod input_output;
 mod laws;
+mod left_out;
 mod next;
 mod pending;
 mod psw_swap;

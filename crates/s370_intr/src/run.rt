@@ -10,14 +10,14 @@ ghost use Rattle.s370_intr.specs.declared.next.Next.TheVariants as next;
 ghost use Rattle.s370_intr.specs.Run.{AllNeeded, DoesInstructions, EachBrings, HasNext, IsFetched};
 ghost use Rattle.s370_intr.specs.Run.{RunsTo, SuppliesUnit, TellsRun};
 
-use crate::apart::{SUPERVISOR_CALL, call_supervisor_in, instruct_in};
 use crate::code_blocks::{CodeBlocks, blocks_at, find_again, other_blocks, stays_in};
+use crate::left_out::{SUPERVISOR_CALL, call_supervisor_in, instruct_in};
 use crate::next::{Next, Reason, is_plain, next_of};
 use crate::pending::Pending;
 use crate::unit::{Processor, accept, accept_status, instruct_saving};
 use s370_num::{AccessKey, Addr24};
 use s370_psw::Psw;
-use s370_quick::{Stepped, move_parts_quickly, step_quickly, supervise_quickly};
+use s370_quick::{Stepped, move_granted_parts, step_held, supervise_held};
 use s370_rows::{Cpu, HeldBlock};
 use s370_store::{Block, FramesOut, Keyed, Page, Storage, UnitSupply, load_byte_in};
 use s370_subchannels::Subchannels;
@@ -246,7 +246,7 @@ fn move_parts<S: Storage>(
 {
     let mut units = 0;
     while units < limit {
-        let parts = move_parts_quickly(cpu, storage, start, second_byte, limit - units);
+        let parts = move_granted_parts(cpu, storage, start, second_byte, limit - units);
         if parts == 0 {
             return units;
         }
@@ -287,7 +287,7 @@ struct LeftOut {
 /// After each of them a look would say what it said before: so the blocks from which they are
 /// fetched, at first `blocks`, are looked up once, as long as they stay in them.
 #[inline(always)]
-fn instruct_steadily<S: Storage>(
+fn instruct_held<S: Storage>(
     cpu: &mut Cpu,
     storage: &mut S,
     blocks: CodeBlocks,
@@ -329,7 +329,7 @@ fn instruct_steadily<S: Storage>(
     let mut left = limit;
     while left > 0 {
         let start = next;
-        let went = step_quickly(cpu, storage, start, blocks.current, held);
+        let went = step_held(cpu, storage, start, blocks.current, held);
         match went {
             Stepped::Unassigned => {
                 return Steady {
@@ -374,7 +374,7 @@ fn instruct_steadily<S: Storage>(
 ///
 /// None is done if a page is absent.
 #[inline(never)]
-fn instruct_apart<P: Processor, S: Keyed>(
+fn instruct_tested<P: Processor, S: Keyed>(
     cpu: &mut Cpu,
     pending: Pending,
     subchannels: &mut Subchannels,
@@ -478,7 +478,7 @@ fn instruct_left_out<P: Processor, S: Keyed>(
         // ISK, SSM, LPSW, STNSM, STOSM, STCTL and LCTL
         0x09 | 0x80 | 0x82 | 0xAC | 0xAD | 0xB6 | 0xB7 => {}
         _ => {
-            let went = instruct_apart::<P, S>(cpu, pending, subchannels, storage, block, limit);
+            let went = instruct_tested::<P, S>(cpu, pending, subchannels, storage, block, limit);
             return LeftOut {
                 units: went.units,
                 is_plain: went.is_plain,
@@ -486,7 +486,7 @@ fn instruct_left_out<P: Processor, S: Keyed>(
             };
         }
     }
-    match supervise_quickly(cpu, storage, start, block, held) {
+    match supervise_held(cpu, storage, start, block, held) {
         Some(_) => {
             let plain = is_plain(cpu, pending, subchannels);
             return LeftOut {
@@ -497,7 +497,7 @@ fn instruct_left_out<P: Processor, S: Keyed>(
         }
         None => {}
     }
-    let went = instruct_apart::<P, S>(cpu, pending, subchannels, storage, block, limit);
+    let went = instruct_tested::<P, S>(cpu, pending, subchannels, storage, block, limit);
     LeftOut {
         units: went.units,
         is_plain: went.is_plain,
@@ -564,7 +564,7 @@ fn blocks_for<S: Storage>(
 ///
 /// This has no other unit in it, so that registers are left for what it needs.
 #[inline(never)]
-fn instruct_quickly<P: Processor, S: Keyed>(
+fn instruct_many<P: Processor, S: Keyed>(
     cpu: &mut Cpu,
     pending: Pending,
     subchannels: &mut Subchannels,
@@ -601,7 +601,7 @@ fn instruct_quickly<P: Processor, S: Keyed>(
                 };
             }
         };
-        let steady = instruct_steadily(cpu, storage, first, &mut held, limit - units);
+        let steady = instruct_held(cpu, storage, first, &mut held, limit - units);
         units += steady.units;
         blocks = match steady.blocks {
             Some(last) => last,
@@ -636,9 +636,9 @@ fn instruct_quickly<P: Processor, S: Keyed>(
     }
 }
 
-/// Does instructions as `instruct_quickly` does if `is_plain` is true; else does nothing.
+/// Does instructions as `instruct_many` does if `is_plain` is true; else does nothing.
 #[inline(always)]
-fn go_quickly<P: Processor, S: Keyed>(
+fn instruct_if_plain<P: Processor, S: Keyed>(
     is_plain: bool,
     cpu: &mut Cpu,
     pending: Pending,
@@ -656,7 +656,7 @@ fn go_quickly<P: Processor, S: Keyed>(
     ensures rest { S.KeepsRest storage.old storage.new }
 {
     if is_plain {
-        instruct_quickly::<P, S>(cpu, pending, subchannels, storage, limit)
+        instruct_many::<P, S>(cpu, pending, subchannels, storage, limit)
     } else {
         UnitsDone {
             units: 0,
@@ -702,7 +702,7 @@ pub fn run_units<P: Processor, S: UnitSupply>(
     ensures between { S.IsBetween storage.new }
 {
     let plain = is_plain(cpu, *pending, subchannels);
-    let mut went = go_quickly::<P, S>(plain, cpu, *pending, subchannels, storage, count);
+    let mut went = instruct_if_plain::<P, S>(plain, cpu, *pending, subchannels, storage, count);
     let mut units = went.units;
     // A turn that ends here has made up nothing that only other units need.
     if units == count {
@@ -729,7 +729,7 @@ pub fn run_units<P: Processor, S: UnitSupply>(
         }
         units += 1;
         let plain = is_plain(cpu, *pending, subchannels);
-        went = go_quickly::<P, S>(plain, cpu, *pending, subchannels, storage, count - units);
+        went = instruct_if_plain::<P, S>(plain, cpu, *pending, subchannels, storage, count - units);
         units += went.units;
     }
     Ran {

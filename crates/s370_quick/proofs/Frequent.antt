@@ -17,7 +17,7 @@ use Rattle.s370_rows.specs.Rows.{Left, MeetsRow, Outcome, Row, Stored, after, fa
 use Rattle.s370_cpu.specs.declared.conclude.Stop.TheVariants.{Done as DoneStop}
 use Rattle.s370_bytes.specs.Long.{long_moved}
 use Rattle.s370_cpu.specs.Laws.{rights_of}
-use Rattle.s370_quick.specs.Quick.{MeetsAtOnce, MeetsQuick, StepsQuickly}
+use Rattle.s370_quick.specs.Quick.{MeetsAtOnce, MeetsSteady, StepsOrStays}
 use Rattle.s370_cpu.specs.Table.{row_of, unit}
 use Rattle.s370_cpu.specs.Unit.{Carries, MeetsUnit, Stopped, place_at, stopped}
 use Rattle.s370_cpu.proofs.Units.{carried_meets, whole_meets}
@@ -47,7 +47,7 @@ quiet_outcome m (Some code) fault leaves h = tt
 
 -- a row that is quiet, where it was carried out
 pub quick_done : (r : Row) (present : ℕ → Bool) (m : State) (ending : Completion) (m' : State) → LeavesQuiet m r.leaves
-    → MeetsRow r present m (Ok ending) m' → MeetsQuick r present m (Some ending) m'
+    → MeetsRow r present m (Ok ending) m' → MeetsSteady r present m (Some ending) m'
 quick_done r present m ending m' h e =
     let q : GoesOnQuietly m ending m' = subst (λ (x : Result Outcome ProgramCode). IsQuietOutcome m x) e
     (quiet_outcome m r.refused (fault_of m r.tests) r.leaves h) in
@@ -55,7 +55,7 @@ quick_done r present m ending m' h e =
 
 -- A row that leaves rights and storage as they were is quick.
 pub quick_of : (r : Row) (present : ℕ → Bool) (m : State) (answer : Option Completion) (m' : State)
-    → LeavesQuiet m r.leaves → MeetsAtOnce r present m answer m' → MeetsQuick r present m answer m'
+    → LeavesQuiet m r.leaves → MeetsAtOnce r present m answer m' → MeetsSteady r present m answer m'
 quick_of r present m None m' h e = e
 quick_of r present m (Some ending) m' h e = quick_done r present m ending m' h e
 
@@ -105,7 +105,7 @@ went m place (SupervisorCall n) cpu' m' e h = absurd h
 went m place (InputOutput operation device) cpu' m' e h = absurd h
 
 pub quick_rights : (m : State) (place : Place) (r : Row) (present : ℕ → Bool) (ending : Completion) (cpu' : Cpu)
-    (m' : State) → MeetsQuick r present m (Some ending) m' → stopped
+    (m' : State) → MeetsSteady r present m (Some ending) m' → stopped
     (Ok ending) place m'.cpu ≡ record { stop = DoneStop; cpu = cpu' }
     → rights_of (record m' { cpu = cpu' }) ≡ rights_of m
 quick_rights m place r present ending cpu' m' q e = went m place ending cpu' m' e q.1 ∙ q.2
@@ -124,18 +124,18 @@ quick_unit m ilc i ending cpu' present m' c h e =
 -- A quick row is a step that says where the next instruction is.
 pub quick_step : (m : State) (place : Place) (i : Instruction) (ending : Completion) (cpu' : Cpu) (present : ℕ → Bool)
     (m' : State) (went : Option ℕ) → Carries m place.ilc i → place ≡ place_at m place.ilc
-    → MeetsQuick (row_of m place i) present m (Some ending) m'
+    → MeetsSteady (row_of m place i) present m (Some ending) m'
     → stopped (Ok ending) place m'.cpu ≡ record { stop = DoneStop; cpu = cpu' } → went ≡ Some cpu'.psw.address
-    → StepsQuickly present m went (record m' { cpu = cpu' })
+    → StepsOrStays present m went (record m' { cpu = cpu' })
 quick_step m place i ending cpu' present m' went carries here quick e address =
     let row_here : MeetsRow (row_of m (place_at m place.ilc) i) present m (Ok ending) m' = subst
     (λ (p : Place). MeetsRow (row_of m p i) present m (Ok ending) m') here quick.0 in
     let stop_here : stopped (Ok ending) (place_at m place.ilc) m'.cpu ≡ record { stop = DoneStop; cpu = cpu' } = subst
     (λ (p : Place). stopped (Ok ending) p m'.cpu ≡ record { stop = DoneStop; cpu = cpu' }) here e in
-    let step : StepsQuickly present m (Some cpu'.psw.address) (record m' { cpu = cpu' }) = record {
+    let step : StepsOrStays present m (Some cpu'.psw.address) (record m' { cpu = cpu' }) = record {
       done = quick_unit m place.ilc i ending cpu' present m' carries row_here stop_here;
       next = refl;
       still = tt;
       rights = quick_rights m place (row_of m place i) present ending cpu' m' quick e;
     } in
-    subst (λ (o : Option ℕ). StepsQuickly present m o (record m' { cpu = cpu' })) (sym address) step
+    subst (λ (o : Option ℕ). StepsOrStays present m o (record m' { cpu = cpu' })) (sym address) step

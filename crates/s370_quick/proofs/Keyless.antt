@@ -9,7 +9,7 @@ use Rattle.s370_rows.specs.Rows.{MeetsRow}
 use Rattle.s370_cpu.specs.declared.conclude.Stop.TheVariants.{Done as DoneStop}
 use Rattle.s370_cpu.specs.Table.{row_of}
 use Rattle.s370_cpu.specs.Unit.{Carries, Stopped, place_at, stopped}
-use Rattle.s370_quick.specs.Quick.{SupervisesQuickly}
+use Rattle.s370_quick.specs.Quick.{SupervisesOrStays}
 use Rattle.s370_quick.proofs.Frequent.{quick_unit}
 
 -- A row that is done, after which the processor goes on, is a unit that keeps the keys in storage.
@@ -17,7 +17,7 @@ pub supervised_unit : (m : State) (place : Place) (i : Instruction) (ending : Co
     (present : ℕ → Bool) (m' : State) (next : ℕ) → Carries m place.ilc i → place ≡ place_at m place.ilc
     → MeetsRow (row_of m place i) present m (Ok ending) m' → m'.keys ≡ m.keys
     → stopped (Ok ending) place m'.cpu ≡ record { stop = DoneStop; cpu = cpu' } → next ≡ cpu'.psw.address
-    → SupervisesQuickly present m (Some next) (record m' { cpu = cpu' })
+    → SupervisesOrStays present m (Some next) (record m' { cpu = cpu' })
 supervised_unit m place i ending cpu' present m' next carries here row keys e address =
     let row_here : MeetsRow (row_of m (place_at m place.ilc) i) present m (Ok ending) m' = subst
     (λ (p : Place). MeetsRow (row_of m p i) present m (Ok ending) m') here row in

@@ -49,7 +49,7 @@ use Rattle.s370_cpu.specs.FetchRows.{fetch_row}
 use Rattle.s370_cpu.specs.StoreRows.{doubleword_taken, store_row, word_taken}
 use Rattle.s370_cpu.specs.Opcodes.{opcode_at}
 use Rattle.s370_cpu.specs.Table.{is_steady, may_overflow, row_named, row_of}
-use Rattle.s370_quick.specs.Quick.{MeetsAtOnce, MeetsQuick}
+use Rattle.s370_quick.specs.Quick.{MeetsAtOnce, MeetsSteady}
 use Rattle.s370_quick.proofs.Overflow.{NoOverflow, arithmetic_quiet, pair_shift_quiet, word_shift_quiet}
 use Rattle.s370_quick.proofs.Frequent.{IsQuiet, LeavesQuiet, branches_go_on, either_quiet, long_quiet, no_overflow}
 use Rattle.s370_quick.proofs.Frequent.{over_quiet, quick_of}
@@ -199,6 +199,6 @@ steady_quiet (Stores row) m place i steady none = store_quiet row m i
 -- a row of a steady operation code, carried out at once or not at all
 pub steady_of : (m : State) (place : Place) (i : Instruction) (present : ℕ → Bool) (answer : Option Completion)
     (m' : State) → is_steady (opcode_at i.opcode) ≡ true → NoOverflow (may_overflow (opcode_at i.opcode)) m
-    → MeetsAtOnce (row_of m place i) present m answer m' → MeetsQuick (row_of m place i) present m answer m'
+    → MeetsAtOnce (row_of m place i) present m answer m' → MeetsSteady (row_of m place i) present m answer m'
 steady_of m place i present answer m' steady none row =
     quick_of (row_of m place i) present m answer m' (steady_quiet (opcode_at i.opcode) m place i steady none) row

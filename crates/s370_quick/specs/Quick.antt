@@ -26,9 +26,9 @@ MeetsAtOnce r present old None new = new ≡ old
 MeetsAtOnce r present old (Some ending) new = MeetsRow r present old (Ok ending) new
 
 -- the row, where the processor goes on after it and nobody's rights change; or nothing is changed
-abbrev pub MeetsQuick : Row → (ℕ → Bool) → State → Option Completion → State → Type 0
-MeetsQuick r present old None new = new ≡ old
-MeetsQuick r present old (Some ending) new =
+abbrev pub MeetsSteady : Row → (ℕ → Bool) → State → Option Completion → State → Type 0
+MeetsSteady r present old None new = new ≡ old
+MeetsSteady r present old (Some ending) new =
     MeetsRow r present old (Ok ending) new × GoesOn ending × (rights_of new ≡ rights_of old)
 
 -- where the next instruction is, if the step was done
@@ -51,7 +51,7 @@ FollowsIn start _ = Unit {0}
 
 -- a step that was done is the unit, and answers where the next one begins; else nothing is changed;
 -- and nobody's rights change
-pub record StepsQuickly (present : ℕ → Bool) (old : State) (result : Option ℕ)
+pub record StepsOrStays (present : ℕ → Bool) (old : State) (result : Option ℕ)
     (new : State) : Type 0 where
   pub done : IfSome result (λ _. MeetsUnit (unit old) present old DoneStop new)
   pub next : IfSome result (λ next. next ≡ new.cpu.psw.address)
@@ -60,7 +60,7 @@ pub record StepsQuickly (present : ℕ → Bool) (old : State) (result : Option 
 
 -- a privileged instruction that was done is the unit, and answers where the next one begins; else
 -- nothing is changed; and the keys in storage stay
-pub record SupervisesQuickly (present : ℕ → Bool) (old : State) (result : Option ℕ)
+pub record SupervisesOrStays (present : ℕ → Bool) (old : State) (result : Option ℕ)
     (new : State) : Type 0 where
   pub done : IfSome result (λ _. MeetsUnit (unit old) present old DoneStop new)
   pub next : IfSome result (λ next. next ≡ new.cpu.psw.address)

@@ -4,9 +4,9 @@ ghost use Rattle.s370_rows.specs.State.{state_of};
 ghost use Rattle.s370_rows.specs.Reach.{AreHeld};
 ghost use Rattle.s370_cpu.specs.Fetch.{fetched, instruction_at};
 ghost use Rattle.s370_cpu.specs.Unit.{Carries, place_at};
-ghost use Rattle.s370_quick.specs.Quick.{FollowsIn, IsAt, StepsQuickly, next_after};
+ghost use Rattle.s370_quick.specs.Quick.{FollowsIn, IsAt, StepsOrStays, next_after};
 
-use crate::quick::{carry_apart, carry_quickly, finish_apart};
+use crate::quick::{carry_called, carry_held, finish_called};
 use crate::stepped::Stepped;
 use s370_num::Addr24;
 use s370_rows::{Cpu, HeldBlock, Instruction, Place};
@@ -75,7 +75,7 @@ macro_rules! by_code {
 /// Does the instruction at `start` by its operation code, if it is a frequent one and the processor
 /// goes on; else changes only `held`.
 #[inline(always)]
-pub(crate) fn step_found_quickly<S: Storage>(
+pub(crate) fn step_found<S: Storage>(
     cpu: &mut Cpu,
     storage: &mut S,
     start: Addr24,
@@ -93,7 +93,7 @@ pub(crate) fn step_found_quickly<S: Storage>(
         (S.present storage.old) cpu.old.psw.key held.old }
     ensures step { let before = state_of cpu.old (S.memory storage.old) in
         let after = state_of cpu.new (S.memory storage.new) in
-        StepsQuickly (S.present storage.old) before (next_after result) after }
+        StepsOrStays (S.present storage.old) before (next_after result) after }
     ensures follows { FollowsIn start result }
     ensures rest { S.Keeps storage.old storage.new }
     ensures operands { AreHeld (S.IsPlaced storage.old) (S.memory storage.old)
@@ -102,8 +102,8 @@ pub(crate) fn step_found_quickly<S: Storage>(
     // One jump, after which all is compiled for the one operation code.
     by_code!(
         load_byte_in(storage, block, start.get()),
-        carry_quickly,
-        carry_apart,
+        carry_held,
+        carry_called,
         (cpu, storage, start, block, held)
     )
 }
@@ -125,7 +125,7 @@ pub(crate) fn finish_target<S: Storage>(
         (S.present storage.old) cpu.old.psw.key held.old }
     ensures step { let before = state_of cpu.old (S.memory storage.old) in
         let after = state_of cpu.new (S.memory storage.new) in
-        StepsQuickly (S.present storage.old) before (next_after result) after }
+        StepsOrStays (S.present storage.old) before (next_after result) after }
     ensures follows { IsAt place.next result }
     ensures rest { S.Keeps storage.old storage.new }
     ensures operands { AreHeld (S.IsPlaced storage.old) (S.memory storage.old)
@@ -133,8 +133,8 @@ pub(crate) fn finish_target<S: Storage>(
 {
     by_code!(
         i.opcode,
-        finish_apart,
-        finish_apart,
+        finish_called,
+        finish_called,
         (cpu, storage, place, i, held)
     )
 }

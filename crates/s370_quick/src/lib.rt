@@ -1,12 +1,12 @@
 //! The loop's processor: carries out one instruction after another, whose bytes and operands come
 //! from blocks of storage that the caller holds.
 //!
-//! Its one theorem: [`step_quickly`] leaves what the unit of operation of `s370_cpu` leaves, and
+//! Its one theorem: [`step_held`] leaves what the unit of operation of `s370_cpu` leaves, and
 //! the processor then goes on with the next instruction; or nothing has changed, and the caller has
 //! `s370_cpu` do the unit. The second is always allowed: carrying out an instruction here makes it
 //! faster, and changes nothing else.
 //!
-//! [`supervise_quickly`] does the same for privileged instructions that set no storage key and ask
+//! [`supervise_held`] does the same for privileged instructions that set no storage key and ask
 //! no device. They may change masks, so the caller looks at what is pending before it goes on.
 //!
 //! Left to the unit are SSK, SIO, TIO, HIO, TCH, SVC, CVB, those whose overflow would interrupt,
@@ -15,7 +15,7 @@
 //! ```
 //! use s370_num::{AccessKey, Addr24};
 //! use s370_psw::Psw;
-//! use s370_quick::{Stepped, step_quickly};
+//! use s370_quick::{Stepped, step_held};
 //! use s370_rows::{Cpu, HeldBlock};
 //! use s370_store::{Access, PlainStorage, Storage};
 //!
@@ -25,7 +25,7 @@
 //! // a block into which may be stored may be fetched from, too
 //! let block = storage.find_block(0x1000, Access::Store, AccessKey::ZERO).ok_or("no block")?;
 //! let mut held = HeldBlock { fetched: block, previous: block, stored: block };
-//! let went = step_quickly(&mut cpu, &mut storage, Addr24::wrapping(0x1000), block, &mut held);
+//! let went = step_held(&mut cpu, &mut storage, Addr24::wrapping(0x1000), block, &mut held);
 //! assert_eq!(rt; went, Stepped::Follows(Addr24::wrapping(0x1004)));
 //! assert_eq!(rt; cpu.general[1], 42);
 //! ```
@@ -39,6 +39,6 @@ mod stepped;
 mod strings;
 mod supervised;
 
-pub use quick::{move_parts_quickly, step_quickly};
+pub use quick::{move_granted_parts, step_held};
 pub use stepped::Stepped;
-pub use supervised::supervise_quickly;
+pub use supervised::supervise_held;

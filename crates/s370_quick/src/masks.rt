@@ -17,7 +17,7 @@ use s370_store::Storage;
 /// Does ICM (BF), and holds the block of its bytes, unless its mask is zero; returns `None` if the
 /// bytes lie in two blocks or the access is not granted.
 #[inline(always)]
-pub fn insert_characters_quickly<S: Storage>(
+pub fn insert_characters<S: Storage>(
     cpu: &mut Cpu,
     storage: &S,
     i: Instruction,
@@ -50,7 +50,7 @@ pub fn insert_characters_quickly<S: Storage>(
 /// Does STCM (BE), and holds the block of its bytes for stores, unless its mask is zero; returns
 /// `None` if the bytes lie in two blocks or the access is not granted.
 #[inline(always)]
-pub fn store_characters_quickly<S: Storage>(
+pub fn store_characters<S: Storage>(
     cpu: &Cpu,
     storage: &mut S,
     i: Instruction,
@@ -82,7 +82,7 @@ pub fn store_characters_quickly<S: Storage>(
 /// Does CLM (BD), and holds the block of its bytes, unless its mask is zero; returns `None` if the
 /// bytes lie in two blocks or the access is not granted.
 #[inline(always)]
-pub fn compare_characters_quickly<S: Storage>(
+pub fn compare_characters<S: Storage>(
     cpu: &mut Cpu,
     storage: &S,
     i: Instruction,

@@ -6,10 +6,8 @@ ghost use Rattle.s370_cpu.specs.FetchRows.{fetch_row};
 ghost use Rattle.s370_cpu.specs.StoreRows.{store_row};
 ghost use Rattle.s370_quick.specs.Quick.{MeetsAtOnce, done_of};
 
-use crate::masks::{
-    compare_characters_quickly, insert_characters_quickly, store_characters_quickly,
-};
-use crate::strings::{combine_quickly, compare_quickly, move_quickly, translate_quickly};
+use crate::masks::{compare_characters, insert_characters, store_characters};
+use crate::strings::{combine_string, compare_string, move_string, translate_string};
 use s370_bytes::Combine;
 use s370_cpu::{FetchRow, StoreRow, fetch_row_by, store_row_by};
 use s370_rows::{Completion, Cpu, HeldBlock, Instruction, Refusal};
@@ -34,9 +32,9 @@ pub fn fetch_held<S: Storage, const CODE: u8, const WAY: u8>(
         (S.present storage.now) cpu.old.psw.key held.new }
 {
     match row {
-        FetchRow::CompareStrings => compare_quickly(cpu, storage, i, held),
-        FetchRow::InsertCharacters => insert_characters_quickly(cpu, storage, i, held),
-        FetchRow::CompareCharacters => compare_characters_quickly(cpu, storage, i, held),
+        FetchRow::CompareStrings => compare_string(cpu, storage, i, held),
+        FetchRow::InsertCharacters => insert_characters(cpu, storage, i, held),
+        FetchRow::CompareCharacters => compare_characters(cpu, storage, i, held),
         _ => match fetch_row_by::<S, HeldBlock, CODE, WAY>(row, cpu, storage, i, held) {
             Ok(ending) => Some(ending),
             Err(()) => None,
@@ -64,10 +62,10 @@ pub fn store_held<S: Storage, const CODE: u8, const WAY: u8>(
         (S.present storage.old) cpu.old.psw.key held.new }
 {
     match row {
-        StoreRow::StoreCharacters => store_characters_quickly(cpu, storage, i, held),
-        StoreRow::CombineStrings(Combine::Move) => move_quickly(cpu, storage, i, held),
-        StoreRow::CombineStrings(operation) => { combine_quickly(operation, cpu, storage, i, held) }
-        StoreRow::Translate => translate_quickly(cpu, storage, i, held),
+        StoreRow::StoreCharacters => store_characters(cpu, storage, i, held),
+        StoreRow::CombineStrings(Combine::Move) => move_string(cpu, storage, i, held),
+        StoreRow::CombineStrings(operation) => { combine_string(operation, cpu, storage, i, held) }
+        StoreRow::Translate => translate_string(cpu, storage, i, held),
         _ => match store_row_by::<S, HeldBlock, CODE, WAY>(row, cpu, storage, i, held) {
             Ok(ending) => Some(ending),
             Err(()) => None,

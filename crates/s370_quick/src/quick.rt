@@ -8,15 +8,15 @@ ghost use Rattle.s370_rows.specs.Reach.{AreHeld};
 ghost use Rattle.s370_cpu.specs.declared.conclude.Stop.TheVariants as stops;
 ghost use Rattle.s370_cpu.specs.Fetch.{fetched, halfwords_of, instruction_at};
 ghost use Rattle.s370_quick.specs.Quick.{DoesUnits, FollowsIn, IsAt, IsLongMoveAt};
-ghost use Rattle.s370_quick.specs.Quick.{MeetsAtOnce, MeetsQuick, StepsQuickly, next_after};
+ghost use Rattle.s370_quick.specs.Quick.{MeetsAtOnce, MeetsSteady, StepsOrStays, next_after};
 ghost use Rattle.s370_cpu.specs.Opcodes.{opcode_at};
 ghost use Rattle.s370_cpu.specs.Table.{may_overflow, row_of};
 ghost use Rattle.s370_cpu.specs.Unit.{Carries, place_at, stopped};
 
-use crate::codes::{finish_target, step_found_quickly};
+use crate::codes::{finish_target, step_found};
 use crate::operands::{fetch_held, store_held};
 use crate::stepped::Stepped;
-use s370_bytes::move_long_quickly;
+use s370_bytes::move_long_parts;
 use s370_cpu::{
     EXECUTE, Opcode, is_steady, length_of, load_known_in, may_overflow, opcode_of, register_row,
     target_of,
@@ -48,7 +48,7 @@ const UNDER_EX: u8 = 1;
 /// held for stores, where it lies in it; else in the block of its own that is found, which is held
 /// from then on. So an operand near the last one is looked up no more.
 #[inline(always)]
-pub fn step_quickly<S: Storage>(
+pub fn step_held<S: Storage>(
     cpu: &mut Cpu,
     storage: &mut S,
     start: Addr24,
@@ -67,13 +67,13 @@ pub fn step_quickly<S: Storage>(
         (S.present storage.old) cpu.old.psw.key held.old }
     ensures step { let before = state_of cpu.old (S.memory storage.old) in
         let after = state_of cpu.new (S.memory storage.new) in
-        StepsQuickly (S.present storage.old) before (next_after result) after }
+        StepsOrStays (S.present storage.old) before (next_after result) after }
     ensures follows { FollowsIn start result }
     ensures rest { S.Keeps storage.old storage.new }
     ensures operands { AreHeld (S.IsPlaced storage.old) (S.memory storage.old)
         (S.present storage.old) cpu.old.psw.key held.new }
 {
-    step_found_quickly(cpu, storage, start, block, held)
+    step_found(cpu, storage, start, block, held)
 }
 
 /// Does parts of the MVCL at the instruction address by one copy, at most `limit`, and returns how
@@ -82,7 +82,7 @@ pub fn step_quickly<S: Storage>(
 /// Each part has all its 256 bytes, changes nothing of the MVCL, and is not the last. The same MVCL
 /// is the next instruction, so a loop over parts need not fetch it again.
 #[inline(always)]
-pub fn move_parts_quickly<S: Storage>(
+pub fn move_granted_parts<S: Storage>(
     cpu: &mut Cpu,
     storage: &mut S,
     start: Addr24,
@@ -101,13 +101,13 @@ pub fn move_parts_quickly<S: Storage>(
         start second_byte }
     ensures rest { S.Keeps storage.old storage.new }
 {
-    move_long_quickly(cpu, storage, start, second_byte, limit)
+    move_long_parts(cpu, storage, start, second_byte, limit)
 }
 
 /// Does the instruction at `start`, whose operation code is `CODE`, if the processor goes on; else
 /// changes only `held`.
 #[inline(always)]
-pub(crate) fn carry_quickly<S: Storage, const CODE: u8>(
+pub(crate) fn carry_held<S: Storage, const CODE: u8>(
     cpu: &mut Cpu,
     storage: &mut S,
     start: Addr24,
@@ -126,7 +126,7 @@ pub(crate) fn carry_quickly<S: Storage, const CODE: u8>(
         (S.present storage.old) cpu.old.psw.key held.old }
     ensures step { let before = state_of cpu.old (S.memory storage.old) in
         let after = state_of cpu.new (S.memory storage.new) in
-        StepsQuickly (S.present storage.old) before (next_after result) after }
+        StepsOrStays (S.present storage.old) before (next_after result) after }
     ensures follows { FollowsIn start result }
     ensures rest { S.Keeps storage.old storage.new }
     ensures operands { AreHeld (S.IsPlaced storage.old) (S.memory storage.old)
@@ -136,9 +136,9 @@ pub(crate) fn carry_quickly<S: Storage, const CODE: u8>(
     let ilc = length_of(CODE);
     let next = start.wrapping_add(2 * ilc.get() as u32);
     if CODE == EXECUTE {
-        return execute_quickly(cpu, storage, Place { next, ilc }, first, held);
+        return execute_held(cpu, storage, Place { next, ilc }, first, held);
     }
-    finish_quickly::<S, CODE, IN_TURN>(cpu, storage, Place { next, ilc }, first, held)
+    finish_held::<S, CODE, IN_TURN>(cpu, storage, Place { next, ilc }, first, held)
 }
 
 /// Does the instruction at `start`, in a function that is not inlined, if the processor goes on; else
@@ -147,7 +147,7 @@ pub(crate) fn carry_quickly<S: Storage, const CODE: u8>(
 /// A call is little next to what these instructions do, and the loop keeps its registers for those
 /// that it inlines.
 #[inline(never)]
-pub(crate) fn carry_apart<S: Storage, const CODE: u8>(
+pub(crate) fn carry_called<S: Storage, const CODE: u8>(
     cpu: &mut Cpu,
     storage: &mut S,
     start: Addr24,
@@ -166,19 +166,19 @@ pub(crate) fn carry_apart<S: Storage, const CODE: u8>(
         (S.present storage.old) cpu.old.psw.key held.old }
     ensures step { let before = state_of cpu.old (S.memory storage.old) in
         let after = state_of cpu.new (S.memory storage.new) in
-        StepsQuickly (S.present storage.old) before (next_after result) after }
+        StepsOrStays (S.present storage.old) before (next_after result) after }
     ensures follows { FollowsIn start result }
     ensures rest { S.Keeps storage.old storage.new }
     ensures operands { AreHeld (S.IsPlaced storage.old) (S.memory storage.old)
         (S.present storage.old) cpu.old.psw.key held.new }
 {
-    carry_quickly::<S, CODE>(cpu, storage, start, block, held)
+    carry_held::<S, CODE>(cpu, storage, start, block, held)
 }
 
 /// Fetches the target of EX and does it, if it may be fetched, is a frequent one and the processor
 /// goes on; else changes only `held`.
 #[inline(always)]
-fn execute_quickly<S: Storage>(
+fn execute_held<S: Storage>(
     cpu: &mut Cpu,
     storage: &mut S,
     place: Place,
@@ -194,7 +194,7 @@ fn execute_quickly<S: Storage>(
         (S.present storage.old) cpu.old.psw.key held.old }
     ensures step { let before = state_of cpu.old (S.memory storage.old) in
         let after = state_of cpu.new (S.memory storage.new) in
-        StepsQuickly (S.present storage.old) before (next_after result) after }
+        StepsOrStays (S.present storage.old) before (next_after result) after }
     ensures follows { IsAt place.next result }
     ensures rest { S.Keeps storage.old storage.new }
     ensures operands { AreHeld (S.IsPlaced storage.old) (S.memory storage.old)
@@ -209,7 +209,7 @@ fn execute_quickly<S: Storage>(
 /// Does the target of an EX, in a function that is not inlined, if the processor goes on; else
 /// changes only `held`.
 #[inline(never)]
-pub(crate) fn finish_apart<S: Storage, const CODE: u8>(
+pub(crate) fn finish_called<S: Storage, const CODE: u8>(
     cpu: &mut Cpu,
     storage: &mut S,
     place: Place,
@@ -224,19 +224,19 @@ pub(crate) fn finish_apart<S: Storage, const CODE: u8>(
         (S.present storage.old) cpu.old.psw.key held.old }
     ensures step { let before = state_of cpu.old (S.memory storage.old) in
         let after = state_of cpu.new (S.memory storage.new) in
-        StepsQuickly (S.present storage.old) before (next_after result) after }
+        StepsOrStays (S.present storage.old) before (next_after result) after }
     ensures follows { IsAt place.next result }
     ensures rest { S.Keeps storage.old storage.new }
     ensures operands { AreHeld (S.IsPlaced storage.old) (S.memory storage.old)
         (S.present storage.old) cpu.old.psw.key held.new }
 {
-    finish_quickly::<S, CODE, UNDER_EX>(cpu, storage, place, i, held)
+    finish_held::<S, CODE, UNDER_EX>(cpu, storage, place, i, held)
 }
 
 /// Does a fetched instruction and sets the next address, if the processor goes on; else changes only
 /// `held`.
 #[inline(always)]
-fn finish_quickly<S: Storage, const CODE: u8, const WAY: u8>(
+fn finish_held<S: Storage, const CODE: u8, const WAY: u8>(
     cpu: &mut Cpu,
     storage: &mut S,
     place: Place,
@@ -251,14 +251,14 @@ fn finish_quickly<S: Storage, const CODE: u8, const WAY: u8>(
         (S.present storage.old) cpu.old.psw.key held.old }
     ensures step { let before = state_of cpu.old (S.memory storage.old) in
         let after = state_of cpu.new (S.memory storage.new) in
-        StepsQuickly (S.present storage.old) before (next_after result) after }
+        StepsOrStays (S.present storage.old) before (next_after result) after }
     ensures follows { IsAt place.next result }
     ensures rest { S.Keeps storage.old storage.new }
     ensures operands { AreHeld (S.IsPlaced storage.old) (S.memory storage.old)
         (S.present storage.old) cpu.old.psw.key held.new }
 {
     let Place { next, ilc } = place;
-    match perform_quickly::<S, CODE, WAY>(cpu, storage, Place { next, ilc }, i, held) {
+    match perform_steady::<S, CODE, WAY>(cpu, storage, Place { next, ilc }, i, held) {
         Some(ending) => go_on(cpu, Place { next, ilc }, ending),
         None => Stepped::LeftOut,
     }
@@ -311,7 +311,7 @@ fn overflow_interrupts<const CODE: u8>(cpu: &Cpu) -> bool
 /// function's own, so that each of them is compiled by itself. An instruction whose overflow would
 /// interrupt is left to the unit, as is one that may change rights.
 #[inline(always)]
-fn perform_quickly<S: Storage, const CODE: u8, const WAY: u8>(
+fn perform_steady<S: Storage, const CODE: u8, const WAY: u8>(
     cpu: &mut Cpu,
     storage: &mut S,
     place: Place,
@@ -323,7 +323,7 @@ fn perform_quickly<S: Storage, const CODE: u8, const WAY: u8>(
         (S.present storage.old) cpu.old.psw.key held.old }
     ensures row { let before = state_of cpu.old (S.memory storage.old) in
         let after = state_of cpu.new (S.memory storage.new) in
-        MeetsQuick (row_of before place i) (S.present storage.old) before result after }
+        MeetsSteady (row_of before place i) (S.present storage.old) before result after }
     ensures rest { S.Keeps storage.old storage.new }
     ensures operands { AreHeld (S.IsPlaced storage.old) (S.memory storage.old)
         (S.present storage.old) cpu.old.psw.key held.new }

@@ -64,7 +64,7 @@ fn move_held<S: Storage>(cpu: &Cpu, storage: &mut S, i: Instruction, held: &mut 
 /// Does MVC (D2) over held blocks if it can, else with all its tests; returns `None` if it is
 /// refused.
 #[inline(always)]
-pub fn move_quickly<S: Storage>(
+pub fn move_string<S: Storage>(
     cpu: &mut Cpu,
     storage: &mut S,
     i: Instruction,
@@ -83,7 +83,7 @@ pub fn move_quickly<S: Storage>(
     if move_held(cpu, storage, i, held) {
         return Some(Completion::Done);
     }
-    if move_apart(
+    if move_tested(
         cpu,
         storage,
         i.opcode,
@@ -101,7 +101,7 @@ pub fn move_quickly<S: Storage>(
 /// It is given the parts of the instruction, so that the loop need not write the instruction to
 /// memory for an MVC that is one copy.
 #[inline(never)]
-fn move_apart<S: Storage>(
+fn move_tested<S: Storage>(
     cpu: &mut Cpu,
     storage: &mut S,
     opcode: u8,
@@ -186,7 +186,7 @@ fn combine_held<S: Storage>(
 /// Does MVN (D1), MVZ (D3), NC (D4), OC (D6) or XC (D7) over held blocks if it can, else with all
 /// its tests; returns `None` if it is refused.
 #[inline(always)]
-pub fn combine_quickly<S: Storage>(
+pub fn combine_string<S: Storage>(
     operation: Combine,
     cpu: &mut Cpu,
     storage: &mut S,
@@ -209,7 +209,7 @@ pub fn combine_quickly<S: Storage>(
     let to = cpu.based(i.second_half);
     let from = cpu.based(i.third_half);
     let count = i.second_byte as u32 + 1;
-    if combine_apart(operation, cpu, storage, to, from, count, held) {
+    if combine_tested(operation, cpu, storage, to, from, count, held) {
         return Some(Completion::Done);
     }
     None
@@ -220,7 +220,7 @@ pub fn combine_quickly<S: Storage>(
 ///
 /// It is not inlined, so that short strings need no room for long ones.
 #[inline(never)]
-fn combine_apart<S: Storage>(
+fn combine_tested<S: Storage>(
     operation: Combine,
     cpu: &mut Cpu,
     storage: &mut S,
@@ -267,7 +267,7 @@ fn combine_apart<S: Storage>(
 /// Does TR (DC) over held blocks if it can, else with all its tests; returns `None` if it is
 /// refused.
 #[inline(always)]
-pub fn translate_quickly<S: Storage>(
+pub fn translate_string<S: Storage>(
     cpu: &Cpu,
     storage: &mut S,
     i: Instruction,
@@ -285,7 +285,7 @@ pub fn translate_quickly<S: Storage>(
     if translate_held(cpu, storage, i, held) {
         return Some(Completion::Done);
     }
-    if translate_apart(
+    if translate_tested(
         cpu,
         storage,
         i.opcode,
@@ -336,9 +336,9 @@ fn translate_held<S: Storage>(
 
 /// Does TR (DC) with all its tests and returns true, or returns false if it is refused.
 ///
-/// It is given the parts of the instruction, as `move_apart`.
+/// It is given the parts of the instruction, as `move_tested`.
 #[inline(never)]
-fn translate_apart<S: Storage>(
+fn translate_tested<S: Storage>(
     cpu: &Cpu,
     storage: &mut S,
     opcode: u8,
@@ -376,7 +376,7 @@ fn translate_apart<S: Storage>(
 /// Does CLC (D5) over held blocks if it can, else with all its tests; returns `None` if it is
 /// refused.
 #[inline(always)]
-pub fn compare_quickly<S: Storage>(
+pub fn compare_string<S: Storage>(
     cpu: &mut Cpu,
     storage: &S,
     i: Instruction,
@@ -393,7 +393,7 @@ pub fn compare_quickly<S: Storage>(
     if compare_held(cpu, storage, i, held) {
         return Some(Completion::Done);
     }
-    if compare_apart(
+    if compare_tested(
         cpu,
         storage,
         i.opcode,
@@ -457,9 +457,9 @@ fn compare_held<S: Storage>(
 /// Does CLC (D5) over held blocks if it can, else with all its tests, and returns true; or returns
 /// false if it is refused.
 ///
-/// It is given the parts of the instruction, as `move_apart`.
+/// It is given the parts of the instruction, as `move_tested`.
 #[inline(never)]
-fn compare_apart<S: Storage>(
+fn compare_tested<S: Storage>(
     cpu: &mut Cpu,
     storage: &S,
     opcode: u8,

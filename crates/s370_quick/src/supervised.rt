@@ -9,7 +9,7 @@ ghost use Rattle.s370_cpu.specs.Control.{control_row};
 ghost use Rattle.s370_cpu.specs.Fetch.{fetched, instruction_at};
 ghost use Rattle.s370_cpu.specs.Table.{row_of};
 ghost use Rattle.s370_cpu.specs.Unit.{Carries, place_at};
-ghost use Rattle.s370_quick.specs.Quick.{MeetsAtOnce, SupervisesQuickly};
+ghost use Rattle.s370_quick.specs.Quick.{MeetsAtOnce, SupervisesOrStays};
 
 use crate::quick::go_on;
 use s370_cpu::{Control, EXECUTE, Opcode, length_of, load_known_in, opcode_of, perform_control};
@@ -21,12 +21,12 @@ use s370_store::{Block, Keyed, load_byte_in};
 /// sets no storage key and asks no device, the processor is in the supervisor state, and nothing
 /// interrupts; else returns `None` and changes only `held`.
 ///
-/// It is where [`step_quickly`](crate::step_quickly) takes instructions from. It may change all of
+/// It is where [`step_held`](crate::step_held) takes instructions from. It may change all of
 /// the PSW and control registers, so the caller has to look before the next one. Blocks may be
 /// accessed as before, unless the PSW has another key. It is not inlined, so that the loop keeps its
 /// registers for more frequent instructions.
 #[inline(never)]
-pub fn supervise_quickly<S: Keyed>(
+pub fn supervise_held<S: Keyed>(
     cpu: &mut Cpu,
     storage: &mut S,
     start: Addr24,
@@ -45,7 +45,7 @@ pub fn supervise_quickly<S: Keyed>(
         (S.Storage.present storage.old) cpu.old.psw.key held.old }
     ensures step { let before = state_of cpu.old (S.Storage.memory storage.old) in
         let after = state_of cpu.new (S.Storage.memory storage.new) in
-        SupervisesQuickly (S.Storage.present storage.old) before result after }
+        SupervisesOrStays (S.Storage.present storage.old) before result after }
     ensures rest { S.Storage.Keeps storage.old storage.new }
     ensures operands { AreHeld (S.Storage.IsPlaced storage.old) (S.Storage.memory storage.old)
         (S.Storage.present storage.old) cpu.old.psw.key held.new }
@@ -74,7 +74,7 @@ fn supervise_found<S: Keyed>(
         (S.Storage.present storage.old) cpu.old.psw.key held.old }
     ensures step { let before = state_of cpu.old (S.Storage.memory storage.old) in
         let after = state_of cpu.new (S.Storage.memory storage.new) in
-        SupervisesQuickly (S.Storage.present storage.old) before result after }
+        SupervisesOrStays (S.Storage.present storage.old) before result after }
     ensures rest { S.Storage.Keeps storage.old storage.new }
     ensures operands { AreHeld (S.Storage.IsPlaced storage.old) (S.Storage.memory storage.old)
         (S.Storage.present storage.old) cpu.old.psw.key held.new }
@@ -113,7 +113,7 @@ fn carry_control<S: Keyed, const CODE: u8>(
         (S.Storage.present storage.old) cpu.old.psw.key held.old }
     ensures step { let before = state_of cpu.old (S.Storage.memory storage.old) in
         let after = state_of cpu.new (S.Storage.memory storage.new) in
-        SupervisesQuickly (S.Storage.present storage.old) before result after }
+        SupervisesOrStays (S.Storage.present storage.old) before result after }
     ensures rest { S.Storage.Keeps storage.old storage.new }
     ensures operands { AreHeld (S.Storage.IsPlaced storage.old) (S.Storage.memory storage.old)
         (S.Storage.present storage.old) cpu.old.psw.key held.new }
@@ -127,7 +127,7 @@ fn carry_control<S: Keyed, const CODE: u8>(
     finish_control::<S, CODE>(cpu, storage, Place { next, ilc }, i, held)
 }
 
-/// Does a fetched instruction as [`supervise_quickly`] does, sets the next address and returns it;
+/// Does a fetched instruction as [`supervise_held`] does, sets the next address and returns it;
 /// or returns `None` and changes only `held`.
 #[inline(always)]
 fn finish_control<S: Keyed, const CODE: u8>(
@@ -145,7 +145,7 @@ fn finish_control<S: Keyed, const CODE: u8>(
         (S.Storage.present storage.old) cpu.old.psw.key held.old }
     ensures step { let before = state_of cpu.old (S.Storage.memory storage.old) in
         let after = state_of cpu.new (S.Storage.memory storage.new) in
-        SupervisesQuickly (S.Storage.present storage.old) before result after }
+        SupervisesOrStays (S.Storage.present storage.old) before result after }
     ensures rest { S.Storage.Keeps storage.old storage.new }
     ensures operands { AreHeld (S.Storage.IsPlaced storage.old) (S.Storage.memory storage.old)
         (S.Storage.present storage.old) cpu.old.psw.key held.new }
@@ -180,7 +180,7 @@ fn perform_supervised<S: Keyed, const CODE: u8>(
         (S.Storage.present storage.old) cpu.old.psw.key held.new }
 {
     match opcode_of(CODE) {
-        Opcode::Supervised(control) => control_quickly(control, cpu, storage, i, held),
+        Opcode::Supervised(control) => control_held(control, cpu, storage, i, held),
         _ => None,
     }
 }
@@ -188,7 +188,7 @@ fn perform_supervised<S: Keyed, const CODE: u8>(
 /// Does a privileged instruction over the held blocks if it sets no storage key, asks no device and
 /// is not refused, or returns `None` and changes only `held`; the caller sets the next address.
 #[inline(always)]
-fn control_quickly<S: Keyed>(
+fn control_held<S: Keyed>(
     control: Control,
     cpu: &mut Cpu,
     storage: &mut S,

@@ -54,7 +54,7 @@ pub use held::{HeldBlock, source_block, target_block};
 pub use immediate::{ByteChange, ByteTest, ChangedByte, change_byte, test_byte};
 pub use instruction::Instruction;
 pub use load::{insert_byte_row, load_address_row, set_program_mask_row};
-pub use mask::{compare_under_mask_row, insert_under_mask_row, select_bytes, selected_count};
+pub use mask::{select_bytes, selected_count};
 pub use operand::{Reach, Tested, byte_at, doubleword_at, halfword_at, store_word_at, word_at};
 pub use place::Place;
 pub use product::{Quotient, divide_row, multiply_halfword_row, multiply_row};

@@ -41,7 +41,7 @@ returns-clause-paged_in g c =
 pub returns-clause-walk : goal.returns-clause-walk
 returns-clause-walk g c =
     walk_for (setting g.D.Device.machine loading_limits) (λ m. loading g.D.Device.machine m c.args.device.now)
-    c.load_apart-ran.new.device (lent_memory c.args.storage.now) (lent_memory c.page_in_wanted.new.self)
+    c.load_on_copy-ran.new.device (lent_memory c.args.storage.now) (lent_memory c.page_in_wanted.new.self)
     (lent_memory c.put_back.new.self) (tried_bytes c.args.storage.now c.args.tried.now) (touched_flags c.args.tried.now)
     c.in-Ok-ran.ending c.requires.tried c.page_in_wanted.ensures.memory c.in-Ok-ran.ensures.ends
     (ap₂ memory_of (c.put_back.ensures.bytes ∙

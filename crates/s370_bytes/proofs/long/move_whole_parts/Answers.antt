@@ -37,7 +37,7 @@ returns-clause-parts g c i e f =
       source = (rw from at (granted.1.1.0 some).inside);
       fine = (rw (to, from) at granted.0);
       intact = c.requires.intact;
-      apart = (rw (c.get.ensures.value, to) at (c.is_apart.ensures c.if-not-is_apart.false));
+      apart = (rw (c.get.ensures.value, to) at (c.excludes.ensures c.if-not-excludes.false));
     } in
     let parts = parts_are (c.args.parts - 1) n c.args.start (g.S.Storage.present c.args.storage.now) i m r1 r2
     (omega (arith, c.requires.some)) e f c.requires.apart c.requires.first c.requires.second

@@ -8,11 +8,11 @@ use Rattle.s370_intr.proofs.run.instruct_left_out.Goals as goal
 pub returns-in-Some-clause-ran : goal.returns-in-Some-clause-ran
 returns-in-Some-clause-ran g c =
     let before = state_of c.args.cpu.now (g.S.Storage.memory c.args.storage.now) in
-    let after = state_of c.supervise_quickly.new.cpu (g.S.Storage.memory c.supervise_quickly.new.storage) in
+    let after = state_of c.supervise_held.new.cpu (g.S.Storage.memory c.supervise_held.new.storage) in
     record {
       done = one_unit before after c.args.pending c.args.subchannels.now c.requires.plain
           c.in-Some.ensures.step.done;
-      plain = c.is_plain-plain.ensures (g.S.Storage.memory c.supervise_quickly.new.storage);
+      plain = c.is_plain-plain.ensures (g.S.Storage.memory c.supervise_held.new.storage);
       within = c.requires.some;
     }
 
@@ -31,41 +31,41 @@ returns-in-10-clause-ran g c =
 
 pub returns-in-Some-clause-current : goal.returns-in-Some-clause-current
 returns-in-Some-clause-current g c is_it =
-    let kept = c.supervise_quickly.ensures.rest in
+    let kept = c.supervise_held.ensures.rest in
     rw (c.has_key.ensures is_it ∙ c.key-key.ensures) (still_fetched c.args.cpu.now.psw.key c.args.blocks.current
     (g.met.S.Storage.placed_kept _ _ c.args.blocks.current kept) (g.met.S.Storage.keeps_size _ _ kept)
-    c.supervise_quickly.ensures.step.keys (g.met.S.Storage.keeps_present _ _ kept) c.requires.next.fetched)
+    c.supervise_held.ensures.step.keys (g.met.S.Storage.keeps_present _ _ kept) c.requires.next.fetched)
 
 pub returns-in-Some-clause-previous : goal.returns-in-Some-clause-previous
 returns-in-Some-clause-previous g c is_it =
-    let kept = c.supervise_quickly.ensures.rest in
+    let kept = c.supervise_held.ensures.rest in
     rw (c.has_key.ensures is_it ∙ c.key-key.ensures) (still_fetched c.args.cpu.now.psw.key c.args.blocks.previous
     (g.met.S.Storage.placed_kept _ _ c.args.blocks.previous kept) (g.met.S.Storage.keeps_size _ _ kept)
-    c.supervise_quickly.ensures.step.keys (g.met.S.Storage.keeps_present _ _ kept) c.requires.previous)
+    c.supervise_held.ensures.step.keys (g.met.S.Storage.keeps_present _ _ kept) c.requires.previous)
 
 pub returns-in-Some-clause-operands : goal.returns-in-Some-clause-operands
 returns-in-Some-clause-operands g c is_it =
-    let kept = c.supervise_quickly.ensures.rest in
-    let step = c.supervise_quickly.ensures.step in
-    rw (c.has_key.ensures is_it ∙ c.key-key.ensures) (still_held c.args.cpu.now.psw.key c.supervise_quickly.new.held
+    let kept = c.supervise_held.ensures.rest in
+    let step = c.supervise_held.ensures.step in
+    rw (c.has_key.ensures is_it ∙ c.key-key.ensures) (still_held c.args.cpu.now.psw.key c.supervise_held.new.held
     (λ block placed. g.met.S.Storage.placed_kept _ _ block kept placed) (g.met.S.Storage.keeps_size _ _ kept) step.keys
-    (g.met.S.Storage.keeps_present _ _ kept) c.supervise_quickly.ensures.operands)
+    (g.met.S.Storage.keeps_present _ _ kept) c.supervise_held.ensures.operands)
 
-pub instruct_apart-went-requires-2-clause-plain : goal.instruct_apart-went-requires-2-clause-plain
-instruct_apart-went-requires-2-clause-plain g c =
+pub instruct_tested-went-requires-2-clause-plain : goal.instruct_tested-went-requires-2-clause-plain
+instruct_tested-went-requires-2-clause-plain g c =
     ap (λ (x : State). look (core_of x c.args.pending c.args.subchannels.now)) c.in-None.ensures.step.still
     ∙ c.requires.plain
 
 pub returns-clause-ran : goal.returns-clause-ran
 returns-clause-ran g c =
     let pending = c.args.pending in
-    let went = c.instruct_apart-went-2.result in
-    let after = state_of c.instruct_apart-went-2.new.cpu (g.S.Storage.memory c.instruct_apart-went-2.new.storage) in
+    let went = c.instruct_tested-went-2.result in
+    let after = state_of c.instruct_tested-went-2.new.cpu (g.S.Storage.memory c.instruct_tested-went-2.new.storage) in
     subst (λ (x : State). RunsTo c.args.limit went.units went.is_plain (core_of x pending c.args.subchannels.now)
-    (core_of after pending c.instruct_apart-went-2.new.subchannels)) c.in-None.ensures.step.still
-    c.instruct_apart-went-2.ensures.ran
+    (core_of after pending c.instruct_tested-went-2.new.subchannels)) c.in-None.ensures.step.still
+    c.instruct_tested-went-2.ensures.ran
 
 pub returns-clause-rest : goal.returns-clause-rest
 returns-clause-rest g c =
-    g.met.S.Keyed.rest_on _ _ _ (g.met.S.Keyed.rest_kept _ _ c.supervise_quickly.ensures.rest)
-    c.instruct_apart-went-2.ensures.rest
+    g.met.S.Keyed.rest_on _ _ _ (g.met.S.Keyed.rest_kept _ _ c.supervise_held.ensures.rest)
+    c.instruct_tested-went-2.ensures.rest

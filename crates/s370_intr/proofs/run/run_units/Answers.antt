@@ -11,11 +11,11 @@ use Rattle.s370_intr.proofs.Runs.{tells_stop, Goes}
 use Rattle.s370_intr.proofs.Brings.{begun_all}
 use Rattle.s370_intr.proofs.run.run_units.Goals as goal
 
-pub go_quickly-went-requires-clause-plain : goal.go_quickly-went-requires-clause-plain
-go_quickly-went-requires-clause-plain g c = c.is_plain-plain.ensures (g.S.Storage.memory c.args.storage.now)
+pub instruct_if_plain-went-requires-clause-plain : goal.instruct_if_plain-went-requires-clause-plain
+instruct_if_plain-went-requires-clause-plain g c = c.is_plain-plain.ensures (g.S.Storage.memory c.args.storage.now)
 
-pub go_quickly-went-requires-in-loop-units : goal.go_quickly-went-requires-in-loop-units
-go_quickly-went-requires-in-loop-units g c =
+pub instruct_if_plain-went-requires-in-loop-units : goal.instruct_if_plain-went-requires-in-loop-units
+instruct_if_plain-went-requires-in-loop-units g c =
     let s = c.loop-units.invariant.supply in
     let t = c.in-Ok.ensures.supply in
     let size = g.met.S.UnitSupply.came_size _ _ (t.0 ∷ []) t.1 ∙ g.met.S.UnitSupply.came_size _ _ s.0 s.1 in
@@ -26,33 +26,33 @@ go_quickly-went-requires-in-loop-units g c =
 
 pub returns-then-units-count-clause-reported : goal.returns-then-units-count-clause-reported
 returns-then-units-count-clause-reported g c =
-    let n = c.go_quickly-went.result.units in
+    let n = c.instruct_if_plain-went.result.units in
     let first = core_of (state_of c.args.cpu.now (g.S.Storage.memory c.args.storage.now)) c.args.pending.now
     c.args.subchannels.now in
-    let now = core_of (state_of c.go_quickly-went.new.cpu (g.S.Storage.memory c.go_quickly-went.new.storage))
-    c.args.pending.now c.go_quickly-went.new.subchannels in
+    let now = core_of (state_of c.instruct_if_plain-went.new.cpu (g.S.Storage.memory c.instruct_if_plain-went.new.storage))
+    c.args.pending.now c.instruct_if_plain-went.new.subchannels in
     let reported : Run = record { core = now; units = n; reason = Count } in
-    subst (λ (k : ℕ). run k first ≡ reported) c.if-units-count.true c.go_quickly-went.ensures.ran.done
+    subst (λ (k : ℕ). run k first ≡ reported) c.if-units-count.true c.instruct_if_plain-went.ensures.ran.done
 
 pub returns-then-units-count-clause-supply : goal.returns-then-units-count-clause-supply
 returns-then-units-count-clause-supply g c =
-    let n = c.go_quickly-went.result.units in
+    let n = c.instruct_if_plain-went.result.units in
     let first = core_of (state_of c.args.cpu.now (g.S.Storage.memory c.args.storage.now)) c.args.pending.now
     c.args.subchannels.now in
     let quiet : List (List ℕ) = replicate n [] in
     let many : length quiet ≡ n = length-replicate n [] in
-    let quickly = c.go_quickly-went.ensures.rest in
+    let quickly = c.instruct_if_plain-went.ensures.rest in
     (quiet, g.met.S.UnitSupply.came_none _ _ n c.requires.between quickly, each_none first 0 n, omega (arith, many))
 
 pub loop-units-init : goal.loop-units-init
 loop-units-init g c =
-    let n = c.go_quickly-went.result.units in
+    let n = c.instruct_if_plain-went.result.units in
     let first = core_of (state_of c.args.cpu.now (g.S.Storage.memory c.args.storage.now)) c.args.pending.now
     c.args.subchannels.now in
-    let quickly = c.go_quickly-went.ensures.rest in
+    let quickly = c.instruct_if_plain-went.ensures.rest in
     record {
-      within = c.go_quickly-went.ensures.ran.within;
-      ran = c.go_quickly-went.ensures.ran.done;
+      within = c.instruct_if_plain-went.ensures.ran.within;
+      ran = c.instruct_if_plain-went.ensures.ran.done;
       supply = (
         replicate n [],
         g.met.S.UnitSupply.came_none _ _ n c.requires.between quickly,
@@ -60,7 +60,7 @@ loop-units-init g c =
         length-replicate n [],
       );
       between = g.met.S.UnitSupply.between_kept _ _ quickly c.requires.between;
-      plain = c.go_quickly-went.ensures.ran.plain;
+      plain = c.instruct_if_plain-went.ensures.ran.plain;
     }
 
 pub returns-in-Stops-clause-reported : goal.returns-in-Stops-clause-reported
@@ -106,16 +106,16 @@ returns-in-Err g c =
 pub loop-units-preserved : goal.loop-units-preserved
 loop-units-preserved g c =
     let k = c.loop-units.units in
-    let n = c.go_quickly-went-in-loop-units.result.units in
+    let n = c.instruct_if_plain-went-in-loop-units.result.units in
     let first = core_of (state_of c.args.cpu.now (g.S.Storage.memory c.args.storage.now)) c.args.pending.now
     c.args.subchannels.now in
     let now = core_of (state_of c.loop-units.cpu (g.S.Storage.memory c.loop-units.storage)) c.loop-units.pending
     c.loop-units.subchannels in
     let new = core_of (state_of c.do_unit.new.cpu (g.S.Storage.memory c.do_unit.new.storage)) c.do_unit.new.pending
     c.do_unit.new.subchannels in
-    let end = core_of (state_of c.go_quickly-went-in-loop-units.new.cpu
-    (g.S.Storage.memory c.go_quickly-went-in-loop-units.new.storage)) c.do_unit.new.pending
-    c.go_quickly-went-in-loop-units.new.subchannels in
+    let end = core_of (state_of c.instruct_if_plain-went-in-loop-units.new.cpu
+    (g.S.Storage.memory c.instruct_if_plain-went-in-loop-units.new.storage)) c.do_unit.new.pending
+    c.instruct_if_plain-went-in-loop-units.new.subchannels in
     let e : c.next_of-next.result ≡ look now = c.next_of-next.ensures (g.S.Storage.memory c.loop-units.storage) in
     let s = c.loop-units.invariant.supply in
     let t = c.in-Ok.ensures.supply in
@@ -124,15 +124,15 @@ loop-units-preserved g c =
     let needed : AllNeeded (NeedsAt (look now) now) t.0 = subst (λ (l : Next). AllNeeded (NeedsAt l now) t.0) e t.2 in
     let one : run (k + 1) first ≡ all_done (k + 1) new = does_more k first now new c.loop-units.invariant.ran goes step
     in
-    let within : n ≤ c.args.count - (k + 1) = c.go_quickly-went-in-loop-units.ensures.ran.within in
+    let within : n ≤ c.args.count - (k + 1) = c.instruct_if_plain-went-in-loop-units.ensures.ran.within in
     let less : k < c.args.count = c.loop-units-test.true in
     let quiet : List (List ℕ) = replicate n [] in
     let many : length quiet ≡ n = length-replicate n [] in
-    let quickly = c.go_quickly-went-in-loop-units.ensures.rest in
+    let quickly = c.instruct_if_plain-went-in-loop-units.ensures.rest in
     let quietly = g.met.S.UnitSupply.came_none _ _ n c.in-Ok.ensures.between quickly in
     record {
       within = omega (arith, within, less);
-      ran = does_many (k + 1) n first new end one c.go_quickly-went-in-loop-units.ensures.ran.done;
+      ran = does_many (k + 1) n first new end one c.instruct_if_plain-went-in-loop-units.ensures.ran.done;
       supply = (
         (s.0 ++ t.0 ∷ []) ++ quiet,
         g.met.S.UnitSupply.came_on _ _ _ (s.0 ++ t.0 ∷ []) quiet
@@ -142,5 +142,5 @@ loop-units-preserved g c =
         omega (arith, s.3, length-append s.0 (t.0 ∷ []), length-append (s.0 ++ t.0 ∷ []) quiet, many),
       );
       between = g.met.S.UnitSupply.between_kept _ _ quickly c.in-Ok.ensures.between;
-      plain = c.go_quickly-went-in-loop-units.ensures.ran.plain;
+      plain = c.instruct_if_plain-went-in-loop-units.ensures.ran.plain;
     }

@@ -1,6 +1,6 @@
 use Rattle.std.proofs.Common.{ℕ, Option, refl, subst, sym, ◌∙◌}
 use Rattle.s370_rows.specs.State.{state_of}
-use Rattle.s370_quick.specs.Quick.{SupervisesQuickly}
+use Rattle.s370_quick.specs.Quick.{SupervisesOrStays}
 use Rattle.s370_quick.proofs.Keyless.{supervised_unit}
 use Rattle.s370_quick.proofs.supervised.finish_control.Goals as goal
 
@@ -9,7 +9,7 @@ returns-in-Some-clause-step g c =
     let m = state_of c.args.cpu.now (g.S.Storage.memory c.args.storage.now) in
     let m' = state_of c.perform_supervised.new.cpu (g.S.Storage.memory c.perform_supervised.new.storage) in
     let present = g.S.Storage.present c.args.storage.now in
-    subst (λ (o : Option ℕ). SupervisesQuickly present m o (record m' { cpu = c.go_on.new.cpu }))
+    subst (λ (o : Option ℕ). SupervisesOrStays present m o (record m' { cpu = c.go_on.new.cpu }))
     (sym (c.next.ensures ∙ c.go_on.ensures.next))
     (supervised_unit m c.args.place c.args.i c.in-Some.ending c.go_on.new.cpu present m' c.go_on.new.cpu.psw.address
     c.requires.carried c.requires.next c.in-Some.ensures.row
