@@ -130,7 +130,7 @@ fn bring_and_do_unit<P: Processor, S: UnitSupply>(
 ///
 /// The pages that were brought for it stay. Nothing is done for a stop.
 #[inline(always)]
-fn try_or_bring<P: Processor, S: UnitSupply>(
+fn do_unit<P: Processor, S: UnitSupply>(
     said: Next,
     cpu: &mut Cpu,
     spare: &mut Cpu,
@@ -155,70 +155,6 @@ fn try_or_bring<P: Processor, S: UnitSupply>(
     match try_unit::<P, S>(said, cpu, spare, pending, subchannels, storage) {
         Ok(()) => Ok(()),
         Err(_) => bring_and_do_unit::<P, S>(said, cpu, spare, pending, subchannels, storage),
-    }
-}
-
-/// Does the unit that `said` names, in a function that is not inlined, with the absent pages that
-/// it needs made present; if there is no room for one, the unit is not done.
-#[inline(never)]
-fn do_unit_apart<P: Processor, S: UnitSupply>(
-    said: Next,
-    cpu: &mut Cpu,
-    spare: &mut Cpu,
-    pending: &mut Pending,
-    subchannels: &mut Subchannels,
-    storage: &mut S,
-) -> Result<(), FramesOut>
-    requires large { 8192 ≤ length (S.Storage.memory storage.old).bytes }
-    requires between { S.IsBetween storage.old }
-    ensures unit { let before = core_of
-        (state_of cpu.old (S.Storage.memory storage.old)) pending.old subchannels.old in
-        let after = core_of (state_of cpu.new (S.Storage.memory storage.new)) pending.new
-        subchannels.new in
-        SuppliesUnit said before result after (S.IsOut storage.new) }
-    ensures supply { let before = core_of
-        (state_of cpu.old (S.Storage.memory storage.old)) pending.old subchannels.old in
-        (pages : List ℕ) × S.Came storage.old (pages ∷ []) storage.new
-        × AllNeeded (NeedsAt said before) pages
-        × (length pages ≤ 9) }
-    ensures between { S.IsBetween storage.new }
-{
-    try_or_bring::<P, S>(said, cpu, spare, pending, subchannels, storage)
-}
-
-/// Does the unit that `said` names, with the absent pages that it needs made present; if there is
-/// no room for one, the unit is not done.
-///
-/// An instruction is named here, and all else is out of line, so that nothing of other units is
-/// carried through it.
-#[inline(always)]
-fn do_unit<P: Processor, S: UnitSupply>(
-    said: Next,
-    cpu: &mut Cpu,
-    spare: &mut Cpu,
-    pending: &mut Pending,
-    subchannels: &mut Subchannels,
-    storage: &mut S,
-) -> Result<(), FramesOut>
-    requires large { 8192 ≤ length (S.Storage.memory storage.old).bytes }
-    requires between { S.IsBetween storage.old }
-    ensures unit { let before = core_of
-        (state_of cpu.old (S.Storage.memory storage.old)) pending.old subchannels.old in
-        let after = core_of (state_of cpu.new (S.Storage.memory storage.new)) pending.new
-        subchannels.new in
-        SuppliesUnit said before result after (S.IsOut storage.new) }
-    ensures supply { let before = core_of
-        (state_of cpu.old (S.Storage.memory storage.old)) pending.old subchannels.old in
-        (pages : List ℕ) × S.Came storage.old (pages ∷ []) storage.new
-        × AllNeeded (NeedsAt said before) pages
-        × (length pages ≤ 9) }
-    ensures between { S.IsBetween storage.new }
-{
-    match said {
-        Next::Instructs => {
-            try_or_bring::<P, S>(Next::Instructs, cpu, spare, pending, subchannels, storage)
-        }
-        _ => do_unit_apart::<P, S>(said, cpu, spare, pending, subchannels, storage),
     }
 }
 

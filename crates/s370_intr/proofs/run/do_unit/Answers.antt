@@ -2,7 +2,7 @@ use Rattle.std.proofs.Common.{[], ◌∷◌, arith, subst}
 use Rattle.s370_rows.specs.State.{state_of}
 use Rattle.s370_intr.specs.Units.{Core, NeedsAt, core_of}
 use Rattle.s370_intr.specs.Run.{AllNeeded, SuppliesUnit}
-use Rattle.s370_intr.proofs.run.try_or_bring.Goals as goal
+use Rattle.s370_intr.proofs.run.do_unit.Goals as goal
 
 pub returns-in-Ok-clause-supply : goal.returns-in-Ok-clause-supply
 returns-in-Ok-clause-supply g c = (
