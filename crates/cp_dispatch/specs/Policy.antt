@@ -1,6 +1,5 @@
 -- Who is dealt the slices of the processor, and which programs of channels are served.
 use Rattle.std.specs.Prelude.{◌≡◌, ◌<◌, ◌==◌, ◌&&◌, ℕ, Bool, true, false, List, [], length}
-use Rattle.std.specs.Prelude.{slice_index_or}
 use Rattle.std.specs.List.{IsDistinct, list_any}
 use Rattle.cp_dispatch.specs.declared.program.Program.{Program}
 use Rattle.cp_dispatch.specs.Fairness.{GivesEach, IsFair}
@@ -11,10 +10,6 @@ pub record Lines : Type 0 where
   pub users : List ℕ
   pub programs : List Program
   pub most_users : ℕ
-
--- the user whom this flag is for is ready
-abbrev pub is_ready : List Bool → ℕ → Bool
-is_ready flags user = slice_index_or flags user false
 
 -- the same user
 abbrev pub same_user : ℕ → ℕ → Bool

@@ -10,28 +10,23 @@
 //! [`Policy::started`] take memory, and no other call.
 //!
 //! ```
-//! use cp_dispatch::{Policy, Ready};
+//! use cp_dispatch::Policy;
 //! use user_names::UserNo;
 //!
 //! let (a, b) = (UserNo::new(0), UserNo::new(1));
 //! let mut policy = Policy::new(alloc, 64)?;
-//! let mut ready = Ready::nobody();
-//! for user in [a, b] {
-//!     policy.join(user);
-//!     ready.set(user, true);
-//! }
-//! assert_eq!(rt; policy.slice(&ready), Some(a));
-//! assert_eq!(rt; policy.slice(&ready), Some(b));
-//! assert_eq!(rt; policy.slice(&Ready::nobody()), None);
+//! policy.join(a);
+//! policy.join(b);
+//! assert_eq!(rt; policy.slice(0), a);
+//! assert_eq!(rt; policy.users(), [b, a].as_slice());
+//! assert_eq!(rt; policy.slice(0), b);
 //! ```
 #![tactic(auto)]
 
 mod policy;
 mod program;
-mod ready;
 mod saved;
 
 pub use policy::{Policy, is_fair};
 pub use program::Program;
-pub use ready::Ready;
 pub use saved::one_by_saved;

@@ -1,12 +1,11 @@
 //! The policy: the queue of users and the serve queue, which has programs.
-ghost use Rattle.std.specs.Prelude.{◌≡◌, ◌<◌, ◌≤◌, [], IfOk, OnErr, OnOk, length};
+ghost use Rattle.std.specs.Prelude.{◌≡◌, ◌<◌, ◌≤◌, ℕ, Bool, [], IfOk, OnErr, OnOk, Some, length};
 ghost use Rattle.std.specs.List.{position};
 ghost use Rattle.std.specs.Vec.{vec_capacity};
 ghost use Rattle.cp_dispatch.specs.Turns.{BringsForward, IsDealt, at_end, without};
-ghost use Rattle.cp_dispatch.specs.Policy.{IsFairPolicy, always, is_of, is_ready, same_user};
+ghost use Rattle.cp_dispatch.specs.Policy.{IsFairPolicy, always, is_of, same_user};
 
 use crate::program::Program;
-use crate::ready::Ready;
 use s370_num::DevAddr;
 use std::alloc::{AllocError, Global};
 use std::marker::Model;
@@ -104,19 +103,19 @@ impl Policy {
         take_out_program(&mut self.programs, user, device);
     }
 
-    /// Returns the first user in the queue who is ready, if there is one, and moves all before him,
-    /// and after them him, to the end.
-    pub fn slice(&mut self, ready: &Ready) -> Option<UserNo>
-        ensures dealt { IsDealt (is_ready ready.now) self.old.users result self.new.users }
-        ensures forward { BringsForward (is_ready ready.now) self.old.users result self.new.users }
+    /// Gives a slice to the user at this place in the queue, the first who is ready, and returns
+    /// him; moves all before him, and after them him, to the end.
+    pub fn slice(&mut self, place: usize) -> UserNo
+        requires { place < length self.old.users }
+        ensures dealt { (ready : ℕ → Bool) → position ready self.old.users ≡ Some place
+            → IsDealt ready self.old.users (Some result) self.new.users }
+        ensures forward { (ready : ℕ → Bool) → position ready self.old.users ≡ Some place
+            → BringsForward ready self.old.users (Some result) self.new.users }
         ensures rest { self.new ≡ record self.old { users = self.new.users } }
     {
-        let Some(place) = place_of_ready(&self.users, ready) else {
-            return None;
-        };
         let user = self.users[place];
         self.users.rotate_left(place + 1);
-        Some(user)
+        user
     }
 
     /// Returns the first program in the serve queue, if there is one, and moves it to the end.
@@ -146,13 +145,6 @@ impl Policy {
     {
         &self.programs
     }
-}
-
-/// Returns the index in the queue of the first user who is ready, if there is one.
-fn place_of_ready(users: &[UserNo], ready: &Ready) -> Option<usize>
-    ensures { result ≡ position (is_ready ready.now) users.now }
-{
-    users.iter().position(|user| ready.has(*user))
 }
 
 /// Removes a user from the queue, if he is in it.

@@ -3,20 +3,19 @@ use Rattle.std.proofs.Common.{◌≡◌, ℕ, zero, suc, ◌+◌, Bool, false, t
 use Rattle.std.proofs.Common.{take, Option, Some, None, refl, ap, sym, ◌∙◌, subst, append_assoc, append-nil}
 use Rattle.std.proofs.Common.{length-append, arith}
 use Rattle.std.specs.Prelude.{Result, Ok, Err, OnErr, OnOk}
-use Rattle.std.specs.Io.KnownBytes.{Appends, Keeps}
-use Rattle.std.proofs.KnownBytes.{Appends-trans, Appends-nil, Appends-kept}
+use Rattle.std.specs.Io.KnownBytes.{Appends}
+use Rattle.std.proofs.KnownBytes.{Appends-trans, Appends-nil}
 use Rattle.std.proofs.Math.Seq.{take-length, take-append-add}
 use Rattle.s370_num.specs.Host.{AppendsFront}
 use Rattle.cp_dispatch.specs.Policy.{Lines, always}
 use Rattle.cp_dispatch.specs.Turns.{IsDealt}
 use Rattle.cp_dispatch.specs.declared.program.Program.{Program}
-use Rattle.machine_devices.specs.declared.reply.Reply.{Reply}
 use Rattle.session_script.specs.Script.{EventValue}
 use Rattle.session_script.specs.Script as said
 use Rattle.session_script.specs.Users.{KnownUser}
 use Rattle.sessions.specs.Installed.{Installation, IsHistory, Step, names_of}
 use Rattle.sessions.specs.Schedule.{Act, Applies, Slices, Serves, AreDone, Entry, Answered, Dealt, Passed, Idle, IsDone}
-use Rattle.sessions.specs.Schedule.{IsLacking, IsOf, MayAsk, Scene, acts, acts_of, line_after, lines_after, moved}
+use Rattle.sessions.specs.Schedule.{IsLacking, IsOf, MayAsk, Scene, acts, acts_of, line_after, lines_after}
 use Rattle.sessions.specs.Schedule.{passed, ready_in, scene, slice_units, steps_of, turn, turns, user_said, within}
 use Rattle.sessions.specs.Session.{IsAnswered, IsAnsweredPartly, IsPlayed, IsPartly, IsUnanswered}
 use Rattle.sessions.specs.Transcript.{ended, entry_lines, passed_lines, step_lines, transcript}

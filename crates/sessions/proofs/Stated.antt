@@ -1,15 +1,15 @@
 -- Programs in a line of which each is of a device of its user.
 use Rattle.std.proofs.Common.{◌≡◌, ℕ, ◌<◌, ◌&&◌, zero, suc, Bool, true, false, List, [], ◌∷◌, ◌++◌, refl, sym, ◌∙◌}
-use Rattle.std.proofs.Common.{subst, length, map, arith}
-use Rattle.std.specs.Prelude.{if◌then◌else◌, slice_index_or}
-use Rattle.std.specs.List.{list_all, list_any}
+use Rattle.std.proofs.Common.{subst, length, arith}
+use Rattle.std.specs.Prelude.{if◌then◌else◌}
+use Rattle.std.specs.List.{list_all}
 use Rattle.s370_subchannels.specs.Starts.{is_started}
 use Rattle.s370_subchannels.specs.Subchannels.{next_start}
 use Rattle.s370_subchannels.specs.declared.subchannel.Subchannel.{Subchannel}
 use Rattle.cp_dispatch.specs.Policy.{Lines, always, is_of}
 use Rattle.cp_dispatch.specs.Turns.{IsTaken, at_end, without}
 use Rattle.cp_dispatch.specs.declared.program.Program.{Program}
-use Rattle.session_script.specs.Users.{KnownUser, devices_of, has_device}
+use Rattle.session_script.specs.Users.{KnownUser, has_device}
 use Rattle.sessions.specs.Installed.{Installed, IsLineStated, is_stated, subchannels_at}
 use Rattle.sessions.specs.Schedule.{IsOf, first_line, first_lines, in_order, is_before, is_joining, joined, line_after}
 use Rattle.sessions.specs.Schedule.{line_since, started_since, with_joining, withdrawn}

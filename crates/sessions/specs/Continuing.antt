@@ -4,8 +4,6 @@ use Rattle.std.specs.Prelude.{◌≡◌, map}
 use Rattle.machine_devices.specs.Equipped.{Equipped}
 use Rattle.machine_devices.specs.Forgotten.{unprinted}
 use Rattle.machine_devices.specs.Written.{without_entries}
-use Rattle.machine_devices.specs.declared.reply.Reply.{Reply}
-use Rattle.session_script.specs.Script.{EventValue}
 use Rattle.sessions.specs.Alike.{IsAlike}
 use Rattle.sessions.specs.Installed.{Installation, Installed, Step}
 use Rattle.sessions.specs.Noted.{HasFull, NotesFiles}

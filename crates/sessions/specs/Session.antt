@@ -1,5 +1,5 @@
 -- What a session reads, does and writes.
-use Rattle.std.specs.Prelude.{◌≡◌, ◌<◌, ℕ, Bool, true, false, List, [], ◌∷◌, ◌++◌, ◌⊎◌, Option}
+use Rattle.std.specs.Prelude.{◌≡◌, ℕ, Bool, true, false, List, [], ◌∷◌, ◌++◌, ◌⊎◌, Option}
 use Rattle.std.specs.Prelude.{Result, Ok, Err}
 use Rattle.std.specs.Io.KnownBytes.{Appends, Consumes, IsAtEnd}
 use Rattle.s370_num.specs.Host.{AppendsFront, IsCounted}
@@ -11,7 +11,7 @@ use Rattle.session_script.specs.Script.{EventValue, script_of}
 use Rattle.session_script.specs.declared.reader.ScriptError.{ScriptError}
 use Rattle.session_script.specs.declared.reader.ScriptError.TheVariants as refusals
 use Rattle.sessions.specs.Files.{closing_lines}
-use Rattle.sessions.specs.Installed.{Installation, IsHistory, Step, names_of}
+use Rattle.sessions.specs.Installed.{Installation, IsHistory, names_of}
 use Rattle.sessions.specs.Schedule.{Act, AreDone, Entry, IsLacking, IsOf, Scene, acts, first_lines}
 use Rattle.sessions.specs.Schedule.{steps_of}
 use Rattle.sessions.specs.Transcript.{ended, step_lines, transcript}

@@ -11,7 +11,7 @@ ghost use Rattle.sessions.specs.Transcript.{ended, passed_lines};
 use crate::answers::apply_and_queue;
 use crate::faults::PlayError;
 use crate::installation::Installation;
-use crate::schedule::{Detail, SLICE_UNITS, is_on, ready_users, update_ready_queue};
+use crate::schedule::{Detail, SLICE_UNITS, first_ready, is_on, update_ready_queue};
 use crate::transcript::idle_line;
 use cp_dispatch::Policy;
 use machine_devices::Event;
@@ -171,10 +171,10 @@ fn slice<I: Installation, W: HostWriter>(
         (I.goes.is_spent installation.new)
         (W.HostFile.failures writer.old) (W.HostFile.failures writer.new) }
 {
-    let ready = ready_users(installation);
-    let Some(user) = policy.slice(&ready) else {
+    let Some(place) = first_ready(installation, policy.users()) else {
         return Ok(false);
     };
+    let user = policy.slice(place);
     let event = Event::Run(user, SLICE_UNITS);
     apply_and_queue(alloc, installation, policy, detail, &event, writer)?;
     Ok(true)

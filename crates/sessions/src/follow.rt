@@ -11,8 +11,7 @@ ghost use Rattle.sessions.specs.Files.{lines_since};
 ghost use Rattle.session_script.specs.Script.{IsOfDevice, IsOfUser, IsRefusal, said, script_of};
 ghost use Rattle.sessions.specs.Follow.{Became, BeginsWithNothing, EndsAsSession, HasWholeLines};
 ghost use Rattle.sessions.specs.Follow.{IsFollowedPartly, PartsJoin, part_of, unended_line};
-ghost use Rattle.std.specs.List.{list_all, list_any};
-ghost use Rattle.cp_dispatch.specs.Policy.{is_ready};
+ghost use Rattle.std.specs.List.{list_all};
 ghost use Rattle.sessions.specs.Held.{holds_lines};
 ghost use Rattle.sessions.specs.Installed.{is_stated, names_of};
 ghost use Rattle.sessions.specs.News.{changed_lines, is_idle, modes_of};
@@ -31,9 +30,9 @@ use crate::held::held_lines;
 use crate::installation::Installation;
 use crate::known::read_events;
 use crate::news::{mode_change_lines, modes};
-use crate::schedule::{Detail, first_policy, ready_users};
+use crate::schedule::{Detail, first_policy, first_ready};
 use crate::transcript::names;
-use cp_dispatch::{Policy, Program, Ready};
+use cp_dispatch::{Policy, Program};
 use machine_panel::Mode;
 use s370_num::host::HostWriter;
 use saved_bytes::{Input, RestoreError};
@@ -365,8 +364,8 @@ impl<I: Installation + Drop> Follower<I> {
     pub fn is_idle(&self) -> bool
         ensures { result ≡ is_idle I.goes self.now }
     {
-        let ready = ready_users(&self.installation);
-        self.policy.programs().is_empty() && !has_ready(self.policy.users(), &ready)
+        self.policy.programs().is_empty()
+            && first_ready(&self.installation, self.policy.users()).is_none()
     }
 }
 
@@ -426,13 +425,6 @@ fn unended(text: &[u8]) -> Option<u64>
         }
     }
     if is_ended { None } else { Some(line) }
-}
-
-/// Returns whether one of these users is ready for a slice.
-fn has_ready(users: &[UserNo], ready: &Ready) -> bool
-    ensures { result ≡ list_any (is_ready ready.now) users.now }
-{
-    users.iter().any(|user| ready.has(*user))
 }
 
 /// States that parts that are followed one after another are one script, and that one that was

@@ -1,11 +1,11 @@
 //! Who is dealt the slices: the users who are on, of whom some are ready.
-ghost use Rattle.std.specs.Prelude.{◌≡◌, ◌<◌, IfOk, ℕ, length, true};
-ghost use Rattle.cp_dispatch.specs.Policy.{is_ready as is_flagged};
+ghost use Rattle.std.specs.Prelude.{◌≡◌, ◌<◌, ℕ, IfOk, length, true};
+ghost use Rattle.std.specs.List.{position};
 ghost use Rattle.sessions.specs.Schedule.{first_lines, is_on, is_user_on, queue_with, ready_in};
 
 use crate::installation::Installation;
 use crate::starts::update_serve_queue;
-use cp_dispatch::{Policy, Ready};
+use cp_dispatch::Policy;
 use machine_panel::Mode;
 use std::alloc::{AllocError, Global};
 use user_names::UserNo;
@@ -73,17 +73,20 @@ pub(crate) fn first_policy<I: Installation>(
     Ok(policy)
 }
 
-/// Returns which users are ready for a slice.
-pub(crate) fn ready_users<I: Installation>(installation: &I) -> Ready
-    ensures ready { (user : ℕ)
-        → is_flagged result user ≡ ready_in (I.goes.seen installation.now) user }
-    ensures users { (user : ℕ) → is_flagged result user ≡ true
+/// Returns the place of the first of these users who is ready for a slice, if one of them is.
+pub(crate) fn first_ready<I: Installation>(installation: &I, users: &[UserNo]) -> Option<usize>
+    ensures place { result ≡ position (ready_in (I.goes.seen installation.now)) users.now }
+    ensures known { (user : ℕ) → ready_in (I.goes.seen installation.now) user ≡ true
         → user < length (I.goes.seen installation.now).users }
 {
-    let mut ready = Ready::nobody();
-    for number in 0..installation.users() {
-        let user = UserNo::new(number as u8);
-        ready.set(user, installation.is_ready(user));
-    }
-    ready
+    // There are as many users as machines.
+    let _users = installation.users();
+    users.iter().position(|user| is_ready(installation, *user))
+}
+
+/// Returns whether a user of the installation has this number, and is ready for a slice.
+fn is_ready<I: Installation>(installation: &I, user: UserNo) -> bool
+    ensures { result ≡ ready_in (I.goes.seen installation.now) user }
+{
+    user.index() < installation.users() && installation.is_ready(user)
 }

@@ -29,7 +29,8 @@ returns-then-units-count-clause-reported g c =
     let n = c.instruct_if_plain-went.result.units in
     let first = core_of (state_of c.args.cpu.now (g.S.Storage.memory c.args.storage.now)) c.args.pending.now
     c.args.subchannels.now in
-    let now = core_of (state_of c.instruct_if_plain-went.new.cpu (g.S.Storage.memory c.instruct_if_plain-went.new.storage))
+    let now = core_of (state_of c.instruct_if_plain-went.new.cpu
+    (g.S.Storage.memory c.instruct_if_plain-went.new.storage))
     c.args.pending.now c.instruct_if_plain-went.new.subchannels in
     let reported : Run = record { core = now; units = n; reason = Count } in
     subst (λ (k : ℕ). run k first ≡ reported) c.if-units-count.true c.instruct_if_plain-went.ensures.ran.done

@@ -1,29 +1,32 @@
-use Rattle.std.proofs.Common.{◌≡◌, ◌∙◌, ℕ, Some, None, List, ap, refl, sym, subst}
-use Rattle.cp_dispatch.specs.Policy.{Lines, is_ready}
+use Rattle.std.proofs.Common.{◌≡◌, ◌∙◌, Some, None, ap, refl, sym}
+use Rattle.std.specs.List.{position}
+use Rattle.cp_dispatch.specs.Policy.{Lines}
 use Rattle.cp_dispatch.specs.Turns.{IsDealt}
+use Rattle.cp_dispatch.proofs.Places.{none_placed}
 use Rattle.sessions.specs.Schedule.{line_after, ready_in}
-use Rattle.sessions.proofs.Histories.{not_sliced, on_err, same_queue, sliced, sliced_partly}
-use Rattle.sessions.proofs.Queues.{dealt_same}
+use Rattle.sessions.proofs.Histories.{not_sliced, on_err, sliced, sliced_partly}
 use Rattle.sessions.proofs.Stated.{after_event}
 use Rattle.sessions.proofs.acts.slice.Goals as goal
 
 pub apply_and_queue-requires : goal.apply_and_queue-requires
-apply_and_queue-requires g c = record {
-  user = c.ready_users-ready.ensures.users c.in-Some.user c.in-Some.ensures.dealt.is_ready;
-  device = tt;
-}
+apply_and_queue-requires g c =
+    let before = g.I.Installation.goes.seen c.args.installation.now in
+    let place : position (ready_in before) c.args.policy.now.users ≡ Some c.in-Some.place =
+    ap (position (ready_in before)) (sym c.users.ensures) ∙ (sym c.first_ready.ensures.place ∙ c.in-Some.is) in
+    let dealt : IsDealt (ready_in before) c.args.policy.now.users (Some c.slice-user.result)
+    c.slice-user.new.self.users =
+    c.slice-user.ensures.dealt (ready_in before) place in
+    record { user = c.first_ready.ensures.known c.slice-user.result dealt.is_ready; device = tt }
 
 pub returns-in_default-clause-ok : goal.returns-in_default-clause-ok
 returns-in_default-clause-ok g c =
     let i = g.I.Installation.goes in
     let before = i.seen c.args.installation.now in
     let lines = c.args.policy.now in
-    let dealt : IsDealt (ready_in before) lines.users None c.slice.new.self.users =
-    dealt_same (is_ready c.ready_users-ready.result) (ready_in before) c.ready_users-ready.ensures.ready lines.users
-    None c.slice.new.self.users c.in_default.ensures.dealt in
-    let stays = same_queue lines c.slice.new.self c.slice.ensures.rest dealt.1 in
-    not_sliced i c.args.detail c.args.installation.now lines c.slice.new.self
-    (g.W.HostWriter.contents c.args.writer.now) (dealt.0, refl) stays c.requires.dealing
+    let nobody : position (ready_in before) lines.users ≡ None =
+    ap (position (ready_in before)) (sym c.users.ensures) ∙ (sym c.first_ready.ensures.place ∙ c.in_default.is) in
+    not_sliced i c.args.detail c.args.installation.now lines lines (g.W.HostWriter.contents c.args.writer.now)
+    (none_placed (ready_in before) lines.users nobody, refl) refl c.requires.dealing
 
 pub returns-in_err-apply_and_queue-clause-err : goal.returns-in_err-apply_and_queue-clause-err
 returns-in_err-apply_and_queue-clause-err g c =
@@ -31,14 +34,12 @@ returns-in_err-apply_and_queue-clause-err g c =
     let old = g.W.HostWriter.contents c.args.writer.now in
     let new = g.W.HostWriter.contents c.apply_and_queue.new.writer in
     let before = i.seen c.args.installation.now in
-    let queue = c.args.policy.now.users in
-    let next = c.slice.new.self.users in
-    let dealt : IsDealt (ready_in before) queue (Some c.in-Some.user) next =
-    dealt_same (is_ready c.ready_users-ready.result) (ready_in before) c.ready_users-ready.ensures.ready queue
-    (Some c.in-Some.user) next c.in-Some.ensures.dealt in
+    let place : position (ready_in before) c.args.policy.now.users ≡ Some c.in-Some.place =
+    ap (position (ready_in before)) (sym c.users.ensures) ∙ (sym c.first_ready.ensures.place ∙ c.in-Some.is) in
     on_err c.from_residual.result
-    (sliced_partly i c.args.detail c.in-Some.user next c.args.installation.now c.apply_and_queue.new.installation
-    c.args.policy.now old new dealt c.in_err-apply_and_queue.ensures.err)
+    (sliced_partly i c.args.detail c.slice-user.result c.slice-user.new.self.users c.args.installation.now
+    c.apply_and_queue.new.installation c.args.policy.now old new (c.slice-user.ensures.dealt (ready_in before) place)
+    c.in_err-apply_and_queue.ensures.err)
 
 pub returns-clause-ok : goal.returns-clause-ok
 returns-clause-ok g c =
@@ -48,12 +49,11 @@ returns-clause-ok g c =
     let before = i.seen c.args.installation.now in
     let after = i.seen c.apply_and_queue.new.installation in
     let lines = c.args.policy.now in
-    let user = c.in-Some.user in
-    let next = c.slice.new.self.users in
-    let dealt : IsDealt (ready_in before) lines.users (Some user) next =
-    dealt_same (is_ready c.ready_users-ready.result) (ready_in before) c.ready_users-ready.ensures.ready lines.users
-    (Some user) next c.in-Some.ensures.dealt in
-    let turned : c.slice.new.self ≡ record lines { users = next } = c.slice.ensures.rest in
+    let user = c.slice-user.result in
+    let next = c.slice-user.new.self.users in
+    let place : position (ready_in before) lines.users ≡ Some c.in-Some.place =
+    ap (position (ready_in before)) (sym c.users.ensures) ∙ (sym c.first_ready.ensures.place ∙ c.in-Some.is) in
+    let turned : c.slice-user.new.self ≡ record lines { users = next } = c.slice-user.ensures.rest in
     let all : c.apply_and_queue.new.policy
     ≡ record lines { users = next; programs = line_after before after user lines.programs } =
     c.in_ok-apply_and_queue.ensures.lined ∙ ap (λ (p : Lines). record p {
@@ -67,4 +67,5 @@ returns-clause-ok g c =
     (ap (λ (p : Lines). p.programs) all) in
     sliced i c.args.detail user next c.args.installation.now c.apply_and_queue.new.installation lines
     c.apply_and_queue.new.policy old new
-    dealt c.in_ok-apply_and_queue.ensures.ok all c.apply_and_queue.ensures.users dealing
+    (c.slice-user.ensures.dealt (ready_in before) place) c.in_ok-apply_and_queue.ensures.ok all
+    c.apply_and_queue.ensures.users dealing

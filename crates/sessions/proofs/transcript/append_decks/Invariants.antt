@@ -1,4 +1,4 @@
-use Rattle.std.proofs.Common.{◌≡◌, ◌++◌, drop, map}
+use Rattle.std.proofs.Common.{◌≡◌, ◌++◌, drop}
 use Rattle.user_names.specs.Users.{name_of}
 use Rattle.sessions.specs.Installed.{names_of, user_at}
 use Rattle.sessions.specs.Transcript.{ended, queue_lines}

@@ -1,33 +1,21 @@
-use Rattle.std.proofs.Common.{◌≡◌, ◌∙◌, ◌<◌, ◌≤◌, ◌+◌, ◌++◌, Some, None, List, ℕ, true, take, drop, length, get_or}
-use Rattle.std.proofs.Common.{refl, ap, sym, subst, rules, arith}
+use Rattle.std.proofs.Common.{◌≡◌, ◌<◌, ◌≤◌, ◌+◌, ◌++◌, Some, List, ℕ, Bool, take, drop, length, get_or}
+use Rattle.std.proofs.Common.{ap, sym, subst, arith}
 use Rattle.std.specs.List.{position}
 use Rattle.std.proofs.lemmas.List.{take-append-drop}
 use Rattle.std.proofs.lemmas.List.Sorted.{IsPermutation-append_comm}
 use Rattle.std.specs.List.Sorted.{IsPermutation}
-use Rattle.cp_dispatch.specs.Policy.{Lines, is_ready}
+use Rattle.cp_dispatch.specs.Policy.{Lines}
 use Rattle.cp_dispatch.specs.Turns.{IsTaken}
 use Rattle.cp_dispatch.proofs.Fair.{forward}
-use Rattle.cp_dispatch.proofs.Places.{none_placed, taken_placed}
+use Rattle.cp_dispatch.proofs.Places.{taken_placed}
 use Rattle.cp_dispatch.proofs.Queues.{moved}
 use Rattle.cp_dispatch.proofs.policy.Policy.slice.Goals as goal
-
-pub returns-in_default-clause-dealt : goal.returns-in_default-clause-dealt
-returns-in_default-clause-dealt c =
-    let known = ap (λ (s : Lines). s.users) c.self.view_is in
-    let place : position (is_ready c.args.ready.now) c.args.self.now.users ≡ None = ap
-    (position (is_ready c.args.ready.now)) (sym (c.deref.ensures.value ∙ known))
-    ∙ (sym c.place_of_ready.ensures ∙ c.in_default.is) in
-    (none_placed (is_ready c.args.ready.now) c.args.self.now.users place, refl)
-
-pub returns-in_default-clause-forward : goal.returns-in_default-clause-forward
-returns-in_default-clause-forward c = forward (is_ready c.args.ready.now) c.args.self.now.users None
-    c.args.self.now.users (returns-in_default-clause-dealt c)
 
 pub invariant_of-self : goal.invariant_of-self
 invariant_of-self c =
     let old = c.self.inside.users.items in
     let new = c.rotate_left.new.self.items in
-    let k = c.in-Some.place + 1 in
+    let k = c.args.place + 1 in
     let turned : IsPermutation (take k old ++ drop k old) new = subst
     (λ (l : List ℕ). IsPermutation (take k old ++ drop k old) l) (sym c.rotate_left.ensures.items)
     (IsPermutation-append_comm (take k old) (drop k old)) in
@@ -37,15 +25,11 @@ invariant_of-self c =
     )
 
 pub returns-clause-dealt : goal.returns-clause-dealt
-returns-clause-dealt c =
+returns-clause-dealt c = λ ready place.
     let known = ap (λ (s : Lines). s.users) c.self.view_is in
-    let old = c.self.inside.users.items in
-    let place : position (is_ready c.args.ready.now) old ≡ Some c.in-Some.place = ap
-    (position (is_ready c.args.ready.now)) (sym c.deref.ensures.value)
-    ∙ (sym c.place_of_ready.ensures ∙ c.in-Some.is) in
-    rw (sym known) (taken_placed (is_ready c.args.ready.now) old c.in-Some.place c.index-user.result.now
-    c.rotate_left.new.self.items place c.index-user.ensures c.rotate_left.ensures.items)
+    rw (sym known) (taken_placed ready c.self.inside.users.items c.args.place c.index-user.result.now
+    c.rotate_left.new.self.items (rw known place) c.index-user.ensures c.rotate_left.ensures.items)
 
 pub returns-clause-forward : goal.returns-clause-forward
-returns-clause-forward c = forward (is_ready c.args.ready.now) c.args.self.now.users
-    (Some c.index-user.result.now) c.rotate_left.new.self.items (returns-clause-dealt c)
+returns-clause-forward c = λ ready place. forward ready c.args.self.now.users
+    (Some c.index-user.result.now) c.rotate_left.new.self.items (returns-clause-dealt c ready place)
