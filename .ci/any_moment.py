@@ -497,7 +497,7 @@ def program_of(process: int) -> int | None:
         children = file.read().split()
     for child in children:
         with contextlib.suppress(OSError):
-            if read_text(f"/proc/{child}/comm").startswith("vm370_cli"):
+            if read_text(f"/proc/{child}/comm").startswith("gathjumli_cli"):
                 return int(child)
     return None
 

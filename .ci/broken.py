@@ -25,7 +25,7 @@ from gathjumli.cli import last, number, read_arguments
 from installation import read, write
 
 EXAMPLES = f"{TOP}/examples/users"
-PROGRAM = f"{TOP}/crates/vm370_cli/out/vm370_cli"
+PROGRAM = f"{TOP}/crates/gathjumli_cli/out/gathjumli_cli"
 REFUSED = "fault: state Refused\n"
 # what of the gate
 EVERY, SCRIPTS, STATES, ONE_OF = 7, 10, 10, 100
@@ -86,7 +86,8 @@ class Running:
         for path, image in zip(self.volumes, case.images):
             write(path, image)
         self.errors = tempfile.TemporaryFile()
-        words = [program, *case.sizes, "--save", "--follow", f"{room}/directory", *self.volumes]
+        words = [program, "vm370", *case.sizes, "--save", "--follow", f"{room}/directory"]
+        words += self.volumes
         streams = {"stdin": subprocess.PIPE, "stdout": subprocess.PIPE, "stderr": self.errors}
         self.process = subprocess.Popen(words, **streams)
 

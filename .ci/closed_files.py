@@ -93,7 +93,7 @@ def try_transcript(check: Check, program: str, rounds: int, folder: str) -> None
     parts = [beginning(), *map(round_of, range(rounds))]
     write(f"{folder}/directory", DIRECTORY)
     write(f"{folder}/script", b"".join(parts))
-    words = [program, f"{folder}/directory", f"{folder}/script"]
+    words = [program, "vm370", f"{folder}/directory", f"{folder}/script"]
     whole = subprocess.run(words, stdout=subprocess.PIPE, check=True).stdout
     case = Case("closed files", DIRECTORY, [], [], [], None)
     first, second = Running(program, case, folder), Running(program, case, folder)

@@ -415,8 +415,8 @@ def answers(lines: TextIO) -> Iterator[list[str]]:
             yield desk.findings()
 
 
-def stand_in() -> None:
-    """Plays the program."""
+def stand_in(words: list[str]) -> None:
+    """Plays the program with the words `logondesk`."""
     for findings in answers(sys.stdin):
         sys.stdout.write("\n".join(findings) + "\n")
         sys.stdout.flush()
@@ -462,7 +462,10 @@ def reported_by(program: str) -> object:
 
     def findings(lines: list) -> list[str]:
         done = subprocess.run(
-            [program], input="".join(f"{line}\n" for line in lines), capture_output=True, text=True
+            [program, "logondesk"],
+            input="".join(f"{line}\n" for line in lines),
+            capture_output=True,
+            text=True,
         )
         parts = [[]]
         for line in done.stdout.splitlines():
@@ -480,7 +483,10 @@ def try_program(check: Callable, program: str, seeds: int = 4, count: int = 4000
         lines = list(some_lines(seed, count))
         wanted = [line for findings in answers(lines) for line in findings]
         done = subprocess.run(
-            [program], input="".join(f"{line}\n" for line in lines), capture_output=True, text=True
+            [program, "logondesk"],
+            input="".join(f"{line}\n" for line in lines),
+            capture_output=True,
+            text=True,
         )
         found = done.stdout.splitlines()
         first = next(
@@ -508,7 +514,7 @@ class Talk:
     def __init__(self, program: str = None) -> None:
         self.lines, self.places, self.typed, self.asked = [], {}, [], []
         self.process = program and subprocess.Popen(
-            [program], stdin=subprocess.PIPE, stdout=subprocess.PIPE, text=True
+            [program, "logondesk"], stdin=subprocess.PIPE, stdout=subprocess.PIPE, text=True
         )
         self.answers = answers(iter(lambda: self.lines.pop(0), None))
 

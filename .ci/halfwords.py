@@ -122,13 +122,13 @@ class Halfwords:
         """What differs first between the user and the machine, or of the neighbour and his."""
         own = self.script()
         ended, findings = player.findings(
-            "vm370_cli",
+            "vm370",
             {"script": NEIGHBOUR + own + NEIGHBOUR_ENDED, "directory": DIRECTORY},
             ["--frames", "16", "--slots", "0", "directory", "script"],
         )
-        bare, wanted = player.findings("bare370_cli", {"script": own}, ["8K", "script"])
+        bare, wanted = player.findings("bare370", {"script": own}, ["8K", "script"])
         script = (NEIGHBOUR + NEIGHBOUR_ENDED).replace("NEIGHBOR", "BARE")
-        other, stays = player.findings("bare370_cli", {"script": script}, ["8K", "script"])
+        other, stays = player.findings("bare370", {"script": script}, ["8K", "script"])
         if ended or bare or other:
             return f"statuses {ended}, {bare}, {other}"
         stays = stays.replace("BARE: ", "NEIGHBOR: ")

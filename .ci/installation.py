@@ -93,7 +93,7 @@ class Site:
     def program(self) -> object:
         """The id of the program that it runs, or None."""
         found = subprocess.run(
-            ["pgrep", "-P", str(self.process.pid), "-f", "vm370_cli"],
+            ["pgrep", "-P", str(self.process.pid), "-f", " vm370 "],
             capture_output=True,
             text=True,
         ).stdout.split()
@@ -188,7 +188,7 @@ def sizes_of(record: object) -> list:
 
 def replayed(program: str, directory: str, record: object, volumes: tuple = ()) -> tuple:
     """What the program itself makes of a recording: what each user was shown, and all of it."""
-    words = [program, *sizes_of(record), "--", directory, record, *volumes]
+    words = [program, "vm370", *sizes_of(record), "--", directory, record, *volumes]
     shown, is_over = {}, False
     with tempfile.TemporaryFile() as errors, subprocess.Popen(
         words, stdout=subprocess.PIPE, stderr=errors
@@ -1250,7 +1250,7 @@ async def on(site: object, name: str = "ALICE", password: str = "WONDER") -> obj
 def try_all(check: Callable, repository: str, folder: str, is_stand_in: object) -> None:
     """All that is tried in seconds."""
     command = f"{repository}/bin/installation"
-    program = f"{repository}/crates/vm370_cli/out/vm370_cli"
+    program = f"{repository}/crates/gathjumli_cli/out/gathjumli_cli"
     prints = (["PRINT HELLO"], "") if is_stand_in else (PRINTS, "CLOSE 00E")
     try_logging_on(check, make_site(command, f"{folder}/logging on"))
     try_passwords_file(check, repository, make_site(command, f"{folder}/passwords"))

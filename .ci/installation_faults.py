@@ -200,11 +200,6 @@ class Streams:
     abort = close
 
 
-def desk_program(program: str) -> str:
-    """The program that is the desk, next to the one of the machines."""
-    return program.replace("vm370_cli", "logon_desk_cli")
-
-
 def desk_of(engine: object, program: str) -> tuple:
     from gathjumli.logon import Passwords
     from gathjumli.logon_server import LogonServer
@@ -647,8 +642,8 @@ def try_faults(check: Callable, command: str, program: str, folder: str) -> None
     """All that is tried in seconds, over a stand-in for the program."""
     os.makedirs(folder)
     try_removed_deck(check, folder)
-    try_lost_connection(check, desk_program(program))
-    try_two_logons(check, desk_program(program))
+    try_lost_connection(check, program)
+    try_two_logons(check, program)
     try_answers(check)
     try_edits(check, folder)
     try_killed_program(check, make_site(command, f"{folder}/killed"), program)

@@ -4,6 +4,7 @@ from __future__ import annotations
 from collections.abc import Callable
 import os
 import re
+import shutil
 import subprocess
 import time
 
@@ -12,18 +13,18 @@ from installation_operators import operator
 from installation_states import stored
 
 PATIENCE = 30
-# a program of frames that says which script and state it is given, and one that takes for ever
-TELLS = """#!/bin/sh
+# what makes maps says which script and state it is given, or takes for ever
+TELLS = """
 for word; do case $word in */state) echo "STATE $(wc -c < "$word")" ;; esac; done
 echo SCRIPT; exec cat
 """
-HANGS = """#!/bin/sh
+HANGS = """
 echo $$ > "%s"
 cat > /dev/null
 exec sleep 600
 """
-# one that notes what script it is given, and makes a map
-MAPS = """#!/bin/sh
+# or notes what script it is given, and makes a map
+MAPS = """
 count=$(cat "%s" 2> /dev/null | wc -l)
 for word; do case $word in */state) echo "state $(wc -c < "$word"), script $(wc -c)" >> "%s" ;; esac; done
 cat <<END
@@ -35,25 +36,30 @@ END
 
 
 def program_of(site: Site) -> str:
-    """The program of frames, which is built."""
+    """The program, which is built, and of which a copy is kept."""
     repository = os.path.dirname(os.path.dirname(site.command))
-    path = f"{repository}/crates/frame_map/out/frame_map"
+    path = f"{repository}/crates/gathjumli_cli/out/gathjumli_cli"
     write_text(f"{site.folder}/script", "")
     words = [f"{repository}/bin/framemap", "--", *site.paths, f"{site.folder}/script"]
     subprocess.run(words, capture_output=True, stdin=subprocess.DEVNULL)
+    shutil.copy(path, f"{path}.kept")
     return path
 
 
-def replace(path: str, text: str) -> None:
+def replace(path: str, lines: str) -> None:
+    """Has these lines of the shell make maps of frames; the copy does all else."""
     os.unlink(path)
-    write_text(path, text)
+    write_text(path, f'#!/bin/sh\n[ "$1" = framemap ] || exec "{path}.kept" "$@"\n{lines}')
     os.chmod(path, 0o755)
+
+
+def put_back(path: str) -> None:
+    os.replace(f"{path}.kept", path)
 
 
 def try_frames(check: Callable, site: Site) -> None:
     """Frames are looked for from the last state on; the search ends with the operator, and with the installation."""
     path = program_of(site)
-    before = read(path).decode()
     operate = ["--operate", f"{site.folder}/operator"]
     site.online(*operate)
     run(stored(site, 5))
@@ -77,7 +83,7 @@ def try_frames(check: Callable, site: Site) -> None:
     holds = status == 0 and is_gone(noted)
     check("and with the installation", holds, f"status {status}", *site.findings)
     leaving.communicate()
-    replace(path, before)
+    put_back(path)
 
 
 def searching(noted: str, where: str, site: Site) -> subprocess.Popen:
@@ -130,7 +136,7 @@ def try_past(check: Callable, site: Site) -> None:
 def try_looks(check: Callable, site: Site) -> None:
     """A report's looks at frames take no longer for what was before them, and its progress is told."""
     path = program_of(site)
-    before, noted = read(path).decode(), f"{site.folder}/looks"
+    noted = f"{site.folder}/looks"
     site.online()
     for value in range(20):
         run(stored(site, value))
@@ -151,7 +157,7 @@ def try_looks(check: Callable, site: Site) -> None:
     check("the page has what they saw", holds, *re.findall("[^<>]*page.ins[^<>]*", page))
     shares = [int(item) for item in re.findall(r"report: (\d+)% done", done.stderr)]
     check("progress is told", len(shares) > 1 and shares == sorted(shares), done.stderr)
-    replace(path, before)
+    put_back(path)
 
 
 def try_maps(check: Callable, command: str, folder: str) -> None:

@@ -100,7 +100,7 @@ def try_slow_program(check: Callable, site: Site) -> None:
 def try_hung_desk(check: Callable, site: Site) -> None:
     """A desk that hangs is killed, which ends the command, with its reason."""
     site.online("--hung-after", str(HUNG_AFTER))
-    os.kill(child_of(site, "logon_desk_cli"), signal.SIGSTOP)
+    os.kill(child_of(site, "logondesk"), signal.SIGSTOP)
     with socket.socket(socket.AF_UNIX) as stranger:
         stranger.connect(f"{site.folder}/socket")
         status = site.ended()

@@ -204,21 +204,21 @@ def type_states(check: Check, repository: str, folder: str) -> None:
     check("a machine of its own has none", is_refused, *findings_of(found))
 
 
-def refuse_words(check: Check, program: str, one_machine: str, folder: str) -> None:
-    """What the programs answer to SAVE, VIEW, STATE and HOLDS, also if that cannot be done."""
+def refuse_words(check: Check, program: str, folder: str) -> None:
+    """What vm370 and bare370 answer to SAVE, VIEW, STATE and HOLDS, also if that cannot be done."""
     write(f"{folder}/directory", b"USER A PW 8K\n")
     cases = {
-        "a machine of its own is saved": ([one_machine, "--follow", "8K"], b"SAVE\n", 0, b"> REFUSED 0\n", b""),
-        "a machine of its own goes on": ([one_machine, "--follow", "8K"], b"STATE\n1\nx", 1, b"", b"fault: state Refused\n"),
-        "what a machine of its own holds": ([one_machine, "--follow", "8K"], b"HOLDS\nEND\n", 0, b"> HOLDS BARE 0 0\n> DONE\n", b""),
-        "a machine of its own is viewed": ([one_machine, "--follow", "8K"], b"VIEW 0\n", 0, b"> REFUSED 0\n", b""),
-        "a user who is not there is viewed": ([program, "--follow", f"{folder}/directory"], b"VIEW 01\nEND\n", 0, b"> REFUSED 0\n", b""),
-        "a user of no number is viewed": ([program, "--follow", f"{folder}/directory"], b"VIEW A\n", 3, b"", b"fault: file Device 1\n"),
-        "a user of three digits is viewed": ([program, "--follow", f"{folder}/directory"], b"VIEW 000\n", 3, b"", b"fault: file Device 1\n"),
-        "a word that is no request": ([program, "--follow", f"{folder}/directory"], b"HOLD\n", 3, b"", b"fault: file Device 1\n"),
-        "a state of no bytes": ([program, "--follow", f"{folder}/directory"], b"STATE\n0\n", 1, b"", b"fault: state Refused\n"),
-        "a state that is cut": ([program, "--follow", f"{folder}/directory"], b"STATE\n9\nx", 3, b"", b"fault: file Device 1\n"),
-        "a state without a size": ([program, "--follow", f"{folder}/directory"], b"STATE\nx\n", 3, b"", b"fault: file Device 1\n"),
+        "a machine of its own is saved": ([program, "bare370", "--follow", "8K"], b"SAVE\n", 0, b"> REFUSED 0\n", b""),
+        "a machine of its own goes on": ([program, "bare370", "--follow", "8K"], b"STATE\n1\nx", 1, b"", b"fault: state Refused\n"),
+        "what a machine of its own holds": ([program, "bare370", "--follow", "8K"], b"HOLDS\nEND\n", 0, b"> HOLDS BARE 0 0\n> DONE\n", b""),
+        "a machine of its own is viewed": ([program, "bare370", "--follow", "8K"], b"VIEW 0\n", 0, b"> REFUSED 0\n", b""),
+        "a user who is not there is viewed": ([program, "vm370", "--follow", f"{folder}/directory"], b"VIEW 01\nEND\n", 0, b"> REFUSED 0\n", b""),
+        "a user of no number is viewed": ([program, "vm370", "--follow", f"{folder}/directory"], b"VIEW A\n", 3, b"", b"fault: file Device 1\n"),
+        "a user of three digits is viewed": ([program, "vm370", "--follow", f"{folder}/directory"], b"VIEW 000\n", 3, b"", b"fault: file Device 1\n"),
+        "a word that is no request": ([program, "vm370", "--follow", f"{folder}/directory"], b"HOLD\n", 3, b"", b"fault: file Device 1\n"),
+        "a state of no bytes": ([program, "vm370", "--follow", f"{folder}/directory"], b"STATE\n0\n", 1, b"", b"fault: state Refused\n"),
+        "a state that is cut": ([program, "vm370", "--follow", f"{folder}/directory"], b"STATE\n9\nx", 3, b"", b"fault: file Device 1\n"),
+        "a state without a size": ([program, "vm370", "--follow", f"{folder}/directory"], b"STATE\nx\n", 3, b"", b"fault: file Device 1\n"),
     }  # fmt: skip
     for what, (words, given, *wanted) in cases.items():
         found = asked(words, given)
@@ -253,7 +253,7 @@ def refuse_volumes(check: Check, program: str, folder: str) -> None:
         "a state over another serial number": ("none", "VOLA", "VOLC", refused),
     }
     for what, (directory, before, after, wanted) in cases.items():
-        command = [program, "--follow", f"{folder}/{directory}"]
+        command = [program, "vm370", "--follow", f"{folder}/{directory}"]
         state = saved_state(command + [f"{folder}/{serial}" for serial in before.split()])
         words = command + [f"{folder}/{serial}" for serial in after.split()]
         found = asked(words, b"STATE\n%d\n%sEND\n" % (len(state), state))
@@ -263,7 +263,7 @@ def refuse_volumes(check: Check, program: str, folder: str) -> None:
 def refuse_long_sizes(check: Check, program: str, folder: str) -> None:
     """A size has at most nine digits, of a state and of a part."""
     write(f"{folder}/directory", b"USER A PW 8K\n")
-    words = [program, "--follow", f"{folder}/directory"]
+    words = [program, "vm370", "--follow", f"{folder}/directory"]
     state, line = saved_state(words), b"LINE A LOGON\n"
     done, failed = b"> DONE\n", b"fault: file Device 1\n"
     logged_on = b"A: LOGON OK\n> ON A\n" + done
@@ -284,7 +284,7 @@ def tell_open_files(check: Check, program: str) -> None:
     def held_before(name: str, close: bytes) -> list[str]:
         part = read(f"{ALL_EXAMPLES}/{name}/script").partition(close)[0]
         requests = b"%d\n%sHOLDS\nEND\n" % (len(part), part)
-        _, out, _ = asked([program, "--follow", f"{ALL_EXAMPLES}/{name}/directory"], requests)
+        _, out, _ = asked([program, "vm370", "--follow", f"{ALL_EXAMPLES}/{name}/directory"], requests)
         return [line for line in out.decode("latin-1").splitlines() if line.startswith("> HOLDS ")]
 
     listing = read(f"{ALL_EXAMPLES}/card-listing-of-a-user/transcript").partition(
@@ -299,14 +299,14 @@ def tell_open_files(check: Check, program: str) -> None:
     check("what is held by a punch", found == wanted, *found, *wanted)
 
 
-def try_commands(check: Check, repository: str, programs: tuple[str, str], folder: str) -> None:
+def try_commands(check: Check, repository: str, program: str, folder: str) -> None:
     os.makedirs(folder)
     for name, place in EXAMPLES.items():
         try_script(check, f"{repository}/bin/vm370", f"{folder}/{name}", name, place)
     try_map(check, repository, folder)
     refuse_states(check, f"{repository}/bin/vm370", f"{folder}/refused")
     type_states(check, repository, f"{folder}/typed")
-    refuse_words(check, *programs, folder)
-    tell_open_files(check, programs[0])
-    refuse_volumes(check, programs[0], f"{folder}/volumes")
-    refuse_long_sizes(check, programs[0], folder)
+    refuse_words(check, program, folder)
+    tell_open_files(check, program)
+    refuse_volumes(check, program, f"{folder}/volumes")
+    refuse_long_sizes(check, program, folder)

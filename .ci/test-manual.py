@@ -17,7 +17,6 @@ import tempfile
 
 sys.dont_write_bytecode = True
 TOP = os.path.dirname(os.path.dirname(os.path.realpath(__file__)))
-PROGRAMS = ["vm370_cli", "bare370_cli", "volume_cli", "frame_map", "logon_desk_cli"]
 SECONDS = 60
 
 PROGRAM = """         ORG   X'100'
@@ -154,23 +153,22 @@ def blocks_of(text: str) -> list[Block]:
 
 
 def lay_out(folder: str, argument: str) -> None:
-    """The commands and their programs, as an installation has them."""
+    """The commands and their program, as an installation has them."""
     shutil.copytree(f"{TOP}/bin", f"{folder}/bin", ignore=shutil.ignore_patterns("__pycache__"))
     shutil.copytree(f"{TOP}/examples", f"{folder}/examples")
     for name in ("VERSION", "web"):
         os.symlink(f"{TOP}/{name}", f"{folder}/{name}")
     os.mkdir(f"{folder}/programs")
-    for crate in PROGRAMS:
-        os.symlink(program_of(crate, argument), f"{folder}/programs/{crate}")
-        with open(f"{folder}/programs/{crate}.built", "w") as file:
-            file.write("sources 0\nkit none\nproved\n")
+    os.symlink(program_of(argument), f"{folder}/programs/gathjumli_cli")
+    with open(f"{folder}/programs/gathjumli_cli.built", "w") as file:
+        file.write("sources 0\nkit none\nproved\n")
 
 
-def program_of(crate: str, argument: str) -> str:
+def program_of(argument: str) -> str:
     if argument != "--unproved":
-        return f"{TOP}/crates/{crate}/out/{crate}"
-    found = glob.glob(f"{TOP}/out/unproved/{crate}-*")
-    return found[0] if found else f"{TOP}/out/unproved/{crate}"
+        return f"{TOP}/crates/gathjumli_cli/out/gathjumli_cli"
+    found = glob.glob(f"{TOP}/out/unproved/gathjumli_cli-*")
+    return found[0] if found else f"{TOP}/out/unproved/gathjumli_cli"
 
 
 def make_room(folder: str, laid_out: str, page: str, commands: Commands) -> str:

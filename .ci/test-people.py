@@ -59,7 +59,7 @@ COMMANDS = (
     "terminal trace370 replay turns deck2script printouts img2vol vol2img vol2text framepicture trackpicture installation operator "
     "report store"
 ).split()
-PROGRAMS = ["bare370_cli", "frame_map", "logon_desk_cli", "vm370_cli"]
+PROGRAM = f"{TOP}/crates/gathjumli_cli/out/gathjumli_cli"
 BUILDING = ["terminal", "trace370", "turns"]
 # words before a file that is not there
 WORDS = {
@@ -97,10 +97,10 @@ def write(path: str, data: bytes) -> None:
 # --- programs that are played ---
 
 
-def key_of(crate: str, words: list[str]) -> str:
-    """What a run is known by: the program, its words, and what the files among them have."""
+def key_of(part: str, words: list[str]) -> str:
+    """What a run is known by: the part of the program, its words, and what the files among them have."""
     findings = [read(word) if os.path.isfile(word) else word.encode() for word in words]
-    return crate + " " + hashlib.sha256(b"\0".join(findings)).hexdigest()[:16]
+    return part + " " + hashlib.sha256(b"\0".join(findings)).hexdigest()[:16]
 
 
 def recorded() -> dict[str, str]:
@@ -116,11 +116,11 @@ def record(folder: str) -> None:
     )
 
 
-def played(crate: str, words: list[str]) -> tuple[int, bytes, bytes]:
-    """Status, output and errors of a program: what the recording has, or the program itself where the recording is made."""
-    key = key_of(crate, words)
+def played(part: str, words: list[str]) -> tuple[int, bytes, bytes]:
+    """Status, output and errors of a part: what the recording has, or the program itself where the recording is made."""
+    key = key_of(part, words)
     if os.environ.get("PEOPLE_RECORD"):
-        done = subprocess.run([f"{TOP}/crates/{crate}/out/{crate}", *words], capture_output=True)
+        done = subprocess.run([PROGRAM, part, *words], capture_output=True)
         if done.returncode == 0:
             write(f"{os.environ['PEOPLE_RECORD']}/{key}", done.stdout)
         return done.returncode, done.stdout, done.stderr
@@ -136,24 +136,24 @@ def played(crate: str, words: list[str]) -> tuple[int, bytes, bytes]:
     return 1 if wrong else 5, b"", findings.encode()
 
 
-def play(crate: str, words: list[str]) -> None:
-    """Plays a program, also one that is given its script part by part."""
-    if crate == "logon_desk_cli":
-        desk.stand_in()
+def play(part: str, words: list[str]) -> None:
+    """Plays a part of the program, also one that is given its script part by part."""
+    if part == "logondesk":
+        desk.stand_in(words)
         sys.exit(0)
     if "PEOPLE_STAND_IN" in os.environ:
         installation.stand_in(words)
         sys.exit(0)
     if "--follow" in words:
-        status, errors = follow(crate, words)
+        status, errors = follow(part, words)
     else:
-        status, out, errors = played(crate, words)
+        status, out, errors = played(part, words)
         sys.stdout.buffer.write(out)
     sys.stderr.buffer.write(errors)
     sys.exit(status)
 
 
-def follow(crate: str, words: list[str]) -> tuple[int, bytes]:
+def follow(name: str, words: list[str]) -> tuple[int, bytes]:
     """Does part after part, each by a run of the script until then, and notes each in a file; gives the status at the end, and what
     is reported then. By PEOPLE_FOLLOW a program refuses to, or fails at the line that it names."""
     how = os.environ.get("PEOPLE_FOLLOW", "")
@@ -171,7 +171,7 @@ def follow(crate: str, words: list[str]) -> tuple[int, bytes]:
         if how and how.encode() in part:
             return 4, b"fault: memory Memory\n"
         write(text.name, script + part)
-        status, out, errors = played(crate, words)
+        status, out, errors = played(name, words)
         if status == 0:
             events = re.split(b"(?m)^== ", out)[0].splitlines(True)
             files = [b"> " + match for match in HEADING.findall(out)]
@@ -196,20 +196,18 @@ def without_idle_turns(part: bytes, events: list[bytes]) -> bytes:
     return part[: found.start()] + (b"AUTO %d\n" % left if left else b"") if turns else part
 
 
-PLAYED = f'exec "{sys.executable}" "{os.path.realpath(__file__)}" --play "${{0##*/}}" "$@"'
-BUILT = f'name=${{0##*/}}\nexec "{TOP}/crates/$name/out/$name" "$@"'
+PLAYED = f'exec "{sys.executable}" "{os.path.realpath(__file__)}" --play "$@"'
+BUILT = f'exec "{PROGRAM}" "$@"'
 
 
 def make_repository(work: str, program: str = PLAYED) -> object:
-    """A repository of the commands and of programs that are played, or are those that were built, and a kit that builds these."""
+    """A repository of the commands and of a program that is played, or is the one that was built, and a kit that builds it."""
     repository = f"{work}/a place with blanks/repository"
     shutil.copytree(f"{TOP}/bin", f"{repository}/bin", ignore=shutil.ignore_patterns("__pycache__"))
     shutil.copytree(f"{TOP}/web", f"{repository}/web")
     shutil.copy(f"{TOP}/VERSION", repository)
-    write(
-        f"{repository}/crates.txt", "low:\n" + "".join(f"{program}: low\n" for program in PROGRAMS)
-    )
-    for crate in ["low", *PROGRAMS]:
+    write(f"{repository}/crates.txt", "low:\ngathjumli_cli: low\n")
+    for crate in ("low", "gathjumli_cli"):
         os.makedirs(f"{repository}/crates/{crate}/src")
         write(f"{repository}/crates/{crate}/src/main.rt", f"// {crate}\n")
     os.makedirs(f"{work}/kit/bin")
@@ -620,9 +618,9 @@ def test_waiting(repository: str, work: str) -> None:
     shutil.copytree(f"{repository}/bin", f"{work}/waiting/bin")
     shutil.copy(f"{TOP}/VERSION", f"{work}/waiting")
     os.mkdir(f"{work}/waiting/programs")
-    write(f"{work}/waiting/programs/bare370_cli", WAITING)
-    os.chmod(f"{work}/waiting/programs/bare370_cli", 0o755)
-    write(f"{work}/waiting/programs/bare370_cli.built", "sources 0\nkit none\nproved\n")
+    write(f"{work}/waiting/programs/gathjumli_cli", WAITING)
+    os.chmod(f"{work}/waiting/programs/gathjumli_cli", 0o755)
+    write(f"{work}/waiting/programs/gathjumli_cli.built", "sources 0\nkit none\nproved\n")
     done = Done(
         f"{work}/waiting", "terminal", "--bare", "8K", given=b"HELLO\nBEGIN\nHELLO\n#CP\nHELLO\n"
     )
@@ -1027,7 +1025,7 @@ def test_installation(repository: str, work: str) -> None:
     desk.try_honest(check)
     desk.try_class(check)
     installation.try_all(check, repository, f"{work}/sites", is_stand_in=True)
-    program = f"{repository}/crates/vm370_cli/out/vm370_cli"
+    program = f"{repository}/crates/gathjumli_cli/out/gathjumli_cli"
     installation_faults.try_faults(
         check, f"{repository}/bin/installation", program, f"{work}/faults"
     )
@@ -1077,7 +1075,7 @@ def test_pages(repository: str, work: str) -> None:
 # --- over a built program ---
 
 
-def compare_parts(program: str, one_machine: object) -> None:
+def compare_parts() -> None:
     """Each example of users is given to the program event by event, and as a whole: what it writes is the transcript, and after
     each part the files that it closed, who has logged on or off, and that it was done."""
     examples = f"{TOP}/examples/users"
@@ -1091,7 +1089,8 @@ def compare_parts(program: str, one_machine: object) -> None:
             else ("64", "256")
         )
         words = [
-            program,
+            PROGRAM,
+            "vm370",
             "--frames",
             sizes[0],
             "--slots",
@@ -1118,17 +1117,17 @@ def compare_parts(program: str, one_machine: object) -> None:
         leave_out_turns(name, words, list(events_of(script)))
     user = re.search("USER ([A-Z0-9]+)", read(f"{examples}/two-users/directory").decode())[1]
     for what, user in (
-        ([program, f"{examples}/two-users/directory"], user),
-        ([one_machine, "8K"], "BARE"),
+        (["vm370", f"{examples}/two-users/directory"], user),
+        (["bare370", "8K"], "BARE"),
     ):
         refuse_parts(what, user)
         notify_changes(what, user)
         save_after_parts(what, user)
     answer_each_part(
-        [program, "--follow", f"{examples}/two-users/directory"], f"{examples}/two-users"
+        ["vm370", "--follow", f"{examples}/two-users/directory"], f"{examples}/two-users"
     )
-    answer_each_part([one_machine, "--follow", "64K"], f"{TOP}/examples/machines/hello")
-    follow_one_machine(one_machine)
+    answer_each_part(["bare370", "--follow", "64K"], f"{TOP}/examples/machines/hello")
+    follow_one_machine()
 
 
 def first_file(lines: list) -> int:
@@ -1195,7 +1194,7 @@ def leave_out_turns(name: str, words: list[str], parts: object) -> None:
     )
 
 
-def follow_one_machine(program: str) -> None:
+def follow_one_machine() -> None:
     """A machine of its own is followed too: the scripts of examples, event by event."""
     examples = f"{TOP}/examples/machines"
     for name in sorted(os.listdir(examples)):
@@ -1207,7 +1206,7 @@ def follow_one_machine(program: str) -> None:
             if os.path.exists(f"{folder}/storage")
             else "64K"
         )
-        words = [program, "--follow", storage]
+        words = [PROGRAM, "bare370", "--follow", storage]
         done = subprocess.run(
             words,
             input=b"".join(map(part_of, events_of(read(f"{folder}/script")))) + b"END\n",
@@ -1230,7 +1229,8 @@ def follow_one_machine(program: str) -> None:
 
 def answer_each_part(words: list[str], folder: str) -> None:
     """Each part is answered before the next is given: nothing is held back until more appears."""
-    with subprocess.Popen(words, stdin=subprocess.PIPE, stdout=subprocess.PIPE) as run:
+    streams = {"stdin": subprocess.PIPE, "stdout": subprocess.PIPE}
+    with subprocess.Popen([PROGRAM, *words], **streams) as run:
         late = threading.Timer(60, run.kill)
         late.start()
         answers = []
@@ -1265,7 +1265,7 @@ def save_after_parts(what: str, user: Account) -> None:
         + b"".join(bytes([0, 0, 0, 0, head, 0]) for head in range(19))
     )
     old, new = whole % 1, whole % 2 + bytes(4)
-    program, named = what
+    part, named = what
     for is_in_the_way, end in ((False, b"END\n"), (True, b"END\n"), (False, b"")):
         with tempfile.TemporaryDirectory() as room:
             write(f"{room}/image", old)
@@ -1275,7 +1275,7 @@ def save_after_parts(what: str, user: Account) -> None:
                 write(f"{room}/image.new", b"in the way")
             given = part_of(f"LINE {user} LOGON\n".encode()) + end
             done = subprocess.run(
-                [program, "--save", "--follow", named, f"{room}/link"],
+                [PROGRAM, part, "--save", "--follow", named, f"{room}/link"],
                 input=given,
                 capture_output=True,
             )
@@ -1291,7 +1291,7 @@ def save_after_parts(what: str, user: Account) -> None:
                 and os.path.islink(f"{room}/link")
             )
             check(
-                f"{program}: saved after the parts, over the old file: {is_in_the_way}, with an end: {bool(end)}",
+                f"{part}: saved after the parts, over the old file: {is_in_the_way}, with an end: {bool(end)}",
                 holds,
                 f"status {done.returncode}",
                 done.stderr,
@@ -1300,7 +1300,7 @@ def save_after_parts(what: str, user: Account) -> None:
 
 def notify_changes(what: str, user: Account) -> None:
     """What each part answers of who is on and whose machine runs: a machine that is started runs, one that is stopped stops."""
-    program, named = what
+    part, named = what
     findings = {
         "LOGON": ["ON"],
         "BEGIN": ["RUNS"],
@@ -1313,7 +1313,7 @@ def notify_changes(what: str, user: Account) -> None:
         "#CP LOGOFF": ["STOPS", "OFF"],
     }
     given = b"".join(part_of(f"LINE {user} {line}\n".encode()) for line in findings) + b"END\n"
-    done = subprocess.run([program, "--follow", named], input=given, capture_output=True)
+    done = subprocess.run([PROGRAM, part, "--follow", named], input=given, capture_output=True)
     answers = [line for line in done.stdout.decode().splitlines() if line.startswith("> ")]
     wanted = [
         line
@@ -1321,7 +1321,7 @@ def notify_changes(what: str, user: Account) -> None:
         for line in (*(f"> {word} {user}" for word in words), "> DONE")
     ]
     check(
-        f"{program}: who is on, and whose machine runs",
+        f"{part}: who is on, and whose machine runs",
         answers == wanted,
         f"status {done.returncode}",
         *answers,
@@ -1345,14 +1345,14 @@ def events_of(script: str) -> Iterator:
 def refuse_parts(what: str, user: Account) -> None:
     """A part that is refused has done nothing, also one whose last line has no end, and an input that is cut off is a failed
     file."""
-    program, named = what
-    parts = (
+    part, named = what
+    texts = (
         f"LINE {user} LOGON\n",
         f"LINE {user} STORE 0 FF\nBAD\n",
         f"LINE {user} STORE 0 FF\nLINE {user} STORE 4 FF",
         f"LINE {user} DISPLAY 0\n",
     )
-    given = b"".join(part_of(part.encode()) for part in parts)
+    given = b"".join(part_of(text.encode()) for text in texts)
     findings = (
         f"{user}: LOGON OK\n> ON {user}\n> DONE\n> REFUSED 2\n> REFUSED 2\n{user}: 000000"
         + 4 * " 00000000"
@@ -1365,14 +1365,15 @@ def refuse_parts(what: str, user: Account) -> None:
         (b"x\n", 3, failed_file),
         (b"5", 3, failed_file),
     ):
-        done = subprocess.run([program, "--follow", named], input=given + more, capture_output=True)
+        words = [PROGRAM, part, "--follow", named]
+        done = subprocess.run(words, input=given + more, capture_output=True)
         is_so = (done.returncode, done.stdout.decode(), done.stderr.decode()) == (
             status,
             findings,
             fault,
         )
         check(
-            f"{program}: parts and {more!r}",
+            f"{part}: parts and {more!r}",
             is_so,
             f"status {done.returncode}",
             done.stdout.decode(),
@@ -1384,7 +1385,7 @@ def try_over_programs(repository: str, folder: str) -> None:
     """What of operators and faults needs no stand-in."""
     command, program = (
         f"{repository}/bin/installation",
-        f"{repository}/crates/vm370_cli/out/vm370_cli",
+        f"{repository}/crates/gathjumli_cli/out/gathjumli_cli",
     )
     installation_faults.try_killed_program(
         check, installation.make_site(command, f"{folder}/killed"), program
@@ -1406,15 +1407,14 @@ def try_over_programs(repository: str, folder: str) -> None:
 
 def try_states(repository: str, folder: str) -> None:
     """Scripts that are broken off, states that are spoiled, and the commands for states."""
-    programs = [f"{TOP}/crates/{name}/out/{name}" for name in ("vm370_cli", "bare370_cli")]
-    state_commands.try_commands(check, repository, programs, folder)
-    broken.try_broken(check, programs[0], broken.EVERY, broken.SCRIPTS, 1)
-    broken.try_tables(check, programs[0], broken.ONE_OF, 1)
-    broken.try_spoiled(check, programs[0], broken.STATES, 1)
-    typed_lines.try_typed(check, programs[0], 50)
-    closed_files.try_closed(check, programs[0], 300)
-    any_moment.try_moments(check, repository, programs[0], 20)
-    watching.try_event_by_event(check, programs, f"{folder}/watched")
+    state_commands.try_commands(check, repository, PROGRAM, folder)
+    broken.try_broken(check, PROGRAM, broken.EVERY, broken.SCRIPTS, 1)
+    broken.try_tables(check, PROGRAM, broken.ONE_OF, 1)
+    broken.try_spoiled(check, PROGRAM, broken.STATES, 1)
+    typed_lines.try_typed(check, PROGRAM, 50)
+    closed_files.try_closed(check, PROGRAM, 300)
+    any_moment.try_moments(check, repository, PROGRAM, 20)
+    watching.try_event_by_event(check, PROGRAM, f"{folder}/watched")
 
 
 def main() -> None:
@@ -1424,14 +1424,11 @@ def main() -> None:
     if sys.argv[1:] == ["--record"]:
         os.environ["PEOPLE_RECORD"] = folder.name
     if sys.argv[1:] == ["--built"]:
-        compare_parts(
-            f"{TOP}/crates/vm370_cli/out/vm370_cli", f"{TOP}/crates/bare370_cli/out/bare370_cli"
-        )
-        program = f"{TOP}/crates/logon_desk_cli/out/logon_desk_cli"
-        desk.try_program(check, program)
-        desk.try_honest(check, program)
-        desk.try_class(check, program)
-        installation.try_typed(check, desk.reported_by(program))
+        compare_parts()
+        desk.try_program(check, PROGRAM)
+        desk.try_honest(check, PROGRAM)
+        desk.try_class(check, PROGRAM)
+        installation.try_typed(check, desk.reported_by(PROGRAM))
         repository = make_repository(folder.name, BUILT)
         installation.try_all(check, repository, f"{folder.name}/sites", is_stand_in=False)
         try_over_programs(repository, folder.name)

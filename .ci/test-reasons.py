@@ -22,7 +22,6 @@ from program_runs import bytes_of, text_of
 from gathjumli.reasons import reason
 
 TABLE = f"{TOP}/.ci/reasons.txt"
-PROGRAMS = ["vm370_cli", "bare370_cli", "volume_cli", "frame_map", "logon_desk_cli"]
 # how many runs the table has at least, how many of them name file, line and column, and how many texts the others refuse
 FEWEST, FEWEST_PLACED, FEWEST_REFUSED = 90, 70, 220
 # a reason after file, line and column
@@ -64,13 +63,13 @@ def runs_of(text: str) -> object:
     return found
 
 
-def program_of(crate: str, argument: object) -> str:
-    """Where the program of a crate is that was built."""
+def program_of(argument: object) -> str:
+    """Where the program is that was built."""
     if argument == "--built":
-        return f"{TOP}/crates/{crate}/out/{crate}"
+        return f"{TOP}/crates/gathjumli_cli/out/gathjumli_cli"
     environment = {**os.environ, "GATHJUMLI_UNPROVED": "1"}
     done = subprocess.run(
-        [f"{TOP}/bin/lib/built", "test-reasons", "path", crate],
+        [f"{TOP}/bin/lib/built", "test-reasons", "path"],
         env=environment,
         capture_output=True,
         check=True,
@@ -79,20 +78,19 @@ def program_of(crate: str, argument: object) -> str:
 
 
 def lay_out(folder: str, argument: object) -> None:
-    """The commands and their programs, as an installation has them."""
+    """The commands and their program, as an installation has them."""
     shutil.copytree(f"{TOP}/bin", f"{folder}/bin")
     shutil.copy(f"{TOP}/VERSION", folder)
     os.mkdir(f"{folder}/programs")
-    for crate in PROGRAMS:
-        place = f"{folder}/programs/{crate}"
-        if argument:
-            os.symlink(program_of(crate, argument), place)
-        else:
-            with open(place, "w") as file:
-                file.write(STAND_IN)
-            os.chmod(place, 0o755)
-        with open(f"{place}.built", "w") as file:
-            file.write("sources 0\nkit none\nproved\n")
+    place = f"{folder}/programs/gathjumli_cli"
+    if argument:
+        os.symlink(program_of(argument), place)
+    else:
+        with open(place, "w") as file:
+            file.write(STAND_IN)
+        os.chmod(place, 0o755)
+    with open(f"{place}.built", "w") as file:
+        file.write("sources 0\nkit none\nproved\n")
 
 
 def difference(run: object, folder: str) -> str | None:

@@ -1,11 +1,11 @@
 #!/usr/bin/env python3
-"""Tests what the built programs do where the host refuses them memory, fails a call of a file, or gives them a file that is cut.
+"""Tests what the parts of the built program do where the host refuses them memory, fails a call of a file, or gives them a file that is cut.
 Each allocation and each call of a file is refused once; of the first 100 allocations and each seventh after them also all that
 follow. A program has to end as docs/FORMATS.md says: with its ordinary answer, or with the fault, its status, a beginning of its
 transcript, and images each of which is whole.
 
-It needs the programs that rt ci or the commands of bin/ built, and gcc on Linux with glibc; if one is missing, it says what and
-fails. --programs FOLDER takes them from FOLDER/NAME/out/NAME. The last line is 'N passed, M failed'."""
+It needs the program that rt ci or the commands of bin/ built, and gcc on Linux with glibc; if one is missing, it says what and
+fails. --programs FOLDER takes it from FOLDER/gathjumli_cli/out. The last line is 'N passed, M failed'."""
 from __future__ import annotations
 
 import os
@@ -26,7 +26,6 @@ SOURCE = f"{TOP}/.ci/refusals/refusing.c"
 EXAMPLES = f"{TOP}/examples/users"
 BARE_EXAMPLES = f"{TOP}/examples/machines"
 SESSIONS = f"{TOP}/.ci/transcripts"
-PROGRAMS = ["vm370_cli", "bare370_cli", "volume_cli", "logon_desk_cli", "frame_map"]
 # what happens at the logon desk, of which most lines are drawn
 DESK_LINES = 150
 # a run of a program takes some milliseconds
@@ -98,25 +97,25 @@ def image_of(text: str, version: int = 2) -> object:
     )
 
 
-# --- cases: a program, what it is given, and what it answers where nothing fails ---
+# --- cases: a part of the program, what it is given, and what it answers where nothing fails ---
 
 
 class Case:
-    """A program with its words and files. Of the files some are written, and are old or new at the end."""
+    """A part with its words and files. Of the files some are written, and are old or new at the end."""
 
     def __init__(
         self,
         name: str,
-        program: str,
+        part: str,
         words: list[str],
         files: list,
         findings: object,
         ended: object = None,
         given: bytes = b"",
     ) -> None:
-        self.name, self.program, self.words, self.files, self.findings = (
+        self.name, self.part, self.words, self.files, self.findings = (
             name,
-            program,
+            part,
             words,
             files,
             findings,
@@ -141,7 +140,7 @@ def user_case(
     files |= {item: image_of(text, 1) for item, text in zip(names, volumes)}
     wanted = {item: image_of(text) for item, text in zip(names, [*ended, *volumes[len(ended) :]])}
     words = ["--save"] * bool(volumes) + ["directory", "script", *names]
-    return Case(name, "vm370_cli", words, files, findings, wanted)
+    return Case(name, "vm370", words, files, findings, wanted)
 
 
 def example(name: str) -> object:
@@ -182,7 +181,7 @@ def bare_example(name: str) -> object:
     }
     ended = {item: image_of(text) for item, text in (texts | saved).items()}
     words = ["--save"] * bool(disks) + [storage, "script", *disks]
-    return Case(f"bare370 {name}", "bare370_cli", words, files, read(f"{folder}/transcript"), ended)
+    return Case(f"bare370 {name}", "bare370", words, files, read(f"{folder}/transcript"), ended)
 
 
 def in_the_way(case: object) -> object:
@@ -224,9 +223,7 @@ def long_case() -> object:
 def maker_case(text: str) -> object:
     """mkvol, over an image that is there already."""
     files = {"text": text, "image": b"an older image"}
-    return Case(
-        "mkvol", "volume_cli", ["mkvol", "image", "text"], files, b"", {"image": image_of(text)}
-    )
+    return Case("mkvol", "mkvol", ["image", "text"], files, b"", {"image": image_of(text)})
 
 
 def map_case() -> object:
@@ -234,9 +231,7 @@ def map_case() -> object:
     text = b"VOLUME V1 1\nREC 0 0 0000000001 - C1\n"
     findings = b"VOLUME V1 CYLINDERS 1\nTRACK 0 0 HOME 0000000000 RECORDS 1 FILL 136 OF 13165\n"
     findings += b"  0000000001 KEY 0 DATA 1 COST 136\nBLANK TRACKS 18\n"
-    return Case(
-        "trackmap", "volume_cli", ["trackmap", "image"], {"image": image_of(text)}, findings
-    )
+    return Case("trackmap", "trackmap", ["image"], {"image": image_of(text)}, findings)
 
 
 def cases() -> list:
@@ -271,20 +266,20 @@ def cases() -> list:
 
 
 class Host:
-    """Where programs run: each run has a folder of its own."""
+    """Where the program runs: each run has a folder of its own."""
 
-    def __init__(self, programs: str, library: object, work: str) -> None:
-        self.programs, self.library, self.work = programs, library, work
+    def __init__(self, program: str, library: object, work: str) -> None:
+        self.program, self.library, self.work = program, library, work
 
     def run(self, case: object, refuse: str = "", report: bool = False) -> object:
-        """What a program did whose host refuses this: its end, and the files of its folder."""
+        """What the program did whose host refuses this: its end, and the files of its folder."""
         folder = tempfile.mkdtemp(dir=self.work)
         for name, data in case.files.items():
             write(f"{folder}/{name}", data)
         variables = {"LD_PRELOAD": self.library, "REFUSE": refuse}
         if report:
             variables["REFUSE_REPORT"] = f"{folder}.report"
-        words = [f"{self.programs}/{case.program}", *case.words]
+        words = [self.program, case.part, *case.words]
         try:
             how = {
                 "cwd": folder,
@@ -479,7 +474,7 @@ def test_desk(host: Host, pool: ThreadPoolExecutor) -> None:
     written = "".join(f"{line}\n" for answers in desk.answers(lines) for line in answers).encode()
     case = Case(
         "the logon desk",
-        "logon_desk_cli",
+        "logondesk",
         ["lines"],
         {"lines": "".join(f"{line}\n" for line in lines)},
         written,
@@ -537,7 +532,7 @@ def follow_case(name: str, requests: bytes, findings: bytes) -> Case:
     images = {serial: image_of(text) for serial, text in refused_states.VOLUMES.items()}
     files = {"directory": refused_states.DIRECTORY} | images
     words = [*refused_states.SIZES, "--follow", "directory", *images]
-    return Case(name, "vm370_cli", words, files, findings, given=requests + b"END\n")
+    return Case(name, "vm370", words, files, findings, given=requests + b"END\n")
 
 
 def map_of_state(host: Host, state: bytes) -> Case:
@@ -545,10 +540,10 @@ def map_of_state(host: Host, state: bytes) -> Case:
     files = follow_case("", b"", b"").files
     words = [*refused_states.SIZES, "directory", "script", *refused_states.VOLUMES]
     whole = files | {"script": refused_states.BEFORE + refused_states.AFTER}
-    findings = host.run(Case("", "frame_map", words, whole, b"")).out
+    findings = host.run(Case("", "framemap", words, whole, b"")).out
     files |= {"state": state, "script": refused_states.AFTER}
     words = ["--state", "state", *words]
-    return Case("framemap from a state", "frame_map", words, files, findings)
+    return Case("framemap from a state", "framemap", words, files, findings)
 
 
 def state_cases(host: Host) -> list[Case]:
@@ -607,7 +602,7 @@ class StateCommand:
     def run(self, refuse: str, *words: str) -> Ended:
         """How it ended with these words before the volumes."""
         variables = {"LIBRARY": self.host.library, "REFUSED": refuse}
-        variables |= {"PROGRAM": f"{self.host.programs}/vm370_cli"}
+        variables |= {"PROGRAM": self.host.program}
         variables |= {} if refuse else {"REFUSE_REPORT": f"{self.room}/report"}
         command = [
             sys.executable,
@@ -650,12 +645,12 @@ def test_cut_images(host: object, pool: object) -> None:
     users = {"directory": b"USER A PW 8K\n", "script": b""}
     for text, version in [(text, version) for text in texts for version in (1, 2)]:
         whole = image_of(text, version)
-        for program, words in [
-            ("volume_cli", ["trackmap", "image"]),
-            ("vm370_cli", ["directory", "script", "image"]),
+        for part, words in [
+            ("trackmap", ["image"]),
+            ("vm370", ["directory", "script", "image"]),
         ]:
             lengths = range(len(whole) + 2)
-            cut = lambda at: Case("", program, words, users | {"image": (whole + b"\0")[:at]}, b"")
+            cut = lambda at: Case("", part, words, users | {"image": (whole + b"\0")[:at]}, b"")
             ends = list(pool.map(lambda at: host.run(cut(at)), lengths))
             wanted = [(1, b"fault: image Truncated\n")] * len(whole) + [
                 (0, b""),
@@ -663,7 +658,7 @@ def test_cut_images(host: object, pool: object) -> None:
             ]
             wrong = [at for at in lengths if (ends[at].status, ends[at].err) != wanted[at]]
             wrong += [at for at in lengths if ends[at].status and ends[at].out]
-            name = f"{program} of an image of version {version} with {len(whole)} bytes"
+            name = f"{part} of an image of version {version} with {len(whole)} bytes"
             check(
                 f"{name}, cut",
                 not wrong,
@@ -763,7 +758,7 @@ def test_cut_directories(host: object, pool: object) -> None:
     for text in DIRECTORIES:
         cuts = [text[:at] for at in range(len(text) + 1)]
         cut = lambda item: Case(
-            "", "vm370_cli", ["directory", "script", "VOL1"], volume | {"directory": item}, b""
+            "", "vm370", ["directory", "script", "VOL1"], volume | {"directory": item}, b""
         )
         ends = list(pool.map(lambda item: host.run(cut(item)), cuts))
         faults = [Directory(cut).fault for cut in cuts]
@@ -784,11 +779,9 @@ def test_cut_directories(host: object, pool: object) -> None:
 def main() -> int:
     words = sys.argv[1:]
     built = os.path.abspath(words[1]) if words[:1] == ["--programs"] else f"{TOP}/crates"
-    absent = [
-        program for program in PROGRAMS if not os.path.isfile(f"{built}/{program}/out/{program}")
-    ]
-    if absent:
-        print(f"FAILED: {', '.join(absent)} not built")
+    program = f"{built}/gathjumli_cli/out/gathjumli_cli"
+    if not os.path.isfile(program):
+        print(f"FAILED: {program} is not built")
         return 1
     work = tempfile.mkdtemp()
     try:
@@ -801,10 +794,9 @@ def main() -> int:
             print("FAILED: no gcc that can build .ci/refusals/refusing.c")
             return 1
         os.mkdir(f"{work}/runs")
-        for item in PROGRAMS:
-            shutil.copyfile(f"{built}/{item}/out/{item}", f"{work}/{item}")
-            os.chmod(f"{work}/{item}", 0o755)
-        host = Host(work, library, f"{work}/runs")
+        shutil.copyfile(program, f"{work}/program")
+        os.chmod(f"{work}/program", 0o755)
+        host = Host(f"{work}/program", library, f"{work}/runs")
         with ThreadPoolExecutor(4) as pool:
             for case in cases():
                 test_case(host, pool, case)

@@ -22,10 +22,12 @@ import servers
 import store_cases
 
 SYSTEM = "/usr/bin/python3"
+# a stand-in for the program, whose first word names the part
 PLAYER = """#!/bin/sh
-exec '{python}' -Bc "import sys; sys.path.insert(0, '{top}/.ci'); import {module}; {module}.stand_in({words})" "$@"
+module=installation
+[ "$1" != logondesk ] || module=desk
+exec '{python}' -Bc "import sys; sys.path.insert(0, '{top}/.ci'); import $module; $module.stand_in(sys.argv[1:])" "$@"
 """
-PROGRAMS = {"vm370_cli": ("installation", "sys.argv[1:]"), "logon_desk_cli": ("desk", "")}
 
 passed = failed = 0
 
@@ -57,19 +59,18 @@ def skip(package: str) -> None:
 
 
 def make_repository(work: str) -> str:
-    """A repository of the commands, installed with stand-ins for the programs."""
+    """A repository of the commands, installed with a stand-in for the program."""
     repository = f"{work}/repository"
     shutil.copytree(f"{TOP}/bin", f"{repository}/bin", ignore=shutil.ignore_patterns("__pycache__"))
     shutil.copytree(f"{TOP}/web", f"{repository}/web")
     shutil.copy(f"{TOP}/VERSION", repository)
     os.makedirs(f"{repository}/programs")
-    for crate, (module, words) in PROGRAMS.items():
-        path = f"{repository}/programs/{crate}"
-        with open(path, "w") as file:
-            file.write(PLAYER.format(python=sys.executable, top=TOP, module=module, words=words))
-        os.chmod(path, 0o755)
-        with open(f"{path}.built", "w") as file:
-            file.write("sources 0\nkit none\nproved\n")
+    path = f"{repository}/programs/gathjumli_cli"
+    with open(path, "w") as file:
+        file.write(PLAYER.format(python=sys.executable, top=TOP))
+    os.chmod(path, 0o755)
+    with open(f"{path}.built", "w") as file:
+        file.write("sources 0\nkit none\nproved\n")
     return repository
 
 

@@ -38,15 +38,9 @@ if TYPE_CHECKING:
 
 TABLES = f"{TOP}/.ci/transcripts"
 EXAMPLES = f"{TOP}/examples"
-# the crate of each program, and the first word of those that are one program
-PROGRAMS = {
-    "vm370": ["vm370_cli"],
-    "bare370": ["bare370_cli"],
-    "framemap": ["frame_map"],
-    "mkvol": ["volume_cli", "mkvol"],
-    "trackmap": ["volume_cli", "trackmap"],
-}
-# what a program's name ends with that the second compiler built
+# the parts of the program, which its first word names
+PARTS = ("vm370", "bare370", "framemap", "mkvol", "trackmap")
+# what the program's name ends with that the second compiler built
 SECOND = ".by-rattle"
 # The tables in the notation of sessions.txt, with how many sessions each has, and what the other parts have: a table that is cut
 # or lost is seen by it.
@@ -221,19 +215,16 @@ class Session:
 
 
 class Player:
-    """The programs of one compiler."""
+    """The program of one compiler."""
 
     def __init__(self, folder: str, ending: object) -> None:
         self.folder, self.ending = folder, ending
 
-    def path(self, crate: str) -> str:
-        return f"{self.folder}/{crate}/out/{crate}{self.ending}"
+    def path(self) -> str:
+        return f"{self.folder}/gathjumli_cli/out/gathjumli_cli{self.ending}"
 
-    def absent(self) -> list:
-        """The programs that are not built."""
-        return sorted(
-            {item for item, *_ in PROGRAMS.values() if not os.access(self.path(item), os.X_OK)}
-        )
+    def is_built(self) -> bool:
+        return os.access(self.path(), os.X_OK)
 
     def words(self, session: object, size: object, room: int) -> tuple:
         """The files of a session are written; the program with its words, and the volumes."""
@@ -248,7 +239,8 @@ class Player:
         images = [f"{room}/{number}" for number in range(1, len(session.volumes) + 1)]
         if session.storage:
             return [
-                self.path("bare370_cli"),
+                self.path(),
+                "bare370",
                 "--save",
                 session.storage,
                 f"{room}/script",
@@ -256,7 +248,8 @@ class Player:
             ], images
         sizes = ["--frames", str(size[0]), "--slots", str(size[1])]
         return [
-            self.path("vm370_cli"),
+            self.path(),
+            "vm370",
             *sizes,
             "--save",
             f"{room}/directory",
@@ -272,14 +265,14 @@ class Player:
             findings, errors = (item.decode("latin-1") for item in (done.stdout, done.stderr))
             return done.returncode, findings, errors, [read(image, "rb") for image in images]
 
-    def findings(self, crate: str, files: list, words: list[str]) -> tuple:
-        """Status and transcript of a program over some files."""
+    def findings(self, part: str, files: list, words: list[str]) -> tuple:
+        """Status and transcript of a part of the program over some files."""
         with tempfile.TemporaryDirectory() as room:
             for name, text in files.items():
                 with open(f"{room}/{name}", "w", encoding="latin-1") as file:
                     file.write(text)
             done = subprocess.run(
-                [self.path(crate), *words],
+                [self.path(), part, *words],
                 cwd=room,
                 capture_output=True,
                 timeout=SECONDS,
@@ -290,7 +283,7 @@ class Player:
     def map(self, session: object, size: object, room: int) -> str:
         """The map of the frames after a session."""
         words, _ = self.words(session, size, room)
-        words = [self.path("frame_map"), *(word for word in words[1:] if word != "--save")]
+        words = [self.path(), "framemap", *(word for word in words[2:] if word != "--save")]
         return subprocess.run(
             words, capture_output=True, timeout=SECONDS, check=True
         ).stdout.decode()
@@ -1473,9 +1466,7 @@ class Paragraph:
 
     def difference(self, player: object) -> object:
         """What differs first in one of the runs."""
-        programs = {
-            name: [player.path(crate), *first] for name, (crate, *first) in PROGRAMS.items()
-        }
+        programs = {part: [player.path(), part] for part in PARTS}
         ends = (
             f"{place}: {what}"
             for place, what in program_runs.play(self.runs, programs)
@@ -1563,8 +1554,8 @@ def main() -> int:
         for item in ("", SECOND)[: 2 if words.built else 1]
     ]
     for player in players:
-        if absent := player.absent():
-            print(f"not built: {', '.join(name + player.ending for name in absent)}")
+        if not player.is_built():
+            print(f"not built: {player.path()}")
             return 1
     passed = failed = 0
     for player in players:

@@ -1,4 +1,4 @@
-"""Commands as they are installed, with the programs that were built, and a town: an installation with users of one directory. What
+"""Commands as they are installed, with the program that was built, and a town: an installation with users of one directory. What
 .ci/try-installation.py, .ci/try-hosts.py and .ci/try-year.py share."""
 from __future__ import annotations
 
@@ -15,7 +15,6 @@ if TYPE_CHECKING:
 
 TOP = os.path.dirname(os.path.dirname(os.path.realpath(__file__)))
 COMMAND = f"{TOP}/bin/installation"
-PROGRAMS = ["vm370_cli", "logon_desk_cli", "frame_map"]
 ADDRESS = "127.0.0.1"
 DEVICES = "CONSOLE 009 3215\nSPOOL 00C READER\nSPOOL 00D PUNCH\nSPOOL 00E PRINTER\n"
 # counts register 2 down and stops
@@ -23,18 +22,17 @@ COUNTS = "STORE 100 46200100820001080002000000000000"
 
 
 def lay_out(folder: str, is_unproved: bool) -> str:
-    """The commands as they are installed, with the programs that were built."""
+    """The commands as they are installed, with the program that was built."""
     repository = f"{folder}/repository"
     for name in ("bin", "web"):
         shutil.copytree(f"{TOP}/{name}", f"{repository}/{name}")
     shutil.copy(f"{TOP}/VERSION", repository)
     os.makedirs(f"{repository}/programs")
-    for crate in PROGRAMS:
-        path = f"{TOP}/crates/{crate}/out/{crate}"
-        path = glob.glob(f"{TOP}/out/unproved/{crate}-*")[0] if is_unproved else path
-        shutil.copy(path, f"{repository}/programs/{crate}")
-        with open(f"{repository}/programs/{crate}.built", "w") as file:
-            file.write("sources 0\nkit none\nnot proved\n")
+    path = f"{TOP}/crates/gathjumli_cli/out/gathjumli_cli"
+    path = glob.glob(f"{TOP}/out/unproved/gathjumli_cli-*")[0] if is_unproved else path
+    shutil.copy(path, f"{repository}/programs/gathjumli_cli")
+    with open(f"{repository}/programs/gathjumli_cli.built", "w") as file:
+        file.write("sources 0\nkit none\nnot proved\n")
     return repository
 
 

@@ -62,7 +62,8 @@ class Plant:
         folder = f"{self.place.folder}/fetched"
         self.place.store("fetch", self.place.name, folder)
         words = [
-            f"{repository}/programs/vm370_cli",
+            f"{repository}/programs/gathjumli_cli",
+            "vm370",
             *sizes_of(f"{folder}/recording"),
             "--",
             f"{folder}/directory",

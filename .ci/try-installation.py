@@ -45,7 +45,7 @@ from gathjumli.recording import entries_of
 if TYPE_CHECKING:
     from desk import Account, Place
 
-PROGRAM, BARE = (f"{TOP}/crates/{name}/out/{name}" for name in ("vm370_cli", "bare370_cli"))
+PROGRAM = f"{TOP}/crates/gathjumli_cli/out/gathjumli_cli"
 # adds one to register 1 for ever
 COMPUTES = "STORE 100 4111000147F00100"
 # starts a program at the console, waits until that is done, and so on
@@ -127,9 +127,6 @@ def check_seen(user: Account, connections: object, lines: list) -> None:
 
 def check_bare(town: object, shown: object, scripts: object) -> None:
     """Each user's lines are those of a machine of his own that is given his events."""
-    if not os.path.exists(BARE):
-        notify("no bare370: users were not compared with machines of their own")
-        return
     begun, compared = time.monotonic(), 0
     with concurrent.futures.ThreadPoolExecutor(os.cpu_count()) as pool:
         ran = pool.map(lambda user: run_bare(town, user, scripts.lines[user]), scripts.lines)
@@ -151,7 +148,7 @@ def run_bare(town: object, user: Account, script: str) -> tuple:
     """A machine of its own that is given a script, and the lines that it shows."""
     path = f"{town.folder}/bare-{user}"
     write(path, b"".join(script))
-    words, lines, is_over = [BARE, "--", "64K", path], [], False
+    words, lines, is_over = [PROGRAM, "bare370", "--", "64K", path], [], False
     with tempfile.TemporaryFile() as errors, subprocess.Popen(
         words, stdout=subprocess.PIPE, stderr=errors
     ) as run:
@@ -231,7 +228,7 @@ def bare_scripts(town: object) -> object:
     """What each user's machine of its own is to be given. Minutes of computing are reported in gigabytes, of which a part is here at
     once."""
     scripts = BareScripts()
-    words = [PROGRAM, *sizes_of(town.record), "--follow", "--", town.paths[0]]
+    words = [PROGRAM, "vm370", *sizes_of(town.record), "--follow", "--", town.paths[0]]
     with subprocess.Popen(words, stdin=subprocess.PIPE, stdout=subprocess.PIPE) as program:
         threading.Thread(target=feed, args=(program.stdin, town.record), daemon=True).start()
         findings = pieces(program.stdout, b"> DONE\n")

@@ -420,8 +420,8 @@ def install_built(folder: str) -> None:
         shutil.copytree(f"{TOP}/{name}", f"{folder}/{name}")
     shutil.copy(f"{TOP}/VERSION", folder)
     os.mkdir(f"{folder}/programs")
-    shutil.copy(f"{TOP}/crates/vm370_cli/out/vm370_cli", f"{folder}/programs")
-    with open(f"{folder}/programs/vm370_cli.built", "w") as file:
+    shutil.copy(f"{TOP}/crates/gathjumli_cli/out/gathjumli_cli", f"{folder}/programs")
+    with open(f"{folder}/programs/gathjumli_cli.built", "w") as file:
         file.write("sources 0\nkit 0\nproved\n")
 
 

@@ -477,7 +477,7 @@ def operate(place: Place, operator: object, alice: object) -> None:
 
 
 def program() -> object:
-    return ask_build("path", "vm370_cli")
+    return ask_build("path")
 
 
 # --- encryption ---

@@ -138,15 +138,15 @@ def try_watching(check: Callable, folder: str) -> None:
     )
 
 
-def try_event_by_event(check: Callable, programs: tuple[str, str], folder: str) -> None:
-    """A terminal is shown what a program prints before long runs while these go on."""
+def try_event_by_event(check: Callable, program: str, folder: str) -> None:
+    """A terminal is shown what the program prints before long runs while these go on."""
     os.makedirs(folder)
     with open(f"{folder}/directory", "w") as file:
         file.write("USER A PW 8K\n")
-    for program, user, first in zip(programs, ("A", "BARE"), (f"{folder}/directory", "8K")):
+    for part, user, first in ("vm370", "A", f"{folder}/directory"), ("bare370", "BARE", "8K"):
         with open(f"{folder}/script", "w") as file:
             file.write(LONG_RUN.format(user))
-        shown, times = at_terminal([program, first, f"{folder}/script"])
+        shown, times = at_terminal([program, part, first, f"{folder}/script"])
         begin, end = f"{user}: LOGON OK".encode(), f"{user}: PSW ".encode()
         check(f"what {user}'s terminal shows", begin in shown and end in shown, shown)
         check(f"{user}'s first line comes before the run", times[0] < times[-1] / 2, *times)

@@ -1,7 +1,10 @@
-# How a program of the repository is built: proved, or without any proof where --unproved is given or GATHJUMLI_UNPROVED is 1. Sourced
-# by bin/lib/program.sh. What bin/install has put somewhere has its programs, and is never built.
+# How the program that all commands run is built: proved, or without any proof where --unproved is given or GATHJUMLI_UNPROVED is 1.
+# Sourced by bin/lib/program.sh. What bin/install has put somewhere has its program, and is never built.
 
-# the crates that a program uses, lowest first and the program last
+# its crate; its first word names the part that is run
+program_crate=gathjumli_cli
+
+# crates_of CRATE: the crates that it uses, lowest first and itself last
 crates_of() {
     awk -v wanted="$1" '
         { sub(/#.*/, "") }
@@ -68,15 +71,15 @@ is_built() {
     [ -z "$now_kit" ] || [ "$built_kit" = "$now_kit" ]
 }
 
-# ensure_built CRATE: $program is then the program of that crate, built of what the sources are now, and proved unless --unproved
-# or the environment asks for one that is not
+# $program is then the program, built of what the sources are now, and proved unless --unproved or the environment asks for one that
+# is not
 ensure_built() {
-    make_program "$1"
+    make_program
     [ "$(state_of_program)" = proved ] || say "not proved; slow"
 }
 
 make_program() {
-    find_program "$1"
+    find_program
     if [ -n "$installed" ]; then
         [ -x "$program" ] || fail "$not_built" "$program is not there: install Gathjumli anew"
     elif [ -n "$without_proof" ]; then
@@ -86,9 +89,8 @@ make_program() {
     fi
 }
 
-# find_program CRATE: where its program is or will be, and what it is made of
+# where the program is or will be, and what it is made of
 find_program() {
-    program_crate=$1
     installed=
     read_unproved
     if [ -d "$root/programs" ]; then
@@ -117,9 +119,9 @@ read_unproved() {
     esac
 }
 
-# describe_program CRATE: what the program is made of, and whether it is proved
+# what the program is made of, and whether it is proved
 describe_program() {
-    find_program "$1"
+    find_program
     if [ -n "$installed" ]; then
         cat -- "$installed"
     else
@@ -345,7 +347,7 @@ print_prospects() {
     else
         say "after an edit that takes mostly less than a minute, and many minutes where much stands on what was edited"
     fi
-    for other in "$root"/crates/*/out/building.*; do
+    for other in "$folder"/out/building.*; do
         [ -r "$other" ] || continue
         if kill -0 "${other##*.}" 2> /dev/null; then
             say "another build is under way: $(cat -- "$other"); what both need is proved once"
@@ -452,61 +454,12 @@ report_seconds() {
 
 # runs the program by rt try on words that make it open the pipe, and lets go of who waits at the pipe
 try_held() {
-    case $program_crate in
-    bare370_cli) set -- 8K "$held" ;;
-    volume_cli) set -- mkvol "$room/image" "$held" ;;
-    *) set -- "$held" "$held" ;;
-    esac
     rt_running=
     trap 'kill "$rt_running" 2> /dev/null' TERM
-    (unset CDPATH && cd -- "$folder" && TMPDIR=$room exec rt try --steps 1 --seconds 600 -- "$@") &
+    (unset CDPATH && cd -- "$folder" && TMPDIR=$room exec rt try --steps 1 --seconds 600 -- vm370 "$held" "$held") &
     rt_running=$!
     wait "$rt_running" || true
     : <> "$held"
-}
-
-# make_programs CRATE..: makes each of these programs; those without proof are compiled side by side, as many as there are places
-make_programs() {
-    read_unproved
-    if [ -z "$without_proof" ]; then
-        for crate in "$@"; do
-            make_program "$crate"
-        done
-        return
-    fi
-    free=$(places)
-    compilers=
-    trap 'stop_compilers 129' HUP
-    trap 'stop_compilers 130' INT
-    trap 'stop_compilers 143' TERM
-    for crate in "$@"; do
-        [ "$free" -gt 0 ] || wait_for_compiler
-        (make_program "$crate") &
-        compilers="$compilers $!"
-        free=$((free - 1))
-    done
-    while [ -n "$compilers" ]; do
-        wait_for_compiler
-    done
-    trap - HUP INT TERM
-}
-
-# waits for the compiler that began first; one that fails has said why
-wait_for_compiler() {
-    # shellcheck disable=SC2086
-    set -- $compilers
-    wait "$1" || exit "$?"
-    shift
-    compilers=$*
-    free=$((free + 1))
-}
-
-# stop_compilers STATUS: ends what is under way
-stop_compilers() {
-    # shellcheck disable=SC2086
-    [ -z "$compilers" ] || kill $compilers 2> /dev/null || true
-    wait
-    exit "$1"
 }
 
 # stop_compiling STATUS: ends what is under way

@@ -106,7 +106,7 @@ installed_names() {
         "s,${before}docs/,\\1$below/share/doc/gathjumli/docs/,g" "s,${before}bin/lib/,\\1$below/lib/gathjumli/bin/lib/,g"
 }
 
-# the version, and of a command that runs a program of the repository ($runs) what that program is
+# the version, and of a command that runs a part of the program ($runs) what the program is
 version() {
     printing print_version
     exit 0
@@ -114,7 +114,7 @@ version() {
 
 print_version() {
     echo "$name (Gathjumli) $(cat -- "$root/VERSION")"
-    [ -z "${runs-}" ] || describe_program "$runs"
+    [ -z "${runs-}" ] || describe_program
 }
 
 # refuses the words of the command: what is wrong, and the first lines of the usage text

@@ -28,7 +28,7 @@ mark_script() {
         fail "$not_copied" "no copy of the script can be made in $work"
 }
 
-# play WORD..: runs the program on these words, after which the played script and the volumes stand
+# play WORD..: runs the command's part of the program on these words, after which the played script and the volumes stand
 play() {
     set -- "$@" "$work/played"
     number=3
@@ -36,7 +36,7 @@ play() {
         eval "set -- \"\$@\" \"\$path$number\""
         number=$((number + 1))
     done
-    "$program" ${option_save:+--save} "$@"
+    "$program" "$runs" ${option_save:+--save} "$@"
 }
 
 # Prints the marked script $work/marked next to the marked transcript, says the faults of the played script $work/played, in

@@ -1,19 +1,12 @@
 # What bin/install and bin/package share: which files an installation has, and where. Sourced after bin/lib/building.sh.
 
-# the programs
-programs="vm370_cli bare370_cli volume_cli frame_map logon_desk_cli"
 version_number=$(cat -- "$root/VERSION")
 
-# Builds all programs, and says in $proof_of_all whether they are proved.
-build_all() {
+# Builds the program, and says in $proof whether it is proved.
+build_to_place() {
     [ ! -d "$root/programs" ] || fail "$file_failed" "this is an installation; install from a checkout"
-    # shellcheck disable=SC2086
-    make_programs $programs
-    proof_of_all=proved
-    for crate in $programs; do
-        find_program "$crate"
-        [ "$(state_of_program)" = proved ] || proof_of_all='not proved'
-    done
+    make_program
+    proof=$(state_of_program)
 }
 
 # the folders below a prefix that others share, a folder after those in it
@@ -30,16 +23,13 @@ place_in() {
     done
     mkdir -p -- "$place/bin" "$place/programs" "$1/bin" "$share/man/man1" "$share/doc/gathjumli/docs" \
         "$share/bash-completion/completions" || return 1
-    echo "$made" > "$place/folders" && place_programs && place_commands "$1" && place_examples "$1" && place_pages && place_completion "$1"
+    echo "$made" > "$place/folders" && place_program && place_commands "$1" && place_examples "$1" && place_pages && place_completion "$1"
 }
 
-# the programs, each with what it is made of
-place_programs() {
-    for crate in $programs; do
-        find_program "$crate"
-        cp -- "$program" "$place/programs/$crate" && chmod 755 "$place/programs/$crate" || return 1
-        describe_program "$crate" > "$place/programs/$crate.built" || return 1
-    done
+# the program, with what it is made of
+place_program() {
+    cp -- "$program" "$place/programs/$program_crate" && chmod 755 "$place/programs/$program_crate" &&
+        describe_program > "$place/programs/$program_crate.built"
 }
 
 # the commands, of which only one is where the shell finds it

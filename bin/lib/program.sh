@@ -1,4 +1,4 @@
-# What the commands share that run a program of the repository: the judging of their words and files, the run, and what is reported of a
+# What the commands share that run a part of the program, which $runs names: the judging of their words and files, the run, and what is reported of a
 # fault. Sourced after bin/lib/common.sh.
 
 # shellcheck source=bin/lib/building.sh
@@ -162,8 +162,9 @@ END_OF_STATUSES
 
 # --- running ---
 
-# Runs the program on these words but --unproved, with standard input for a path -, and ends as it does. If it names a line of a text that is refused, that line is
-# shown: of the file in $script, $directory or $text. A signal ends the program too. If $watches is set, somebody at a terminal sees how many events are done.
+# Runs the command's part of the program on these words but --unproved, with standard input for a path -, and ends as it does. If it names a line of a text that is
+# refused, that line is shown: of the file in $script, $directory or $text. A signal ends the program too. If $watches is set, somebody at a terminal sees how many
+# events are done.
 run_program() {
     is_option=true
     for word in "$@"; do
@@ -173,7 +174,7 @@ run_program() {
         [ "$is_option$word" = true--unproved ] || set -- "$@" "$word"
         [ "$word" != -- ] || is_option=
     done
-    errors=$(mktemp 2> /dev/null) || exec "$program" "$@"
+    errors=$(mktemp 2> /dev/null) || exec "$program" "$runs" "$@"
     trap 'rm -f -- "$errors" ${copied:+"$copied"}' EXIT
     # what runs next to a shell has no standard input, unless it is given it
     exec 4<&0
@@ -182,13 +183,13 @@ run_program() {
     trap 'stop_program 130' INT
     trap 'stop_program 143' TERM
     if [ -n "${by_event-}" ]; then
-        PYTHONDONTWRITEBYTECODE=1 python3 "$root/bin/lib/run.py" script_runs "$name" "$program" "${script_name-}" "$@" <&4 2> "$errors" &
+        PYTHONDONTWRITEBYTECODE=1 python3 "$root/bin/lib/run.py" script_runs "$name" "$program" "$runs" "${script_name-}" "$@" <&4 2> "$errors" &
     elif [ -n "${states-}" ]; then
         PYTHONDONTWRITEBYTECODE=1 python3 "$root/bin/lib/run.py" "${state_runner-state_runs}" "$name" "$program" "$@" <&4 2> "$errors" &
     elif [ -n "${watches-}" ] && [ -t 2 ] && [ -z "${option_follow-}" ] && command -v python3 > /dev/null; then
-        PYTHONDONTWRITEBYTECODE=1 python3 "$root/bin/lib/run.py" watched "$name" "$script" "$program" "$@" <&4 3>&2 2> "$errors" &
+        PYTHONDONTWRITEBYTECODE=1 python3 "$root/bin/lib/run.py" watched "$name" "$script" "$program" "$runs" "$@" <&4 3>&2 2> "$errors" &
     else
-        "$program" "$@" <&4 2> "$errors" &
+        "$program" "$runs" "$@" <&4 2> "$errors" &
     fi
     running=$!
     ended=0
@@ -227,7 +228,7 @@ explain() {
 # print_reason FAULT: what is wrong and what would be right, of this fault and of those after it, where python3 is there to find it out
 print_reason() {
     command -v python3 > /dev/null || return 0
-    set -- "$name" "$program" "$1" "${option_frames-}" "${option_slots-}" "${script_name-}" "${directory-}" "${script-}" "${text-}" "${storage-}"
+    set -- "$name" "$program" "$runs" "$1" "${option_frames-}" "${option_slots-}" "${script_name-}" "${directory-}" "${script-}" "${text-}" "${storage-}"
     number=${first_image-}
     while [ -n "$number" ] && [ "$number" -le "$count" ]; do
         eval "set -- \"\$@\" \"\$path$number\""

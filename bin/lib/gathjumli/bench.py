@@ -69,23 +69,23 @@ def notify(text: str) -> None:
 
 
 class Bench:
-    """The two programs."""
+    """The program that runs machines."""
 
-    def __init__(self, vm370: Any, bare370: Any) -> None:
-        self.vm370, self.bare370 = vm370, bare370
+    def __init__(self, program: Any) -> None:
+        self.program = program
 
     def command(
         self, room: Any, first: Any, script: str, volumes: tuple = (), sizes: tuple = ()
     ) -> list:
-        """A program with its words: of users where the first text is a directory, else of a machine with so much storage."""
+        """The program with its words: of users where the first text is a directory, else of a machine with so much storage."""
         files = []
         for number, data in enumerate([first, "".join(f"{item}\n" for item in script), *volumes]):
             files.append(f"{room}/{number}")
             with open(files[-1], "wb") as file:
                 file.write(data.encode() if isinstance(data, str) else data)
-        return (
-            [self.vm370, *sizes, *files] if "USER" in first else [self.bare370, first, *files[1:]]
-        )
+        if "USER" in first:
+            return [self.program, "vm370", *sizes, *files]
+        return [self.program, "bare370", first, *files[1:]]
 
     def seconds(self, *words: Any) -> Any:
         """The least processor time of some runs."""
@@ -309,10 +309,10 @@ def measure_installation(bench: Any, users: Any, frames: Any, slots: Any) -> Non
 class Followed:
     """A session of vm370 that is given its script part by part, each of which is timed."""
 
-    def __init__(self, vm370: Any, directory: str, room: Any) -> None:
+    def __init__(self, program: Any, directory: str, room: Any) -> None:
         with open(f"{room}/directory", "w", encoding="utf-8") as file:
             file.write(directory)
-        words = [vm370, "--frames", "512", "--follow", f"{room}/directory"]
+        words = [program, "vm370", "--frames", "512", "--follow", f"{room}/directory"]
         self.child = subprocess.Popen(words, stdin=subprocess.PIPE, stdout=subprocess.PIPE)
 
     def do(self, lines: list) -> Any:
@@ -350,7 +350,9 @@ def measure_deck(bench: Any, cards: Any) -> None:
     ]
     with tempfile.TemporaryDirectory() as room:
         session = Followed(
-            bench.vm370, "USER A PW 256K\nSPOOL 00D PUNCH\nUSER B PW 256K\nSPOOL 00C READER\n", room
+            bench.program,
+            "USER A PW 256K\nSPOOL 00D PUNCH\nUSER B PW 256K\nSPOOL 00C READER\n",
+            room,
         )
         session.do(ready)
         for _ in range(0, cards, CHAIN):
@@ -371,7 +373,9 @@ def measure_files(bench: Any, others: Any) -> None:
     ] * (own + times)
     with tempfile.TemporaryDirectory() as room:
         session = Followed(
-            bench.vm370, "".join(f"USER {user} PW 64K\nSPOOL 00C READER\n" for user in users), room
+            bench.program,
+            "".join(f"USER {user} PW 64K\nSPOOL 00C READER\n" for user in users),
+            room,
         )
         session.do([f"LINE {user} LOGON" for user in users] + decks)
         asked = session.do(["LINE U0 QUERY FILES"] * times) / times
@@ -404,7 +408,7 @@ def measure_spool(bench: Any, cards: Any, files: Any) -> None:
 
 
 def main() -> None:
-    vm370, bare370, what, *words = sys.argv[1:]
+    program, what, *words = sys.argv[1:]
     measures = {
         "loops": measure_loops,
         "rates": measure_rates,
@@ -412,7 +416,7 @@ def main() -> None:
         "installation": measure_installation,
         "spool": measure_spool,
     }
-    measures[what](Bench(vm370, bare370), *words)
+    measures[what](Bench(program), *words)
 
 
 if __name__ == "__main__":

@@ -102,10 +102,10 @@ def version() -> str:
         return file.read().strip()
 
 
-def ask_build(word: str, crate: str) -> Any:
-    """What bin/lib/built says of the program of a crate."""
+def ask_build(word: str) -> Any:
+    """What bin/lib/built says of the program."""
     done = subprocess.run(
-        [os.path.join(ROOT, "bin", "lib", "built"), name(), word, crate],
+        [os.path.join(ROOT, "bin", "lib", "built"), name(), word],
         stdin=subprocess.DEVNULL,
         stdout=subprocess.PIPE,
     )
@@ -114,11 +114,11 @@ def ask_build(word: str, crate: str) -> Any:
     return done.stdout.decode(errors="surrogateescape").removesuffix("\n")
 
 
-def print_version(crate: str) -> None:
-    """The version, and of a command that runs a program what that program is."""
+def print_version(runs: bool) -> None:
+    """The version, and of a command that runs the program what that is."""
     print(f"{name()} (Gathjumli) {version()}")
-    if crate:
-        print(ask_build("tell", crate))
+    if runs:
+        print(ask_build("tell"))
 
 
 def usage_text(usage: str) -> str:
@@ -130,22 +130,22 @@ def usage_text(usage: str) -> str:
     return subprocess.run(words, input=text, stdout=subprocess.PIPE, text=True).stdout or text
 
 
-def perform(command: Any, usage: Any, crate: Any) -> None:
+def perform(command: Any, usage: Any, runs: bool) -> None:
     """What the words of a command ask for."""
     try:
         command(sys.argv[1:])
     except Help:
         print(usage_text(usage), end="")
     except Version:
-        print_version(crate)
+        print_version(runs)
 
 
-def run(command: Any, usage: Any, crate: Any = None) -> None:
-    """Runs a command on its words, and ends with its status; crate is that of the program which it runs, if it runs one."""
+def run(command: Any, usage: Any, runs: bool = False) -> None:
+    """Runs a command on its words, and ends with its status; runs is whether it runs the program."""
     for stream in (sys.stdin, sys.stdout, sys.stderr):
         stream.reconfigure(errors="surrogateescape")
     try:
-        perform(command, usage, crate)
+        perform(command, usage, runs)
         sys.stdout.flush()
         status = 0
     except UsageError as item:

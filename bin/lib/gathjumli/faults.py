@@ -1,6 +1,6 @@
 """All faults of a script, a directory or the text of a volume, each as FILE:LINE:COLUMN: what is wrong, and what would be right.
 
-    faults.py NAME PROGRAM FAULT FRAMES SLOTS SHOWN DIRECTORY SCRIPT TEXT STORAGE [IMAGE]..
+    faults.py NAME PROGRAM PART FAULT FRAMES SLOTS SHOWN DIRECTORY SCRIPT TEXT STORAGE [IMAGE]..
 
 The program reports its first fault, FAULT. It is asked again about the text without the line that it refused, until it refuses none: so
 its grammar is stated nowhere else. What the command does not have is empty; SHOWN is what the script is called."""
@@ -27,10 +27,13 @@ NO_TEXT = re.compile(rb"[\x00-\x08\x0e-\x1f]")
 
 
 class Texts:
-    """The texts that a program is given, and how it is asked about them."""
+    """The texts that a part of the program is given, and how it is asked about them."""
 
-    def __init__(self, program: str, sizes: list[str], paths: dict[str, str], images: list) -> None:
-        self.program = program
+    def __init__(
+        self, part: list[str], sizes: list[str], paths: dict[str, str], images: list
+    ) -> None:
+        # the program and the name of its part
+        self.part = part
         self.sizes = sizes
         self.paths = paths
         self.images = images
@@ -50,14 +53,14 @@ class Texts:
         for name, data in texts.items():
             with open(os.path.join(self.folder.name, name), "wb") as file:
                 file.write(data)
-        words = self.words(path)
-        done = subprocess.run([self.program, *words], stdin=subprocess.DEVNULL, capture_output=True)
+        words = [*self.part, *self.words(path)]
+        done = subprocess.run(words, stdin=subprocess.DEVNULL, capture_output=True)
         return done.stderr.decode(errors="replace").partition("\n")[0]
 
     def words(self, path: str) -> list[str]:
         folder = self.folder.name
         if self.paths["text"]:
-            return ["mkvol", os.path.join(folder, "image"), path]
+            return [os.path.join(folder, "image"), path]
         first = self.paths["storage"] or os.path.join(folder, "directory")
         return [*self.sizes, "--", first, os.path.join(folder, "script"), *self.images]
 
@@ -138,7 +141,8 @@ def described(texts: Texts, fault: str, names: dict[str, str]) -> str:
 
 
 def main(words: list[str]) -> None:
-    name, program, fault, frames, slots, shown, directory, script, text, storage, *images = words
+    name, program, part, fault, *words = words
+    frames, slots, shown, directory, script, text, storage, *images = words
     paths = {"directory": directory, "script": script, "text": text, "storage": storage}
     if not FAULT.fullmatch(fault):
         data = [read(path) for path in (directory, script, text)]
@@ -146,7 +150,7 @@ def main(words: list[str]) -> None:
             print(f"{name}: {why}")
         return
     sizes = ["--frames", frames] * bool(frames) + ["--slots", slots] * bool(slots)
-    texts = Texts(program, sizes, {**paths, "storage": storage}, images)
+    texts = Texts([program, part], sizes, {**paths, "storage": storage}, images)
     texts.data.pop("storage")
     names = {"directory": directory, "script": shown or script, "text": text}
     try:

@@ -167,7 +167,7 @@ class Program:
         self.errors = tempfile.TemporaryFile()
         streams = {"stdin": subprocess.PIPE, "stdout": subprocess.PIPE, "stderr": self.errors}
         # an interrupt at the terminal is for the command alone
-        words = [machines.program(), *options, *machines.follow_words()]
+        words = [machines.program(), *machines.follow_words(*options)]
         self.process = subprocess.Popen(words, start_new_session=True, **streams)
         self.awaited = 0
         # how many answers it was asked for, how many it has given, and how often anything of it was heard

@@ -16,7 +16,7 @@ from gathjumli.state_files import StateFile, read_state
 SECONDS_BETWEEN_LOOKS = 0.5
 SECONDS_BETWEEN_REPORTS = 5
 BEING_LOOKED_FOR = "the frames are being looked for"
-NOT_BUILT = "the program frame_map is not built: run bin/framemap once by hand"
+NOT_BUILT = "the program is not built: run bin/framemap once by hand"
 
 
 class FrameMap:
@@ -52,7 +52,7 @@ class FrameMap:
     def found(self, size: int, reply: Callable, is_wanted: Callable) -> tuple[int, list[str]]:
         """The status of bin/framemap, and what it prints."""
         # a build would take minutes in silence
-        if ask_build("tell", "frame_map").endswith("not built"):
+        if ask_build("tell").endswith("not built"):
             return 1, [NOT_BUILT]
         place, state = self.last_state()
         with contextlib.ExitStack() as files:

@@ -120,8 +120,8 @@ def rate(machine: Any, seconds: Any) -> Any:
 
 
 def main() -> None:
-    vm370, bare370, rounds, seconds = sys.argv[1:]
-    bench = Bench(vm370, bare370)
+    program, rounds, seconds = sys.argv[1:]
+    bench = Bench(program)
     notify("Guest | A round | Emulator | Bare | One user | Bare, ratio | One user, ratio")
     notify("---|---|---|---|---|---|---")
     for guest in GUESTS:

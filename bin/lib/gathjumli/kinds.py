@@ -378,14 +378,14 @@ def host_instructions(bench: Any, place: Any, loop: Any) -> Any:
 
 
 def main() -> None:
-    vm370, bare370, rounds, seconds, *kinds = sys.argv[1:]
+    program, rounds, seconds, *kinds = sys.argv[1:]
     for kind in kinds:
         if kind not in {**KINDS, **DRAWN}:
             print(
                 f"KIND is one of {', '.join({**KINDS, **DRAWN})}, and not {kind}", file=sys.stderr
             )
             sys.exit(WRONG_USE)
-    bench, rounds, seconds = Bench(vm370, bare370), int(rounds), float(seconds)
+    bench, rounds, seconds = Bench(program), int(rounds), float(seconds)
     lines = []
     with tempfile.TemporaryDirectory() as room:
         emulator = Emulator(room)

@@ -156,7 +156,7 @@ class Terminal:
 
 
 class LogonServer:
-    """The program that is the desk, the connections at its places, and the people who log on."""
+    """The program as the desk, the connections at its places, and the people who log on."""
 
     def __init__(self, engine: Any, passwords: Any, notify: Any, program: Any) -> None:
         self.engine = engine
@@ -195,7 +195,10 @@ class LogonServer:
     def open(self) -> None:
         """Begins the program, and gives it the users, and what is known of them since a replay."""
         self.program = subprocess.Popen(
-            [self.path], stdin=subprocess.PIPE, stdout=subprocess.PIPE, start_new_session=True
+            [self.path, "logondesk"],
+            stdin=subprocess.PIPE,
+            stdout=subprocess.PIPE,
+            start_new_session=True,
         )
         for user in self.people:
             self.ask("USER", encoded(user.name))

@@ -37,7 +37,7 @@ class ScriptRefused(Failure):
 
 
 class Machines:
-    """A program, its words and the users whose machines it runs; `run` gives it a script."""
+    """A part of the program, its words and the users whose machines it runs; `run` gives it a script."""
 
     def __init__(self, name: Any, before: Any, volumes: Any, users: Any, devices: Any) -> None:
         self.name = name
@@ -55,15 +55,16 @@ class Machines:
         self.folder.cleanup()
 
     def words(self, script: Any) -> list:
-        """The words after the program's name, for a script that is written for them."""
+        """The words of the program, its part first, for a script that is written for them."""
         path = os.path.join(self.folder.name, "script")
         with open(path, "wb") as file:
             file.write(script)
-        return [*self.before[:-1], "--", self.before[-1], path, *self.volumes]
+        return [self.name, *self.before[:-1], "--", self.before[-1], path, *self.volumes]
 
-    def follow_words(self) -> list:
-        """Those for a script that the program is given part by part."""
-        return [*self.before[:-1], "--follow", "--", self.before[-1], *self.volumes]
+    def follow_words(self, *options: str) -> list:
+        """Those for a script that the program is given part by part, with more options."""
+        first, before = self.before[-1], self.before[:-1]
+        return [self.name, *options, *before, "--follow", "--", first, *self.volumes]
 
     def reason(self, script: Any, line: Any) -> list:
         """Why a line of a script is refused, as a list of lines, which is empty where it cannot be found out."""
@@ -74,25 +75,23 @@ class Machines:
         )
         return [found] if found else []
 
-    def crate(self) -> Any:
-        return self.name + "_cli"
-
     def program(self) -> Any:
-        self.path = self.path or ask_build("path", self.crate())
+        self.path = self.path or ask_build("path")
         return self.path
 
     def made_of(self) -> str:
         """What says one version of the program from another: the sum of its sources, and the version of Gathjumli."""
-        return f"{ask_build('tell', self.crate()).split()[1]} {version()}"
+        return f"{ask_build('tell').split()[1]} {version()}"
 
     def build(self) -> None:
         """Has the program built where that is to be done, and has it do nothing, so that it judges what it is given."""
-        self.path = ask_build("ensure", self.crate())
+        self.path = ask_build("ensure")
         words = self.words(b"")
         done = subprocess.run([self.path, *words], stdin=subprocess.DEVNULL, capture_output=True)
         if done.returncode:
             # the command of this name says what is wrong, and why
-            command = os.path.join(ROOT, "bin", self.name)
+            part, *words = words
+            command = os.path.join(ROOT, "bin", part)
             raise Failure(
                 subprocess.run(
                     [command, *words], stdin=subprocess.DEVNULL, stdout=subprocess.DEVNULL

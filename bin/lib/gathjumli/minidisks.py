@@ -55,8 +55,8 @@ class Minidisks:
 
     def read(self, volume: Any) -> tuple:
         """The serial number of a volume, and its tracks."""
-        if ask_build("tell", "volume_cli").endswith("not built"):
-            raise OSError(0, "the program volume_cli is not built: run bin/trackmap once by hand")
+        if ask_build("tell").endswith("not built"):
+            raise OSError(0, "the program is not built: run bin/trackmap once by hand")
         done = subprocess.run(
             [os.path.join(ROOT, "bin", "trackmap"), "--", volume],
             stdin=subprocess.DEVNULL,

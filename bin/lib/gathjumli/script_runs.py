@@ -1,8 +1,7 @@
 """Runs a script that has lines for people, or leaves out what people need not see, or ends at the first complaint: script_runs.py
-NAME PROGRAM SCRIPT WORD.., as bin/lib/program.sh calls it. The program is given the script part by part (docs/man/vm370.1), an event each."""
+NAME PROGRAM PART SCRIPT WORD.., as bin/lib/program.sh calls it. The program is given the script part by part (docs/man/vm370.1), an event each."""
 from __future__ import annotations
 
-import os
 import re
 import sys
 from typing import Any
@@ -180,12 +179,12 @@ def judged(machines: Machines, script: bytes, path: str, is_explained: bool = Fa
 
 def command(words: list[str]) -> None:
     # the script may be a copy of what has this name
-    program_path, shown, *words = words
+    program_path, part, shown, *words = words
     found, (first, script, *volumes) = read_arguments(words, OPTIONS, 2, 1000)
     sizes = [
         word for option in SIZE_OPTIONS for value in found[option] for word in (option, str(value))
     ]
-    is_bare = os.path.basename(program_path).startswith("bare370")
+    is_bare = part == "bare370"
     # what is wrong with a directory the program says
     own = Machines("vm370", [*sizes, first], volumes, {}, {})
     machines = of_bare(first, volumes) if is_bare else own

@@ -1,4 +1,4 @@
-"""Runs a program for somebody at a terminal: watched.py NAME SCRIPT PROGRAM WORD.., as bin/lib/program.sh calls it.
+"""Runs the program for somebody at a terminal: watched.py NAME SCRIPT PROGRAM WORD.., as bin/lib/program.sh calls it.
 
 What the program prints is passed on as it appears. After two seconds a line at the terminal, which is file descriptor 3, says how many
 of the script's events are done: a turn counts as one. Whatever ends the program, all that it had printed is passed on."""

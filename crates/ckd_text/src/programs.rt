@@ -10,19 +10,20 @@ use crate::host::{ProcessHost, ToolEnd, ToolHost, ended_of, wrong_use};
 use crate::{mkvol, trackmap};
 use std::rt::{Env, Files};
 
-/// What is reported where no program is named.
-const USAGE: &str = "Usage: mkvol OUT TEXT
-       trackmap IMAGE
-";
-
 /// Runs `mkvol` or `trackmap`, whichever the first argument names, with the arguments after it, and
-/// prints a failure on standard error.
-pub fn program<R: AllocGlobal + Files + Env + Print + Eprint>(rt: &R) -> ToolEnd {
-    ended_of(rt, run(rt, &mut ProcessHost::new(rt)))
+/// prints a failure on standard error. If the first argument names neither, that is a usage error,
+/// for which this usage text is printed.
+pub fn program<R: AllocGlobal + Files + Env + Print + Eprint>(rt: &R, usage: &str) -> ToolEnd {
+    ended_of(rt, run(rt, &mut ProcessHost::new(rt), usage))
 }
 
-/// Reads the words of the command line, and does what they ask. A usage error is printed here.
-fn run<R: AllocGlobal + Eprint, H: ToolHost>(rt: &R, host: &mut H) -> Result<(), ToolFailure>
+/// Reads the words of the command line, and does what they ask. A usage error is printed here, with
+/// the usage text if no program is named.
+fn run<R: AllocGlobal + Eprint, H: ToolHost>(
+    rt: &R,
+    host: &mut H,
+    usage: &str,
+) -> Result<(), ToolFailure>
     ensures ok { OnOk result ((line : List (List ℕ)) × H.has_words host.old line
         × ByTool (named_tool (words_of line)) ⊥
         (IsMadeNamed H.opens H.creates H.File.remaining H.Image.contents H.Image.held
@@ -48,7 +49,7 @@ fn run<R: AllocGlobal + Eprint, H: ToolHost>(rt: &R, host: &mut H) -> Result<(),
     match named(words) {
         Some(Tool::Mkvol) => mkvol::obey(rt, host, words),
         Some(Tool::Trackmap) => trackmap::obey(rt, host, words),
-        None => Err(no_tool(rt)),
+        None => Err(no_tool(rt, usage)),
     }
 }
 
@@ -85,10 +86,10 @@ fn tool_of(name: &str) -> Option<Tool>
     }
 }
 
-/// Prints the usage text of all programs on standard error, and returns the failure.
-fn no_tool<R: Eprint>(rt: &R) -> ToolFailure
+/// Prints a usage text on standard error, and returns the failure of a usage error.
+fn no_tool<R: Eprint>(rt: &R, usage: &str) -> ToolFailure
     ensures { result ≡ ToolFailure.Usage }
 {
-    let _ = rt.eprint(USAGE);
+    let _ = rt.eprint(usage);
     ToolFailure::Usage
 }

@@ -16,7 +16,10 @@ use crate::frame::{Frame, FrameError, TimedFrame, frame_of};
 use crate::printing::{print, print_number};
 use logon_desk::{DeskAction, LogonDesk, MOST_WAITING, Outputs};
 use std::alloc::{AllocError, Global};
+use std::io::{self, BufRead, BufReader};
 use std::marker::Model;
+use std::rt::{Env, Files};
+use std::{env, fs};
 use terminal_lines::Bytes;
 use user_names::{MOST_USERS, UserNo};
 
@@ -25,6 +28,37 @@ const MOST_STRANGERS: usize = 80;
 
 /// The most places for connections.
 const MOST_PLACES: usize = 1024;
+
+/// Runs the logon desk on the lines of the file that the argument after the part's name names, or of
+/// standard input, and writes what it does to standard output.
+///
+/// # Errors
+///
+/// An `io::Error`: a file failed, a word or a line is no UTF-8 text, or memory was refused.
+pub fn program<R: AllocGlobal + Env + Files + Input + Print>(rt: &R) -> io::Result<()> {
+    let alloc = rt.alloc();
+    match env::args(rt)?.nth(2) {
+        Some(path) => take_lines(rt, BufReader::new(alloc, fs::open(rt, path.as_str())?)?),
+        None => take_lines(rt, BufReader::new(alloc, rt.reader())?),
+    }
+}
+
+/// Takes lines and writes on standard output what the desk does for each, until they end or one is
+/// malformed or does not fit.
+fn take_lines<R: AllocGlobal + Print, B: BufRead + Drop>(rt: &R, reader: B) -> io::Result<()> {
+    let alloc = rt.alloc();
+    let mut session = Session::new(alloc);
+    for line in reader.lines(alloc) {
+        let line = line?;
+        let is_read = session.take(alloc, line.as_bytes())?;
+        rt.write_all(session.printed())?;
+        session.forget();
+        if !is_read {
+            break;
+        }
+    }
+    Ok(())
+}
 
 /// The program between two lines.
 #[derive(Drop)]

@@ -1,0 +1,14 @@
+-- Which part of the program a word names.
+use Rattle.std.specs.Prelude.{ℕ, if◌then◌else◌, List, codes, Option, Some, None}
+use Rattle.std.specs.Str.{bytes_eq}
+use Rattle.gathjumli_cli.specs.declared.parts.Part.{Part}
+use Rattle.gathjumli_cli.specs.declared.parts.Part.TheVariants.{Vm370, Bare370, FrameMap, LogonDesk}
+
+-- the part of this name, other than `mkvol` and `trackmap`
+abbrev pub part_of : List ℕ → Option Part
+part_of name =
+    if bytes_eq name (codes "vm370") then Some Vm370
+    else if bytes_eq name (codes "bare370") then Some Bare370
+    else if bytes_eq name (codes "framemap") then Some FrameMap
+    else if bytes_eq name (codes "logondesk") then Some LogonDesk
+    else None

@@ -1,0 +1,35 @@
+//! The program of all commands. Its first argument names the part that is run, which takes the
+//! arguments after it as its own: `vm370`, `bare370`, `framemap`, `mkvol`, `trackmap` or
+//! `logondesk`. Nothing of the other parts is run.
+#![tactic(auto)]
+
+mod ends;
+mod parts;
+
+use crate::ends::PartEnd;
+use crate::parts::{Part, named_part};
+use std::io::IsTerminal;
+
+/// What is reported where no part is named.
+const USAGE: &str = "Usage: vm370 [--frames N] [--slots N] [--save] DIRECTORY SCRIPT [VOLUME]...
+       bare370 [--save] STORAGE SCRIPT [VOLUME]...
+       framemap [--frames N] [--slots N] [--save] [--state FILE] DIRECTORY SCRIPT [VOLUME]...
+       mkvol OUT TEXT
+       trackmap IMAGE
+       logondesk [FILE]
+";
+
+/// Runs the part that the first argument names. `vm370` and `bare370` write their transcript as its
+/// lines come if standard output is a terminal.
+///
+/// `ckd_text` reports a usage error if the first argument names none of its parts either.
+fn main(rt: HostRuntime) -> PartEnd {
+    let is_watched = rt.stdout().is_terminal();
+    match named_part(&rt) {
+        Some(Part::Vm370) => PartEnd::Session(vm370::program::program(&rt, is_watched)),
+        Some(Part::Bare370) => PartEnd::Session(bare370::bare_program(&rt, is_watched)),
+        Some(Part::FrameMap) => PartEnd::Session(frame_map::program::program(&rt)),
+        Some(Part::LogonDesk) => PartEnd::Desk(logon_desk_cli::program::program(&rt)),
+        None => PartEnd::Volume(ckd_text::program(&rt, USAGE)),
+    }
+}
