@@ -290,8 +290,10 @@ def try_ways(check: Callable, name: str, moments: Moments, event: int, unit: int
         check(f"{name}: on from {event}.{unit}", to >= (event, unit))
 
 
-def searched(moments: Moments, kind: str, number: int, where: tuple[int, int]) -> dict[str, Any]:
-    search = Search(moments, Wanted("A", kind, number), lambda: True)
+def searched(
+    moments: Moments, kind: str, number: int, where: tuple[int, int], *passed_over: int
+) -> dict[str, Any]:
+    search = Search(moments, Wanted("A", kind, number, frozenset(passed_over)), lambda: True)
     return search.back(*where, is_strict=False, after=None)
 
 
@@ -317,6 +319,12 @@ def try_search(check: Callable, moments: Moments) -> None:
         )
     found = searched(moments, WORD, 0x204, (len(run.steps), 0))
     check("a word that was typed long ago", found.get("event") == 3, found)
+    found = searched(moments, WORD, 0x204, (last, 5), 0x100)
+    check("a typed line is no instruction", found.get("event") == 3, found)
+    found = searched(moments, WORD, 0x200, (last, 50), 0x100)
+    check("a change by another instruction", found.get("unit") == 50, found)
+    found = searched(moments, WORD, 0x200, (last, 50), 0x104)
+    check("no other instruction has changed a word", "event" not in found, found)
     found = searched(moments, WORD, 0x300, (len(run.steps), 0))
     check("a word that nobody changed", "event" not in found, found)
 
@@ -396,6 +404,9 @@ def try_server(check: Callable, moments: Moments) -> None:
             ("no moment", 400, "/data/moment?user=A&since=3.x", [own]),
             ("a register that is no number", 400, f"{search}gpr&of=X", [own]),
             ("an address that is none", 400, f"{search}word&of=XYZ", [own]),
+            ("a search that passes over", 200, f"{search}word&of=200&passed=104,1A8", [own]),
+            ("no address in a list", 400, f"{search}word&of=200&passed=104,XYZ", [own]),
+            ("an empty list", 400, f"{search}word&of=200&passed=104,,1", [own]),
             ("how far the search is", 200, "/data/progress", [own]),
             ("the end of a search", 200, "/data/stop", [own]),
             ("a moment after all", 200, "/data/moment?user=A&event=99999999&unit=7", [own]),

@@ -29,6 +29,14 @@ LINE A STORE 208 00000001
 LINE A BEGIN 100
 RUN A {UNITS}
 """
+# a loop that adds 1 to a register and stores the sum, and once stores another word there
+TWO_WAYS = """LINE A LOGON
+LINE A STORE 100 5A1002045010020059100208477001
+LINE A STORE 10F 00D2030200020C47F00100
+LINE A STORE 204 00000001000000200000CAFE
+LINE A BEGIN 100
+RUN A 394
+"""
 EXAMPLES = os.path.join(TOP, "examples", "users")
 SIZES = {"wide": 1500, "narrow": 420}
 HEIGHT = 1000
@@ -244,17 +252,29 @@ def try_keys(browser: Browser, port: int) -> None:
 def try_searches(browser: Browser, port: int) -> None:
     browser.open(port, "#event=27&unit=0&user=A&address=380")
     browser.js("document.querySelector('[data-word=\"000404\"]').click()")
+    top = "document.getElementById('words').getBoundingClientRect().top + scrollY"
+    before = browser.js(top)
     check("who changed a word last", browser.says("moments? in"))
+    check("nothing moves under the mouse", browser.js(top) == before, before, browser.js(top))
+    by = "a change of COUNT2 (000404): 00000039 became 0000003C by ST 5,COUNT2 at 000810"
+    check(
+        "the message names the instruction",
+        browser.text("found").startswith(by),
+        browser.text("found"),
+    )
     check("it is the unit that did", browser.at("event 24 of 34, unit 44"), browser.text("found"))
     done = "document.querySelector('#code .is-done').textContent"
     check("its instruction is shown", "ST    5,COUNT2" in browser.js(done))
+    led = "document.querySelector('#code .led').textContent"
+    check("and marked among its neighbours", "ST    5,COUNT2" in browser.js(led))
     check("who changed it before", browser.press("b") and browser.at("event 24 of 34, unit 41"))
     check("who changes it next", browser.press("f") and browser.at("event 24 of 34, unit 44"))
     browser.js("history.back()")
     check("the browser's own way back", browser.at("event 24 of 34, unit 41"))
     browser.js("what.value = 'psw'; of.value = '10A'; of.blur()")
     check("until an address", browser.press("b"), browser.text("found"))
-    check("a message is there", browser.says("the instruction at 00010A"), browser.text("found"))
+    message = r"the instruction at .*\(00010A\)"
+    check("a message is there", browser.says(message), browser.text("found"))
     browser.press("ArrowLeft")
     check("and goes with the next step", browser.says("^Arrows"), browser.text("found"))
     browser.js("what.value = 'gpr'; of.value = 'G16'; of.blur()")
@@ -272,7 +292,16 @@ def try_beginning(browser: Browser, port: int) -> None:
     browser.ask_for("count2")
     asked = "document.querySelector('#words .asked')?.dataset.word"
     check("a label of the source is an address", browser.until(f"{asked} === '000404'"))
-    check("labels stand in storage", "COUNT1 COUNT2" in browser.text("words"))
+    check("labels stand in storage", "0:COUNT1 4:COUNT2" in browser.text("words"))
+    browser.ask_for("count1")
+    check("another label", browser.until(f"{asked} === '000400'"))
+    browser.ask_for("count1+4")
+    check("so is one with a number", browser.until(f"{asked} === '000404'"))
+    focused = "document.activeElement.dataset.word"
+    check("the keys are at its word", browser.until(f"{focused} === '000404'"))
+    browser.strike("a")
+    focused = browser.js("document.activeElement.id")
+    check("a key leads to the address", focused == "address", focused)
     for word, reason in (
         ("count9", "COUNT9 is no hexadecimal address, nor a label of the source"),
         ("2000", "002000 is past the storage of A, whose last byte is at 001FFF"),
@@ -330,6 +359,8 @@ def try_interruption(browser: Browser, looks: Looks) -> None:
         check(
             "the interruption", browser.press("ArrowRight") and browser.at("event 21 of 34, unit 1")
         )
+        done = browser.js("document.querySelector('#code .is-done').textContent")
+        check("it is named, and no instruction", done == "external interruption, code 0080", done)
         changed = browser.js("document.getElementById('changes').textContent")
         check("the old PSW is marked as changed", "00001" in str(changed), changed)
         try_reading(browser)
@@ -395,6 +426,30 @@ def try_stopping(browser: Browser, folder: str) -> None:
         browser.send("Page.navigate", url="about:blank")
 
 
+# --- a word that two instructions change ---
+
+
+def try_another(browser: Browser, folder: str) -> None:
+    """The last change by another instruction than that which was found."""
+    with open(f"{folder}/script", "w") as file:
+        file.write(TWO_WAYS)
+    with served(f"{folder}/directory", f"{folder}/script") as port:
+        browser.open(port)
+        browser.strike("o")
+        check("nothing was found yet", browser.says("first look for a change"))
+        browser.js("what.value = 'word'; of.value = '200'; of.blur()")
+        check("a change is found", browser.press("b"))
+        by = browser.says("00000061 became 00000062 by ST 1,512.0,0. at 000104")
+        check("it is by one instruction", by, browser.text("found"))
+        check("another one is looked for", browser.press("o"))
+        by = browser.says("by another instruction: 00000020 became 0000CAFE by MVC .* at 000110")
+        check("it is found", by, browser.text("found"))
+        where = browser.text("where")
+        browser.js("document.querySelector('#found button').click()")
+        check("there is no third", browser.says("^no such moment"), browser.text("found"))
+        check("the page stays", browser.text("where") == where, browser.text("where"))
+
+
 # --- two users out of frames ---
 
 
@@ -439,6 +494,7 @@ def main() -> None:
             try_interruption(browser, looks)
             try_channel_program(browser, looks)
             try_stopping(browser, folder)
+            try_another(browser, folder)
             try_frames(browser, looks)
             check("the page reports no fault", not browser.faults, *browser.faults[:3])
         finally:

@@ -19,6 +19,7 @@ const KEYS_SAID = find("found").textContent;
 
 function say(text, isBusy = false) {
   find("found").textContent = text;
+  find("found").classList.toggle("is-said", text !== KEYS_SAID);
   find("found").classList.toggle("is-busy", isBusy);
 }
 
@@ -80,16 +81,36 @@ function showAt(address) {
   look(() => frame(address));
 }
 
-/** Has the word at an address framed, with some rows above it. */
+/** Has the word at an address framed, with some rows above it; B and F search for its changes then. */
 function frame(address) {
   state.asked = address & ~3;
   state.address = Math.max(0, (address & ~15) - 64);
+  find("what").value = "word";
+  find("of").value = hex(state.asked);
 }
 
-/** The address that a label of the source or hexadecimal digits name; else why there is none. */
+/** Shows what is at an address that was typed, and leads the keys to the word there. */
+function showTyped() {
+  wish(async () => {
+    frame(addressOf(find("address").value));
+    leave();
+    find("address").blur();
+    await ask({ since: state.since });
+    find("words").querySelector(".asked")?.focus();
+  });
+}
+
+/** An address, and the label of the source that is there or before it. */
+function placeOf(address) {
+  const near = panels.labelOf(address);
+  return near ? `${near} (${hex(address)})` : hex(address);
+}
+
+/** The address that hexadecimal digits name, or a label of the source, also with a number as the source has it, TABLE+12; else why there is none. */
 function addressOf(text) {
-  const word = text.trim().toUpperCase();
-  const address = about.labels[word] ?? (/^[0-9A-F]{1,6}$/.test(word) ? parseInt(word, 16) : undefined);
+  const word = text.trim().toUpperCase(), [, label, decimal, digits] = /^([^+]*)\+(?:(\d+)|X'([0-9A-F]+)')$/.exec(word) ?? [, word];
+  const more = decimal ? Number(decimal) : digits ? parseInt(digits, 16) : 0;
+  const at = Object.entries(about.labels).find(([one]) => one.toUpperCase() === label)?.[1], address = at !== undefined ? at + more : /^[0-9A-F]{1,6}$/.test(word) ? parseInt(word, 16) : undefined;
   const { name, pages } = about.users[state.user], labels = Object.keys(about.labels).length ? ", nor a label of the source" : "";
   if (!word) throw new Error("no address is given");
   if (address === undefined) throw new Error(`${word} is no hexadecimal address${labels}`);
@@ -118,9 +139,15 @@ function readBookmark() {
 
 // the last thing that was looked for and where that has led; what ends the search that somebody waits for
 let searched = "", searching = null;
+// the address of the instruction that has made the change that was found, and of those that were passed over
+let maker = null, passed = [];
 
 const TELL_EACH = 500;
-const NAMES = { psw: (of) => `the instruction at ${of}`, word: (of) => `a change of ${of}`, gpr: (of) => `a change of G${of}` };
+const NAMES = {
+  psw: (of) => `the instruction at ${placeOf(parseInt(of, 16))}`,
+  word: (of) => `a change of ${placeOf(parseInt(of, 16))}`,
+  gpr: (of) => `a change of G${of}`,
+};
 const momentsOf = (units) => `${units.toLocaleString("en")} ${units === 1 ? "moment" : "moments"}`;
 const took = (found) => `${momentsOf(found.units)} in ${found.seconds} s`;
 
@@ -128,7 +155,7 @@ const took = (found) => `${momentsOf(found.units)} in ${found.seconds} s`;
 function wantedOf(what) {
   const text = find("of").value.trim().toUpperCase();
   if (what !== "gpr") return hex(addressOf(text));
-  const [, register] = /^G?(\d|1[0-5])$/.exec(text) ?? [];
+  const [, register] = /^[GR]?(\d|1[0-5])$/.exec(text) ?? [];
   if (register === undefined) throw new Error(`${text || "that"} is no register: G0 to G15`);
   return register;
 }
@@ -138,26 +165,63 @@ function search(way) {
     const what = find("what").value, of = wantedOf(what), words = { ...here(), what, of, way };
     // asked again where it has led, it goes on
     if (`${state.event}.${state.unit} ${what} ${of}` === searched) words.strict = 1;
+    passed = [];
     // keys go on while it looks
     seek(words).catch(fail);
   });
 }
 
+/** Goes on back, to a change that another instruction has made than those that were found. */
+function searchOther() {
+  wish(() => {
+    const [moment, what, of] = searched.split(" ");
+    if (maker === null || moment !== `${state.event}.${state.unit}`) throw new Error("first look for a change that an instruction has made");
+    passed = [...new Set([...passed, maker])];
+    seek({ ...here(), what, of, way: "back", strict: 1, passed: passed.map((at) => hex(at)).join(",") }).catch(fail);
+  });
+}
+
 async function seek(words) {
-  const { what, of } = words, name = NAMES[what](of), found = await lookedFor(words, `looking ${words.way} for ${name}`);
+  const { what, of } = words, others = words.passed ? " by another instruction" : "", name = `${NAMES[what](of)}${others}`;
+  const found = await lookedFor(words, `looking ${words.way} for ${name}`);
   if (!found) return;
   let text = "";
+  maker = null;
   if (found.event !== undefined) {
-    const values = what === "psw" ? "" : `: ${found.old || "nothing"} became ${found.new || "nothing"}`;
+    await shown(found, what, of);
+    const values = what === "psw" ? "" : `: ${found.old || "nothing"} became ${found.new || "nothing"}${causeOf(state.moment)}`;
     text = `${name}${values}, at event ${found.event}, unit ${found.unit} (${took(found)})`;
     searched = `${found.event}.${found.unit} ${what} ${of}`;
-    wish(() => {
-      if (what === "word") frame(parseInt(of, 16));
-      return ask({ event: found.event, unit: found.unit, since: what === "psw" ? `${state.event}.${state.unit}` : BEFORE }, true);
-    });
+    maker = what === "psw" ? null : state.moment.done?.address ?? null;
   }
   say(text || `${found.late ? "not found in a minute" : "no such moment"}: ${name} (${took(found)})`);
   if (found.unsure !== undefined) await check(words, found, text, name);
+  if (maker !== null) offerOther();
+}
+
+/** Shows the moment that was found, after all that was wished before. */
+function shown(found, what, of) {
+  return new Promise((done) => wish(async () => {
+    try {
+      if (what === "word") frame(parseInt(of, 16));
+      await ask({ event: found.event, unit: found.unit, since: what === "psw" ? `${state.event}.${state.unit}` : BEFORE }, true);
+    } finally { done(); }
+  }));
+}
+
+/** What has made the change that was found: an instruction, an interruption, a typed line or a device. */
+function causeOf({ done, interruption, last }) {
+  if (!done) return ` by ${interruption || last.slice(0, 60)}`;
+  const text = (done.source || `${done.name} ${done.operands}`).trim().replace(/\s+/g, " ");
+  return ` by ${text} at ${hex(done.address)}${interruption ? `, ${interruption}` : ""}`;
+}
+
+function offerOther() {
+  const made = element("button", "small", "by another instruction?");
+  made.type = "button";
+  made.title = "O: the last change before, by another instruction";
+  made.addEventListener("click", searchOther);
+  find("found").append(" ", made);
 }
 
 /** Has the program look for something, and says how far that is; the answer, or null if it was stopped. */
@@ -236,7 +300,7 @@ function take(moment, isKept) {
 function show() {
   const { moment } = state, { next } = moment;
   const units = moment.unit ? `, unit ${moment.unit} of ${next.units}` : "";
-  const following = next ? `, next: ${next.text.slice(0, 60)}${next.dealt ? " (dealt)" : ""}` : ", the end";
+  const following = next ? `, next: ${next.text.slice(0, 60)}${next.dealt ? " (dealt by AUTO)" : ""}` : ", the end";
   find("where").textContent = `event ${moment.event} of ${about.events}${units}${following}${moment.when ? `, ${moment.when} UTC` : ""}`;
   showTime(moment);
   panels.show(moment, state.user, state.asked);
@@ -303,8 +367,10 @@ function shade(isDark) {
 
 const KEYS = { ArrowRight: "unit+", ArrowLeft: "unit-", "Shift+ArrowRight": "own+", "Shift+ArrowLeft": "own-", PageDown: "event+", PageUp: "event-", Home: "first", End: "last" };
 const ACTS = {
+  a: () => { find("address").focus(); find("address").select(); },
   b: () => search("back"),
   f: () => search("forward"),
+  o: () => searchOther(),
   "[": () => turnOver(-1),
   "]": () => turnOver(1),
   "+": () => line.zoom(0.7, state.event),
@@ -338,7 +404,7 @@ function listen() {
   document.querySelector("[data-way=back]").addEventListener("click", () => search("back"));
   find("at").addEventListener("submit", (event) => {
     event.preventDefault();
-    look(() => { frame(addressOf(find("address").value)); find("address").blur(); });
+    showTyped();
   });
   find("up").addEventListener("click", () => turnOver(-1));
   find("down").addEventListener("click", () => turnOver(1));

@@ -22,6 +22,8 @@ function marked(made, isNew, title) {
   return made;
 }
 
+// how far behind a label an address may be that is shown by it
+const FARTHEST = 255;
 const MASKS = ["fixed overflow", "decimal overflow", "exponent underflow", "significance"];
 
 /** The panels of the page. about is what there is of the run; page has choose(user), goTo(event), searchBack(what, of) and showAt(address). */
@@ -32,7 +34,16 @@ export class Panels {
     this.pages = new Squares(find("page-map"), find("page-note"), 9);
     this.frames = new Squares(find("frame-map"), find("frame"));
     this.cylinders = new Squares(find("cylinder-map"), find("cylinder"));
+    // the labels of the source by their addresses
+    this.places = Object.entries(about.labels).map(([label, at]) => [at, label]).sort(([one], [other]) => one - other);
     find("words").addEventListener("keydown", (event) => this.moveFocus(event));
+  }
+
+  /** The label at an address, or the last one before it and how far that is, TABLE+12; nothing if none is near. */
+  labelOf(address) {
+    const [at, label] = this.places.findLast(([place]) => place <= address) ?? [];
+    if (label === undefined || address - at > FARTHEST) return "";
+    return at === address ? label : `${label}+${address - at}`;
   }
 
   /** Shows a moment of a user; asked is the word that is framed in storage, or null. */
@@ -104,12 +115,20 @@ export class Panels {
   // --- instructions and storage ---
 
   showCode(moment) {
-    const rows = moment.done ? [this.instruction(moment.done, "is-done", "the unit that led here")] : [];
-    if (moment.listing.length) rows.push(...moment.listing.map((one) => this.sourceLine(one)));
+    const rows = [this.whatLed(moment)];
+    if (moment.listing.length) rows.push(...moment.listing.map((one) => this.sourceLine(one, moment.done)));
     else rows.push(...moment.code.map((one, place) => this.instruction(one, place ? "" : "is-here", place ? "" : "the next instruction")));
     find("code").replaceChildren(...rows);
     find("code").querySelector(".is-here")?.setAttribute("aria-current", "step");
-    this.showOperand(moment.code[0]);
+    this.showOperand(moment.psw.wait ? null : moment.code[0]);
+    if (moment.psw.wait) find("operand").textContent = "the machine waits: Left leads to what it did last";
+  }
+
+  /** The unit that led here, in a row that is always there, so that nothing moves under the mouse. */
+  whatLed({ done, interruption }) {
+    const row = done ? this.instruction(done, "is-done", "the unit that led here") : element("div", "one is-done source");
+    if (interruption) row.append(element("span", "interruption", interruption));
+    return row;
   }
 
   instruction(one, style, title) {
@@ -121,8 +140,9 @@ export class Panels {
     return row;
   }
 
-  sourceLine(one) {
-    const row = element("div", `one source${one.here ? " is-here" : ""}`);
+  sourceLine(one, done) {
+    const led = done && one.code && one.address === done.address, row = element("div", `one source${one.here ? " is-here" : ""}${led ? " led" : ""}`);
+    if (led) row.title = "the unit that led here";
     row.append(element("span", "at", one.address === null || !one.code ? "" : hex(one.address, 4)), element("span", "faint", one.code), element("span", "", one.text));
     return row;
   }
@@ -139,7 +159,7 @@ export class Panels {
     const focused = document.activeElement?.dataset?.word, shownAt = moment.storage.length ? moment.storage[0][0] : 0;
     find("words").replaceChildren(...moment.storage.map((row, place) => this.storageRow(row, moment.labels[place])));
     const words = [...find("words").querySelectorAll("button")], again = words.find((one) => one.dataset.word === focused);
-    (again ?? words[0])?.setAttribute("tabindex", "0");
+    (again ?? words.find((one) => one.matches(".asked")) ?? words[0])?.setAttribute("tabindex", "0");
     if (focused !== undefined) again?.focus();
     const kept = `block ${hex(shownAt & ~2047)}: key ${hex((moment.key >> 1) & 15, 1)}`;
     find("key").textContent = `${kept}${moment.key & 1 ? ", fetch protected" : ""}`;
@@ -151,21 +171,26 @@ export class Panels {
     }
   }
 
-  storageRow([at, code, signs, changed], label) {
-    const row = element("div", "line");
-    row.append(element("span", "at", `${hex(at)}  `));
+  storageRow([at, code, signs, changed], labels) {
+    const row = element("div", "line"), left = element("span");
+    left.append(element("span", "at", `${hex(at)}  `));
     for (let word = 0; word < 4 && 8 * word < code.length; word++) {
-      const name = hex(at + 4 * word), made = button("", undefined, `who changed ${name} last?`, () => this.page.searchBack("word", name));
+      const address = hex(at + 4 * word), near = this.labelOf(at + 4 * word), name = near ? `${near}, ${address},` : address;
+      const made = button("", undefined, `who changed ${name} last?`, () => this.page.searchBack("word", address));
       made.tabIndex = -1;
-      made.dataset.word = name;
+      made.dataset.word = address;
       made.classList.toggle("asked", at + 4 * word === this.asked);
       const bytes = [0, 1, 2, 3].map((place) => [code.slice(8 * word + 2 * place, 8 * word + 2 * place + 2), changed[4 * word + place] === "1"]);
       made.append(...bytes.map(([text, isNew]) => (isNew ? element("span", "new", text) : text)));
       made.setAttribute("aria-label", `${name} ${code.slice(8 * word, 8 * word + 8)}${bytes.some(([, isNew]) => isNew) ? ", changed" : ""}: who changed it last?`);
-      row.append(made, word === 3 ? "  " : " ");
+      left.append(made, word === 3 ? "  " : " ");
     }
-    row.append(element("span", "signs", signs));
-    if (label) row.append(" ", element("span", "label", label));
+    left.append(element("span", "signs", signs));
+    row.append(left);
+    const right = element("span", "labels");
+    // the last digit of its address says of which word a label is
+    for (const [place, label] of labels) right.append(" ", element("span", "at", `${hex(place & 15, 1)}:`), element("span", "label", label));
+    if (labels.length) row.append(right);
     return row;
   }
 

@@ -13,6 +13,7 @@ from gathjumli.moments import Moment, Moments
 from gathjumli.printout_lines import PAGE_LENGTH, entries_in, page_text
 from gathjumli.sources import Source
 from gathjumli.state_view import BLOCK, UserView
+from gathjumli.tracing import LOW_ROWS, PROGRAM_CODES, interruption
 
 INSTRUCTIONS_SHOWN = 16
 MOST_LINES = 400
@@ -28,6 +29,12 @@ ROWS_BEFORE = 4
 OPERAND_SHOWN = 4
 # SIO, TIO, HIO and TCH, without their last two bits
 OF_CHANNELS = 0x9C
+INTERRUPTION_NAMES = {
+    "external": "external",
+    "svc": "supervisor-call",
+    "program": "program",
+    "io": "input/output",
+}
 
 
 class MomentPage:
@@ -76,7 +83,7 @@ class MomentPage:
 
     def what_is_next(self, event: int) -> dict[str, Any]:
         steps = self.run.steps
-        found: dict[str, Any] = {"next": None}
+        found: dict[str, Any] = {"next": None, "last": steps[event - 1].text if event else ""}
         if event < len(steps):
             step = steps[event]
             found["next"] = {
@@ -114,12 +121,16 @@ class MomentPage:
     def instructions(
         self, now: dict[str, Any], before: dict[str, Any], storage: Storage, is_unit: bool
     ) -> dict[str, Any]:
-        """The next instructions, and that which led here by one unit, as it stood then."""
+        """The next instructions, and what led here by one unit: an instruction, as it stood then, an interruption, or both."""
         address = now["psw"]["address"]
         then = Storage(storage.old, None, storage.user)
+        done = self.instruction(before["psw"]["address"], then) if is_unit else None
+        kind, text = interruption_of(now, before, storage, done) if is_unit else ("", "")
         return {
             "code": self.following(address, now["general"], storage),
-            "done": self.instruction(before["psw"]["address"], then) if is_unit else None,
+            # these are taken before an instruction is done
+            "done": None if kind in ("external", "io") else done,
+            "interruption": text,
             "listing": self.source.around(address) if self.source else [],
         }
 
@@ -144,7 +155,7 @@ class MomentPage:
 
     def storage(self, storage: Storage, now: dict[str, Any], address: int) -> dict[str, Any]:
         rows = storage.rows(address)
-        labels = [self.source.labels_in(row[0], ROW) if self.source else "" for row in rows]
+        labels = [self.source.labels_in(row[0], ROW) if self.source else [] for row in rows]
         key = now["keys"][(rows[0][0] if rows else 0) // BLOCK]
         return {
             "storage": rows,
@@ -216,6 +227,23 @@ def places_in(code: bytes, registers: list[int], storage: Storage) -> dict[str, 
         return {"device": f"{place_of(code, registers) & 0xFFFF:03X}", "places": []}
     places = storage_operands(code, registers)
     return {"places": [[at, storage.at(at, OPERAND_SHOWN).hex().upper()] for at in places]}
+
+
+def interruption_of(
+    now: dict[str, Any], before: dict[str, Any], storage: Storage, done: dict[str, Any] | None
+) -> tuple[str, str]:
+    """The kind of the interruption in which a unit ended, and what is said of it; nothing if it ended in none."""
+    first, count = LOW_ROWS[0], LOW_ROWS[-1] + ROW - LOW_ROWS[0]
+    old = storage.old.storage_of(storage.user, first, count)
+    words = ["".join(psw_of(state["psw"])["words"]) for state in (before, now)]
+    psws = [bytes.fromhex(text) for text in words]
+    may_call = done is not None and done["name"] in ("SVC", "EX")
+    kind, stored = interruption(*psws, old, storage.at(first, count), may_call)
+    if not kind:
+        return "", ""
+    code = stored[2:4].hex().upper()
+    cause = PROGRAM_CODES.get(int(code, 16), "") if kind == "program" else ""
+    return kind, f"{INTERRUPTION_NAMES[kind]} interruption, code {code} {cause}".rstrip()
 
 
 def first_address(storage: Storage, now: dict[str, Any]) -> int:

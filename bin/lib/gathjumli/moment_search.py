@@ -28,19 +28,21 @@ Where = tuple[int, int]
 
 
 class Wanted(NamedTuple):
-    """What is looked for: whose, of which kind, and which address or register."""
+    """What is looked for: whose, of which kind, and which address or register; changes by which instructions are passed over."""
 
     user: str
     kind: str
     number: int
+    passed_over: frozenset[int] = frozenset()
 
 
 class Hit(NamedTuple):
-    """A moment that was found, and what was before it and is then."""
+    """A moment that was found, what was before it and is then, and which instruction was next before it, if that was asked."""
 
     where: Where
     old: str
     new: str
+    by: int | None
 
 
 class Asked:
@@ -48,13 +50,17 @@ class Asked:
 
     def __init__(self, wanted: Wanted) -> None:
         self.wanted = wanted
-        user, kind, number = wanted
+        user, kind, number, _ = wanted
         row = f"{number & 0xFFFFF0:06X}"
         asked = {ADDRESS: "PSW", REGISTER: f"G{number}", WORD: row}[kind]
         heads = {ADDRESS: "PSW ", REGISTER: f"GPR {number} = ", WORD: f"{row} "}
-        self.head = f"{user}: {heads[kind]}"
-        self.question = f"LINE {user} #CP DISPLAY {asked}\n".encode()
+        self.head, self.psw_head = f"{user}: {heads[kind]}", f"{user}: {heads[ADDRESS]}"
+        names = [asked, "PSW"] if wanted.passed_over else [asked]
+        self.question = "".join(f"LINE {user} #CP DISPLAY {name}\n" for name in names).encode()
+        # how many lines answer it
+        self.lines = len(names)
         self.before = ""
+        self.next: int | None = None
         self.units = 0
         self.is_late = False
 
@@ -64,34 +70,51 @@ class Asked:
             return ""
         text = line.removeprefix(self.head)
         if self.wanted.kind == ADDRESS:
-            return text[11:17]
+            return address_in(text)
         return (
             text if self.wanted.kind == REGISTER else text.split(" ")[self.wanted.number >> 2 & 3]
         )
 
     def start(self, program: Program) -> None:
-        # the answer is the last line
-        self.before = self.value((program.do(self.question).events or [""])[-1])
+        # the answer is the last lines
+        answer = program.do(self.question).events[-self.lines :] or [""]
+        self.before, self.next = self.value(answer[0]), self.next_in(answer)
+
+    def next_in(self, answer: list[str]) -> int | None:
+        """The address of the next instruction, if it was asked."""
+        if self.lines == 1 or not answer[-1].startswith(self.psw_head):
+            return None
+        return int(address_in(answer[-1].removeprefix(self.psw_head)), 16)
 
     def judge(self, places: list[Where], events: list[str]) -> Iterator[Hit]:
-        """The hits. The answer to a question is the line after that which ends a run or a serve of the user, or the last line."""
+        """The hits. The answer to a question is the lines after that which ends a run or a serve of the user, or the last lines."""
         self.units += len(places)
-        end = f"= {self.wanted.user} "
-        answers = [after for line, after in zip(events, events[1:]) if line.startswith(end)]
-        answers = events[-1:] if len(places) == 1 else answers
-        if len(answers) != len(places) or any(line.startswith("= ") for line in answers):
+        end, count = f"= {self.wanted.user} ", self.lines
+        begins = [at + 1 for at, line in enumerate(events) if line.startswith(end)]
+        begins = [max(0, len(events) - count)] if len(places) == 1 else begins
+        answers = [events[at : at + count] for at in begins]
+        if len(answers) != len(places) or not all(map(self.is_answer, answers)):
             raise Failure(REFUSED, NO_FRAME)
-        for place, line in zip(places, answers):
-            value = self.value(line)
+        for place, answer in zip(places, answers):
+            value = self.value(answer[0])
             if self.is_hit(value):
-                yield Hit(place, self.before, value)
+                yield Hit(place, self.before, value, self.next)
             # a machine that is off has none
-            self.before = value or self.before
+            self.before, self.next = value or self.before, self.next_in(answer)
+
+    def is_answer(self, lines: list[str]) -> bool:
+        """Whether these lines answer a question, and none of them ends an event."""
+        return len(lines) == self.lines and not any(line.startswith("= ") for line in lines)
 
     def is_hit(self, value: str) -> bool:
         if self.wanted.kind == ADDRESS:
             return bool(value) and int(value, 16) == self.wanted.number
         return bool(value and self.before) and value != self.before
+
+
+def address_in(psw: str) -> str:
+    """The address in a PSW as DISPLAY shows it."""
+    return psw[11:17]
 
 
 class Search:
@@ -114,12 +137,12 @@ class Search:
 
     def back(self, event: int, unit: int, is_strict: bool, after: int | None) -> dict[str, Any]:
         """The last hit until a moment, or before it. A change that was undone before the next state may be passed over: the answer
-        says from which event on there may be one, and all units since that event `after` are looked at if it is given.
-        """
+        says from which event on there may be one, and all units since that event `after` are looked at if it is given, and since the
+        beginning if changes are passed over."""
         end = (event, unit)
         if is_strict or self.wanted.kind == ADDRESS:
             end = self.moments.before(event, unit)
-        if self.wanted.kind == ADDRESS or after is not None:
+        if self.wanted.kind == ADDRESS or after is not None or self.wanted.passed_over:
             return self.answer(self.all_units(end, after or 0))
         place = self.mark_until(end)
         now, last = self.value_in(self.moments.moment(*end, self.wanted.user).view), place
@@ -158,7 +181,7 @@ class Search:
 
     def value_at(self, place: int) -> Any:
         """The register or the page with the word in a state: pages that are one have one number."""
-        user, kind, number = self.wanted
+        user, kind, number, _ = self.wanted
         state, index = self.run.marks[place].state, self.run.users.index(user)
         if kind == REGISTER:
             return state.general[index][number]
@@ -168,7 +191,7 @@ class Search:
         return content[number % PAGE & ~3 :][:4]
 
     def value_in(self, view: UserView) -> Any:
-        user, kind, number = self.wanted
+        user, kind, number, _ = self.wanted
         if kind == REGISTER:
             return view.users[user]["general"][number]
         return view.storage_of(user, number & ~3, 4)
@@ -190,8 +213,9 @@ class Search:
         try:
             self.asked.start(program)
             for places, part in self.parts_between(first, end):
-                for found in self.asked.judge(places, self.done_soon(program, part)):
-                    if not is_last:
+                for hit in self.asked.judge(places, self.done_soon(program, part)):
+                    found = found if self.is_passed_over(hit) else hit
+                    if found and not is_last:
                         return found
                 self.at = places[-1] if places else self.at
                 if not self.is_wanted() or time.monotonic() - self.begun > MOST_SECONDS:
@@ -200,6 +224,12 @@ class Search:
             return found
         finally:
             program.close()
+
+    def is_passed_over(self, hit: Hit) -> bool:
+        """Whether a change is by an instruction that is not looked for; a typed line and a device are none."""
+        event, unit = hit.where
+        is_by_unit = unit > 0 or self.steps[event - 1].kind == "RUN"
+        return is_by_unit and hit.by in self.wanted.passed_over
 
     def done_soon(self, program: Program, part: bytes) -> list[str]:
         """What a part prints. The next ones are larger if it took little time, and smaller if it took much."""

@@ -32,12 +32,24 @@ MOST_NUMBER = 1 << 53
 MOST_SHOWN = 40
 MOST_COLUMNS = 4096
 BEFORE = "before"
+AN_ADDRESS = "an address is hexadecimal"
 OTHER_HOST = b"this host has another name\n"
 OTHER_ORIGIN = b"a page of another origin\n"
 
 
 class WrongRequest(Exception):
     """A request that asks for nothing that there is."""
+
+
+def number_in(text: str, base: int, most: int, meant: str) -> int:
+    """The number that a text is; else what is meant is said."""
+    try:
+        number = int(text, base)
+    except ValueError:
+        number = -1
+    if not 0 <= number <= most:
+        raise WrongRequest(f"{meant}, and not {text[:MOST_SHOWN]}")
+    return number
 
 
 class Words:
@@ -53,21 +65,20 @@ class Words:
         return self.read(name, 10, usual, MOST_NUMBER, f"{name} is a number from 0 on")
 
     def address(self, name: str) -> int:
-        return self.read(name, 16, 0, MOST_NUMBER, "an address is hexadecimal")
+        return self.read(name, 16, 0, MOST_NUMBER, AN_ADDRESS)
+
+    def addresses(self, name: str) -> frozenset[int]:
+        """Addresses with commas between them, of a word that may be absent."""
+        texts = self.found[name].split(",") if self.has(name) else []
+        return frozenset(number_in(text, 16, MOST_NUMBER, AN_ADDRESS) for text in texts)
 
     def register(self, name: str) -> int:
         return self.read(name, 10, 0, 15, "a register is a number from 0 to 15")
 
     def read(self, name: str, base: int, usual: int, most: int, meant: str) -> int:
-        """The number that a word is; else what is meant is said."""
+        """The number that a word is, or the usual one if it is absent."""
         text = self.found.get(name, "")
-        try:
-            number = int(text, base) if text else usual
-        except ValueError:
-            number = -1
-        if not 0 <= number <= most:
-            raise WrongRequest(f"{meant}, and not {text[:MOST_SHOWN]}")
-        return number
+        return number_in(text, base, most, meant) if text else usual
 
     def word(self, name: str, allowed: Any) -> str:
         if self.found.get(name) not in allowed:
@@ -118,7 +129,8 @@ class RunAnswers:
     def search(self, words: Words) -> dict[str, Any]:
         kind = words.word("what", KINDS)
         number = words.register("of") if kind == REGISTER else min(words.address("of"), 0xFFFFFF)
-        wanted = Wanted(words.word("user", self.users), kind, number)
+        user = words.word("user", self.users)
+        wanted = Wanted(user, kind, number, words.addresses("passed"))
         search = Search(self.moments, wanted, lambda: search is self.last_search)
         self.last_search = search
         where = self.moments.ordered(words.number("event"), words.number("unit"))

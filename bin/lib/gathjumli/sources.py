@@ -61,10 +61,9 @@ class Source:
             for place, data, text in shown
         ]
 
-    def labels_in(self, low: int, count: int) -> str:
-        """The labels of so many bytes from an address on."""
-        found = [self.labels[at] for at in range(low, low + count) if at in self.labels]
-        return " ".join(found)
+    def labels_in(self, low: int, count: int) -> list[tuple[int, str]]:
+        """The labels of so many bytes from an address on, each with its address."""
+        return [(at, self.labels[at]) for at in range(low, low + count) if at in self.labels]
 
     def text_at(self, address: int) -> str:
         number = self.number_of(address)
