@@ -12,6 +12,7 @@ import tempfile
 import threading
 import time
 from typing import Any
+import unittest.mock
 
 from gathjumli.cli import Failure
 from gathjumli.following import SavedState
@@ -418,6 +419,41 @@ def try_server(check: Callable, moments: Moments) -> None:
         server.shutdown()
 
 
+def try_pieces(check: Callable) -> None:
+    """Pages that cannot be packed are in a file, all others in memory; a full file has no more of them."""
+    chance, pieces = random.Random(1), Pieces()
+    noise = [chance.randbytes(4096) for _ in range(40)]
+    mixed = bytes(1024) + chance.randbytes(3072)
+    plain = [bytes(range(64)) * 64, noise[0][:4095], b"short", mixed]
+    numbers = [pieces.keep(piece) for piece in [*noise, *plain, *noise]]
+    found = [pieces.piece(number, len(piece)) for number, piece in zip(numbers, [*noise, *plain])]
+    check("all pieces are as they were", found == [*noise, *plain])
+    check("each is kept once", numbers[44:] == numbers[:40])
+    check("40 pages and one with a quarter of zeros are in a file", pieces.blocks.used() == 41 * 4096)  # fmt: skip
+    check("the others are in memory", 4095 <= pieces.size < 4095 + 500, pieces.size)
+    pieces.forget_others(numbers[20:40])
+    check("what is forgotten has no room", (pieces.blocks.used(), pieces.size) == (20 * 4096, 0))
+    again = [chance.randbytes(4096) for _ in range(20)]
+    others = [pieces.keep(piece) for piece in again]
+    kept = zip([*numbers[20:40], *others], [*noise[20:], *again])
+    check("others have its blocks", all(pieces.piece(number, 4096) == piece for number, piece in kept))  # fmt: skip
+    check("and the file is no larger", pieces.blocks.count == 41, pieces.blocks.count)
+    with unittest.mock.patch("os.pwrite", side_effect=OSError):
+        number = pieces.keep(mixed)
+    check("a file that is full", pieces.piece(number, 4096) == mixed and pieces.size > 3072)
+
+
+def try_full(check: Callable, program: str, folder: str) -> None:
+    """States that take more than they may: those of the beginning and of the end stay."""
+    machines = machines_of(program, f"{folder}/directory", [], [f"{folder}/volume"])
+    script = f"LINE A LOGON\nLINE A STORE 100 {LOOP}\nLINE A BEGIN 100\nRUN A 6000\n"
+    with unittest.mock.patch("gathjumli.run_index.MOST_STATE_BYTES", 0):
+        run = Run(machines, entries_of(list(events_of(script.encode()))), None, lambda share: None)
+    places = [(mark.event, mark.unit) for mark in run.marks]
+    check("a state of the beginning and one of the end", places == [(0, 0), (4, 0)], *places)
+    machines.close()
+
+
 def try_long_search(check: Callable, program: str, folder: str) -> None:
     """A search says how far it is, and ends once nobody waits for it. A short script has states within its run."""
     machines = machines_of(program, f"{folder}/directory", [], [f"{folder}/volume"])
@@ -453,12 +489,24 @@ def try_source(check: Callable, program: str) -> None:
         shown = page.look((18, 20), "A", None, (18, 20))
         rows = {row[0]: label for row, label in zip(shown["storage"], shown["labels"])}
         check("its storage begins above the next instruction", shown["storage"][0][0] == 0x7D0)
-        check("labels stand in rows", rows[0x800] == "ONES THREES" and rows[0x810] == "", rows)
+        named = [(0x800, "ONES"), (0x80C, "THREES")]
+        check("labels stand in rows", rows[0x800] == named and rows[0x810] == [], rows)
+        shown = page.look((21, 1), "A", None, (21, 0))
+        led = shown["done"], shown["interruption"]
+        check(
+            "a unit that is an interruption",
+            led == (None, "external interruption, code 0080"),
+            *led,
+        )
+        shown = page.look((18, 20), "A", None, (18, 19))
+        check(
+            "one that is an instruction", shown["done"] and not shown["interruption"], shown["done"]
+        )
         # where no instruction is, it begins at the first byte that is not zero
         shown = page.look((1, 0), "A", None, (1, 0))
         check("a machine without any", shown["storage"][0][0] == 0, shown["storage"][0])
         rows = MomentPage(moments, None, "script", []).look((18, 20), "A", 0x800, (18, 20))
-        check("without a source there are none", set(rows["labels"]) == {""}, rows["labels"])
+        check("without a source there are none", not any(rows["labels"]), rows["labels"])
         for code, wanted in (
             ("D20302000204", {"places": [[0x200, ""], [0x204, ""]]}),
             ("5810F010", {"places": [[0x1234, ""]]}),
@@ -584,6 +632,7 @@ def try_recording(check: Callable, program: str, folder: str) -> None:
 
 def try_moments(check: Callable, repository: str, program: str, count: int) -> None:
     """So many random moments of each of some runs."""
+    try_pieces(check)
     try_cuts(check, program)
     try_bare(check, program)
     try_source(check, program)
@@ -608,6 +657,7 @@ def try_moments(check: Callable, repository: str, program: str, count: int) -> N
         machines = machines_of(program, f"{folder}/directory", [], [f"{folder}/volume"])
         try_run(check, "waiting", machines, WAITING.encode(), count)
         try_long_search(check, program, folder)
+        try_full(check, program, folder)
         try_left(check, repository, folder)
         try_recording(check, program, folder)
         try_going_on(check, program, folder)
