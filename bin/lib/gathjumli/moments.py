@@ -9,16 +9,16 @@ import threading
 from typing import NamedTuple
 
 from gathjumli.replaying import nearest
-from gathjumli.run_index import MOST_STATE_BYTES, Mark, Printed, Run
+from gathjumli.run_index import Mark, Printed, Run
 from gathjumli.state_programs import StateProgram
 from gathjumli.state_view import UserView
 from gathjumli.tracing import SLICE
 
 KEPT_MOMENTS = 24
-# what the pieces of all kept states and moments take at most
-MOST_BYTES = MOST_STATE_BYTES + (64 << 20)
-# programs that have read directory and volumes, and wait for a state
-SPARE = 2
+# what the pieces of moments take at most, beside those of kept states
+MOST_BYTES = 64 << 20
+# programs that have read directory and volumes, and wait for a state, and what their frames and slots take at most
+SPARE, MOST_SPARE_BYTES = 2, 128 << 20
 WAYS = ("unit+", "unit-", "own+", "own-", "event+", "event-")
 
 
@@ -84,7 +84,7 @@ class Moments:
         """A program that has read directory and volumes; others are made ready meanwhile."""
         with self.spare_lock:
             found = self.spare.pop() if self.spare else StateProgram(self.run.machines)
-            while len(self.spare) < SPARE:
+            while len(self.spare) < min(SPARE, MOST_SPARE_BYTES // max(1, self.run.room)):
                 self.spare.append(StateProgram(self.run.machines))
         return found
 
@@ -130,7 +130,7 @@ class Moments:
             self.known[key] = found
             while len(self.known) > KEPT_MOMENTS:
                 self.known.popitem(last=False)
-            if self.run.pieces.size > MOST_BYTES:
+            if self.run.is_full(MOST_BYTES):
                 self.run.forget_but([moment.view for moment in self.known.values()])
             return found
 

@@ -16,7 +16,7 @@ from gathjumli.script_lines import Event
 from gathjumli.state_files import StateFile, restore
 from gathjumli.state_pieces import Pieces
 from gathjumli.state_programs import StateProgram
-from gathjumli.state_view import PackedState, StateView, UserView
+from gathjumli.state_view import PAGE, PackedState, StateView, UserView
 from gathjumli.tracing import SLICE
 
 # what is done between two states, in units, at first and at most; a line counts as some. Where there are many states, every other one
@@ -27,8 +27,8 @@ WORK_OF_LINE = 40
 MOST_TURNS = 100_000
 # parts that are given before the first of them is answered
 AHEAD = 16
-# pieces of states take at most so many bytes; then every other state goes
-MOST_STATE_BYTES = 192 << 20
+# pieces of states take at most so many bytes of memory, and so many of a file; then every other state goes
+MOST_STATE_BYTES, MOST_FILE_BYTES = 192 << 20, 1 << 30
 MIDDLING_STATE, LARGE_STATE = 64 << 10, 4 << 20
 IDLE = "= IDLE"
 
@@ -116,6 +116,8 @@ class Run:
         # what is done between two states; the program is given as much at once
         self.spacing = LEAST_SPACING
         self.marked_at, self.marking = 0.0, 0.0
+        # the bytes of all frames and slots, which each program has
+        self.room = 0
         self.is_cut = False
         self.progress = Progress(sum(map(work_of, entries)), notify)
         begun = time.monotonic()
@@ -232,17 +234,23 @@ class Run:
         event = len(self.steps) - (unit > 0)
         view = self.view_of(program)
         self.marks.append(Mark(event, unit, entry, turn, view.state))
+        self.room = PAGE * (len(view.frames) + len(view.slots))
         is_dense = len(self.marks) > MANY_STATES and self.spacing < MOST_SPACING
-        if is_dense or self.pieces.size > MOST_STATE_BYTES:
+        if is_dense or self.is_full():
             self.forget_half()
             self.spacing = min(2 * self.spacing, MOST_SPACING)
         self.work = 0
         self.marked_at = time.monotonic()
         self.marking = self.marked_at - begun
 
+    def is_full(self, more: int = 0) -> bool:
+        """Whether pieces take more than they may, and so many bytes more."""
+        is_large = self.pieces.size > MOST_STATE_BYTES + more
+        return is_large or self.pieces.blocks.used() > MOST_FILE_BYTES + more
+
     def forget_half(self) -> None:
-        """Keeps every other state only, from the first one on."""
-        self.marks = self.marks[::2]
+        """Keeps the first state and every other one before the last one, from which the end is near, and that."""
+        self.marks = self.marks[:-1:2] + self.marks[-1:]
         self.forget_but([])
 
     def forget_but(self, views: list[UserView]) -> None:
