@@ -195,8 +195,8 @@ async function seek(words) {
     maker = what === "psw" ? null : state.moment.done?.address ?? null;
   }
   say(text || `${found.late ? "not found in a minute" : "no such moment"}: ${name} (${took(found)})`);
-  if (found.unsure !== undefined) await check(words, found, text, name);
-  if (maker !== null) offerOther();
+  const isChecked = found.unsure === undefined || await check(words, found, text, name);
+  if (isChecked && maker !== null) offerOther();
 }
 
 /** Shows the moment that was found, after all that was wished before. */
@@ -264,14 +264,14 @@ async function stop() {
   if (!searching && units !== undefined) say(`stopped after ${momentsOf(units)}`);
 }
 
-/** Looks at all units since what comparing states has found, in case of a change that was undone. */
+/** Looks at all units since what comparing states has found, in case of a change that was undone; whether that came to its end. */
 async function check(words, found, before, name) {
   const later = await lookedFor({ ...words, after: found.unsure }, `${before ? `${before}; ` : ""}checking that no later change was undone`);
-  if (!later) return;
+  if (!later) return false;
   if (later.event === undefined) {
     const none = before ? `${before}; no later change was undone` : `no such moment: ${name}`;
     say(later.late ? `${before || name}: not all was looked at in a minute` : `${none} (${took(later)})`);
-    return;
+    return true;
   }
   say(before ? `${before}; later ` : "");
   const text = `${name} at event ${later.event}, unit ${later.unit}: ${later.old} became ${later.new}${before ? ", which was undone" : ""}`;
@@ -279,6 +279,7 @@ async function check(words, found, before, name) {
   made.type = "button";
   made.addEventListener("click", () => goTo(later.event, later.unit));
   find("found").append(made);
+  return true;
 }
 
 function searchBack(what, of) {
