@@ -284,7 +284,9 @@ def tell_open_files(check: Check, program: str) -> None:
     def held_before(name: str, close: bytes) -> list[str]:
         part = read(f"{ALL_EXAMPLES}/{name}/script").partition(close)[0]
         requests = b"%d\n%sHOLDS\nEND\n" % (len(part), part)
-        _, out, _ = asked([program, "vm370", "--follow", f"{ALL_EXAMPLES}/{name}/directory"], requests)
+        _, out, _ = asked(
+            [program, "vm370", "--follow", f"{ALL_EXAMPLES}/{name}/directory"], requests
+        )
         return [line for line in out.decode("latin-1").splitlines() if line.startswith("> HOLDS ")]
 
     listing = read(f"{ALL_EXAMPLES}/card-listing-of-a-user/transcript").partition(

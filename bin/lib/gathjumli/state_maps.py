@@ -28,7 +28,18 @@ def command(words: list[str]) -> None:
         written = os.path.join(folder, "state")
         write_bytes(state, written)
         done = subprocess.run(
-            [path, "framemap", *sizes, *save, "--state", written, "--", directory, script, *volumes],
+            [
+                path,
+                "framemap",
+                *sizes,
+                *save,
+                "--state",
+                written,
+                "--",
+                directory,
+                script,
+                *volumes,
+            ],
             stderr=subprocess.PIPE,
         )
     machines.close()
