@@ -135,7 +135,11 @@ class Moments:
             return found
 
     def program_at(self, event: int, unit: int) -> StateProgram:
-        """A program that is led to a moment from the last state before it."""
+        """A program that is led to a moment from the last state before it. Where one takes much, the live one ends first."""
+        with self.lock:
+            if self.live and self.run.room > MOST_SPARE_BYTES:
+                self.live.program.close()
+                self.live = None
         place = self.place_of(event, unit)
         mark = self.mark_before(place)
         program = self.restored(mark)
