@@ -130,5 +130,5 @@ def try_figures(check: Callable, command: str, folder: str) -> None:
         check("pages are there", site.await_message("pages are at"), *site.findings)
         try_page(check, site, port)
     check("it is suspended", site.stop() == 0, *site.findings)
-    told = "wrong tokens at /operator from 127.0.0.1" in site.since_start()
+    told = "wrong tokens at /metrics from 127.0.0.1" in site.since_start()
     check("the journal has the guesses", told or not has_pages, site.since_start())

@@ -113,7 +113,6 @@ class Backup:
                 item.file.close()
         size = size_text(sum(item.size for item in sources))
         told = f"a backup is in {folder}: {len(sources)} files, {size}"
-        self.installation.notify(told)
         reply(told)
         end(True)
 

@@ -21,6 +21,8 @@ from gathjumli.journal import amount
 DONE, NOT_DONE, ENDS, ENDED = range(4)
 # before all of the recording is done again
 ALWAYS = {"status", "metrics", "help", "suspend"}
+# what the journal has of an operator's commands, beside what they say to all
+NOTED = {"hold", "release", "purge", "reprint", "message", "logmsg", "logon", "backup"}
 # addresses that one line names
 MOST_NAMED = 8
 WARNED_MINUTES = (10, 5, 1)
@@ -93,6 +95,8 @@ class Operator:
             reply("the installation is not online yet")
             end(NOT_DONE)
             return
+        if word in NOTED and rest and reply != self.notify:
+            end = self.noted(line, end)
         if word in self.long:
             self.long[word](rest.strip(), reply, end, is_there)
             return
@@ -104,6 +108,16 @@ class Operator:
             reply(" ".join(map(str, reason.lines)) if isinstance(reason, Failure) else str(reason))
             how = NOT_DONE
         end(how or DONE)
+
+    def noted(self, line: str, end: Any) -> Any:
+        """How a command ends of which all are told that it was done."""
+
+        def end_noted(how: int) -> None:
+            if how == DONE:
+                self.notify(f"the operator's command {line} is done")
+            end(how)
+
+        return end_noted
 
     def help(self, rest: str, reply: Any) -> None:
         for line in HELP.split("\n"):

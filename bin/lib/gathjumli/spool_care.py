@@ -3,10 +3,12 @@ held one is in the folder `held` of the session's."""
 from __future__ import annotations
 
 from collections.abc import Callable
-from typing import Any
+from typing import Any, NamedTuple, Union
+import collections
 import contextlib
 import itertools
 import os
+import re
 
 from gathjumli.checkpoints import copy_whole
 from gathjumli.journal import amount
@@ -14,10 +16,30 @@ from gathjumli.spooling import Printout, UNWRITTEN
 
 HELD = "held"
 MOST_SHOWN = 40
+COPY = re.compile(r"(.+)-([0-9]+)\.txt")
 
 
 class NotDone(Exception):
     """A command that is not carried out; the text says why."""
+
+
+class Copy(NamedTuple):
+    """A copy that was put next to a file."""
+
+    name: str
+    original: Printout
+    state = "written"
+
+    @property
+    def user(self) -> str:
+        return self.original.user
+
+    @property
+    def lines(self) -> int:
+        return self.original.lines
+
+
+File = Union[Printout, Copy]
 
 
 class SpoolCare:
@@ -32,13 +54,27 @@ class SpoolCare:
         name = rest.upper()
         if name and name not in self.users:
             raise NotDone(f"there is no user {rest}")
-        found = [item for item in self.printouts.all if name in ("", item.user)]
+        found = [item for item in self.files() if name in ("", item.user)]
         for printout in found[-MOST_SHOWN:]:
             reply(f"{printout.name} {amount(printout.lines, 'line')}, {self.state(printout)}")
         shown = f", the last {MOST_SHOWN} are shown" * (len(found) > MOST_SHOWN)
         reply(f"{amount(len(found), 'file')}{shown}")
 
-    def state(self, printout: Printout) -> str:
+    def files(self) -> list[File]:
+        """All files, each with the copies of it that are there."""
+        copies = collections.defaultdict(list)
+        for folder in (self.printouts.folder, os.path.join(self.printouts.folder or "", HELD)):
+            with contextlib.suppress(OSError):
+                for name in os.listdir(folder) if self.printouts.folder else []:
+                    if found := COPY.fullmatch(name):
+                        copies[f"{found[1]}.txt"].append(int(found[2]))
+        found = []
+        for item in self.printouts.all:
+            numbers = sorted(copies[item.name])
+            found += [item, *(Copy(copy_name(item, number), item) for number in numbers)]
+        return found
+
+    def state(self, printout: File) -> str:
         """What has become of a file."""
         if not self.printouts.folder or printout.state in UNWRITTEN:
             return printout.state
@@ -50,15 +86,15 @@ class SpoolCare:
         is_kept = printout.name in self.printouts.store.kept(self.printouts.folder)
         return "in the store" if is_kept else "removed"
 
-    def place(self, printout: Printout, *inner: str) -> str:
+    def place(self, printout: File, *inner: str) -> str:
         return os.path.join(self.printouts.folder, *inner, printout.name)
 
-    def named(self, rest: str, *wanted: str) -> Printout:
+    def named(self, rest: str, *wanted: str) -> File:
         """The file of this name, which is to be in one of these states."""
         if not self.printouts.folder:
             raise NotDone("files are only reported, and not kept: --printouts FOLDER")
         name = rest.removesuffix(".txt").upper() + ".txt"
-        found = next((item for item in self.printouts.all if item.name == name), None)
+        found = next((item for item in self.files() if item.name == name), None)
         if not found:
             raise NotDone(f"there is no file {rest}" if rest else "the name of a file is missing")
         if (state := self.state(found)) not in wanted:
@@ -88,8 +124,15 @@ class SpoolCare:
     def reprint(self, rest: str, reply: Callable[[str], None]) -> None:
         """Puts a copy next to a file, under a name that is new there, for whoever prints what appears."""
         printout = self.named(rest, "written")
-        names = (f"{printout.name[:-4]}-{number}.txt" for number in itertools.count(2))
-        paths = (os.path.join(self.printouts.folder, name) for name in names)
-        path = next(path for path in paths if not os.path.lexists(path))
+        original = printout.original if isinstance(printout, Copy) else printout
+        taken = {item.name for item in self.files()}
+        names = (copy_name(original, number) for number in itertools.count(2))
+        path = os.path.join(
+            self.printouts.folder, next(name for name in names if name not in taken)
+        )
         copy_whole(self.place(printout), path)
         reply(f"{printout.name} is there again: {path}")
+
+
+def copy_name(original: Printout, number: int) -> str:
+    return f"{original.name[:-4]}-{number}.txt"

@@ -78,10 +78,10 @@ class LockedOut(Sums):
 
 
 class WrongTokens(Sums):
-    """The wrong tokens at the operator's page."""
+    """The wrong tokens, or none, for each page that wants the operator's."""
 
     def text(self, what: Any, count: int) -> str:
-        return "a wrong token at /operator" if count == 1 else f"{count} wrong tokens at /operator"
+        return f"{'a wrong token' if count == 1 else f'{count} wrong tokens'} at {what}"
 
 
 class Closings(Sums):

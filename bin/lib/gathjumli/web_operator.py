@@ -16,6 +16,7 @@ from gathjumli.strangers import WrongTokens
 from gathjumli.web_pages import Refused, is_token, milliseconds, text_in
 
 
+PAGE = "/operator"
 SECONDS_BETWEEN_STATES = 1
 MOST_PAGES = 16
 MOST_COMMAND = 4096
@@ -94,7 +95,7 @@ class OperatorPage:
             if not self.is_known and self.pages.penalties.seconds(self.address):
                 raise Refused("there were too many wrong tokens from your address: come back later")
             if not is_token(message.get("token"), self.pages.token):
-                self.pages.note_wrong(self.address)
+                self.pages.note_wrong(PAGE, self.address)
                 await asyncio.sleep(1)
                 raise Refused("the token is wrong")
             if not self.is_known:
@@ -180,9 +181,9 @@ class OperatorPages:
             file.write(f"{token}\n")
         return token
 
-    def note_wrong(self, address: str) -> None:
-        """A wrong token came from an address."""
-        self.wrong.add(None, address)
+    def note_wrong(self, page: str, address: str) -> None:
+        """A wrong token for a page came from an address."""
+        self.wrong.add(page, address)
         self.penalties.add(address)
 
     def state(self) -> dict:

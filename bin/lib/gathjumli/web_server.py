@@ -150,7 +150,7 @@ class Web:
         if self.operators.penalties.seconds(address):
             return http.HTTPStatus.TOO_MANY_REQUESTS, "text/plain", b"too many wrong tokens\n"
         if not is_token(given.removeprefix(BEARER), self.operators.token):
-            self.operators.note_wrong(address)
+            self.operators.note_wrong(METRICS, address)
             return http.HTTPStatus.FORBIDDEN, "text/plain", b"the operator's token is wanted\n"
         lines = metrics(figures(self.installation))
         return http.HTTPStatus.OK, METRICS_KIND, "".join(f"{line}\n" for line in lines).encode()
