@@ -56,6 +56,7 @@ SHOWN = ["LOGON OK", "STORED", "(the state is in {folder}/typed)", "STORED", "(t
          "GPR 1 = 0000000A", "(taken back: LINE A DISPLAY G1)", "(taken back: LINE A DISPLAY G1)", "? there is nothing to take back",
          "? {folder}/nothing: No such file or directory", "? a file is to be named", "? {folder}/directory is no state file",
          "GPR 1 = 0000000A"]  # fmt: skip
+NO_TEXT = b"a word of the command line is no UTF-8 text, and so names no file here\n"
 
 
 def done(*words: str, given: str = "") -> subprocess.CompletedProcess:
@@ -221,12 +222,20 @@ def refuse_words(check: Check, program: str, folder: str) -> None:
         "a state that is cut": ([program, "vm370", "--follow", f"{folder}/directory"], b"STATE\n9\nx", 3, b"", b"fault: file Device 1\n"),
         "a state without a size": ([program, "vm370", "--follow", f"{folder}/directory"], b"STATE\nx\n", 3, b"", b"fault: file Device 1\n"),
     }  # fmt: skip
+    for part in ("vm370", "bare370", "framemap", "mkvol"):
+        cases[f"a word of {part} that is no text"] = (
+            [program, part, b"\xff", "x"],
+            b"",
+            2,
+            b"",
+            NO_TEXT,
+        )
     for what, (words, given, *wanted) in cases.items():
         found = asked(words, given)
         check(what, found == tuple(wanted), *found)
 
 
-def asked(words: list[str], given: bytes) -> tuple[int, bytes, bytes]:
+def asked(words: list, given: bytes) -> tuple[int, bytes, bytes]:
     """The status, the output and the errors of a program that is given these requests."""
     found = subprocess.run(words, input=given, capture_output=True)
     return found.returncode, found.stdout, found.stderr
