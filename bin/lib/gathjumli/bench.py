@@ -1,11 +1,11 @@
 """Measures the built vm370 and bare370 from outside, by processor time: of two scripts, of which one does more, the difference.
 So the start of a program, the reading of a script and its first pages are not in it. bin/bench calls it (docs/BENCHMARK.md).
 
-    bench.py VM370 BARE370 loops THOUSANDS LOOPS PLACES
-    bench.py VM370 BARE370 rates THOUSANDS LOOPS PLACES      without instructions of the host
-    bench.py VM370 BARE370 channels PROGRAMS CYLINDERS
-    bench.py VM370 BARE370 installation USERS FRAMES SLOTS
-    bench.py VM370 BARE370 spool CARDS FILES"""
+    bench.py PROGRAM loops THOUSANDS LOOPS PLACES
+    bench.py PROGRAM rates THOUSANDS LOOPS PLACES      without instructions of the host
+    bench.py PROGRAM channels PROGRAMS CYLINDERS
+    bench.py PROGRAM installation USERS FRAMES SLOTS
+    bench.py PROGRAM spool CARDS FILES"""
 from __future__ import annotations
 
 from typing import Any

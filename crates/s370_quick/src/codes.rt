@@ -66,7 +66,7 @@ macro_rules! by_code {
         match $code {
             $($inlined => $near::<S, $inlined> $arguments,)*
             $($called => $far::<S, $called> $arguments,)*
-            $($left)|* => Stepped::LeftOut,
+            $($left => Stepped::LeftOut,)*
             _ => Stepped::Unassigned,
         }
     };
