@@ -7,7 +7,6 @@ import re
 import subprocess
 
 from broken import EXAMPLES as ALL_EXAMPLES, example
-from closed_files import DIRECTORY as FILES_DIRECTORY, beginning as files_beginning, round_of
 from installation import image_of, read, write
 
 Check = Callable[..., None]
@@ -311,27 +310,6 @@ def tell_open_files(check: Check, program: str) -> None:
     check("what is held by a punch", found == wanted, *found, *wanted)
 
 
-def cut_alike(check: Check, program: str, folder: str) -> None:
-    """The same events have the same state, however they were cut into parts: also where a reader had a closed file as a deck."""
-    write(f"{folder}/directory", FILES_DIRECTORY)
-    text = files_beginning() + round_of(0) + round_of(1)
-    lines = text.splitlines(keepends=True)
-    states = {}
-    for size in (len(lines), 1, 3):
-        parts = [b"".join(lines[at : at + size]) for at in range(0, len(lines), size)]
-        requests = b"".join(b"%d\n%s" % (len(part), part) for part in parts) + b"SAVE\nEND\n"
-        _, out, errors = asked([program, "vm370", "--follow", f"{folder}/directory"], requests)
-        found = re.search(rb"> STATE ([0-9]+)\n(.*)> DONE\n\Z", out, re.DOTALL)
-        holds = bool(found) and int(found[1]) == len(found[2])
-        check(f"a state after parts of {size} lines", holds, errors)
-        states[size] = found and found[2]
-    for size in (1, 3):
-        check(
-            f"parts of {size} lines lead to the state of one part",
-            states[size] == states[len(lines)],
-        )
-
-
 def try_commands(check: Check, repository: str, program: str, folder: str) -> None:
     os.makedirs(folder)
     for name, place in EXAMPLES.items():
@@ -343,4 +321,3 @@ def try_commands(check: Check, repository: str, program: str, folder: str) -> No
     tell_open_files(check, program)
     refuse_volumes(check, program, f"{folder}/volumes")
     refuse_long_sizes(check, program, folder)
-    cut_alike(check, program, folder)

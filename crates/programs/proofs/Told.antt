@@ -8,7 +8,7 @@ use Rattle.sessions.proofs.Histories.{err_then}
 use Rattle.programs.specs.Parts.{IsStateTold, IsToldPartly, told_state}
 
 -- What was appended to nothing is told as such a state.
-pub told : (IsSuch : List ℕ → Type 0) (HasNone : Type 0) (is : Bool) (none state text : List ℕ) → none ≡ []
+told : (IsSuch : List ℕ → Type 0) (HasNone : Type 0) (is : Bool) (none state text : List ℕ) → none ≡ []
     → text ≡ state → AppendsSuch IsSuch HasNone is none state → IsStateTold IsSuch HasNone (told_state is text)
 told IsSuch HasNone true none state text empty same h =
     let bytes : state ≡ h.0 = h.2 ∙ ap (λ (l : List ℕ). l ++ h.0) empty in

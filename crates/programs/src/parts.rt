@@ -7,8 +7,7 @@
 //! that a line of it is refused, and nothing of it was done.
 //!
 //! The line `END` asks for the end. The line `SAVE` asks for the state of the session: the answer
-//! is a line with its size, its bytes, and the line `> DONE`. The same events have the same state,
-//! however they were cut into parts. The line `HOLDS` asks what users hold:
+//! is a line with its size, its bytes, and the line `> DONE`. The line `HOLDS` asks what users hold:
 //! the answer is a line for each, with the cards of his punch's open file and the lines of his
 //! printer's, and the line `> DONE`. The line `VIEW` with the number of a user asks for what the
 //! state has of him, of the frames and of his storage: the answer is as that to `SAVE`. The line
@@ -33,8 +32,8 @@ ghost use Rattle.sessions.specs.Runs.{IsRestored};
 ghost use Rattle.sessions.specs.Transcript.{ended};
 ghost use Rattle.programs.specs.Parts.{Answers, AnswersPart, InputAccounts, IsAnsweredPartly};
 ghost use Rattle.programs.specs.Parts.{IsBrokenOff, IsCausedBy, IsLeft, IsStateGiven};
-ghost use Rattle.programs.specs.Parts.{IsKept, IsKeptSomehow, IsPartAnsweredPartly};
-ghost use Rattle.programs.specs.Parts.{IsRestoredPartly, IsToldPartly, IsViewedAs, PartAccounts};
+ghost use Rattle.programs.specs.Parts.{IsPartAnsweredPartly, IsRestoredPartly};
+ghost use Rattle.programs.specs.Parts.{IsSavedAs, IsToldPartly, IsViewedAs, PartAccounts};
 ghost use Rattle.programs.specs.Parts.{done_line, held_text, idle_lines, news_since, told_state};
 
 use crate::faults::Failure;
@@ -127,7 +126,10 @@ fn answer<W: HostWriter, I: Installation + Drop>(
 {
     match request {
         FollowRequest::Part(part) => follow_part(alloc, follower, detail, &part, writer),
-        FollowRequest::Save => save(alloc, follower, writer),
+        FollowRequest::Save => {
+            save(alloc, &follower, writer)?;
+            Ok(follower)
+        }
         FollowRequest::Holds => {
             tell_held(alloc, &follower, writer)?;
             Ok(follower)
@@ -141,31 +143,25 @@ fn answer<W: HostWriter, I: Installation + Drop>(
 }
 
 /// Writes the state between a line with its size and the line `> DONE`, or the line `> REFUSED 0`
-/// if there are no states, flushes the writer and returns the follower as it was saved.
-///
-/// Before that it drops the entries of closed files that no reader has as a deck, so that a state
-/// does not depend on the parts by which it was reached.
+/// if there are no states, and flushes the writer.
 fn save<W: HostWriter, I: Installation + Drop>(
     alloc: Global,
-    mut follower: Follower<I>,
+    follower: &Follower<I>,
     writer: &mut W,
-) -> Result<Follower<I>, Failure>
-    ensures ok { IfOk result (λ left. (answer : List ℕ) × IsKept I.goes follower answer left
+) -> Result<(), Failure>
+    ensures ok { OnOk result ((answer : List ℕ) × IsSavedAs I.goes follower.now answer
         × Appends (W.contents writer.old) (W.contents writer.new) answer) }
-    ensures detail { IfOk result (λ left. left.detail ≡ follower.detail) }
     ensures flushed { OnOk result (W.held writer.new ≡ []) }
     ensures err { OnErr result
-        (IsToldPartly (IsKeptSomehow I.goes follower) (W.contents writer.old)
+        (IsToldPartly (IsSavedAs I.goes follower.now) (W.contents writer.old)
         (W.contents writer.new)) }
     ensures cause { IfErr result (IsCausedBy ⊥ ⊥) }
     ensures why { PartAccounts result (W.HostFile.failures writer.old)
         (W.HostFile.failures writer.new) }
 {
-    follower.forget_files(0);
     let mut state = Vec::new(alloc);
     let is_there = follower.save(&mut state)?;
-    tell_state(alloc, is_there, &state, writer)?;
-    Ok(follower)
+    tell_state(alloc, is_there, &state, writer)
 }
 
 /// Writes the state of the user of this number as [`save`] writes that of all, or the line `>
