@@ -1066,7 +1066,7 @@ def test_pages(repository: str, work: str) -> None:
         )
     write(
         f"{work}/desk",
-        f"#!/bin/sh\nPYTHONPATH='{TOP}/.ci' exec '{sys.executable}' -Bc 'import desk; desk.stand_in()'\n",
+        f"#!/bin/sh\nPYTHONPATH='{TOP}/.ci' exec '{sys.executable}' -Bc 'import desk; desk.stand_in([])'\n",
     )
     os.chmod(f"{work}/desk", 0o755)
     page_tables.try_pages(check, f"{work}/pages", f"{work}/desk")
