@@ -89,7 +89,7 @@ make_program() {
     fi
 }
 
-# where the program is or will be, and what it is made of
+# sets $program to the path of the program, which may not be built yet, and $now_sources and $now_kit to what it would be built of
 find_program() {
     installed=
     read_unproved

@@ -15,7 +15,7 @@ from gathjumli.state_view import UserView
 from gathjumli.tracing import SLICE
 
 KEPT_MOMENTS = 24
-# what the pieces of moments take at most, beside those of kept states
+# the most bytes for pieces of moments; pieces of the kept states have a bound of their own
 MOST_BYTES = 64 << 20
 # programs that have read directory and volumes, and wait for a state, and what their frames and slots take at most
 SPARE, MOST_SPARE_BYTES = 2, 128 << 20

@@ -21,7 +21,7 @@ from gathjumli.journal import amount
 DONE, NOT_DONE, ENDS, ENDED = range(4)
 # before all of the recording is done again
 ALWAYS = {"status", "metrics", "help", "suspend"}
-# what the journal has of an operator's commands, beside what they say to all
+# the commands of operators that the journal notes when they are done
 NOTED = {"hold", "release", "purge", "reprint", "message", "logmsg", "logon", "backup"}
 # addresses that one line names
 MOST_NAMED = 8
@@ -110,7 +110,7 @@ class Operator:
         end(how or DONE)
 
     def noted(self, line: str, end: Any) -> Any:
-        """How a command ends of which all are told that it was done."""
+        """Returns a function that ends a command and, if it is done, notes it in the journal."""
 
         def end_noted(how: int) -> None:
             if how == DONE:

@@ -12,7 +12,7 @@ import re
 
 from gathjumli.checkpoints import copy_whole
 from gathjumli.journal import amount
-from gathjumli.spooling import Printout, UNWRITTEN
+from gathjumli.spooling import Printout, UNWRITTEN, WRITTEN
 
 HELD = "held"
 MOST_SHOWN = 40
@@ -28,7 +28,7 @@ class Copy(NamedTuple):
 
     name: str
     original: Printout
-    state = "written"
+    state = WRITTEN
 
     @property
     def user(self) -> str:
@@ -62,17 +62,18 @@ class SpoolCare:
 
     def files(self) -> list[File]:
         """All files, each with the copies of it that are there."""
-        copies = collections.defaultdict(list)
-        for folder in (self.printouts.folder, os.path.join(self.printouts.folder or "", HELD)):
-            with contextlib.suppress(OSError):
-                for name in os.listdir(folder) if self.printouts.folder else []:
-                    if found := COPY.fullmatch(name):
-                        copies[f"{found[1]}.txt"].append(int(found[2]))
-        found = []
+        folder = self.printouts.folder
+        if not folder:
+            return list(self.printouts.all)
+        names = {*names_in(folder), *names_in(os.path.join(folder, HELD))}
+        copies = collections.defaultdict(set)
+        for match in filter(None, map(COPY.fullmatch, names)):
+            copies[f"{match[1]}.txt"].add(int(match[2]))
+        files: list[File] = []
         for item in self.printouts.all:
             numbers = sorted(copies[item.name])
-            found += [item, *(Copy(copy_name(item, number), item) for number in numbers)]
-        return found
+            files += [item, *(Copy(copy_name(item, number), item) for number in numbers)]
+        return files
 
     def state(self, printout: File) -> str:
         """What has become of a file."""
@@ -132,6 +133,13 @@ class SpoolCare:
         )
         copy_whole(self.place(printout), path)
         reply(f"{printout.name} is there again: {path}")
+
+
+def names_in(folder: str) -> list[str]:
+    """The names in a folder; none if it is not there."""
+    with contextlib.suppress(OSError):
+        return os.listdir(folder)
+    return []
 
 
 def copy_name(original: Printout, number: int) -> str:

@@ -27,19 +27,9 @@ def command(words: list[str]) -> None:
     with tempfile.TemporaryDirectory(prefix="map-") as folder:
         written = os.path.join(folder, "state")
         write_bytes(state, written)
+        given = [*sizes, *save, "--state", written, "--", directory, script, *volumes]
         done = subprocess.run(
-            [
-                path,
-                "framemap",
-                *sizes,
-                *save,
-                "--state",
-                written,
-                "--",
-                directory,
-                script,
-                *volumes,
-            ],
+            [path, "framemap", *given],
             stderr=subprocess.PIPE,
         )
     machines.close()
